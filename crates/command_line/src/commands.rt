@@ -71,16 +71,16 @@ const DEPARTURES: [Argument; 4] = [
     Argument::MaybeOption(
         "from",
         "FILE",
-        "Print the departures of the stops of FILE alone, a stop_id a line (- is a file name here)",
+        "Print only the departures from the stops of FILE, which has one stop_id on each line (- is a file name here)",
     ),
     Argument::OtherFlag(
         "summary",
-        "Print a line a stop: how many departures, the first, the last, the least seconds of travel, the direct walk",
+        "Print one line for each stop: how many departures, the first, the last, the least seconds, the direct walk",
         "no-journeys",
     ),
     Argument::OtherFlag(
         "json",
-        "Print a line of JSON a stop, and the counts as another one",
+        "Print one line of JSON for each stop, and the counts as the last one",
         "summary",
     ),
     Argument::Flag("no-journeys", "Print no journeys"),
@@ -111,7 +111,7 @@ const PROFILE: [Argument; 5] = [
     ),
     Argument::OtherFlag(
         "json",
-        "Print the answer as a session would reply it: a line of JSON",
+        "Print the answer as a server would reply: one line of JSON",
         "names",
     ),
     Argument::FlagBeside(
@@ -144,17 +144,17 @@ const DAYS: [Argument; 3] = [
     Argument::Option(
         "first",
         "DAY",
-        "The first service day: YYYYMMDD, or at each load the zone's own: today, or today-1 for the day before",
+        "The first service day: YYYYMMDD, or today, by the clock in --zone at each load, or today-1 for the day before",
     ),
     Argument::Option("days", "N", "How many service days, 1 to 14"),
     Argument::Option(
         "zone",
         "ZONE",
-        "The feed's zone: fixed:SECS (east of UTC), posix:TEXT, or file:PATH of a file of /usr/share/zoneinfo",
+        "The feed's time zone: file:PATH of a file in /usr/share/zoneinfo, fixed:SECS (east of UTC), or posix:TEXT",
     ),
 ];
 
-const BUILD: [Argument; 3] = [
+const BUILD: [Argument; 2] = [
     Argument::Flag(
         "strict",
         "Reject a hop that takes no time, instead of making it one second long",
@@ -163,19 +163,23 @@ const BUILD: [Argument; 3] = [
         "progress",
         "Show progress on standard error (the default on a terminal)",
     ),
-    Argument::Flag("no-warnings", "Leave out warnings on standard error"),
 ];
+
+const WARNINGS: [Argument; 1] = [Argument::Flag(
+    "no-warnings",
+    "Write no warnings on standard error",
+)];
 
 const SERVER: [Argument; 7] = [
     Argument::Option(
         "image",
         "IMAGE",
-        "The first version's image, a file or - for standard input",
+        "The image to serve first: a file, or - for standard input",
     ),
     Argument::Option(
         "port",
         "P",
-        "The port at 127.0.0.1; 0 takes a free one, which is printed",
+        "The port at 127.0.0.1 to listen at; 0 takes a free one, which is printed",
     ),
     Argument::Option(
         "workers",
@@ -189,7 +193,7 @@ const SERVER: [Argument; 7] = [
     ),
     Argument::Flag(
         "legs",
-        "Reply each point of a profile with its legs, by trip_id, stop_id and clock",
+        "Give each point of a profile's reply its legs, by trip_id, stop_id and clock",
     ),
     Argument::Flag(
         "log",
@@ -232,13 +236,20 @@ const IMAGE_TASKS: [Task; 6] = [
         name: "profile",
         about: "Prints every best departure from one stop to another within a time window",
         notes: texts::PROFILE,
-        arguments: &[&IMAGE, &SOURCE, &DESTINATION, &CRITERION, &PROFILE],
+        arguments: &[
+            &IMAGE,
+            &SOURCE,
+            &DESTINATION,
+            &CRITERION,
+            &PROFILE,
+            &WARNINGS,
+        ],
     },
     Task {
         name: "departures",
         about: "Prints every best departure from each stop to one stop within a time window",
         notes: texts::DEPARTURES,
-        arguments: &[&IMAGE, &DESTINATION, &CRITERION, &DEPARTURES],
+        arguments: &[&IMAGE, &DESTINATION, &CRITERION, &DEPARTURES, &WARNINGS],
     },
     Task {
         name: "stops",
@@ -266,7 +277,7 @@ const OTHER_TASKS: [Task; 5] = [
         name: "build",
         about: "Builds the image of a GTFS feed, and prints its counts",
         notes: texts::BUILD,
-        arguments: &[&FOLDER, &OUT, &DAYS, &BUILD],
+        arguments: &[&FOLDER, &OUT, &DAYS, &BUILD, &WARNINGS],
     },
     Task {
         name: "upgrade",

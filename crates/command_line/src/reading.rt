@@ -68,17 +68,17 @@ impl Form {
     fn rule(self) -> &'static str {
         match self {
             Form::Clock =>
-                "a clock is HH:MM:SS: hours of one to six digits, minutes and seconds below 60",
+                "a clock is HH:MM:SS, with one to six digits of hours, and minutes and seconds below 60",
             Form::Day =>
                 "the first day is YYYYMMDD, a date of the years 1 to 9999, or today, or today-1",
-            Form::Days => "the number of days is 1 to 14",
+            Form::Days => "the number of days must be 1 to 14",
             Form::Zone => {
-                "a zone is fixed:SECS with at most 86399 seconds either way, posix:TEXT or file:PATH"
+                "a zone is file:PATH, posix:TEXT, or fixed:SECS with at most 86399 seconds either way"
             }
-            Form::Port => "a port is 0 to 65535",
-            Form::Workers => "the number of workers is 1 to 16",
-            Form::Sessions => "the number of sessions is decimal, 0 for no limit",
-            Form::Rows => "the number of rows is 1 to 10000",
+            Form::Port => "a port is a number from 0 to 65535",
+            Form::Workers => "the number of workers must be 1 to 16",
+            Form::Sessions => "the number of sessions must be in decimal digits; 0 is no limit",
+            Form::Rows => "the number of rows must be 1 to 10000",
         }
     }
 }

@@ -6,9 +6,9 @@ pub(crate) const VERSION: &str = "1.0.0";
 pub(crate) const STATUSES: &str = "Exit status:\n\
 \x20 0   accepted\n\
 \x20 2   refused: standard output has one line `refused NUMBER NAME PLACES`, standard error may explain it;\n\
-\x20     of departures: also a line of --from that is no stop_id, on standard error alone;\n\
-\x20     of serve: a session sent too many requests\n\
-\x20 3   a file cannot be read or written, a port cannot be listened on, a line cannot be written,\n\
+\x20     for departures also if a line of --from FILE is not a stop_id, which standard error alone says;\n\
+\x20     for serve if a session sent too many requests\n\
+\x20 3   a file cannot be read or written, the server cannot listen at its port, a line cannot be written,\n\
 \x20     or a session failed\n\
 \x20 4   out of memory\n\
 \x20 64  wrong command line";
@@ -23,7 +23,7 @@ pub(crate) const INFO: &str = "Each line is a word and a value, with a space bet
 \x20 stops           stops\n\
 \x20 trips           trips, each on one service day\n\
 \x20 connections     rides from one stop to the next\n\
-\x20 footpaths       walks, each stop and itself included\n\
+\x20 footpaths       walks from stop to stop, that of each stop to itself included\n\
 \x20 name-bytes      bytes of all stop_ids and trip_ids together\n\
 \x20 trips-YYYYMMDD  trips of this service day, each repetition by itself; the earliest day first, days without\n\
 \x20                 trips left out\n\
@@ -53,7 +53,7 @@ pub(crate) const JOURNEY: &str =
 --names:\n\
 \x20 ride FIRST LAST    from the first to the last of these connections, which are of one trip\n\
 \x20 walk FROM TO SECS  from one stop to another\n\
-A change between two rides is a walk, also at one stop and of 0 seconds: `walk 1 1 0`.\n\
+Between two rides there is always a walk, even if both are at one stop and the change takes 0 seconds: `walk 1 1 0`.\n\
 Clocks are HH:MM:SS after the image's base, the start of its first service day: 55:00:00 is 07:00 on the\n\
 third day.\n\
 \n\
@@ -67,9 +67,10 @@ The last line `points N read N walk SECS` has the number of these departures, th
 were read, and the seconds of the direct walk, or `none`. A journey rides at least once, so this walk is not\n\
 among the departures, and may be quicker than some of them.\n\
 Clocks are HH:MM:SS after the image's base, the start of its first service day: 55:00:00 is 07:00 on the\n\
-third day.\n\
+third day. A warning says if the window begins before the image's first connection departs or ends after the last\n\
+one does; --no-warnings leaves it out.\n\
 \n\
-Example: csa profile examples/base.csa --from A --to C --after 07:00:00 --until 09:00:00 \
+Example: csa profile examples/base.csa --from A --to C --after 08:00:00 --until 08:12:00 \
 --by 10:00:00 --criterion arrival+trips\n\
 With --names a line is: dep 08:00:00 arr 08:30:00 trips 1 : ride T1 08:00:00 A 08:30:00 C\n\
 With --json it is: {\"ok\":\"profile\",\"points\":[{\"arr\":\"08:30:00\",\"dep\":\"08:00:00\",\
@@ -77,16 +78,18 @@ With --json it is: {\"ok\":\"profile\",\"points\":[{\"arr\":\"08:30:00\",\"dep\"
 With --picture answer.svg --rows 50 the first 50 journeys are drawn too.";
 
 pub(crate) const DEPARTURES: &str =
-    "Each line is one of `csa profile` from a stop, with the stop_id before it. All stops are answered at once, but\n\
-for the one where journeys end; a stop without departures has no line. Stops come in the image's order, as\n\
-`csa stops` prints it. The last line `stops N points N read N` has the number of stops that have a line, the number\n\
+    "Each line is one of `csa profile` from a stop, with the stop_id before it. There are lines from every stop\n\
+except the one where journeys end; a stop without departures has no line. Stops come in the image's order, as\n\
+`csa stops` prints them. The last line `stops N points N read N` has the number of stops that have a line, the number\n\
 of their departures, and the number of connections that were read.\n\
-A journey rides at least once, so a direct walk is not among the departures: --summary and --json have its seconds,\n\
-of the stops that have a line.\n\
-If a line of FILE is no stop_id of the image, nothing is printed but that line's number, on standard error, and the\n\
-status is 2; a FILE that cannot be read is status 3.\n\
+A journey rides at least once, so a direct walk is not among the departures: --summary and --json give its seconds\n\
+for the stops that have a line.\n\
+If a line of FILE is not a stop_id of the image, nothing is printed, standard error has the number of that line, and\n\
+the status is 2; if FILE cannot be read, it is 3.\n\
+A warning says if the window begins before the image's first connection departs or ends after the last one does;\n\
+--no-warnings leaves it out.\n\
 \n\
-Example: csa departures examples/base.csa --to C --after 07:00:00 --until 09:00:00 --by 10:00:00 \
+Example: csa departures examples/base.csa --to C --after 08:00:00 --until 08:12:00 --by 10:00:00 \
 --criterion arrival\n\
 With --summary a line is: A points 1 first 08:00:00 last 08:00:00 least 1200 walk none\n\
 With --json it is: {\"from\":\"A\",\"points\":[{\"arr\":\"08:20:00\",\"dep\":\"08:00:00\",\
@@ -97,11 +100,12 @@ pub(crate) const BUILD: &str = "Standard output has one line of counts:\n\
 \x20 stops        stops and platforms in stops.txt; stations, entrances and the like are not counted\n\
 \x20 runs         trips on the days on which they run, each repetition of frequencies.txt by itself\n\
 \x20 connections  rides of these runs from one stop to the next\n\
-\x20 footpaths    pairs of stops with a walk from one to the other, each stop and itself included\n\
-\x20 lifted       trips of which a time was moved, so that each hop takes at least one second\n\
-\x20 flex         trips left out since one of their rows in stop_times.txt has no stop_id\n\
+\x20 footpaths    pairs of stops with a walk from one to the other, that of each stop with itself included\n\
+\x20 lifted       trips with a time that was moved, so that each hop takes at least one second\n\
+\x20 flex         trips left out because one of their rows in stop_times.txt has no stop_id\n\
 \x20 frequencies  trips that frequencies.txt names\n\
-\x20 skipped      rows of transfers.txt left out: between trips or routes, or of a transfer_type beyond 0 to 3\n\
+\x20 skipped      rows of transfers.txt left out: between trips or routes, or with a transfer_type that is not one of\n\
+\x20              0, 1, 2, 3\n\
 The counts lifted, flex and frequencies include trips that run on none of the days.\n\
 \n\
 With --progress standard error has two lines for each file and each phase: when it begins, and when it is done, with\n\
@@ -110,8 +114,8 @@ the file's bytes and lines or the phase's counts, and the seconds that it took. 
 Example: csa build examples/base base.csa --first 20240115 --days 1 --zone fixed:0 --progress";
 
 pub(crate) const SERVE: &str =
-    "The image is version 1. The days and the zone are those of the feeds that are loaded. A warning is printed if\n\
-the image and the feeds use different time bases.\n\
+    "The image is version 1. The days and the zone are those of the feeds that are loaded. A warning says if the\n\
+image and the feeds use different time bases, or if the folder of a feed is not there yet.\n\
 A session is lines of JSON over TCP:\n\
 \x20 {\"do\":\"pin\"}\n\
 \x20 {\"do\":\"release\"}\n\
@@ -122,7 +126,7 @@ A session is lines of JSON over TCP:\n\
 Standard error has a line for each load, and what is wrong with a feed that is refused. With --log it also has,\n\
 with the instant in UTC and the seconds that it took:\n\
 \x20 2024-01-15T06:00:00Z session 1 ended requests 4 seconds 0.250\n\
-\x20     (ended: all was replied; failed: a read or a write failed; spent: it sent too many requests)\n\
+\x20     (ended: every request was answered; failed: a read or a write failed; spent: it sent too many requests)\n\
 \x20 2024-01-15T06:00:00Z load slow version 2 runs 2 connections 3 seconds 0.015\n\
 \x20 2024-01-15T06:00:00Z load slow refused 8 seconds 0.001\n\
 \n\

@@ -80,7 +80,7 @@ pub struct DeparturesRequest<'a> {
     pub by: u32,
     pub criterion: CriterionName,
     pub form: DeparturesForm,
-    /// A file with a stop_id a line.
+    /// A file with one stop_id on each line.
     pub from: Option<&'a str>,
 }
 

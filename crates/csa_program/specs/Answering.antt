@@ -55,7 +55,7 @@ abbrev pub IsProfile : ImageValue → ProfileRequest → Result (String Global) 
 IsProfile image request (Ok printed) = AnswersRequest image request (string_bytes printed)
 IsProfile image request (Err (BadQuery fault)) =
     IsRefused image request.question.from.now request.question.to.now (window_of request.question) fault
-IsProfile image request (Err (Unwritable path)) = Unit {0}
+IsProfile image request (Err (Unwritable path reason)) = Unit {0}
 IsProfile image request (Err OutOfMemory) = Unit {0}
 
 -- a text that answers was added to what was printed before, and nothing else

@@ -6,8 +6,8 @@ use service_days::day_start;
 use std::alloc::Global;
 use std::io::Write;
 
-/// Reports it if clocks will mean other instants once a feed is loaded. That it can't be reported changes nothing.
-pub fn tell_bases<E: Write>(alloc: Global, image: &Verified, plan: &Plan, errors: &mut E) {
+/// Warns if clocks will mean other instants once a feed is loaded. That it can't be written changes nothing.
+pub fn warn_of_bases<E: Write>(alloc: Global, image: &Verified, plan: &Plan, errors: &mut E) {
     let Ok(loaded) = day_start(&plan.zone, plan.first_day) else {
         return;
     };
@@ -16,7 +16,7 @@ pub fn tell_bases<E: Write>(alloc: Global, image: &Verified, plan: &Plan, errors
         return;
     }
     if let Ok(line) = format!(in alloc;
-        "csa: the image's clocks count from {base}, those of a feed that is loaded from {loaded}\n"
+        "csa: warning: the image's clocks count from {base}, those of a feed that is loaded from {loaded}\n"
     ) {
         let _ = errors.write_all(line.as_bytes());
     }

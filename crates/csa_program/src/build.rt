@@ -6,7 +6,7 @@ ghost use Rattle.csa_program.specs.Building.{changed_text, made_text, report_lin
 
 use crate::explaining::{explain_refused, reason_of};
 use crate::planning::{PlanFailure, plan_of};
-use crate::progress::{Progress, Reports, ToldFiles, load_told};
+use crate::progress::{Progress, ReportedFiles, Reports, load_reported};
 use crate::refusal::refuse_feed;
 use crate::status;
 use crate::warnings::{Built, warn};
@@ -78,9 +78,9 @@ pub fn run<H: Files + RandomSource + AllocGlobal + Clock, O: Write, E: Write>(
             explain_refused(rt, folder, &fault, errors);
             refuse_feed(alloc, output, fault)
         }
-        Err(Failure::Unreadable(path)) => status::tell_unread(rt, errors, path),
+        Err(Failure::Unreadable(path)) => status::report_unreadable(rt, errors, path),
         Err(Failure::Unwritable(path, reason)) => {
-            status::tell_unwritten(alloc, errors, path, reason)
+            status::report_unwritten(alloc, errors, path, reason)
         }
         Err(Failure::OutOfMemory) => status::OUT_OF_MEMORY,
     }
@@ -95,29 +95,29 @@ fn build<'a, 'c, H: Files + RandomSource + AllocGlobal + Clock, E: Write>(
 ) -> Result<Built, Failure<'a>> {
     let plan = plan_of(rt, &request.plan)?;
     let progress = Progress::new(rt.alloc(), rt, log, is_terminal);
-    let mut files = ToldFiles::new(FolderFiles::new(rt, request.folder), progress);
-    let built = build_told(rt, request.out, &mut files, plan);
+    let mut files = ReportedFiles::new(FolderFiles::new(rt, request.folder), progress);
+    let built = build_reported(rt, request.out, &mut files, plan);
     files.close();
     built
 }
 
 // Builds the image of the files, and writes it at the path.
-fn build_told<'a, H: Files + AllocGlobal, F: FeedFiles, R: Reports>(
+fn build_reported<'a, H: Files + AllocGlobal, F: FeedFiles, R: Reports>(
     rt: &H,
     out: &'a str,
-    files: &mut ToldFiles<F, R>,
+    files: &mut ReportedFiles<F, R>,
     plan: Plan,
 ) -> Result<Built, Failure<'a>>
     requires failures { F.failures files.old.files < 2 ^ 64 - 1 }
     requires some { 1 ≤ plan.days }
     requires few { plan.days ≤ MAX_DAYS }
 {
-    let (image, report) = load_told(rt.alloc(), files, &plan)?;
-    files.tell_writing(out);
+    let (image, report) = load_reported(rt.alloc(), files, &plan)?;
+    files.report_writing(out);
     if let Err(error) = put_image(rt, out, image.words()) {
         return Err(write_failure(&error, out));
     }
-    files.tell_written(out, image.words().len());
+    files.report_written(out, image.words().len());
     Ok(Built {
         image,
         plan,

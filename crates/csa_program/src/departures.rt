@@ -10,8 +10,8 @@ ghost use Rattle.csa_program.specs.declared.wanted_stops.NoList.TheVariants.{Unk
 ghost use Rattle.csa_program.specs.Departing.{AreAllPrinted, ArePrinted, AreShownBy, IsNoneAsked};
 ghost use Rattle.csa_program.specs.Departing.{form_of, window_asked};
 
-use crate::asked::{explain_end, window_reason};
 use crate::explaining::explain;
+use crate::question::{explain_end, window_reason};
 use crate::refusal::Refusal;
 use crate::status;
 use crate::wanted_stops::{NoList, wanted_from};
@@ -43,8 +43,11 @@ pub fn run<H: Files + AllocGlobal, O: Write, E: Write>(
     let destination = match destination_asked(image, &request) {
         Ok(destination) => destination,
         Err(fault) => {
-            explain_fault(image, &request, fault, errors);
-            return status::tell_refusal(rt.alloc(), output, &Refusal::Query(fault));
+            let status = status::print_refusal(rt.alloc(), output, &Refusal::Query(fault));
+            if status == status::REFUSED {
+                explain_fault(image, &request, fault, errors);
+            }
+            return status;
         }
     };
     match wanted_from(rt, image, request.from) {
@@ -110,7 +113,7 @@ fn explain_list<H: Files + AllocGlobal, E: Write>(
             explain_line(rt.alloc(), path, line, errors);
             status::REFUSED
         }
-        NoList::Unreadable => status::tell_unread(rt, errors, path),
+        NoList::Unreadable => status::report_unreadable(rt, errors, path),
         NoList::NotText => {
             explain(errors, &["csa: --from ", path, ": it isn't UTF-8"]);
             status::INPUT_OUTPUT

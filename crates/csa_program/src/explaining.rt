@@ -112,10 +112,9 @@ impl<H: Files + AllocGlobal> Explains for H {
 fn explain_unpublished<E: Write>(fault: PublishFault, errors: &mut E) {
     let reason = match fault {
         PublishFault::ShelvesFull { .. } => {
-            "sessions hold all eight versions that there may be: one is free once those who pinned it release it or end"
+            "sessions hold all eight versions that there can be: one is free once all who pinned it release it or end"
         }
-        PublishFault::VersionsSpent =>
-            "there is no further number of a version: start the server anew",
+        PublishFault::VersionsSpent => "the numbers of versions are used up: restart the server",
         PublishFault::OutOfMemory => return,
     };
     explain(errors, &["csa: ", reason]);
@@ -148,12 +147,13 @@ pub fn explain_refused<H: Files + AllocGlobal, E: Write>(
 /// Explains why a feed isn't loaded whose files are right, or why its zone is none.
 pub fn explain_load<E: Write>(fault: &LoadFault, errors: &mut E) {
     let reason = match fault.number() {
-        21 => "--zone: no POSIX rule as CET-1CEST,M3.5.0,M10.5.0/3, or no time zone file (TZif)",
+        21 =>
+            "--zone: neither a POSIX rule, such as CET-1CEST,M3.5.0,M10.5.0/3, nor a time zone file (TZif)",
         22 =>
-            "--first, --days: a day is beyond the calendar, or a trip has a time that no image has",
+            "--first, --days: a day is beyond the calendar, or a trip has a time that no image can have",
         41 => "transfers.txt: walks that follow one another take more than 1000000 seconds",
         42 =>
-            "transfers.txt, stops.txt: there are more than 5000000 footpaths, with those that follow from others",
+            "transfers.txt, stops.txt: there are more than 5000000 footpaths, counting those that follow from others",
         _ => return,
     };
     explain(errors, &["csa: ", reason]);

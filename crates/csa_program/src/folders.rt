@@ -1,6 +1,7 @@
 //! What is wrong with the folder of a feed: that it is none, or which file it lacks, and where that file is.
 
 use crate::explaining::{explain, is_file, is_folder, reason_of};
+use command_requests::NamedFolder;
 use gtfs_rows::Table;
 use std::alloc::Global;
 use std::fs;
@@ -15,18 +16,39 @@ const MOST_PIECES: usize = 64;
 
 /// Says what is wrong with the folder of a feed, if it is none.
 pub fn explain_folder<H: Files, E: Write>(rt: &H, folder: &str, errors: &mut E) {
-    match fs::metadata(rt, folder) {
-        Ok(metadata) if metadata.is_dir() => {}
-        Ok(_) if folder.ends_with(".zip") => {
-            explain_path(errors, folder, "a zip file: unpack it, and name the folder");
-        }
-        Ok(_) => explain_path(errors, folder, "not a folder"),
-        Err(error) => explain_path(errors, folder, reason_of(error.kind())),
+    if let Some(reason) = folder_fault(rt, folder) {
+        explain_path(errors, folder, reason);
     }
 }
 
 fn explain_path<'a, E: Write>(errors: &mut E, path: &'a str, reason: &'a str) {
     explain(errors, &["csa: ", path, ": ", reason]);
+}
+
+/// Warns of each feed of a server whose folder isn't there now. It may be there once the feed is loaded.
+pub fn warn_of_folders<H: Files, E: Write>(rt: &H, feeds: &[NamedFolder<'_>], errors: &mut E) {
+    for feed in feeds {
+        if let Some(reason) = folder_fault(rt, feed.folder) {
+            warn_of_folder(errors, feed.name, feed.folder, reason);
+        }
+    }
+}
+
+fn warn_of_folder<'a, E: Write>(errors: &mut E, name: &'a str, folder: &'a str, reason: &'a str) {
+    explain(
+        errors,
+        &["csa: warning: feed ", name, ": ", folder, ": ", reason],
+    );
+}
+
+/// What is wrong with the folder of a feed, if it is none.
+fn folder_fault<H: Files>(rt: &H, folder: &str) -> Option<&'static str> {
+    match fs::metadata(rt, folder) {
+        Ok(metadata) if metadata.is_dir() => None,
+        Ok(_) if folder.ends_with(".zip") => Some("a zip file: unpack it, and name the folder"),
+        Ok(_) => Some("not a folder"),
+        Err(error) => Some(reason_of(error.kind())),
+    }
 }
 
 /// Which file a folder lacks, and where it is, if it is in a folder below or may be in a zip file.

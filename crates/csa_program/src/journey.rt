@@ -1,12 +1,11 @@
 //! `csa journey IMAGE TEXT QUERY`.
 
-ghost use Rattle.std.specs.Prelude.{◌≡◌, ◌≢◌, IfOk, string_bytes};
-ghost use Rattle.command_requests.specs.declared.statuses.TheConstants.{ACCEPTED, REFUSED};
-ghost use Rattle.csa_program.specs.declared.journey.Failure.TheVariants.{OutOfMemory};
+ghost use Rattle.std.specs.Prelude.{◌≡◌, ◌⊎◌, IfOk, string_bytes};
+ghost use Rattle.command_requests.specs.declared.statuses.TheConstants.{ACCEPTED, INPUT_OUTPUT, OUT_OF_MEMORY, REFUSED};
 ghost use Rattle.csa_program.specs.Judging.{IsAccepted, IsFaulty, IsVerdict, times_line};
 
 use crate::explaining::explain;
-use crate::question::query_asked;
+use crate::question::{query_asked, refuse_question};
 use crate::refusal::Refusal;
 use crate::status;
 use command_requests::JourneyRequest;
@@ -30,12 +29,14 @@ pub enum Failure {
     OutOfMemory,
 }
 
-/// Prints when the journey departs and arrives, or why it doesn't hold in the image or doesn't count for the query.
-pub fn run<O: Write>(
+/// Prints when the journey departs and arrives, or why it doesn't hold in the image or doesn't count for the query, which
+/// standard error explains.
+pub fn run<O: Write, E: Write>(
     alloc: Global,
     image: &Verified,
     request: JourneyRequest<'_>,
     output: &mut O,
+    errors: &mut E,
 ) -> u8
     ensures accepted { result ≡ ACCEPTED → IsAccepted image.now request.entry.question request.entry.text.now
         (O.contents output.old) (O.contents output.new) }
@@ -46,7 +47,12 @@ pub fn run<O: Write>(
             Ok(line) => status::write_text(output, line.as_str(), status::ACCEPTED),
             Err(_) => status::OUT_OF_MEMORY,
         },
-        Err(failure) => tell_failure(alloc, output, failure),
+        Err(Failure::BadQuery(fault)) => {
+            refuse_question(alloc, image, &request.question, fault, output, errors)
+        }
+        Err(Failure::BadText) => refuse(alloc, &Refusal::BadText, output, errors),
+        Err(Failure::Faulty(fault)) => refuse(alloc, &Refusal::Journey(fault), output, errors),
+        Err(Failure::OutOfMemory) => status::OUT_OF_MEMORY,
     }
 }
 
@@ -61,34 +67,31 @@ fn line_of(alloc: Global, times: Times) -> Result<String, AllocError>
     Ok(line)
 }
 
-fn tell_failure<O: Write>(alloc: Global, output: &mut O, failure: Failure) -> u8
-    ensures accepted { result ≢ ACCEPTED }
-    ensures refused { result ≡ REFUSED → failure ≢ OutOfMemory }
+/// Prints why a journey is refused, and explains it.
+fn refuse<O: Write, E: Write>(
+    alloc: Global,
+    refusal: &Refusal,
+    output: &mut O,
+    errors: &mut E,
+) -> u8
+    ensures { (result ≡ REFUSED) ⊎ (result ≡ INPUT_OUTPUT) ⊎ (result ≡ OUT_OF_MEMORY) }
 {
-    let refusal = match failure {
-        Failure::BadQuery(fault) => Refusal::Query(fault),
-        Failure::BadText => Refusal::BadText,
-        Failure::Faulty(fault) => Refusal::Journey(fault),
-        Failure::OutOfMemory => return status::OUT_OF_MEMORY,
-    };
-    status::tell_refusal(alloc, output, &refusal)
+    let status = status::print_refusal(alloc, output, refusal);
+    if status == status::REFUSED {
+        explain_refusal(refusal, errors);
+    }
+    status
 }
 
-/// Says why a journey is refused that is asked of an image. Nothing is said of a question that asks no query.
-pub fn explain_journey<E: Write>(
-    alloc: Global,
-    image: &Verified,
-    request: &JourneyRequest<'_>,
-    errors: &mut E,
-) {
-    match judge(alloc, image, request) {
-        Err(Failure::BadText) => explain(
+fn explain_refusal<E: Write>(refusal: &Refusal, errors: &mut E) {
+    match refusal {
+        Refusal::BadText => explain(
             errors,
             &[
                 "csa: a journey is `ride FIRST LAST` and `walk FROM TO SECS`, with one space between words",
             ],
         ),
-        Err(Failure::Faulty(fault)) => explain_fault(fault, errors),
+        Refusal::Journey(fault) => explain_fault(*fault, errors),
         _ => {}
     }
 }
@@ -117,20 +120,21 @@ fn explain_fault<E: Write>(fault: JourneyFault, errors: &mut E) {
 fn reason_of(fault: JourneyFault) -> &'static str {
     match fault {
         JourneyFault::LegRange(_) => {
-            "there is no such ride, or the image has no such connections, or the first is behind the last"
+            "there is no such ride, or the image has no such connections, or the first is after the last"
         }
-        JourneyFault::TwoTrips(_) => "its first and its last connection are of two trips",
-        JourneyFault::NoBoarding(_) => "nobody gets on where it departs",
-        JourneyFault::NoAlighting(_) => "nobody gets off where it ends",
-        JourneyFault::NoFootpath(_) => "the image has no such footpath of as many seconds",
+        JourneyFault::TwoTrips(_) => "its first and its last connection are of different trips",
+        JourneyFault::NoBoarding(_) => "nobody may get on where it departs",
+        JourneyFault::NoAlighting(_) => "nobody may get off where it ends",
+        JourneyFault::NoFootpath(_) =>
+            "the image has no footpath from the one stop to the other with so many seconds",
         JourneyFault::WalkBroken(_) => {
             "it doesn't lead from where the ride before it ends to where the next departs; a change is a walk, \
-also at one stop and of 0 seconds"
+even at one stop and of 0 seconds"
         }
         JourneyFault::TooEarly(_) => "it departs before the ride and the walk before it are over",
         JourneyFault::WrongEnds => "the journey doesn't begin at --from, or doesn't end at --to",
         JourneyFault::OutsideWindow => {
-            "the journey departs before --after or behind --until, or arrives behind --by"
+            "the journey departs before --after or after --until, or arrives after --by"
         }
     }
 }

@@ -8,6 +8,7 @@ mod days;
 mod departures;
 mod explaining;
 mod folders;
+mod further_rows;
 mod info;
 mod journey;
 mod listing;
@@ -35,6 +36,7 @@ mod upgrade;
 mod verify;
 mod wanted_stops;
 mod warnings;
+mod windows;
 mod writing;
 
 use crate::asked::{Asked, answer};
@@ -78,26 +80,41 @@ fn run_command<
     O: Write,
     E: Write + Send,
 >(rt: &H, words: &[S], input: &mut I, output: &mut O, errors: &mut E, is_terminal: bool) -> u8 {
+    let warnings = wants_warnings(words);
     match read(rt.alloc(), words) {
-        Ok(Request::Verify(image)) => answer(rt, Asked::Verify(image), input, output, errors),
-        Ok(Request::Info(image)) => answer(rt, Asked::Info(image), input, output, errors),
-        Ok(Request::Journey(request)) => answer(rt, Asked::Journey(request), input, output, errors),
-        Ok(Request::Profile(request)) => answer(rt, Asked::Profile(request), input, output, errors),
-        Ok(Request::Departures(request)) => {
-            answer(rt, Asked::Departures(request), input, output, errors)
+        Ok(Request::Verify(image)) => {
+            answer(rt, Asked::Verify(image), input, output, errors, warnings)
         }
-        Ok(Request::Stops(request)) => answer(rt, Asked::Stops(request), input, output, errors),
+        Ok(Request::Info(image)) => {
+            answer(rt, Asked::Info(image), input, output, errors, warnings)
+        }
+        Ok(Request::Journey(request)) => {
+            answer(rt, Asked::Journey(request), input, output, errors, warnings)
+        }
+        Ok(Request::Profile(request)) => {
+            answer(rt, Asked::Profile(request), input, output, errors, warnings)
+        }
+        Ok(Request::Departures(request)) => {
+            answer(
+                rt,
+                Asked::Departures(request),
+                input,
+                output,
+                errors,
+                warnings,
+            )
+        }
+        Ok(Request::Stops(request)) => {
+            answer(rt, Asked::Stops(request), input, output, errors, warnings)
+        }
         Ok(Request::Tables(folder)) => tables::run(rt, folder, output, errors),
         Ok(Request::Days(folder)) => days::run(rt, folder, output, errors),
-        Ok(Request::Build(request)) => build::run(
-            rt,
-            request,
-            output,
-            errors,
-            is_terminal,
-            wants_warnings(words),
-        ),
-        Ok(Request::Upgrade(request)) => answer(rt, Asked::Upgrade(request), input, output, errors),
+        Ok(Request::Build(request)) => {
+            build::run(rt, request, output, errors, is_terminal, warnings)
+        }
+        Ok(Request::Upgrade(request)) => {
+            answer(rt, Asked::Upgrade(request), input, output, errors, warnings)
+        }
         Ok(Request::Serve(request)) => serve::run(rt, request, input, output, errors),
         Err(Unread::Help(text)) => status::write_text(output, text.as_str(), status::ACCEPTED),
         Err(Unread::Mistake(text)) => {

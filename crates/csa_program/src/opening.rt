@@ -24,17 +24,17 @@ pub fn open_image<H: Files + AllocGlobal, I: Read, O: Write, E: Write>(
     let words = match image_words(rt, path, input) {
         Ok(words) => words,
         Err(ImageFileFault::OddLength) => {
-            let status = status::tell_refusal(rt.alloc(), output, &Refusal::OddLength);
+            let status = status::print_refusal(rt.alloc(), output, &Refusal::OddLength);
             explain(
                 status,
                 path,
-                &"its bytes aren't whole words of four",
+                &"its size isn't a multiple of four bytes",
                 errors,
             );
             return Err(status);
         }
         Err(ImageFileFault::Unreadable) => {
-            return Err(status::tell_unread(rt, errors, path));
+            return Err(status::report_unreadable(rt, errors, path));
         }
         Err(ImageFileFault::OutOfMemory) => return Err(status::OUT_OF_MEMORY),
     };
@@ -42,7 +42,7 @@ pub fn open_image<H: Files + AllocGlobal, I: Read, O: Write, E: Write>(
         Ok(image) => Ok(image),
         Err((_words, ImageFault::OutOfMemory)) => Err(status::OUT_OF_MEMORY),
         Err((_words, fault)) => {
-            let status = status::tell_refusal(rt.alloc(), output, &Refusal::Image(fault));
+            let status = status::print_refusal(rt.alloc(), output, &Refusal::Image(fault));
             explain(status, path, &fault, errors);
             Err(status)
         }

@@ -4,6 +4,7 @@ ghost use Rattle.std.specs.Prelude.{◌≡◌, ◌-◌, IfOk, length, take, stri
 ghost use Rattle.std.specs.List.{AllZip};
 ghost use Rattle.csa_program.specs.Picturing.{IsDrawnAs, IsPictureOf};
 
+use crate::explaining::reason_of;
 use answer_pictures::{Axis, JourneyLine, heading_of, journey_line, picture};
 use command_requests::ProfileRequest;
 use criteria::Told;
@@ -11,14 +12,15 @@ use image_verifier::Verified;
 use journeys::{Answer, Departure};
 use std::alloc::{AllocError, Global};
 use std::fs::File;
+use std::io;
 use std::io::Write;
 use std::rt::Files;
 use timetable::Query;
 
 /// Why there is no picture.
 pub enum PictureFailure<'a> {
-    /// The file at the path can't be written.
-    Unwritable(&'a str),
+    /// The file at the path can't be written, for this reason.
+    Unwritable(&'a str, &'static str),
     OutOfMemory,
 }
 
@@ -104,17 +106,15 @@ pub fn write_picture<'a, H: Files>(
     text: &str,
     path: &'a str,
 ) -> Result<(), PictureFailure<'a>> {
-    if write_file(rt, path, text) {
-        Ok(())
-    } else {
-        Err(PictureFailure::Unwritable(path))
+    match write_file(rt, path, text) {
+        Ok(()) => Ok(()),
+        Err(error) => Err(PictureFailure::Unwritable(path, reason_of(error.kind()))),
     }
 }
 
-// Writes the text into the file at the path: whether that went well.
-fn write_file<H: Files>(rt: &H, path: &str, text: &str) -> bool {
-    match File::create(rt, path) {
-        Ok(mut file) => file.write_all(text.as_bytes()).is_ok() && file.flush().is_ok(),
-        Err(_) => false,
-    }
+// Writes the text into the file at the path.
+fn write_file<H: Files>(rt: &H, path: &str, text: &str) -> io::Result<()> {
+    let mut file = File::create(rt, path)?;
+    file.write_all(text.as_bytes())?;
+    file.flush()
 }

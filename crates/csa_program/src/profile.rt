@@ -8,8 +8,7 @@ ghost use Rattle.csa_program.specs.Listing.{form_text};
 
 use crate::listing::{named_lines, numbered_lines};
 use crate::pictured::{PictureFailure, picture_text, write_picture};
-use crate::question::query_asked;
-use crate::refusal::Refusal;
+use crate::question::{query_asked, refuse_question};
 use crate::replying::reply_line;
 use crate::status;
 use command_requests::{AnswerForm, ProfileRequest};
@@ -28,8 +27,8 @@ use timetable::{Query, QueryFault};
 pub enum Failure<'a> {
     /// The question asks no query of the image.
     BadQuery(QueryFault),
-    /// The picture can't be written into the file at the path.
-    Unwritable(&'a str),
+    /// The picture can't be written into the file at the path, for this reason.
+    Unwritable(&'a str, &'static str),
     OutOfMemory,
 }
 
@@ -50,9 +49,11 @@ pub fn run<H: Files + AllocGlobal, O: Write, E: Write>(
     match profile_text(rt, image, request) {
         Ok(text) => status::write_text(output, text.as_str(), status::ACCEPTED),
         Err(Failure::BadQuery(fault)) => {
-            status::tell_refusal(rt.alloc(), output, &Refusal::Query(fault))
+            refuse_question(rt.alloc(), image, &request.question, fault, output, errors)
         }
-        Err(Failure::Unwritable(path)) => status::tell_unwritable(rt.alloc(), errors, path),
+        Err(Failure::Unwritable(path, reason)) => {
+            status::report_unwritten(rt.alloc(), errors, path, reason)
+        }
         Err(Failure::OutOfMemory) => status::OUT_OF_MEMORY,
     }
 }
@@ -71,7 +72,7 @@ fn profile_text<'a, H: Files + AllocGlobal>(
     };
     match text_by_name(rt, image, &query, request) {
         Ok(text) => Ok(text),
-        Err(PictureFailure::Unwritable(path)) => Err(Failure::Unwritable(path)),
+        Err(PictureFailure::Unwritable(path, reason)) => Err(Failure::Unwritable(path, reason)),
         Err(PictureFailure::OutOfMemory) => Err(Failure::OutOfMemory),
     }
 }

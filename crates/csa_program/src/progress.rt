@@ -43,9 +43,9 @@ pub trait Reports {
 
 /// Loads a feed as `load` does, and reports each file and then what the image has, if there is
 /// anything to report it to.
-pub fn load_told<F: FeedFiles, R: Reports>(
+pub fn load_reported<F: FeedFiles, R: Reports>(
     alloc: Global,
-    files: &mut ToldFiles<F, R>,
+    files: &mut ReportedFiles<F, R>,
     plan: &Plan,
 ) -> Result<(Verified, Report), LoadFault>
     requires failures { F.failures files.old.files < 2 ^ 64 - 1 }
@@ -62,7 +62,7 @@ pub fn load_told<F: FeedFiles, R: Reports>(
 {
     let loaded = load(alloc, files, plan);
     if let Ok((_, report)) = &loaded {
-        files.tell_made(report);
+        files.report_made(report);
     }
     loaded
 }
@@ -219,21 +219,21 @@ fn with_seconds(
 
 /// The files of a feed, each of which is reported when it is read, if there is anything to report it to.
 #[derive(Drop)]
-pub struct ToldFiles<F, R> {
+pub struct ReportedFiles<F, R> {
     files: F,
     reports: Option<R>,
 }
 
-impl<F: FeedFiles, R: Reports> ToldFiles<F, R> {
+impl<F: FeedFiles, R: Reports> ReportedFiles<F, R> {
     /// The files, and where what is done is reported.
-    pub fn new(files: F, reports: Option<R>) -> ToldFiles<F, R>
+    pub fn new(files: F, reports: Option<R>) -> ReportedFiles<F, R>
         ensures { result.files ≡ files }
     {
-        ToldFiles { files, reports }
+        ReportedFiles { files, reports }
     }
 
     // Reports that a file is read next.
-    fn tell_reading(&mut self, name: &str)
+    fn report_reading(&mut self, name: &str)
         ensures { self.new.files ≡ self.old.files }
     {
         if let Some(reports) = &mut self.reports {
@@ -242,7 +242,7 @@ impl<F: FeedFiles, R: Reports> ToldFiles<F, R> {
     }
 
     // Reports that the file was read.
-    fn tell_read(&mut self, name: &str, bytes: Option<&[u8]>)
+    fn report_read(&mut self, name: &str, bytes: Option<&[u8]>)
         ensures { self.new.files ≡ self.old.files }
     {
         if let Some(reports) = &mut self.reports {
@@ -251,7 +251,7 @@ impl<F: FeedFiles, R: Reports> ToldFiles<F, R> {
     }
 
     // Reports what the image has.
-    fn tell_made(&mut self, report: &Report)
+    fn report_made(&mut self, report: &Report)
         ensures { self.new.files ≡ self.old.files }
     {
         if let Some(reports) = &mut self.reports {
@@ -260,14 +260,14 @@ impl<F: FeedFiles, R: Reports> ToldFiles<F, R> {
     }
 
     /// Reports that the image is written at a path.
-    pub fn tell_writing(&mut self, path: &str) {
+    pub fn report_writing(&mut self, path: &str) {
         if let Some(reports) = &mut self.reports {
             reports.begin_writing(path);
         }
     }
 
     /// Reports that the image of so many words was written at a path.
-    pub fn tell_written(&mut self, path: &str, words: usize) {
+    pub fn report_written(&mut self, path: &str, words: usize) {
         if let Some(reports) = &mut self.reports {
             reports.note_written(path, words);
         }
@@ -281,20 +281,20 @@ impl<F: FeedFiles, R: Reports> ToldFiles<F, R> {
     }
 }
 
-impl<F: FeedFiles, R: Reports> FeedFiles for ToldFiles<F, R> {
-    ghost failures = { λ told. F.failures told.files };
+impl<F: FeedFiles, R: Reports> FeedFiles for ReportedFiles<F, R> {
+    ghost failures = { λ reported. F.failures reported.files };
 
-    ghost failed = { λ told. F.failed told.files };
+    ghost failed = { λ reported. F.failed reported.files };
 
-    ghost holds = { λ told. F.holds told.files };
+    ghost holds = { λ reported. F.holds reported.files };
 
-    ghost hash = { λ told. F.hash told.files };
+    ghost hash = { λ reported. F.hash reported.files };
 
     fn read(&mut self, alloc: Global, name: &str) -> Result<Option<Vec<u8>>, FileFault> {
-        self.tell_reading(name);
+        self.report_reading(name);
         let read = self.files.read(alloc, name);
         if let Ok(file) = &read {
-            self.tell_read(name, file.as_deref());
+            self.report_read(name, file.as_deref());
         }
         read
     }

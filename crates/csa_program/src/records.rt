@@ -216,12 +216,18 @@ impl Records {
         Ok(true)
     }
 
+    /// The number of the record that was read last: 0 is the header.
+    pub fn number(&self) -> u64 {
+        self.count
+    }
+
     /// Whether the record that was read last is behind the header.
     pub fn is_behind_header(&self) -> bool {
         self.count > 0
     }
 
-    fn has(&self, column: &str, text: &[u8]) -> bool {
+    /// Whether the record that was read last has this text in this column.
+    pub fn has(&self, column: &str, text: &[u8]) -> bool {
         match self.header.index_of(column.as_bytes()) {
             Some(index) => self.record.field(index) == text,
             None => false,

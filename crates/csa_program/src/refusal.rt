@@ -99,8 +99,8 @@ pub fn refuse_feed<O: Write>(alloc: Global, output: &mut O, fault: LoadFault) ->
     }
     match fault {
         LoadFault::FileFailed(_) => {
-            status::tell_feed_unreadable(alloc, output, &Refusal::Feed(fault))
+            status::print_unreadable_feed(alloc, output, &Refusal::Feed(fault))
         }
-        _ => status::tell_refusal(alloc, output, &Refusal::Feed(fault)),
+        _ => status::print_refusal(alloc, output, &Refusal::Feed(fault)),
     }
 }

@@ -14,8 +14,9 @@ ghost use Rattle.workers.specs.Sessions.{AreServedSince};
 ghost use Rattle.csa_program.specs.Serving.{counts_of, form_with, served_text};
 ghost use Rattle.feed_plans.specs.Planning.{IsPlanNow};
 
-use crate::bases::tell_bases;
+use crate::bases::warn_of_bases;
 use crate::explaining::{Explains, explain_load, reason_of};
+use crate::folders::warn_of_folders;
 use crate::logging::{Begun, LoaderErrors, SessionLog, SharedErrors, log_load};
 use crate::machine::Machine;
 use crate::opening::open_image;
@@ -136,7 +137,7 @@ pub fn run<
             explain_load(&fault, errors);
             return refuse_feed(alloc, output, fault);
         }
-        Err(PlanFailure::Unreadable(path)) => return status::tell_unread(rt, errors, path),
+        Err(PlanFailure::Unreadable(path)) => return status::report_unreadable(rt, errors, path),
         Err(PlanFailure::OutOfMemory) => return status::OUT_OF_MEMORY,
     };
     let image = match open_image(rt, request.image, input, output, errors) {
@@ -157,8 +158,9 @@ pub fn run<
         is_logged: request.log,
     };
     if !request.feeds.is_empty() {
-        tell_bases(alloc, &image, &folders.first, errors);
+        warn_of_bases(alloc, &image, &folders.first, errors);
     }
+    warn_of_folders(rt, &request.feeds, errors);
     listen(rt, &request, image, &folders, output, errors)
 }
 
@@ -359,12 +361,12 @@ fn shelves_of(
     Ok((shelves, loader, seats))
 }
 
-// Reports that the port can't be listened at, and why.
+// Reports that the server can't listen at the port, and why.
 fn unheard<E: Write>(alloc: Global, errors: &mut E, port: u16, kind: ErrorKind) -> u8 {
     let reason = reason_of(kind);
     status::write_line(
         errors,
-        format!(in alloc; "csa: port {port} can't be listened at: {reason}\n"),
+        format!(in alloc; "csa: can't listen at port {port}: {reason}\n"),
         status::INPUT_OUTPUT,
     )
 }

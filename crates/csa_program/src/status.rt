@@ -35,45 +35,29 @@ pub fn write_line<W: Write>(writer: &mut W, line: Result<String, AllocError>, st
 }
 
 /// Prints a refusal.
-pub fn tell_refusal<O: Write>(alloc: Global, output: &mut O, refusal: &Refusal) -> u8
+pub fn print_refusal<O: Write>(alloc: Global, output: &mut O, refusal: &Refusal) -> u8
     ensures { (result ≡ REFUSED) ⊎ (result ≡ INPUT_OUTPUT) ⊎ (result ≡ OUT_OF_MEMORY) }
 {
     write_line(output, format!(in alloc; "{refusal}\n"), REFUSED)
 }
 
 /// Reports a file that can't be read, with the system's reason.
-pub fn tell_unread<H: Files + AllocGlobal, E: Write>(rt: &H, errors: &mut E, path: &str) -> u8
+pub fn report_unreadable<H: Files + AllocGlobal, E: Write>(rt: &H, errors: &mut E, path: &str) -> u8
     ensures { (result ≡ INPUT_OUTPUT) ⊎ (result ≡ OUT_OF_MEMORY) }
 {
     let reason = unread_reason(rt, path);
-    file_failed_since(rt.alloc(), errors, path, "read", reason)
+    report_failed_file(rt.alloc(), errors, path, "read", reason)
 }
 
 /// Reports a file that can't be written, with the system's reason.
-pub fn tell_unwritten<E: Write>(alloc: Global, errors: &mut E, path: &str, reason: &str) -> u8 {
-    file_failed_since(alloc, errors, path, "written", reason)
-}
-
-/// Reports a file that can't be written.
-pub fn tell_unwritable<E: Write>(alloc: Global, errors: &mut E, path: &str) -> u8
+pub fn report_unwritten<E: Write>(alloc: Global, errors: &mut E, path: &str, reason: &str) -> u8
     ensures { (result ≡ INPUT_OUTPUT) ⊎ (result ≡ OUT_OF_MEMORY) }
 {
-    file_failed(alloc, errors, path, "written")
-}
-
-// Reports what can't be done to a file.
-fn file_failed<E: Write>(alloc: Global, errors: &mut E, path: &str, what: &str) -> u8
-    ensures { (result ≡ INPUT_OUTPUT) ⊎ (result ≡ OUT_OF_MEMORY) }
-{
-    write_line(
-        errors,
-        format!(in alloc; "csa: {path} can't be {what}\n"),
-        INPUT_OUTPUT,
-    )
+    report_failed_file(alloc, errors, path, "written", reason)
 }
 
 // Reports what can't be done to a file, and why.
-fn file_failed_since<E: Write>(
+fn report_failed_file<E: Write>(
     alloc: Global,
     errors: &mut E,
     path: &str,
@@ -90,6 +74,6 @@ fn file_failed_since<E: Write>(
 }
 
 /// Prints the refusal of a feed of which a file can't be read; the status is that of a file that can't be read.
-pub fn tell_feed_unreadable<O: Write>(alloc: Global, output: &mut O, refusal: &Refusal) -> u8 {
+pub fn print_unreadable_feed<O: Write>(alloc: Global, output: &mut O, refusal: &Refusal) -> u8 {
     write_line(output, format!(in alloc; "{refusal}\n"), INPUT_OUTPUT)
 }

@@ -21,6 +21,17 @@ pub enum Form {
     Other,
 }
 
+impl Form {
+    /// Whether an id that one of two columns names is looked up as that of the other one is.
+    pub fn is_looked_up_as(self, other: Form) -> bool {
+        match (self, other) {
+            (Form::Id(file, _), Form::Id(other_file, _)) => file == other_file,
+            (Form::Other, Form::Other) => true,
+            _ => false,
+        }
+    }
+}
+
 /// A column that can be at fault, what it must be, and what is said if it isn't.
 #[derive(Clone, Copy)]
 pub struct Suspect(pub &'static str, pub Form, pub &'static str);
@@ -125,7 +136,7 @@ const END_WITHOUT_TIME: &[Suspect] = &[Suspect(
 const TIME_GOES_BACK: &[Suspect] = &[Suspect(
     "trip_id",
     Form::Other,
-    "has a time in this row that is before the time ahead of it",
+    "has a time in this row that is earlier than the one before it",
 )];
 
 const HOP_WITHOUT_DURATION: &[Suspect] = &[Suspect(

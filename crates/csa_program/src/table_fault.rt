@@ -2,6 +2,7 @@
 
 use crate::explaining::{explain, is_file, quoted, unread_reason};
 use crate::folders::missing_file;
+use crate::further_rows::FurtherRows;
 use crate::records::{Records, Search, Unread, Wanted, find};
 use crate::suspects::{Form, Suspect, required_columns, suspects_of};
 use feed_files::LONGEST_FILE;
@@ -142,16 +143,62 @@ fn wrong_value<H: Files + AllocGlobal>(
         return None;
     }
     for suspect in suspects_of(fault) {
-        let Suspect(column, form, reason) = *suspect;
+        let Suspect(column, form, _) = *suspect;
         if found.header.index_of(column.as_bytes()).is_some() {
             let value = found.value(column);
             if is_wrong(rt, folder, form, value).ok()? {
-                let shown = quoted(rt.alloc(), value).ok()?;
-                return format!(in rt.alloc(); "{column} {shown} {reason}").ok();
+                return what_is_wrong(rt, folder, fault, *suspect, value);
             }
         }
     }
     None
+}
+
+/// The column, its value and what is wrong with it; of an id that isn't found also how many rows behind name it.
+fn what_is_wrong<H: Files + AllocGlobal>(
+    rt: &H,
+    folder: &str,
+    fault: &TableFault,
+    suspect: Suspect,
+    value: &[u8],
+) -> Option<String> {
+    let Suspect(column, form, reason) = suspect;
+    let shown = quoted(rt.alloc(), value).ok()?;
+    match further_rows(rt, folder, fault, form, value) {
+        0 => format!(in rt.alloc(); "{column} {shown} {reason}").ok(),
+        1 => {
+            format!(in rt.alloc(); "{column} {shown} {reason}; 1 further row names it too").ok()
+        }
+        rows => {
+            format!(in rt.alloc();
+                "{column} {shown} {reason}; {rows} further rows name it too"
+            ).ok()
+        }
+    }
+}
+
+/// How many rows behind the fault name the same id that isn't found; 0 for another fault, or if they can't be read.
+fn further_rows<H: Files + AllocGlobal>(
+    rt: &H,
+    folder: &str,
+    fault: &TableFault,
+    form: Form,
+    id: &[u8],
+) -> u64 {
+    if fault.kind != FaultKind::UnknownId {
+        return 0;
+    }
+    let mut further = FurtherRows {
+        suspects: suspects_of(fault),
+        form,
+        id,
+        behind: fault.row,
+        rows: 0,
+    };
+    match search_in(rt, folder, fault.table.file_name(), &mut further) {
+        Ok(_) => further.rows,
+        Err(_) => 0,
+    }
 }
 
 /// Whether a text isn't as it must be; an id is looked up in its file.

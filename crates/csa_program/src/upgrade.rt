@@ -31,7 +31,7 @@ pub fn run<H: Files + AllocGlobal, O: Write, E: Write>(
         Ok(()) => status::write_line(output, counts(rt.alloc(), image), status::ACCEPTED),
         Err(error) => match error.kind() {
             ErrorKind::OutOfMemory => status::OUT_OF_MEMORY,
-            kind => { status::tell_unwritten(rt.alloc(), errors, request.out, reason_of(kind)) }
+            kind => { status::report_unwritten(rt.alloc(), errors, request.out, reason_of(kind)) }
         },
     }
 }

@@ -147,7 +147,7 @@ fn transfers_line(alloc: Global, left_out: &LeftOut) -> Result<String, AllocErro
     let types = left_out.of_other_types;
     format!(in alloc;
         "rows of transfers.txt are left out: {trips} between trips or routes, {types} of a transfer_type \
-beyond 0 to 3; a change there may need more time than answers give it"
+that isn't one of 0, 1, 2, 3; a change there may need more time than answers give it"
     )
 }
 
@@ -162,7 +162,7 @@ fn other_zone<H: Files + AllocGlobal>(rt: &H, folder: &str, plan: &Plan) -> Opti
         return None;
     }
     format!(in rt.alloc();
-        "days begin at another time in the feed's agency_timezone, {name}: for that write --zone file:{path}"
+        "days begin at another time in the feed's agency_timezone, {name}: for that zone write --zone file:{path}"
     ).ok()
 }
 

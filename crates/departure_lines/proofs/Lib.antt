@@ -1,5 +1,5 @@
 mod Commas
 mod Least
-mod Marks
+mod Sought
 mod Stops
 mod Summed

@@ -96,7 +96,7 @@ last_line LineForm.Journeys stops points read = counts_line stops points read
 last_line LineForm.Points stops points read = counts_line stops points read
 last_line LineForm.Summary stops points read = counts_line stops points read
 
--- all stops that are wanted are shown, and then the counts; each connection of the window was read once
+-- all stops that are wanted are shown, and then the counts, of which the last is the number of connections of the window
 pub record AreShown {V : Type 0} (told : V → ToldValue) (rules : Rules V) (form : LineForm) (image : ImageValue) (d : Destination)
     (wanted : Wanted) (printed : List ℕ) : Type 0 where
   pub stops : ℕ

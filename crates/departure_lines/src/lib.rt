@@ -3,6 +3,7 @@
 #![tactic(auto)]
 
 mod form;
+mod listed_names;
 mod listing;
 mod stop_json;
 mod stop_lines;

@@ -1,12 +1,11 @@
-//! Lists that name stops, a stop_id a line.
+//! Lists that name stops, one stop_id on each line.
 
-ghost use Rattle.std.specs.Prelude.{◌≡◌, ◌<◌, ◌+◌, ℕ, true, false, IfOk, IfErr, length, map};
-ghost use Rattle.std.specs.Prelude.{replicate};
+ghost use Rattle.std.specs.Prelude.{◌≡◌, ℕ, IfErr, IfOk, map, slice_get};
 ghost use Rattle.std.specs.Str.Lines.{lines};
-ghost use Rattle.std.specs.Prelude.{set, slice_get};
 ghost use Rattle.departure_lines.specs.Naming.{AreMarked, IsUnknownLine, is_set};
 ghost use Rattle.departure_lines.specs.declared.stop_lists.ListFault.TheVariants.{UnknownStop};
 
+use crate::listed_names::{first_missing, mark_stops, names_of};
 use image_verifier::Verified;
 use std::alloc::{AllocError, Global};
 
@@ -43,8 +42,9 @@ impl Wanted {
     ghost use Rattle.departure_lines.specs.Naming.{AreWanted, IsUnknownLine, is_wanted};
     ghost use Rattle.departure_lines.specs.declared.stop_lists.ListFault.TheVariants.{UnknownStop};
 
-    /// The stops that a list names, a stop_id a line. The error is the first line that is no stop_id of the image, or
-    /// that memory runs out.
+    /// The stops that a list names, one stop_id on each line. The error is the first line that is no stop_id of the
+    /// image, or that memory runs out. Lines and stops are each gone through once, so that long lists over large
+    /// images don't take their product.
     pub fn listed(alloc: Global, image: &Verified, list: &str) -> Result<Wanted, ListFault>
         ensures wanted { IfOk result (λ wanted. AreWanted image.now.names (lines list.now) wanted) }
         ensures unknown { IfErr result (λ fault. (number : ℕ) → fault ≡ UnknownStop number
@@ -82,46 +82,19 @@ fn marks_of(alloc: Global, image: &Verified, list: &str) -> Result<Vec<bool>, Li
     ensures unknown { IfErr result (λ fault. (number : ℕ) → fault ≡ UnknownStop number
         → IsUnknownLine image.now.names (lines list.now) number) }
 {
-    let names = lines_of(alloc, list)?;
-    let none = no_marks(alloc, image.stops() as usize)?;
-    marks_by(image, &names, none)
+    let listed = lines_of(alloc, list)?;
+    let mut found = names_of(alloc, &listed)?;
+    let marks = mark_stops(alloc, image, &mut found)?;
+    // Says of the image what each one keeps: each name is that of one of its stops.
+    image.stops();
+    match first_missing(&listed, &found) {
+        Some(number) => Err(ListFault::UnknownStop(number)),
+        None => Ok(marks),
+    }
 }
 
 fn lines_of(alloc: Global, list: &str) -> Result<Vec<&str>, AllocError>
     ensures { IfOk result (λ names. map (λ name. name.now) names.items ≡ lines list.now) }
 {
     list.lines().collect(alloc)
-}
-
-fn no_marks(alloc: Global, stops: usize) -> Result<Vec<bool>, AllocError>
-    ensures { IfOk result (λ marks. marks.items ≡ replicate stops false) }
-{
-    vec![in alloc; false; stops]
-}
-
-// Marks the stop of each name. Before, none is marked.
-fn marks_by(image: &Verified, names: &[&str], none: Vec<bool>) -> Result<Vec<bool>, ListFault>
-    requires { none.items ≡ replicate image.now.timetable.stops false }
-    ensures marks { IfOk result (λ marks. AreMarked image.now.names (map (λ name. name.now) names.now) marks.items) }
-    ensures unknown { IfErr result (λ fault. (number : ℕ) → fault ≡ UnknownStop number
-        → IsUnknownLine image.now.names (map (λ name. name.now) names.now) number) }
-{
-    // Says of the image what each one keeps: each name is that of one of its stops.
-    image.stops();
-    let mut marks = none;
-    for place in 0..names.len() {
-        let name = names[place];
-        match image.find(name.as_bytes()) {
-            None => return Err(ListFault::UnknownStop(place + 1)),
-            Some(stop) => mark(&mut marks, stop as usize),
-        }
-    }
-    Ok(marks)
-}
-
-fn mark(marks: &mut Vec<bool>, stop: usize)
-    requires { stop < length marks.old.items }
-    ensures { marks.new.items ≡ set marks.old.items stop true }
-{
-    marks[stop] = true;
 }

@@ -53,7 +53,7 @@ holds built.csa
 
 # A day that can't be, and a file that can't be written.
 run build base_feed built.csa --first 99991231 --days 2 --zone fixed:0
-tells csa: --first, --days: a day is beyond the calendar, or a trip has a time that no image has
+tells csa: --first, --days: a day is beyond the calendar, or a trip has a time that no image can have
 answers refused 22 DayOutOfRange
 holds built.csa
 run build base_feed no_such_folder/built.csa --first 20240115 --days 1 --zone fixed:0
@@ -68,7 +68,7 @@ run build base_feed today.csa --first today-1 --days 14 --zone posix:CET-1CEST,M
 tells csa: warning: no trip runs on these days, so no query has a departure
 answers stops 3 runs 0 connections 0 footpaths 3 lifted 0 flex 0 frequencies 0 skipped 0
 run build base_feed today.csa --first today --days 1 --zone posix:none
-tells csa: --zone: no POSIX rule as CET-1CEST,M3.5.0,M10.5.0/3, or no time zone file (TZif)
+tells csa: --zone: neither a POSIX rule, such as CET-1CEST,M3.5.0,M10.5.0/3, nor a time zone file (TZif)
 answers refused 21 BadZone
 remove today.csa
 
@@ -77,7 +77,8 @@ rows base_feed/transfers.txt from_stop_id,to_stop_id,transfer_type,min_transfer_
 run build base_feed built.csa --first 20240115 --days 1 --zone fixed:0 --no-warnings
 answers stops 3 runs 2 connections 3 footpaths 3 lifted 0 flex 0 frequencies 0 skipped 1
 run build base_feed built.csa --first 20240115 --days 1 --zone fixed:0
-tells csa: warning: rows of transfers.txt are left out: 0 between trips or routes, 1 of a transfer_type beyond 0 to 3; a change there may need more time than answers give it
+tells csa: warning: rows of transfers.txt are left out: 0 between trips or routes, 1 of a transfer_type that isn't \
+one of 0, 1, 2, 3; a change there may need more time than answers give it
 answers stops 3 runs 2 connections 3 footpaths 3 lifted 0 flex 0 frequencies 0 skipped 1
 remove base_feed/transfers.txt
 
@@ -85,7 +86,7 @@ remove base_feed/transfers.txt
 rows base_feed/frequencies.txt trip_id,start_time,end_time,headway_secs | T1,09:00:00,10:00:00,1200
 run build base_feed built.csa --first 20240115 --days 1 --zone fixed:0
 answers stops 3 runs 4 connections 7 footpaths 3 lifted 0 flex 0 frequencies 1 skipped 0
-run profile built.csa --from A --to C --after 09:00:00 --until 10:00:00 --by 11:00:00 --criterion arrival+trips
+asks profile built.csa --from A --to C --after 09:00:00 --until 10:00:00 --by 11:00:00 --criterion arrival+trips
 prints dep 09:00:00 arr 09:30:00 trips 1 : ride 1 2
 prints dep 09:20:00 arr 09:50:00 trips 1 : ride 3 4
 prints dep 09:40:00 arr 10:10:00 trips 1 : ride 5 6
@@ -115,7 +116,7 @@ rows feed/stop_times.txt trip_id,arrival_time,departure_time,stop_id,stop_sequen
 rows feed/calendar.txt service_id,monday,tuesday,wednesday,thursday,friday,saturday,sunday,start_date,end_date | S,1,1,1,1,1,1,1,20240101,20241231
 run build feed feed.csa --first 20240115 --days 1 --zone fixed:0
 answers stops 4 runs 1 connections 3 footpaths 4 lifted 1 flex 0 frequencies 0 skipped 0
-run profile feed.csa --from B --to C --after 08:00:00 --until 09:00:00 --by 09:00:00 --criterion arrival
+asks profile feed.csa --from B --to C --after 08:00:00 --until 09:00:00 --by 09:00:00 --criterion arrival
 prints dep 08:00:01 arr 08:00:02 : ride 1 1
 answers points 1 read 3 walk none
 remove feed.csa
@@ -130,7 +131,7 @@ rows feed/trips.txt service_id,trip_id | S,T | S,N
 rows feed/stop_times.txt trip_id,arrival_time,departure_time,stop_id,stop_sequence | T,08:00:00,08:00:00,A,1 | T,08:10:00,08:10:00,B,2 | N,25:10:00,25:10:00,A,1 | N,25:20:00,25:20:00,B,2
 run build feed feed.csa --first 20240330 --days 2 --zone posix:CET-1CEST,M3.5.0,M10.5.0/3
 answers stops 2 runs 4 connections 4 footpaths 2 lifted 0 flex 0 frequencies 0 skipped 0
-run profile feed.csa --from A --to B --after 25:00:00 --until 32:00:00 --by 32:00:00 --criterion arrival
+asks profile feed.csa --from A --to B --after 25:00:00 --until 32:00:00 --by 32:00:00 --criterion arrival
 prints dep 25:10:00 arr 25:20:00 : ride 1 1
 prints dep 31:00:00 arr 31:10:00 : ride 2 2
 answers points 2 read 2 walk none
@@ -141,7 +142,8 @@ rows feed/stop_times.txt trip_id,arrival_time,departure_time,stop_id,stop_sequen
 rows feed/frequencies.txt trip_id,start_time,end_time,headway_secs | P,09:00:00,09:20:00,600 | Q,09:00:00,09:20:00,600 | R,09:00:00,09:20:00,600
 rows feed/transfers.txt from_stop_id,to_stop_id,transfer_type,min_transfer_time | A,B,4, | A,B,5, | A,B,4, | B,A,5,
 run build feed feed.csa --first 20240115 --days 1 --zone fixed:0
-tells csa: warning: rows of transfers.txt are left out: 0 between trips or routes, 4 of a transfer_type beyond 0 to 3; a change there may need more time than answers give it
+tells csa: warning: rows of transfers.txt are left out: 0 between trips or routes, 4 of a transfer_type that isn't \
+one of 0, 1, 2, 3; a change there may need more time than answers give it
 answers stops 2 runs 7 connections 7 footpaths 2 lifted 1 flex 2 frequencies 3 skipped 4
 remove feed/frequencies.txt
 remove feed/transfers.txt
@@ -154,7 +156,7 @@ rows feed/calendar_dates.txt service_id,date,exception_type | X,20240115,1 | X,2
 run build feed feed.csa --first 20240115 --days 2 --zone fixed:0
 tells csa: warning: no trip runs on 20240116
 answers stops 2 runs 1 connections 1 footpaths 2 lifted 0 flex 0 frequencies 0 skipped 0
-run profile feed.csa --from A --to B --after 00:00:00 --until 48:00:00 --by 48:00:00 --criterion arrival
+asks profile feed.csa --from A --to B --after 00:00:00 --until 48:00:00 --by 48:00:00 --criterion arrival
 prints dep 08:00:00 arr 08:10:00 : ride 0 0
 answers points 1 read 1 walk none
 
@@ -166,25 +168,25 @@ rows feed/transfers.txt from_stop_id,to_stop_id,transfer_type,min_transfer_time
 run build feed feed.csa --first 20240115 --days 1 --zone fixed:0
 tells csa: warning: no trip runs on these days, so no query has a departure
 answers stops 2 runs 0 connections 0 footpaths 4 lifted 0 flex 0 frequencies 0 skipped 0
-run profile feed.csa --from P --to Q --after 00:00:00 --until 01:00:00 --by 01:00:00 --criterion arrival
+asks profile feed.csa --from P --to Q --after 00:00:00 --until 01:00:00 --by 01:00:00 --criterion arrival
 answers points 0 read 0 walk 120
-run profile feed.csa --from Q --to P --after 00:00:00 --until 01:00:00 --by 01:00:00 --criterion arrival
+asks profile feed.csa --from Q --to P --after 00:00:00 --until 01:00:00 --by 01:00:00 --criterion arrival
 answers points 0 read 0 walk 120
 rows feed/transfers.txt from_stop_id,to_stop_id,transfer_type,min_transfer_time | S,S,2,180
 run build feed feed.csa --first 20240115 --days 1 --zone fixed:0
 tells csa: warning: no trip runs on these days, so no query has a departure
 answers stops 2 runs 0 connections 0 footpaths 4 lifted 0 flex 0 frequencies 0 skipped 0
-run profile feed.csa --from P --to Q --after 00:00:00 --until 01:00:00 --by 01:00:00 --criterion arrival
+asks profile feed.csa --from P --to Q --after 00:00:00 --until 01:00:00 --by 01:00:00 --criterion arrival
 answers points 0 read 0 walk 180
-run profile feed.csa --from Q --to P --after 00:00:00 --until 01:00:00 --by 01:00:00 --criterion arrival
+asks profile feed.csa --from Q --to P --after 00:00:00 --until 01:00:00 --by 01:00:00 --criterion arrival
 answers points 0 read 0 walk 180
 rows feed/transfers.txt from_stop_id,to_stop_id,transfer_type,min_transfer_time | S,S,2,180 | P,Q,3,
 run build feed feed.csa --first 20240115 --days 1 --zone fixed:0
 tells csa: warning: no trip runs on these days, so no query has a departure
 answers stops 2 runs 0 connections 0 footpaths 3 lifted 0 flex 0 frequencies 0 skipped 0
-run profile feed.csa --from P --to Q --after 00:00:00 --until 01:00:00 --by 01:00:00 --criterion arrival
+asks profile feed.csa --from P --to Q --after 00:00:00 --until 01:00:00 --by 01:00:00 --criterion arrival
 answers points 0 read 0 walk none
-run profile feed.csa --from Q --to P --after 00:00:00 --until 01:00:00 --by 01:00:00 --criterion arrival
+asks profile feed.csa --from Q --to P --after 00:00:00 --until 01:00:00 --by 01:00:00 --criterion arrival
 answers points 0 read 0 walk 180
 remove feed.csa
 remove feed
@@ -197,7 +199,7 @@ run build no_such_feed none.csa --first 20240115 --days 1 --zone fixed:-86399
 tells csa: no_such_feed: no such file or folder
 answers refused 1 MissingFile agency.txt 0
 run build no_such_feed none.csa --first 20240115 --days 1 --zone posix:CET
-tells csa: --zone: no POSIX rule as CET-1CEST,M3.5.0,M10.5.0/3, or no time zone file (TZif)
+tells csa: --zone: neither a POSIX rule, such as CET-1CEST,M3.5.0,M10.5.0/3, nor a time zone file (TZif)
 answers refused 21 BadZone
 run build no_such_feed none.csa --first 20240115 --days 1 --zone file:no_such_zone
 tells csa: no_such_zone can't be read: no such file or folder
@@ -245,7 +247,7 @@ holds east.csa
 
 # A zone file that is none.
 rows zone_file no zone
-tells csa: --zone: no POSIX rule as CET-1CEST,M3.5.0,M10.5.0/3, or no time zone file (TZif)
+tells csa: --zone: neither a POSIX rule, such as CET-1CEST,M3.5.0,M10.5.0/3, nor a time zone file (TZif)
 answers refused 21 BadZone
 remove zone_file
 remove east.csa

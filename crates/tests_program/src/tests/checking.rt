@@ -121,7 +121,7 @@ const EXPLAINED: &str = "
 sample
 cut 3
 run verify -
-tells csa: standard input: its bytes aren't whole words of four
+tells csa: standard input: its size isn't a multiple of four bytes
 answers refused 51 OddLength
 sample
 set 9 4294967295
@@ -137,16 +137,17 @@ remove bad.csa
 # What is wrong with a journey, and in which ride or walk.
 sample
 run journey - 'ride 0 2' --from A --to C --after 07:00:00 --until 09:00:00 --by 10:00:00
-tells csa: ride 0, counted from 0: its first and its last connection are of two trips
+tells csa: ride 0, counted from 0: its first and its last connection are of different trips
 answers refused 82 TwoTrips 0
 run journey - 'ride 0 0 ride 2 2' --from A --to C --after 07:00:00 --until 09:00:00 --by 10:00:00
-tells csa: walk 1, walk 0 being the one before the first ride: it doesn't lead from where the ride before it ends to where the next departs; a change is a walk, also at one stop and of 0 seconds
+tells csa: walk 1, walk 0 being the one before the first ride: it doesn't lead from where the ride before it ends to where \
+the next departs; a change is a walk, even at one stop and of 0 seconds
 answers refused 85 WalkBroken 1
 run journey - 'walk 0 0 0' --from A --to C --after 07:00:00 --until 09:00:00 --by 10:00:00
 tells csa: a journey is `ride FIRST LAST` and `walk FROM TO SECS`, with one space between words
 answers refused 80 BadText
 run journey - 'ride 0 1' --from A --to C --after 07:00:00 --until 07:30:00 --by 10:00:00
-tells csa: the journey departs before --after or behind --until, or arrives behind --by
+tells csa: the journey departs before --after or after --until, or arrives after --by
 answers refused 88 OutsideWindow
 ";
 

@@ -71,7 +71,7 @@ answers csa 1.0.0
 
 # Days, dates and zones of a wrong form.
 run build no_such_feed none.csa --first 20240115 --days 0 --zone fixed:0
-tells error: --days \"0\": the number of days is 1 to 14
+tells error: --days \"0\": the number of days must be 1 to 14
 tells 
 tells Usage: csa build [OPTIONS] --first <DAY> --days <N> --zone <ZONE> <FOLDER> <OUT>
 tells 
@@ -103,7 +103,7 @@ complains 64
 run build no_such_feed none.csa --first 20240115 --days 1 --zone fixed:-86400
 complains 64
 run build no_such_feed none.csa --first 20240115 --days 1 --zone fixed:1h
-tells error: --zone \"fixed:1h\": a zone is fixed:SECS with at most 86399 seconds either way, posix:TEXT or file:PATH
+tells error: --zone \"fixed:1h\": a zone is file:PATH, posix:TEXT, or fixed:SECS with at most 86399 seconds either way
 tells 
 tells Usage: csa build [OPTIONS] --first <DAY> --days <N> --zone <ZONE> <FOLDER> <OUT>
 tells 

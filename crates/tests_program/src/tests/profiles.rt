@@ -67,9 +67,9 @@ prints dep 08:20:00 arr 08:30:00 : ride 2 2
 prints dep 08:30:00 arr 08:40:00 : ride 3 3
 prints dep 08:40:00 arr 08:50:00 : ride 4 4
 answers points 5 read 5 walk none
-run profile - --from A --to B --after 07:00:00 --until 09:00:00 --by 10:00:00 --criterion arrival --json
+asks profile - --from A --to B --after 07:00:00 --until 09:00:00 --by 10:00:00 --criterion arrival --json
 answers {\"ok\":\"profile\",\"points\":[{\"arr\":\"08:10:00\",\"dep\":\"08:00:00\",\"journey\":\"ride 0 0\"},{\"arr\":\"08:20:00\",\"dep\":\"08:10:00\",\"journey\":\"ride 1 1\"},{\"arr\":\"08:30:00\",\"dep\":\"08:20:00\",\"journey\":\"ride 2 2\"},{\"arr\":\"08:40:00\",\"dep\":\"08:30:00\",\"journey\":\"ride 3 3\"},{\"arr\":\"08:50:00\",\"dep\":\"08:40:00\",\"journey\":\"ride 4 4\"}],\"version\":1,\"walk\":null}
-run profile - --from A --to B --after 08:10:00 --until 09:00:00 --by 10:00:00 --criterion arrival+trips --names
+asks profile - --from A --to B --after 08:10:00 --until 09:00:00 --by 10:00:00 --criterion arrival+trips --names
 prints dep 08:10:00 arr 08:20:00 trips 1 : ride T2 08:10:00 A 08:20:00 B
 prints dep 08:20:00 arr 08:30:00 trips 1 : ride T3 08:20:00 A 08:30:00 B
 prints dep 08:30:00 arr 08:40:00 trips 1 : ride T4 08:30:00 A 08:40:00 B
@@ -81,7 +81,7 @@ image 1346458435 1 4 4 4 4 12 1705276800 0 0 1 28800 29400 0 3 1 2 29520 30000 1
 profile A D 07:00:00 09:00:00 10:00:00 arrival+trips+walk
 prints dep 08:00:00 arr 08:40:00 trips 3 walked 0 : ride 0 0 walk 1 1 0 ride 1 1 walk 2 2 0 ride 3 3
 answers points 1 read 4 walk none
-run profile - --from A --to D --after 07:00:00 --until 09:00:00 --by 10:00:00 --criterion arrival+trips --names
+asks profile - --from A --to D --after 07:00:00 --until 09:00:00 --by 10:00:00 --criterion arrival+trips --names
 prints dep 08:00:00 arr 08:40:00 trips 3 : ride T1 08:00:00 A 08:10:00 B walk B B 0 ride T2 08:12:00 B 08:20:00 C walk C C 0 ride T4 08:25:00 C 08:40:00 D
 answers points 1 read 4 walk none
 judge A D 07:00:00 09:00:00 10:00:00 ride 0 0 walk 1 1 0 ride 1 1 walk 2 2 0 ride 3 3 | ok dep 08:00:00 arr 08:40:00
@@ -89,6 +89,25 @@ judge A D 07:00:00 09:00:00 10:00:00 ride 0 0 walk 1 1 0 ride 1 1 walk 2 2 0 rid
 judge A D 07:00:00 09:00:00 10:00:00 ride 0 0 walk 1 1 0 ride 1 1 ride 3 3 | refused 85 WalkBroken 2
 judge A D 07:00:00 09:00:00 10:00:00 ride 0 0 walk 1 1 0 ride 1 1 walk 2 2 0 ride 3 4 | refused 81 LegRange 2
 judge A D 07:00:00 09:00:00 10:00:00 ride 0 0 walk 1 1 0 ride 1 1 walk 2 2 0 ride 2 3 | refused 82 TwoTrips 2
+
+# A window that goes beyond the image's connections is warned of, one that is outside them, and an image without any.
+sample
+run profile - --from A --to C --after 08:00:00 --until 08:12:00 --by 10:00:00 --criterion arrival
+prints dep 08:00:00 arr 08:20:00 : ride 0 0 walk 1 1 0 ride 2 2
+answers points 1 read 3 walk none
+run profile - --from A --to C --after 08:00:00 --until 08:12:01 --by 10:00:00 --criterion arrival
+tells csa: warning: the window from 08:00:00 to 08:12:01 goes beyond the image's connections, which \
+depart from 08:00:00 to 08:12:00
+prints dep 08:00:00 arr 08:20:00 : ride 0 0 walk 1 1 0 ride 2 2
+answers points 1 read 3 walk none
+run profile - --from A --to C --after 06:00:00 --until 07:59:59 --by 10:00:00 --criterion arrival
+tells csa: warning: the window from 06:00:00 to 07:59:59 is outside the image's connections, which \
+depart from 08:00:00 to 08:12:00
+answers points 0 read 3 walk none
+image 1346458435 1 3 0 0 3 3 1705276800 0 0 1 2 3 0 0 1 0 2 0 0 1 2 3 4407873
+run profile - --from A --to C --after 07:00:00 --until 09:00:00 --by 10:00:00 --criterion arrival
+tells csa: warning: the image has no connections
+answers points 0 read 0 walk none
 
 # Words of a query are judged: its window, and the name of its criterion.
 sample
@@ -142,17 +161,17 @@ judge A C 07:00:00 09:00:00 10:00:00 ride 0 0 walk 1 2 60 | ok dep 08:00:00 arr 
 judge A C 07:00:00 09:00:00 10:00:00 walk 0 1 60 ride 2 2 | ok dep 08:11:00 arr 08:20:00
 
 # As a reply of a session, which has no names.
-run profile - --from A --to C --after 07:00:00 --until 09:00:00 --by 10:00:00 --criterion arrival+trips --json
+asks profile - --from A --to C --after 07:00:00 --until 09:00:00 --by 10:00:00 --criterion arrival+trips --json
 answers {\"ok\":\"profile\",\"points\":[{\"arr\":\"08:11:00\",\"dep\":\"08:00:00\",\"journey\":\"ride 0 0 walk 1 2 60\",\"trips\":1},{\"arr\":\"08:20:00\",\"dep\":\"08:11:00\",\"journey\":\"walk 0 1 60 ride 2 2\",\"trips\":1}],\"version\":1,\"walk\":120}
-run profile - --from A --to C --after 07:00:00 --until 09:00:00 --by 10:00:00 --criterion arrival+trips --json --names
+asks profile - --from A --to C --after 07:00:00 --until 09:00:00 --by 10:00:00 --criterion arrival+trips --json --names
 complains 64
 
 # With the legs of each journey, by their ids; only in that reply.
-run profile - --from A --to C --after 07:00:00 --until 09:00:00 --by 10:00:00 --criterion arrival+trips --json --legs
+asks profile - --from A --to C --after 07:00:00 --until 09:00:00 --by 10:00:00 --criterion arrival+trips --json --legs
 answers {\"ok\":\"profile\",\"points\":[{\"arr\":\"08:11:00\",\"dep\":\"08:00:00\",\"journey\":\"ride 0 0 walk 1 2 60\",\"legs\":[{\"arr\":\"08:10:00\",\"day\":20240115,\"dep\":\"08:00:00\",\"from\":\"A\",\"to\":\"B\",\"trip\":\"T1\"},{\"from\":\"B\",\"secs\":60,\"to\":\"C\"}],\"trips\":1},{\"arr\":\"08:20:00\",\"dep\":\"08:11:00\",\"journey\":\"walk 0 1 60 ride 2 2\",\"legs\":[{\"from\":\"A\",\"secs\":60,\"to\":\"B\"},{\"arr\":\"08:20:00\",\"day\":20240115,\"dep\":\"08:12:00\",\"from\":\"B\",\"to\":\"C\",\"trip\":\"T2\"}],\"trips\":1}],\"version\":1,\"walk\":120}
-run profile - --from A --to C --after 07:00:00 --until 09:00:00 --by 10:00:00 --criterion arrival+trips --legs
+asks profile - --from A --to C --after 07:00:00 --until 09:00:00 --by 10:00:00 --criterion arrival+trips --legs
 complains 64
-run profile - --from A --to C --after 07:00:00 --until 09:00:00 --by 10:00:00 --criterion arrival+trips --names --legs
+asks profile - --from A --to C --after 07:00:00 --until 09:00:00 --by 10:00:00 --criterion arrival+trips --names --legs
 complains 64
 
 # A footpath from B to C of a quarter of an hour: each footpath counts; by trips alone the walk is preferred.
@@ -169,7 +188,7 @@ answers points 2 read 3 walk none
 judge A C 07:00:00 09:00:00 10:00:00 ride 0 0 walk 1 2 900 | ok dep 08:00:00 arr 08:25:00
 
 # By names: of trips and stops, and when each trip is boarded and left; a walk keeps its seconds.
-run profile - --from A --to C --after 07:00:00 --until 09:00:00 --by 10:00:00 --criterion arrival+trips --names
+asks profile - --from A --to C --after 07:00:00 --until 09:00:00 --by 10:00:00 --criterion arrival+trips --names
 prints dep 08:00:00 arr 08:20:00 trips 2 : ride T1 08:00:00 A 08:10:00 B walk B B 0 ride T2 08:12:00 B 08:20:00 C
 prints dep 08:00:00 arr 08:25:00 trips 1 : ride T1 08:00:00 A 08:10:00 B walk B C 900
 answers points 2 read 3 walk none
@@ -191,19 +210,24 @@ fn footpaths_are_walked(rt: HostRuntime) -> Result<(), Fail> {
 
 const DRAWN: &str = "
 sample
-run profile - --from A --to C --after 07:00:00 --until 09:00:00 --by 10:00:00 --criterion arrival --picture answer.svg
+asks profile - --from A --to C --after 07:00:00 --until 09:00:00 --by 10:00:00 --criterion arrival --picture answer.svg
 prints dep 08:00:00 arr 08:20:00 : ride 0 0 walk 1 1 0 ride 2 2
 answers points 1 read 3 walk none
-run profile - --from A --to C --after 07:00:00 --until 09:00:00 --by 10:00:00 --criterion arrival --picture none/answer.svg
-complains 3
-run profile - --from A --to C --after 07:00:00 --until 09:00:00 --by 10:00:00 --criterion arrival --picture answer.svg --rows 1
+asks profile - --from A --to C --after 07:00:00 --until 09:00:00 --by 10:00:00 --criterion arrival \
+--picture none/answer.svg
+tells csa: none/answer.svg can't be written: no such file or folder
+ends 3
+asks profile - --from A --to C --after 07:00:00 --until 09:00:00 --by 10:00:00 --criterion arrival \
+--picture answer.svg --rows 1
 prints dep 08:00:00 arr 08:20:00 : ride 0 0 walk 1 1 0 ride 2 2
 answers points 1 read 3 walk none
-run profile - --from A --to C --after 07:00:00 --until 09:00:00 --by 10:00:00 --criterion arrival --picture answer.svg --rows 0
+asks profile - --from A --to C --after 07:00:00 --until 09:00:00 --by 10:00:00 --criterion arrival \
+--picture answer.svg --rows 0
 complains 64
-run profile - --from A --to C --after 07:00:00 --until 09:00:00 --by 10:00:00 --criterion arrival --picture answer.svg --rows 10001
+asks profile - --from A --to C --after 07:00:00 --until 09:00:00 --by 10:00:00 --criterion arrival \
+--picture answer.svg --rows 10001
 complains 64
-run profile - --from A --to C --after 07:00:00 --until 09:00:00 --by 10:00:00 --criterion arrival --rows 10
+asks profile - --from A --to C --after 07:00:00 --until 09:00:00 --by 10:00:00 --criterion arrival --rows 10
 complains 64
 ";
 
@@ -220,54 +244,54 @@ fn an_answer_is_drawn(rt: HostRuntime) -> Result<(), Fail> {
 const DEPARTURES: &str = "
 # Each stop but the target, in the image's order: the lines of its profile behind its stop_id. The window is read once.
 sample
-run departures - --to C --after 07:00:00 --until 09:00:00 --by 10:00:00 --criterion arrival
+asks departures - --to C --after 07:00:00 --until 09:00:00 --by 10:00:00 --criterion arrival
 prints A dep 08:00:00 arr 08:20:00 : ride 0 0 walk 1 1 0 ride 2 2
 prints B dep 08:12:00 arr 08:20:00 : ride 2 2
 answers stops 2 points 2 read 3
-run departures - --to C --after 07:00:00 --until 09:00:00 --by 10:00:00 --criterion arrival+trips
+asks departures - --to C --after 07:00:00 --until 09:00:00 --by 10:00:00 --criterion arrival+trips
 prints A dep 08:00:00 arr 08:20:00 trips 2 : ride 0 0 walk 1 1 0 ride 2 2
 prints A dep 08:00:00 arr 08:30:00 trips 1 : ride 0 1
 prints B dep 08:12:00 arr 08:20:00 trips 1 : ride 2 2
 answers stops 2 points 3 read 3
-run departures - --to B --after 07:00:00 --until 09:00:00 --by 10:00:00 --criterion arrival+trips+walk
+asks departures - --to B --after 07:00:00 --until 09:00:00 --by 10:00:00 --criterion arrival+trips+walk
 prints A dep 08:00:00 arr 08:10:00 trips 1 walked 0 : ride 0 0
 answers stops 1 points 1 read 3
-run departures - --to A --after 07:00:00 --until 09:00:00 --by 10:00:00 --criterion arrival
+asks departures - --to A --after 07:00:00 --until 09:00:00 --by 10:00:00 --criterion arrival
 answers stops 0 points 0 read 3
 
 # The window cuts the departures of each stop for itself.
-run departures - --to C --after 08:00:01 --until 08:12:00 --by 08:20:00 --criterion arrival
+asks departures - --to C --after 08:00:01 --until 08:12:00 --by 08:20:00 --criterion arrival
 prints B dep 08:12:00 arr 08:20:00 : ride 2 2
 answers stops 1 points 1 read 2
-run departures - --to C --after 07:00:00 --until 08:11:59 --by 10:00:00 --criterion arrival
+asks departures - --to C --after 07:00:00 --until 08:11:59 --by 10:00:00 --criterion arrival
 prints A dep 08:00:00 arr 08:20:00 : ride 0 0 walk 1 1 0 ride 2 2
 prints B dep 08:10:00 arr 08:30:00 : ride 1 1
 answers stops 2 points 2 read 3
 
-# Without journeys, and a line a stop.
-run departures - --to C --after 07:00:00 --until 09:00:00 --by 10:00:00 --criterion arrival+trips --no-journeys
+# Without journeys, and one line for each stop.
+asks departures - --to C --after 07:00:00 --until 09:00:00 --by 10:00:00 --criterion arrival+trips --no-journeys
 prints A dep 08:00:00 arr 08:20:00 trips 2
 prints A dep 08:00:00 arr 08:30:00 trips 1
 prints B dep 08:12:00 arr 08:20:00 trips 1
 answers stops 2 points 3 read 3
-run departures - --to C --after 07:00:00 --until 09:00:00 --by 10:00:00 --criterion arrival+trips --summary
+asks departures - --to C --after 07:00:00 --until 09:00:00 --by 10:00:00 --criterion arrival+trips --summary
 prints A points 2 first 08:00:00 last 08:00:00 least 1200 walk none
 prints B points 1 first 08:12:00 last 08:12:00 least 480 walk none
 answers stops 2 points 3 read 3
-run departures - --to C --after 07:00:00 --until 09:00:00 --by 10:00:00 --criterion arrival --summary --no-journeys
+asks departures - --to C --after 07:00:00 --until 09:00:00 --by 10:00:00 --criterion arrival --summary --no-journeys
 complains 64
-run departures - --to C --after 07:00:00 --until 09:00:00 --by 10:00:00 --criterion arrival --summary --json
+asks departures - --to C --after 07:00:00 --until 09:00:00 --by 10:00:00 --criterion arrival --summary --json
 complains 64
 
-# As JSON, a line a stop.
-run departures - --to C --after 07:00:00 --until 09:00:00 --by 10:00:00 --criterion arrival+trips --json
+# As JSON, one line for each stop.
+asks departures - --to C --after 07:00:00 --until 09:00:00 --by 10:00:00 --criterion arrival+trips --json
 prints {\"from\":\"A\",\"points\":[{\"arr\":\"08:20:00\",\"dep\":\"08:00:00\",\
 \"journey\":\"ride 0 0 walk 1 1 0 ride 2 2\",\"trips\":2},{\"arr\":\"08:30:00\",\"dep\":\"08:00:00\",\
 \"journey\":\"ride 0 1\",\"trips\":1}],\"walk\":null}
 prints {\"from\":\"B\",\"points\":[{\"arr\":\"08:20:00\",\"dep\":\"08:12:00\",\"journey\":\"ride 2 2\",\"trips\":1}],\
 \"walk\":null}
 answers {\"points\":3,\"read\":3,\"stops\":2}
-run departures - --to C --after 07:00:00 --until 09:00:00 --by 10:00:00 --criterion arrival+trips+walk --json \
+asks departures - --to C --after 07:00:00 --until 09:00:00 --by 10:00:00 --criterion arrival+trips+walk --json \
 --no-journeys
 prints {\"from\":\"A\",\"points\":[{\"arr\":\"08:20:00\",\"dep\":\"08:00:00\",\"trips\":2,\"walked\":0},\
 {\"arr\":\"08:30:00\",\"dep\":\"08:00:00\",\"trips\":1,\"walked\":0}],\"walk\":null}
@@ -276,25 +300,60 @@ answers {\"points\":3,\"read\":3,\"stops\":2}
 
 # The stops of a file alone; the target among them is left out.
 rows wanted C | B
-run departures - --to C --after 07:00:00 --until 09:00:00 --by 10:00:00 --criterion arrival --from wanted
+asks departures - --to C --after 07:00:00 --until 09:00:00 --by 10:00:00 --criterion arrival --from wanted
 prints B dep 08:12:00 arr 08:20:00 : ride 2 2
 answers stops 1 points 1 read 3
 rows wanted B | D | A
-run departures - --to C --after 07:00:00 --until 09:00:00 --by 10:00:00 --criterion arrival --from wanted
+asks departures - --to C --after 07:00:00 --until 09:00:00 --by 10:00:00 --criterion arrival --from wanted
 tells csa: --from wanted, line 2: no stop of the image has this stop_id
 ends 2
-run departures - --to C --after 07:00:00 --until 09:00:00 --by 10:00:00 --criterion arrival --from nowhere
+asks departures - --to C --after 07:00:00 --until 09:00:00 --by 10:00:00 --criterion arrival --from nowhere
 tells csa: nowhere can't be read: no such file or folder
 ends 3
 
+# The first line that is no stop_id is reported, and a line that is there twice is one stop: of two stops of a name the first.
+rows wanted A | B | A | E | D
+asks departures - --to C --after 07:00:00 --until 09:00:00 --by 10:00:00 --criterion arrival --from wanted
+tells csa: --from wanted, line 4: no stop of the image has this stop_id
+ends 2
+set 45 1413693761
+rows wanted A | C | A
+asks departures - --to C --after 07:00:00 --until 09:00:00 --by 10:00:00 --criterion arrival --from wanted
+prints A dep 08:00:00 arr 08:20:00 : ride 0 0 walk 1 1 0 ride 2 2
+answers stops 1 points 1 read 3
+asks departures - --to C --after 07:00:00 --until 09:00:00 --by 10:00:00 --criterion arrival --no-journeys
+prints A dep 08:00:00 arr 08:20:00
+prints A dep 08:12:00 arr 08:20:00
+answers stops 2 points 2 read 3
+file wanted
+asks departures - --to C --after 07:00:00 --until 09:00:00 --by 10:00:00 --criterion arrival --from wanted
+answers stops 0 points 0 read 3
+sample
+
+# A window that goes beyond the image's connections is warned of, and one that is outside them.
+run departures - --to C --after 08:00:00 --until 08:12:00 --by 10:00:00 --criterion arrival --no-journeys
+prints A dep 08:00:00 arr 08:20:00
+prints B dep 08:12:00 arr 08:20:00
+answers stops 2 points 2 read 3
+run departures - --to C --after 07:59:59 --until 08:12:00 --by 10:00:00 --criterion arrival --summary
+tells csa: warning: the window from 07:59:59 to 08:12:00 goes beyond the image's connections, which \
+depart from 08:00:00 to 08:12:00
+prints A points 1 first 08:00:00 last 08:00:00 least 1200 walk none
+prints B points 1 first 08:12:00 last 08:12:00 least 480 walk none
+answers stops 2 points 2 read 3
+run departures - --to C --after 32:00:00 --until 33:00:00 --by 34:00:00 --criterion arrival
+tells csa: warning: the window from 32:00:00 to 33:00:00 is outside the image's connections, which \
+depart from 08:00:00 to 08:12:00
+answers stops 0 points 0 read 0
+
 # What can't be asked.
-run departures - --to D --after 07:00:00 --until 09:00:00 --by 10:00:00 --criterion arrival
+asks departures - --to D --after 07:00:00 --until 09:00:00 --by 10:00:00 --criterion arrival
 tells csa: --to D: no stop of the image has this stop_id
 answers refused 31 UnknownStop
-run departures - --to C --after 07:00:00 --until 06:00:00 --by 10:00:00 --criterion arrival
+asks departures - --to C --after 07:00:00 --until 06:00:00 --by 10:00:00 --criterion arrival
 tells csa: --until is before --after
 answers refused 33 BadWindow
-run departures - --to C --after 07:00:00 --until 09:00:00 --by 10:00:00 --criterion walking
+asks departures - --to C --after 07:00:00 --until 09:00:00 --by 10:00:00 --criterion walking
 complains 64
 run departures --help
 helps
@@ -303,16 +362,16 @@ helps
 # departures, and takes none away.
 image 1346458435 1 3 2 3 6 7 1705276800 0 0 1 28800 29400 0 3 1 2 29400 30600 0 3 1 2 29520 30000 1 3 0 1 3 6 0 0 0 \
 60 1 0 0 120 1 60 2 0 0 1 2 3 5 7 20240115 20240115 1413694017 3298353
-run departures - --to C --after 07:00:00 --until 09:00:00 --by 10:00:00 --criterion arrival
+asks departures - --to C --after 07:00:00 --until 09:00:00 --by 10:00:00 --criterion arrival
 prints A dep 08:00:00 arr 08:11:00 : ride 0 0 walk 1 2 60
 prints A dep 08:11:00 arr 08:20:00 : walk 0 1 60 ride 2 2
 prints B dep 08:12:00 arr 08:20:00 : ride 2 2
 answers stops 2 points 3 read 3
-run departures - --to C --after 07:00:00 --until 09:00:00 --by 10:00:00 --criterion arrival --summary
+asks departures - --to C --after 07:00:00 --until 09:00:00 --by 10:00:00 --criterion arrival --summary
 prints A points 2 first 08:00:00 last 08:11:00 least 540 walk 120
 prints B points 1 first 08:12:00 last 08:12:00 least 480 walk 60
 answers stops 2 points 3 read 3
-run departures - --to C --after 07:00:00 --until 09:00:00 --by 10:00:00 --criterion arrival --json --no-journeys
+asks departures - --to C --after 07:00:00 --until 09:00:00 --by 10:00:00 --criterion arrival --json --no-journeys
 prints {\"from\":\"A\",\"points\":[{\"arr\":\"08:11:00\",\"dep\":\"08:00:00\"},{\"arr\":\"08:20:00\",\
 \"dep\":\"08:11:00\"}],\"walk\":120}
 prints {\"from\":\"B\",\"points\":[{\"arr\":\"08:20:00\",\"dep\":\"08:12:00\"}],\"walk\":60}

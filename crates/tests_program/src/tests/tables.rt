@@ -19,7 +19,7 @@ answers refused 7 BadNumber stop_times.txt 2
 
 # Times of a trip: one that goes back, a number twice, and an end without a time.
 with stop_times.txt 2 T1,08:10:00,07:59:00,B,2
-tells csa: stop_times.txt, line 3: trip_id \"T1\" has a time in this row that is before the time ahead of it
+tells csa: stop_times.txt, line 3: trip_id \"T1\" has a time in this row that is earlier than the one before it
 answers refused 13 TimeGoesBack stop_times.txt 2
 with stop_times.txt 3 T1,08:30:00,08:30:00,C,2
 tells csa: stop_times.txt, line 4: stop_sequence \"2\" is in another row of this trip too
@@ -35,6 +35,32 @@ answers refused 9 UnknownId stop_times.txt 4
 with stop_times.txt 4 T2,08:12:00,08:12:00,D,1
 tells csa: stop_times.txt, line 5: stop_id \"D\" isn't in stops.txt
 answers refused 9 UnknownId stop_times.txt 4
+
+# How many rows behind it name the same id, of a trip or of a stop; another column and another id don't count.
+file base_feed/stop_times.txt
+has trip_id,arrival_time,departure_time,stop_id,stop_sequence
+has T1,08:00:00,08:00:00,A,1
+has N1,08:10:00,08:10:00,B,2
+has N1,08:30:00,08:30:00,C,3
+tells csa: stop_times.txt, line 3: trip_id \"N1\" isn't in trips.txt; 1 further row names it too
+answers refused 9 UnknownId stop_times.txt 2
+has N2,08:12:00,08:12:00,N1,1
+has N1,08:20:00,08:20:00,C,2
+tells csa: stop_times.txt, line 3: trip_id \"N1\" isn't in trips.txt; 2 further rows name it too
+answers refused 9 UnknownId stop_times.txt 2
+rows base_feed/stop_times.txt trip_id,arrival_time,departure_time,stop_id,stop_sequence | T1,08:00:00,08:00:00,A,1 \
+| T1,,,D,2 | D,,,D,1
+tells csa: stop_times.txt, line 3: stop_id \"D\" isn't in stops.txt; 1 further row names it too
+answers refused 9 UnknownId stop_times.txt 2
+with stop_times.txt 4 T2,08:12:00,08:12:00,B,1
+rows base_feed/transfers.txt from_stop_id,to_stop_id | A,B | A,Q | Q,A | B,A | Q,Q
+tells csa: transfers.txt, line 3: to_stop_id \"Q\" isn't in stops.txt; 2 further rows name it too
+answers refused 9 UnknownId transfers.txt 2
+remove base_feed/transfers.txt
+rows base_feed/stops.txt stop_id,parent_station | A,Q | B,Q | C,Q | Q,
+tells csa: stops.txt, line 2: parent_station \"Q\" isn't a station in stops.txt; 2 further rows name it too
+answers refused 9 UnknownId stops.txt 1
+rows base_feed/stops.txt stop_id | A | B | C
 
 # A trip with a blank stop_id, and one with a single row, isn't judged by its times; no hop needs a duration.
 file base_feed/stop_times.txt
@@ -123,7 +149,7 @@ has T2,08:20:00,08:20:00,C,2
 tells csa: frequencies.txt, line 3: trip_id \"T9\" isn't in trips.txt
 answers refused 9 UnknownId frequencies.txt 2
 rows base_feed/frequencies.txt trip_id,start_time,end_time,headway_secs | T2,9:00:00,10:00:00,1200
-tells csa: stop_times.txt, line 4: trip_id \"T1\" has a time in this row that is before the time ahead of it
+tells csa: stop_times.txt, line 4: trip_id \"T1\" has a time in this row that is earlier than the one before it
 answers refused 13 TimeGoesBack stop_times.txt 3
 with stop_times.txt 1 T1,08:00:00,08:00:00,A,1
 tells csa: transfers.txt, line 2: to_stop_id \"Q\" isn't in stops.txt

@@ -18,7 +18,8 @@
 //! | `base` | makes the feed of examples/base, in a folder `base_feed` |
 //! | `with FILE PLACE RECORD` | that file of it is as it was made, but for the record at this place, from 1 behind its header |
 //! | `run WORD ..` | the words of the next command behind the program's name; one in single quotes may have spaces |
-//! | `profile FROM TO AFTER UNTIL BY CRITERION` | the words are those of `csa profile` over the input, with this query |
+//! | `asks WORD ..` | the same, and behind them `--no-warnings` |
+//! | `profile FROM TO AFTER UNTIL BY CRITERION` | asks the query by `csa profile` over the input |
 //! | `judge FROM TO AFTER UNTIL BY LEG .. | TEXT` | the words are those of `csa journey` over the input, with this query and these legs, and it answers so |
 //! | `prints TEXT`, `tells TEXT` | one more line that it must print, or tell among its errors, seconds being `#` |
 //! | `ends STATUS` | runs it: it prints and tells these lines alone, and ends with this status |
@@ -202,6 +203,13 @@ fn words_of<'a>(alloc: Global, text: &'a str) -> Result<Vec<&'a str>, AllocError
     Ok(words)
 }
 
+/// The words of a command that writes no warnings.
+fn words_without_warnings<'a>(alloc: Global, text: &'a str) -> Result<Vec<&'a str>, AllocError> {
+    let mut words = words_of(alloc, text)?;
+    words.push("--no-warnings")?;
+    Ok(words)
+}
+
 /// The words of a command over the input with a query: its ends, its clocks, and behind them the
 /// criterion, or the legs.
 fn asked<'a>(alloc: Global, command: &'a str, text: &'a str) -> Result<Vec<&'a str>, Fail> {
@@ -216,6 +224,7 @@ fn asked<'a>(alloc: Global, command: &'a str, text: &'a str) -> Result<Vec<&'a s
         rest = more;
     }
     if command == "profile" {
+        words.push("--no-warnings")?;
         words.push("--criterion")?;
     }
     words.push(rest)?;
@@ -444,6 +453,7 @@ fn follow<'a, R: Machine + Net<Listener = TcpListener, Stream = TcpStream> + Abo
         "base" => base_feed::make(rt),
         "with" => base_feed::change(rt, rest),
         "run" => stage.take_words(words_of(rt.alloc(), rest)?),
+        "asks" => stage.take_words(words_without_warnings(rt.alloc(), rest)?),
         "profile" => stage.take_words(asked(rt.alloc(), "profile", rest)?),
         "judge" => judge(rt, stage, rest),
         "prints" => Ok(add_line(&mut stage.printed, rest, "\n")?),

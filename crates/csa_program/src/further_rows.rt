@@ -1,0 +1,39 @@
+//! How many rows of a file name an id that isn't found, so that it need not be mended row by row.
+
+use crate::records::{Records, Search};
+use crate::suspects::{Form, Suspect};
+
+/// Counts the rows behind one that name the same id in a column where ids are looked up alike.
+#[derive(Drop)]
+pub struct FurtherRows<'a> {
+    /// The columns that name ids.
+    pub suspects: &'static [Suspect],
+    /// How the id is looked up.
+    pub form: Form,
+    pub id: &'a [u8],
+    /// The number of the row, from 1 on behind the header.
+    pub behind: u64,
+    /// How many there are.
+    pub rows: u64,
+}
+
+impl<'a> FurtherRows<'a> {
+    fn is_named_in(&self, records: &Records) -> bool {
+        for suspect in self.suspects {
+            let Suspect(column, form, _) = *suspect;
+            if form.is_looked_up_as(self.form) && records.has(column, self.id) {
+                return true;
+            }
+        }
+        false
+    }
+}
+
+impl<'a> Search for FurtherRows<'a> {
+    fn is_found(&mut self, records: &Records) -> bool {
+        if records.number() > self.behind && self.is_named_in(records) {
+            self.rows = self.rows.saturating_add(1);
+        }
+        false
+    }
+}

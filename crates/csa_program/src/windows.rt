@@ -1,0 +1,54 @@
+//! Warnings of a window of departures that goes beyond those of the image's connections. They take no memory.
+
+use crate::explaining::explain;
+use image_verifier::Verified;
+use std::io::Write;
+use timetable::Clock;
+
+/// The earliest and the latest departure, in seconds after the image's base.
+#[derive(Clone, Copy, Drop)]
+pub struct Departures {
+    pub first: u32,
+    pub last: u32,
+}
+
+/// Warns if the window of departures that is asked for begins before the image's first connection departs, or ends
+/// after its last one does.
+pub fn warn_of_window<E: Write>(image: &Verified, asked: Departures, errors: &mut E) {
+    match departures_of(image) {
+        Some(all) => warn_beyond(asked, all, errors),
+        None => explain(errors, &["csa: warning: the image has no connections"]),
+    }
+}
+
+/// When the image's first and last connection depart, none if it has none.
+fn departures_of(image: &Verified) -> Option<Departures> {
+    let last = image.len().checked_sub(1)?;
+    Some(Departures {
+        first: image.connection(0).dep,
+        last: image.connection(last).dep,
+    })
+}
+
+fn warn_beyond<E: Write>(asked: Departures, all: Departures, errors: &mut E) {
+    if let Some(reason) = reason_of(asked, all) {
+        let (after, until) = (Clock(asked.first), Clock(asked.last));
+        let (first, last) = (Clock(all.first), Clock(all.last));
+        let _ = write!(
+            errors,
+            "csa: warning: the window from {after} to {until} {reason} the image's connections, which depart from \
+{first} to {last}\n"
+        );
+    }
+}
+
+/// What is wrong with the window that is asked for, if it isn't within all departures.
+fn reason_of(asked: Departures, all: Departures) -> Option<&'static str> {
+    if asked.last < all.first || all.last < asked.first {
+        Some("is outside")
+    } else if asked.first < all.first || all.last < asked.last {
+        Some("goes beyond")
+    } else {
+        None
+    }
+}

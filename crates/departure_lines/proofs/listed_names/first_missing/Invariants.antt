@@ -1,0 +1,6 @@
+use Rattle.std.proofs.Common.{◌≡◌, ℕ, List, true, Some, Contains, map, take}
+use Rattle.departure_lines.specs.Sought.{found_at}
+use Rattle.departure_lines.proofs.listed_names.first_missing.Given as goal
+
+abbrev pub invariant-loop-place : goal.invariant-loop-place
+invariant-loop-place l = (other : List ℕ) → Contains (take l.place (map (λ name. name.now) l.listed)) other → found_at l.found other ≡ Some true
