@@ -53,8 +53,7 @@ fn close_for<R: Wait, C: Drop>(
     ensures { OnOk result (dealer.new
         ≡ record dealer.old { view = record dealer.old.view { closings = dealer.old.view.closings + takers } }) }
 {
-    for closed in 0..takers {
-        let _ = closed;
+    for _taker in 0..takers {
         dealer.close(rt)?;
     }
     Ok(())
