@@ -175,9 +175,9 @@ impl Feeds for TwoFeeds {
 
     fn files(&self, place: usize) -> Option<MemoryFiles<'static>> {
         if place == 1 {
-            return Some(MemoryFiles { files: &BAD_FILES });
+            return Some(MemoryFiles::of(&BAD_FILES));
         }
-        Some(MemoryFiles { files: &FILES })
+        Some(MemoryFiles::of(&FILES))
     }
 
     fn begin(&self, _place: usize) -> Option<Instant> {
