@@ -22,3 +22,7 @@ fewer_seats table n k seats fewer few handed same =
       λ j small. at_take seats k j small ∙ handed.1 j (omega (arith, small, few)),
     ) in
     subst (SeatsHanded table k) (sym same) some
+
+-- as many were handed out as there are
+pub all_handed : (table : TableId) (n : ℕ) (seats : List ShelfSeatValue) → SeatsHanded table n seats → SeatsHanded table (length seats) seats
+all_handed table n seats handed = subst (λ k. SeatsHanded table k seats) (sym handed.0) handed

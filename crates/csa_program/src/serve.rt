@@ -1,7 +1,7 @@
 //! `csa serve --image IMAGE --port P --workers W --sessions N [--legs] [--log] --first DAY --days N --zone ZONE
 //! [NAME=FOLDER]..`.
 
-ghost use Rattle.std.specs.Prelude.{◌≡◌, ◌≢◌, ◌≤◌, ◌⊎◌, true, false, [], All, length, map, string_bytes, IfOk};
+ghost use Rattle.std.specs.Prelude.{◌≡◌, ◌≢◌, ◌≤◌, ◌⊎◌, true, false, [], All, length, map, slice_get, Some, string_bytes, IfOk};
 ghost use Rattle.std.specs.Io.KnownBytes.{Appends};
 ghost use Rattle.command_requests.specs.Ending.{status_of};
 ghost use Rattle.command_requests.specs.declared.statuses.TheConstants.{INPUT_OUTPUT, OUT_OF_MEMORY};
@@ -70,6 +70,10 @@ impl<'a, H: Disk + Explains + Clock + Sync> Feeds for Folders<'a, H> {
     type Files = FolderFiles<'a, H>;
 
     ghost named = { λ folders. folders.names.items };
+
+    // Those of the folder that goes with the feed's name.
+    ghost are_files = { λ folders place files.
+        slice_get (map (λ feed. feed.folder.now) folders.feeds.now) place ≡ Some files.folder.now };
 
     ghost is_plan = { λ folders plan. IsPlanNow folders.asked.now folders.zone_bytes.items plan };
 
@@ -350,6 +354,7 @@ fn shelves_of(
     }) }
     ensures seats { IfOk result (λ made. All (λ seat. seat.table ≡ made.0) made.2.items) }
     ensures new { IfOk result (λ made. SeatsHanded made.0 workers made.2.items) }
+    ensures all { IfOk result (λ made. SeatsHanded made.0 (length made.2.items) made.2.items) }
 {
     let Ok(shared) = Arc::new(alloc, image) else {
         return Err(AllocError);
