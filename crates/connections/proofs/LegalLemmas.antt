@@ -8,7 +8,7 @@ use Rattle.std.proofs.lemmas.Option.{get_or_from_slice_get, same_Some, slice_get
 use Rattle.reasoning.proofs.ListLemmas.{contains_at, at_contains}
 use Rattle.gtfs_rows.specs.declared.rows.StopTimeRow.{StopTimeRow}
 use Rattle.gtfs_rows.specs.declared.values.Day.{Day}
-use Rattle.gtfs_tables.specs.Joined.{IsRunnable, makes_connections}
+use Rattle.gtfs_tables.specs.Joined.{makes_connections}
 use Rattle.gtfs_tables.specs.declared.tables.Feed.{Feed}
 use Rattle.gtfs_tables.specs.declared.tables.Trip.{Trip}
 use Rattle.service_days.specs.Days.{day_after}
@@ -50,7 +50,7 @@ known_below : (o : Option ℕ) (s n : ℕ) → o ≡ Some s → IsSomeAnd o (λ 
 known_below None s n e h = absurd h
 known_below (Some x) s n e h = let same : x ≡ s = cc in omega (arith, h, same)
 
-module _ (feed : Feed) (zone : Zone) (base : ℤ) (runs : List Run) (cs : List Connection) (runnable : IsRunnable feed)
+module _ (feed : Feed) (zone : Zone) (base : ℤ) (runs : List Run) (cs : List Connection)
     (trips : All (IsTripRun feed.trips.items) runs)
     (inside : AreRunsInside feed zone base runs) (listed : AreListed feed zone base runs cs) where
   -- the stops of a run's rows
@@ -61,7 +61,7 @@ module _ (feed : Feed) (zone : Zone) (base : ℤ) (runs : List Run) (cs : List C
       (trips r at.run (slice_get_within runs r at.run at.is_run)) in
       let same : of.trip ≡ at.trip = same_Some of.trip at.trip (sym of.is_trip ∙ at.is_trip) in
       let makes : makes_connections at.trip ≡ true = ap (λ (t : Trip). makes_connections t) (sym same) ∙ of.makes in
-      let good = (runnable_at feed at.run.trip at.trip runnable at.is_trip).stops_below makes in
+      let good = (runnable_at feed at.run.trip at.trip at.is_trip).stops_below makes in
       (subst (λ (rs : List StopTimeRow). (k : ℕ) (d : StopTimeRow) → k < length rs → IsSomeAnd (get_or rs k d).stop (λ s. s < length feed.stops.items))
       (sym at.rows_are) good) k d lt
 
@@ -210,11 +210,11 @@ module _ (feed : Feed) (zone : Zone) (base : ℤ) (runs : List Run) (cs : List C
     unbroken = unbroken;
   }
 
-pub legal_listing : (feed : Feed) (zone : Zone) (first : Day) (days : ℕ) (cs : List Connection) (runs : List Run) → IsRunnable feed → 1 ≤ days
+pub legal_listing : (feed : Feed) (zone : Zone) (first : Day) (days : ℕ) (cs : List Connection) (runs : List Run) → 1 ≤ days
     → IsListing feed zone first days cs runs → HasLegalConnections (length feed.stops.items) (length runs) cs
-legal_listing feed zone first days cs runs runnable some l =
+legal_listing feed zone first days cs runs some l =
     let base = base_of zone first days some l.started in
-    legal_listed feed zone base.0 runs cs runnable (runs_are_of feed (days_from first days) runs l.runs_are).0 (l.inside base.0 base.1) (l.listed base.0 base.1)
+    legal_listed feed zone base.0 runs cs (runs_are_of feed (days_from first days) runs l.runs_are).0 (l.inside base.0 base.1) (l.listed base.0 base.1)
 
 pub limits_listing : (feed : Feed) (zone : Zone) (first : Day) (days : ℕ) (cs : List Connection) (runs : List Run) → 1 ≤ days
     → IsListing feed zone first days cs runs → AreWithinLimits (length runs) cs

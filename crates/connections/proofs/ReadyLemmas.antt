@@ -8,7 +8,7 @@ use Rattle.std.proofs.lemmas.Bool.{and_parts, leb-true}
 use Rattle.std.proofs.lemmas.List.Sums.{sum_by_more}
 use Rattle.std.proofs.lemmas.Option.{get_or_from_slice_get, slice_get_within}
 use Rattle.gtfs_rows.specs.declared.rows.StopTimeRow.{StopTimeRow}
-use Rattle.gtfs_tables.specs.Joined.{IsRunnable, IsRunnableTrip, makes_connections, rows_of}
+use Rattle.gtfs_tables.specs.Joined.{IsRunnableTrip, makes_connections, rows_of}
 use Rattle.gtfs_tables.specs.declared.tables.Feed.{Feed}
 use Rattle.gtfs_tables.specs.declared.tables.Trip.{Trip}
 use Rattle.service_days.specs.Zones.{IsDayStart}
@@ -40,25 +40,24 @@ pub trip_of : (trips : List Trip) (place : ℕ) (trip known : Trip) → trip ≡
 trip_of trips place trip known read at = read ∙ get_or_from_slice_get trips place known trip at
 
 -- the trip at a place of a feed is runnable
-pub runnable_at : (feed : Feed) (place : ℕ) (trip : Trip) → IsRunnable feed → slice_get feed.trips.items place ≡ Some trip
+pub runnable_at : (feed : Feed) (place : ℕ) (trip : Trip) → slice_get feed.trips.items place ≡ Some trip
     → IsRunnableTrip (length feed.stops.items) feed.stop_times.items trip
-runnable_at feed place trip runnable at =
+runnable_at feed place trip at =
     subst (λ (t : Trip). IsRunnableTrip (length feed.stops.items) feed.stop_times.items t) (get_or_from_slice_get feed.trips.items place trip trip at)
-    (runnable.trips place trip (slice_get_within feed.trips.items place trip at))
+    (feed.runnable place trip (slice_get_within feed.trips.items place trip at))
 
 pub two_rows : (trip : Trip) → makes_connections trip ≡ true → 2 ≤ trip.end - trip.first
 two_rows trip makes = leb-true 2 (trip.end - trip.first) (and_parts _ _ makes).1
 
 pub ready : (feed : Feed) (run : Run) (all : List TripTimes) (trip : Trip) (rows : List StopTimeRow) (mine : TripTimes) (times : List RowTimes)
-    → IsRunnable feed
     → AreTimesOf feed.stop_times.items feed.trips.items all → IsTripRun feed.trips.items run → trip ≡ get_or feed.trips.items run.trip trip
     → rows ≡ rows_of feed.stop_times.items trip → length rows ≡ trip.end - trip.first
     → mine ≡ get_or all run.trip mine → times ≡ mine.rows.items → IsReady feed run rows times
-ready feed run all trip rows mine times runnable timed is read rows_are len got times_are =
+ready feed run all trip rows mine times timed is read rows_are len got times_are =
     let same : trip ≡ is.trip = trip_of feed.trips.items run.trip trip is.trip read is.is_trip in
     let at : slice_get feed.trips.items run.trip ≡ Some trip = is.is_trip ∙ ap (λ (t : Trip). Some t) (sym same) in
     let makes : makes_connections trip ≡ true = ap (λ (t : Trip). makes_connections t) same ∙ is.makes in
-    let good = runnable_at feed run.trip trip runnable at in
+    let good = runnable_at feed run.trip trip at in
     let two = two_rows trip makes in
     let known = (timed.each run.trip trip mine at).made makes in
     let whole = subst (λ (t : TripTimes). length t.rows.items ≡ length (rows_of feed.stop_times.items trip)) (sym got) known.same_length in

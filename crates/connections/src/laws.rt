@@ -4,7 +4,6 @@ ghost use Rattle.std.specs.Prelude.{◌≡◌, ◌≤◌, ◌<◌, ◌+◌, ◌*
 ghost use Rattle.std.specs.Prelude.{slice_index_or, if◌then◌else◌, false};
 ghost use Rattle.gtfs_rows.specs.declared.rows.StopTimeRow.{StopTimeRow};
 ghost use Rattle.gtfs_rows.specs.declared.values.Day.{Day};
-ghost use Rattle.gtfs_tables.specs.Joined.{IsRunnable};
 ghost use Rattle.gtfs_tables.specs.declared.tables.Feed.{Feed};
 ghost use Rattle.gtfs_tables.specs.declared.tables.Frequency.{Frequency};
 ghost use Rattle.gtfs_tables.specs.declared.tables.Trip.{Trip};
@@ -61,7 +60,7 @@ pub fn one_listing()
 /// the runs as its trips.
 pub fn listing_is_legal()
     ensures { (feed : Feed) (zone : Zone) (first : Day) (days : ℕ) (connections : List Connection) (runs : List Run)
-        → IsRunnable feed → 1 ≤ days
+        → 1 ≤ days
         → IsListing feed zone first days connections runs
         → HasLegalConnections (length feed.stops.items) (length runs) connections }
 {}

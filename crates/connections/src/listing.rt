@@ -3,7 +3,7 @@
 ghost use Rattle.std.specs.Prelude.{◌≡◌, ◌≤◌, ◌<◌, ◌-◌, ◌^◌, ◌⊎◌, ℤ, min, length, map, IfOk, IfErr, OnOk, OnErr};
 ghost use Rattle.std.specs.Prelude.{All, Contains, IsPermutation, true};
 ghost use Rattle.std.specs.Prelude.{slice_index_or};
-ghost use Rattle.gtfs_tables.specs.Joined.{HasTimedEnds, IsRunnable, makes_connections as makes};
+ghost use Rattle.gtfs_tables.specs.Joined.{HasTimedEnds, makes_connections as makes};
 ghost use Rattle.gtfs_tables.specs.Joined.{rows_of as rows_between};
 ghost use Rattle.service_days.specs.Zones.{IsDayStart};
 ghost use Rattle.service_days.specs.declared.zone.Zone.{Zone as DayZone};
@@ -58,7 +58,6 @@ fn times_of(alloc: Global, stop_times: &[StopTimeRow], trip: &Trip) -> Result<Tr
 
 // The times of each trip.
 fn times_of_trips(alloc: Global, feed: &Feed) -> Result<Vec<TripTimes>, AllocError>
-    requires { IsRunnable feed.now }
     ensures { IfOk result (λ times. AreTimesOf feed.now.stop_times.items feed.now.trips.items times.items) }
 {
     let mut times = Vec::with_capacity(alloc, feed.trips.len())?;
@@ -104,7 +103,6 @@ fn list_run(
     run: &Run,
     number: u32,
 ) -> Result<(), RunsFault>
-    requires runnable { IsRunnable feed.now }
     requires times { AreTimesOf feed.now.stop_times.items feed.now.trips.items times.now }
     requires trip { IsTripRun feed.now.trips.items run.now }
     ensures ok { (zone : DayZone) → IsDayStart zone run.now.day day.start
@@ -140,7 +138,6 @@ fn connections_by_run(
     runs: &[Run],
     count: usize,
 ) -> Result<Vec<Connection>, RunsFault>
-    requires runnable { IsRunnable feed.now }
     requires times { AreTimesOf feed.now.stop_times.items feed.now.trips.items times.now }
     requires trips { All (IsTripRun feed.now.trips.items) runs.now }
     requires days { All (λ run. Contains (map (λ d. d.day) days.now) run.day) runs.now }
@@ -213,7 +210,6 @@ pub fn runs_of(
     days: u32,
     zone: &Zone,
 ) -> Result<(Vec<Connection>, Vec<Run>, Report), RunsFault>
-    requires runnable { IsRunnable feed.now }
     requires some { 1 ≤ days }
     requires few { days ≤ MAX_DAYS }
     ensures ok { IfOk result (λ made. IsListing feed.now zone.now first_day days made.0.items made.1.items) }

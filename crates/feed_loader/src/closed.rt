@@ -2,7 +2,6 @@
 
 ghost use Rattle.std.specs.Prelude.{◌≡◌, ◌≤◌, ◌⊎◌, length, All, IfOk, IfErr};
 ghost use Rattle.timetable.specs.declared.limits.TheConstants.{MAX_FOOTPATHS, MAX_WALK_SECS};
-ghost use Rattle.gtfs_tables.specs.Joined.{NamesItsStops};
 ghost use Rattle.footpaths.specs.Closure.{HasLegalFootpaths, IsFault};
 ghost use Rattle.feed_loader.specs.Loaded.{AreFeedPaths, IsFeedClosure};
 
@@ -16,8 +15,7 @@ use transfers::{ListingFault, listed_within};
 /// The closure of the footpaths that a feed lists. Each of these joins a pair of stops in the
 /// closure too, so where there are too many of them no more are listed, and nothing is closed.
 pub fn closed_footpaths(alloc: Global, feed: &Feed, stops: u32) -> Result<Vec<Footpath>, FootFault>
-    requires names { NamesItsStops feed.now }
-    requires stops { stops ≡ length feed.now.stops.items }
+    requires { stops ≡ length feed.now.stops.items }
     ensures closure { IfOk result (λ v. IsFeedClosure feed.now v.items) }
     ensures legal { IfOk result (λ v. HasLegalFootpaths stops v.items) }
     ensures few { IfOk result (λ v. length v.items ≤ MAX_FOOTPATHS) }

@@ -15,7 +15,6 @@ use crate::plan::Plan;
 use connections::Report;
 use feed_files::{FeedFiles, read_tables};
 use gtfs_tables::join;
-use gtfs_tables::laws::{joined_is_runnable, joined_names_its_stops};
 use image_verifier::Verified;
 use std::alloc::Global;
 
@@ -55,8 +54,6 @@ pub fn load<F: FeedFiles>(
     ensures err { (content : Content) → Tells (F.holds files.old) content
         → IfErr result (λ fault. ¬ (IsWantOfMemory fault) → IsLoadRefusal content plan.now fault) }
 {
-    joined_is_runnable();
-    joined_names_its_stops();
     let tables = read_tables(alloc, files)?;
     let feed = join(alloc, tables, plan.strict)?;
     image_of(alloc, &feed, plan)

@@ -4,7 +4,6 @@ ghost use Rattle.std.specs.Prelude.{◌≡◌, ◌≤◌, ◌<◌, ◌+◌, ◌�
 ghost use Rattle.timetable.specs.declared.limits.TheConstants.{MAX_NAME_BYTES};
 ghost use Rattle.image_layout.specs.declared.layout.TheConstants.{LAYOUT};
 ghost use Rattle.image_layout.specs.Spelling.{text};
-ghost use Rattle.gtfs_tables.specs.Joined.{IsRunnable, NamesItsStops};
 ghost use Rattle.connections.specs.declared.days.TheConstants.{MAX_DAYS};
 ghost use Rattle.feed_loader.specs.Loaded.{AreNames, IsMade};
 ghost use Rattle.feed_loader.specs.Refused.{AreNamesRefused, IsFeedRefusal, IsWantOfMemory};
@@ -54,8 +53,6 @@ fn short_names(alloc: Global, feed: &Feed, plan: &Plan, runs: &[Run]) -> Result<
 /// refuses, then names that are too long together (`TooMany` of `trips.txt`), then a closure that
 /// is too large. Want of memory may be told at any time.
 pub fn image_of(alloc: Global, feed: &Feed, plan: &Plan) -> Result<(Verified, Report), LoadFault>
-    requires feed { IsRunnable feed.now }
-    requires names { NamesItsStops feed.now }
     requires some { 1 ≤ plan.now.days }
     requires few { plan.now.days ≤ MAX_DAYS }
     ensures layout { IfOk result (λ made. made.0.layout ≡ LAYOUT) }

@@ -21,10 +21,10 @@ use Rattle.gtfs_rows.specs.declared.rows.Location.TheVariants as locations
 use Rattle.gtfs_rows.specs.declared.rows.StopRow.{StopRow}
 use Rattle.gtfs_rows.specs.declared.rows.StopTimeRow.{StopTimeRow}
 use Rattle.gtfs_rows.specs.declared.rows.TripRow.{TripRow}
-use Rattle.gtfs_tables.specs.Feeds.{IsJoined, feed_stop, feed_trip, feed_trips, first_fault, link_by, naming_fault}
+use Rattle.gtfs_tables.specs.Feeds.{feed_stop, feed_trip, feed_trips, first_fault, link_by, naming_fault}
 use Rattle.gtfs_tables.specs.Feeds.{rows_by, told_of, stops_by, trip_fault, trips_by}
 use Rattle.gtfs_tables.specs.First.{first_below, first_fault_of}
-use Rattle.gtfs_tables.specs.Joined.{HasTimedEnds, IsRunnableTrip, NamesBelow}
+use Rattle.gtfs_tables.specs.Joined.{AreRunnable, HasTimedEnds, IsRunnableTrip, NameStopsBelow, NamesBelow}
 use Rattle.gtfs_tables.specs.Names.{named_as, named_at, stop_named, stop_with, trip_named}
 use Rattle.gtfs_tables.specs.Order.{first_turn, of_trip, row_of}
 use Rattle.gtfs_tables.specs.Rows.{IsTransferOf, is_flex_id, is_kept, is_repeated, named_by, stop_number, stop_of, transfer_fault}
@@ -32,9 +32,9 @@ use Rattle.gtfs_tables.specs.Times.{first_wrong, is_flex, wrong_given, wrong_tim
 use Rattle.gtfs_tables.specs.declared.names.Named.{Named}
 use Rattle.gtfs_tables.specs.declared.names.Named.TheVariants as names
 use Rattle.gtfs_tables.specs.declared.order.Turn.{Turn}
-use Rattle.gtfs_tables.specs.declared.tables.Feed.{Feed}
 use Rattle.gtfs_tables.specs.declared.tables.Place.{Place}
 use Rattle.gtfs_tables.specs.declared.tables.Place.TheVariants as places
+use Rattle.gtfs_tables.specs.declared.tables.Stop.{Stop}
 use Rattle.gtfs_tables.specs.declared.tables.Tables.{Tables}
 use Rattle.gtfs_tables.specs.declared.tables.Transfer.{Transfer}
 use Rattle.gtfs_tables.specs.declared.tables.Trip.{Trip}
@@ -111,10 +111,9 @@ place_below stops id (places.Stop s) e = named_below stops id s e
 place_below stops id (places.Station p) e = tt
 
 -- the feed has as many stops as stops.txt has rows that stand for one
-stops_counted : (t : Tables) (feed : Feed) (named : List ℕ → Option Named)
-    → feed.stops.items ≡ map (feed_stop named) (filter is_stop t.stops.items)
-    → length feed.stops.items ≡ count_by is_stop t.stops.items
-stops_counted t feed named e = ap length e ∙ length-map (filter is_stop t.stops.items) (feed_stop named) ∙ length-filter is_stop t.stops.items
+stops_counted : (t : Tables) (stops : List Stop) (named : List ℕ → Option Named)
+    → stops ≡ map (feed_stop named) (filter is_stop t.stops.items) → length stops ≡ count_by is_stop t.stops.items
+stops_counted t stops named e = ap length e ∙ length-map (filter is_stop t.stops.items) (feed_stop named) ∙ length-filter is_stop t.stops.items
 
 zip_at : {A B : Type 0} (R : A → B → Type 0) (xs : List A) (ys : List B) (k : ℕ) (e : B) → AllZip R xs ys
     → k < length ys → (x : A) × R x (slice_index_or ys k e)
@@ -124,15 +123,15 @@ zip_at R (x ∷ xs) [] k e zipped lt = absurd zipped
 zip_at R (x ∷ xs) (y ∷ ys) zero e zipped lt = (x, zipped.0)
 zip_at R (x ∷ xs) (y ∷ ys) (suc k) e zipped lt = zip_at R xs ys k e zipped.1 (omega (arith, lt))
 
-pub joined_names : (strict : Bool) (t : Tables) (feed : Feed) → IsJoined strict t feed → (k : ℕ) (d : Transfer) → k < length feed.transfers.items
-    → NamesBelow (length feed.stops.items) (slice_index_or feed.transfers.items k d).from
-    × NamesBelow (length feed.stops.items) (slice_index_or feed.transfers.items k d).to
-joined_names strict t feed joined k d lt =
-    let count = stops_counted t feed (stop_named t.stops.items) joined.feed_is.stops in
-    let row = zip_at (IsTransferOf (stop_named t.stops.items)) (filter is_kept t.transfers.items) feed.transfers.items k d joined.feed_is.transfers lt in
+pub joined_names : (t : Tables) (stops : List Stop) (transfers : List Transfer)
+    → stops ≡ map (feed_stop (stop_named t.stops.items)) (filter is_stop t.stops.items)
+    → AllZip (IsTransferOf (stop_named t.stops.items)) (filter is_kept t.transfers.items) transfers → NameStopsBelow (length stops) transfers
+joined_names t stops transfers stops_are zipped k d lt =
+    let count = stops_counted t stops (stop_named t.stops.items) stops_are in
+    let row = zip_at (IsTransferOf (stop_named t.stops.items)) (filter is_kept t.transfers.items) transfers k d zipped lt in
     rw count (
-      place_below t.stops.items (string_bytes row.0.from) (slice_index_or feed.transfers.items k d).from row.1.from,
-      place_below t.stops.items (string_bytes row.0.to) (slice_index_or feed.transfers.items k d).to row.1.to,
+      place_below t.stops.items (string_bytes row.0.from) (slice_index_or transfers k d).from row.1.from,
+      place_below t.stops.items (string_bytes row.0.to) (slice_index_or transfers k d).to row.1.to,
     )
 
 -- ---- where the rows of a trip stand
@@ -264,12 +263,12 @@ fault_none strict t turns k e lt =
     (first_below-none (trip_fault strict turns rows) (length t.trips.items) k lt trips.0)
 
 -- the trip at a place, as it is made, is runnable
-made_runnable : (strict : Bool) (t : Tables) (feed : Feed) (joined : IsJoined strict t feed) (k : ℕ) (row : TripRow) → k < length t.trips.items
-    → IsRunnableTrip (count_by is_stop t.stops.items) (rows_by (stop_named t.stops.items) (trip_named t.trips.items) t joined.turns)
-    (feed_trip joined.turns (rows_by (stop_named t.stops.items) (trip_named t.trips.items) t joined.turns)
+made_runnable : (strict : Bool) (t : Tables) (turns : List Turn) (k : ℕ) (row : TripRow)
+    → first_fault (stop_named t.stops.items) (trip_named t.trips.items) strict t turns ≡ None → k < length t.trips.items
+    → IsRunnableTrip (count_by is_stop t.stops.items) (rows_by (stop_named t.stops.items) (trip_named t.trips.items) t turns)
+    (feed_trip turns (rows_by (stop_named t.stops.items) (trip_named t.trips.items) t turns)
     (is_repeated (trip_named t.trips.items) t.frequencies.items) k row)
-made_runnable strict t feed joined k row lt =
-    let turns = joined.turns in
+made_runnable strict t turns k row faultless lt =
     let rows = rows_by (stop_named t.stops.items) (trip_named t.trips.items) t turns in
     let up = turn_rises turns k in
     let len : length rows ≡ length turns = length-map turns
@@ -285,7 +284,7 @@ made_runnable strict t feed joined k row lt =
           let parts = and_parts (not (is_flex (of_trip turns k rows))) (nat_le 2 (first_turn turns (k + 1) - first_turn turns k)) makes in
           let two = leb-true 2 (first_turn turns (k + 1) - first_turn turns k) parts.1 in
           timed_by strict (of_trip turns k rows) (le-ltb (length (of_trip turns k rows)) 2 (omega arith))
-          (not-true (is_flex (of_trip turns k rows)) parts.0) (fault_none strict t turns k joined.faultless lt);
+          (not-true (is_flex (of_trip turns k rows)) parts.0) (fault_none strict t turns k faultless lt);
       stops_below = λ makes i d less.
           let parts = and_parts (not (is_flex (of_trip turns k rows))) (nat_le 2 (first_turn turns (k + 1) - first_turn turns k)) makes in
           let steady = not-true (is_flex (of_trip turns k rows)) parts.0 in
@@ -296,18 +295,20 @@ made_runnable strict t feed joined k row lt =
           (λ s e. row_below t turns (first_turn turns k + i) s d (omega arith) (sym (ap (λ (row : StopTimeRow). row.stop) at) ∙ e));
     }
 
-pub joined_trips : (strict : Bool) (t : Tables) (feed : Feed) → IsJoined strict t feed
-    → All (IsRunnableTrip (length feed.stops.items) feed.stop_times.items) feed.trips.items
-joined_trips strict t feed joined k d lt =
-    let turns = joined.turns in
+pub joined_trips : (strict : Bool) (t : Tables) (turns : List Turn) (stops : List Stop) (times : List StopTimeRow) (trips : List Trip)
+    → first_fault (stop_named t.stops.items) (trip_named t.trips.items) strict t turns ≡ None
+    → stops ≡ map (feed_stop (stop_named t.stops.items)) (filter is_stop t.stops.items)
+    → times ≡ rows_by (stop_named t.stops.items) (trip_named t.trips.items) t turns
+    → trips ≡ feed_trips turns (rows_by (stop_named t.stops.items) (trip_named t.trips.items) t turns)
+    (is_repeated (trip_named t.trips.items) t.frequencies.items) 0 t.trips.items
+    → AreRunnable (length stops) times trips
+joined_trips strict t turns stops times trips faultless stops_are times_are trips_are k d lt =
     let rows = rows_by (stop_named t.stops.items) (trip_named t.trips.items) t turns in
     let repeats = is_repeated (trip_named t.trips.items) t.frequencies.items in
-    let trips_are : feed.trips.items ≡ feed_trips turns rows repeats 0 t.trips.items = joined.feed_is.trips in
-    let times_are : feed.stop_times.items ≡ rows = joined.feed_is.stop_times in
-    let count = stops_counted t feed (stop_named t.stops.items) joined.feed_is.stops in
-    let many : length feed.trips.items ≡ length t.trips.items = ap length trips_are ∙ trips_counted turns rows repeats 0 t.trips.items in
+    let count = stops_counted t stops (stop_named t.stops.items) stops_are in
+    let many : length trips ≡ length t.trips.items = ap length trips_are ∙ trips_counted turns rows repeats 0 t.trips.items in
     let made = trip_at turns rows repeats 0 k t.trips.items d (omega arith) in
     let place : 0 + k ≡ k = omega arith in
-    let is : get_or feed.trips.items k d ≡ feed_trip turns rows repeats k made.0 =
-    ap (λ trips. get_or trips k d) trips_are ∙ made.1 ∙ ap (λ n. feed_trip turns rows repeats n made.0) place in
-    rw (is, times_are, count) (made_runnable strict t feed joined k made.0 (omega arith))
+    let is : get_or trips k d ≡ feed_trip turns rows repeats k made.0 =
+    ap (λ (all : List Trip). get_or all k d) trips_are ∙ made.1 ∙ ap (λ n. feed_trip turns rows repeats n made.0) place in
+    rw (is, times_are, count) (made_runnable strict t turns k made.0 faultless (omega arith))

@@ -1,11 +1,11 @@
--- What holds of a feed that was joined: the rows of its trips, and what its transfers name.
+-- What holds of each feed: where the rows of its trips are, and what its transfers name.
 use Rattle.std.specs.Prelude.{◌≡◌, ◌-◌, ◌<◌, ◌≤◌, ◌&&◌, not, nat_le, ℕ, List, length, Bool, true, IsSome, IsSomeAnd, All}
 use Rattle.std.specs.List.{slice_range}
 use Rattle.gtfs_rows.specs.declared.rows.StopTimeRow.{StopTimeRow}
 use Rattle.gtfs_tables.specs.Spread.{arrival_at}
-use Rattle.gtfs_tables.specs.declared.tables.Feed.{Feed}
 use Rattle.gtfs_tables.specs.declared.tables.Place.{Place}
 use Rattle.gtfs_tables.specs.declared.tables.Place.TheVariants as places
+use Rattle.gtfs_tables.specs.declared.tables.Transfer.{Transfer}
 use Rattle.gtfs_tables.specs.declared.tables.Trip.{Trip}
 
 -- the rows of a trip among the stop times
@@ -31,15 +31,15 @@ pub record IsRunnableTrip (stops : ℕ) (stop_times : List StopTimeRow) (trip : 
   pub timed : makes_connections trip ≡ true → HasTimedEnds (rows_of stop_times trip)
   pub stops_below : makes_connections trip ≡ true → HasStopsBelow stops (rows_of stop_times trip)
 
--- each trip of a feed is so
-pub record IsRunnable (feed : Feed) : Type 0 where
-  pub trips : All (IsRunnableTrip (length feed.stops.items) feed.stop_times.items) feed.trips.items
+-- each trip is so
+abbrev pub AreRunnable : ℕ → List StopTimeRow → List Trip → Type 0
+AreRunnable stops stop_times trips = All (IsRunnableTrip stops stop_times) trips
 
 -- a stop that the place names is one of so many
 abbrev pub NamesBelow : ℕ → Place → Type 0
 NamesBelow stops (places.Stop stop) = stop < stops
 NamesBelow stops (places.Station station) = Unit {0}
 
--- each stop that a transfer names is one of the feed's
-abbrev pub NamesItsStops : Feed → Type 0
-NamesItsStops feed = All (λ row. NamesBelow (length feed.stops.items) row.from × NamesBelow (length feed.stops.items) row.to) feed.transfers.items
+-- each stop that a transfer names is one of so many
+abbrev pub NameStopsBelow : ℕ → List Transfer → Type 0
+NameStopsBelow stops transfers = All (λ row. NamesBelow stops row.from × NamesBelow stops row.to) transfers

@@ -1,6 +1,7 @@
 pub mod Feeds
 pub mod First
 pub mod Joined
+pub mod JoinedProp
 pub mod Names
 pub mod Order
 pub mod Outcome

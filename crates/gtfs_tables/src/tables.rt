@@ -1,5 +1,9 @@
 //! The tables of a feed as they are read, and as they name one another.
 
+ghost use Rattle.std.specs.Prelude.{length};
+ghost use Rattle.gtfs_tables.specs.Joined.{AreRunnable, NameStopsBelow};
+ghost use Rattle.gtfs_tables.specs.JoinedProp.{AreRunnable-prop, NameStopsBelow-prop};
+
 use gtfs_rows::{
     AgencyRow, CalendarDateRow, CalendarRow, FrequencyRow, IdHash, StopRow, StopTimeRow, StopTimes,
     TransferKind, TransferRow, TripRow,
@@ -93,4 +97,10 @@ pub struct Feed {
     pub calendar_dates: Vec<CalendarDateRow>,
     /// The hash by which ids are looked up. Nothing that is found depends on it.
     pub hash: IdHash,
+    // each trip's rows are among the stop times; if it makes connections, they have times at both ends and stops
+    pub ghost runnable: { AreRunnable (length stops.items) stop_times.items trips.items } by { AreRunnable-prop
+        (length stops.items) stop_times.items trips.items },
+    // the stops that transfers name are the feed's
+    pub ghost named: { NameStopsBelow (length stops.items) transfers.items } by { NameStopsBelow-prop
+        (length stops.items) transfers.items },
 }

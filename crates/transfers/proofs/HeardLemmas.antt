@@ -2,13 +2,14 @@
 use Rattle.std.proofs.Common.{◌≡◌, ◌==◌, ◌⊎◌, inl, inr, ℕ, ◌+◌, ◌<◌, List, [], ◌∷◌, ◌++◌, length, take, get_or, Bool, true, false, Option, Some, None, Contains}
 use Rattle.std.proofs.Common.{refl, sym, ap, subst, ◌∙◌}
 use Rattle.std.proofs.lemmas.List.{take_more}
-use Rattle.std.proofs.lemmas.List.Elements.{Contains-push, Contains-push_cases, Contains-append_left}
+use Rattle.std.proofs.lemmas.List.Elements.{All-contains, All-contains_itself, All-weaker, Contains-push, Contains-push_cases, Contains-append_left}
 use Rattle.std.proofs.lemmas.Option.{same_Some, none-some}
 use Rattle.std.specs.List.Sorted.{IsPermutation}
 use Rattle.std.proofs.lemmas.List.Sorted.{Contains-permutation, IsPermutation-sym}
 use Rattle.reasoning.proofs.ListLemmas.{not_in_nil}
 use Rattle.timetable.specs.First.{or_else}
 use Rattle.timetable.specs.declared.network.Footpath.{Footpath}
+use Rattle.gtfs_tables.specs.Joined.{NameStopsBelow, NamesBelow}
 use Rattle.gtfs_tables.specs.declared.tables.Stop.{Stop}
 use Rattle.gtfs_tables.specs.declared.tables.Transfer.{Transfer}
 use Rattle.gtfs_tables.specs.declared.tables.Feed.{Feed}
@@ -29,6 +30,12 @@ hears_none rows = record {
   only = λ row is_in. absurd (not_in_nil row is_in);
   each = λ row is_in. absurd (not_in_nil row is_in);
 }
+
+-- what is left names stops of the feed, too
+pub still_named : (stops : ℕ) (rows kept : List Transfer) → HearsOnce rows kept → NameStopsBelow stops rows → NameStopsBelow stops kept
+still_named stops rows kept heard named =
+    let below : Transfer → Type 0 = λ (row : Transfer). NamesBelow stops row.from × NamesBelow stops row.to in
+    All-weaker (Contains kept) below (λ row is_in. All-contains below rows row named (heard.only row is_in)) kept (All-contains_itself kept)
 
 -- one transfer more
 pub hears_more : (rows : List Transfer) (i : ℕ) (d : Transfer) (old new : List Transfer) → i < length rows → HearsOnce (take i rows) old

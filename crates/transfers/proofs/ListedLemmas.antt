@@ -8,7 +8,7 @@ use Rattle.reasoning.proofs.ListLemmas.{at_contains, slice_get-append}
 use Rattle.timetable.specs.declared.network.Footpath.{Footpath}
 use Rattle.timetable.specs.Legal.{At, HasFootpath, AreInOrder}
 use Rattle.gtfs_tables.specs.declared.tables.Feed.{Feed}
-use Rattle.transfers.specs.Listed.{NamesStops, AreAllListed, AreListed, LeadBelow, ListsMore, ListsMoreBelow, listed_secs}
+use Rattle.transfers.specs.Listed.{AreAllListed, AreListed, LeadBelow, ListsMore, ListsMoreBelow, listed_secs}
 use Rattle.transfers.specs.Lookup.{EndsBelow}
 use Rattle.transfers.proofs.PathLemmas.{footpath_of}
 use Rattle.transfers.proofs.RangeLemmas.{listed_below, loop_listed}
@@ -167,12 +167,11 @@ module _ (feed : Feed) where
         let whole : AreListed feed (LeadBelow end) ys = subst (λ (n : ℕ). AreListed feed (LeadBelow n) ys) (omega (arith, small)) all in
         record { paths = ys; in_order = whole.in_order; times = all_times ys whole; more = omega (arith, more, longer) }
 
--- they join stops of the feed, where its transfers name such
+-- they join stops of the feed
 in_range : (feed : Feed) (paths : List Footpath) → ((from to secs : ℕ) → HasFootpath paths from to secs ↔ (listed_secs feed from to ≡ Some secs))
-    → NamesStops feed
     → All (λ (f : Footpath). (f.from < length feed.stops.items) × (f.to < length feed.stops.items)) paths
-in_range feed paths times names = All-weaker (Contains paths) (λ (f : Footpath). (f.from < length feed.stops.items) × (f.to < length feed.stops.items))
-    (λ f is_in. listed_below feed (length feed.stops.items) (record { stops = omega arith; named = names }) f.from f.to f.secs
+in_range feed paths times = All-weaker (Contains paths) (λ (f : Footpath). (f.from < length feed.stops.items) × (f.to < length feed.stops.items))
+    (λ f is_in. listed_below feed (length feed.stops.items) (record { stops = omega arith; named = feed.named }) f.from f.to f.secs
     ((times f.from f.to f.secs).0 (at_contains paths f is_in))) paths (All-contains_itself paths)
 
 -- each stop has a loop

@@ -16,7 +16,7 @@ use Rattle.transfers.specs.declared.claims.Source.{Source}
 use Rattle.transfers.specs.declared.claims.Source.TheVariants.{Stops, Station, Default}
 use Rattle.transfers.specs.declared.claims.Word.{Word}
 use Rattle.transfers.specs.declared.claims.Word.TheVariants.{Never, Takes}
-pub use Rattle.gtfs_tables.specs.Joined.{NamesBelow, NamesItsStops as NamesStops}
+pub use Rattle.gtfs_tables.specs.Joined.{NamesBelow}
 
 -- the station of a stop
 abbrev pub station_in : Option Stop → Option ℕ
@@ -123,11 +123,11 @@ pub record AreListed (feed : Feed) (meant : ℕ → ℕ → Type 0) (paths : Lis
   pub has : (from to secs : ℕ) → HasFootpath paths from to secs → meant from to × (listed_secs feed from to ≡ Some secs)
   pub each : (from to secs : ℕ) → meant from to → listed_secs feed from to ≡ Some secs → HasFootpath paths from to secs
 
--- these are all that the feed lists: where its transfers name its own stops they join its stops, and each stop has a loop
+-- these are all that the feed lists: they join its stops, and each stop has a loop
 pub record AreAllListed (feed : Feed) (paths : List Footpath) : Type 0 where
   pub times : (from to secs : ℕ) → HasFootpath paths from to secs ↔ (listed_secs feed from to ≡ Some secs)
   pub in_order : AreInOrder paths
-  pub in_range : NamesStops feed → All (λ f. (f.from < length feed.stops.items) × (f.to < length feed.stops.items)) paths
+  pub in_range : All (λ f. (f.from < length feed.stops.items) × (f.to < length feed.stops.items)) paths
   pub loops : (stop : ℕ) → stop < length feed.stops.items → (secs : ℕ) × HasFootpath paths stop stop secs
 
 -- from whatever stop to one below a number

@@ -5,10 +5,8 @@
 //! name and its text, with a bar for each LF.
 
 ghost use Rattle.std.specs.Prelude.{IfOk};
-ghost use Rattle.gtfs_tables.specs.Joined.{IsRunnable};
 
 use feed_files::{MemoryFiles, ReadFault, read_tables};
-use gtfs_tables::laws::joined_is_runnable;
 use gtfs_tables::{FaultKind, Feed, Table, TableFault, Tables, join};
 use service_days::Zone;
 use std::alloc::{AllocError, Global};
@@ -248,12 +246,9 @@ pub(crate) fn joined(
     changed: &str,
     base: &str,
     strict: bool,
-) -> Result<Feed, TableFault>
-    ensures { IfOk result IsRunnable }
-{
+) -> Result<Feed, TableFault> {
     let tables = tables_of(alloc, changed, base)?;
     let feed = join(alloc, tables, strict)?;
-    joined_is_runnable();
     Ok(feed)
 }
 
@@ -263,9 +258,7 @@ pub(crate) fn joined_or_refused(
     alloc: Global,
     changed: &str,
     base: &str,
-) -> Result<Feed, AllocError>
-    ensures { IfOk result IsRunnable }
-{
+) -> Result<Feed, AllocError> {
     match joined(alloc, changed, base, false) {
         Ok(feed) => Ok(feed),
         Err(fault) => {

@@ -15,7 +15,7 @@ use Rattle.connections.proofs.listing.list_run.Goals as goal
 
 is_ready : (c : goal.After-are_inside) → IsReady c.args.feed.now c.args.run.now c.rows_of-rows.result.now c.deref-2.result.now
 is_ready c = ready c.args.feed.now c.args.run.now c.args.times.now c.index-trip.result.now c.rows_of-rows.result.now c.index-times-place.result
-    c.deref-2.result.now c.requires.runnable c.requires.times c.requires.trip
+    c.deref-2.result.now c.requires.times c.requires.trip
     c.index-trip.ensures (c.rows_of-rows.ensures.rows ∙ ap (λ (st : List StopTimeRow). rows_of st c.index-trip.result.now) c.deref.ensures.value)
     c.rows_of-rows.ensures.len c.index-times-place.is (c.deref-2.ensures.value ∙ ap (λ (t : TripTimes). t.rows.items) (sym c.index-times-place.is))
 

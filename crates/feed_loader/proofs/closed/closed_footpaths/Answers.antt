@@ -2,7 +2,7 @@ use Rattle.feed_loader.proofs.ClosedLemmas.{closure_of_feed, fault_of_feed, loop
 use Rattle.feed_loader.proofs.closed.closed_footpaths.Goals as goal
 
 pub close-requires-clause-loops : goal.close-requires-clause-loops
-close-requires-clause-loops c = loops_of_stops _ _ _ _ c.requires.stops c.deref.ensures.value c.in-Ok.ensures.all.loops
+close-requires-clause-loops c = loops_of_stops _ _ _ _ c.requires c.deref.ensures.value c.in-Ok.ensures.all.loops
 
 pub returns-in-Ok-clause-closure : goal.returns-in-Ok-clause-closure
 returns-in-Ok-clause-closure c = closure_of_feed _ _ _ c.close.result c.deref.ensures.value c.in-Ok.ensures.all.times

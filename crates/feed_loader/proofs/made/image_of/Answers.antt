@@ -29,7 +29,7 @@ written-requires c =
     )) refl refl
     (omega (arith, c.if-len.false, c.len.ensures)) c.in_ok-connections.ensures.ok
     (c.listing_is_legal.ensures c.args.feed.now c.args.plan.now.zone c.args.plan.now.first_day c.args.plan.now.days
-    c.in_ok-connections.connections.items c.in_ok-connections.runs.items c.requires.feed c.requires.some
+    c.in_ok-connections.connections.items c.in_ok-connections.runs.items c.requires.some
     c.in_ok-connections.ensures.ok) (c.listing_is_within_limits.ensures c.args.feed.now c.args.plan.now.zone
     c.args.plan.now.first_day c.args.plan.now.days c.in_ok-connections.connections.items
     c.in_ok-connections.runs.items c.requires.some c.in_ok-connections.ensures.ok)

@@ -8,6 +8,7 @@ use Rattle.gtfs_tables.specs.Order.{comes_before, turns_in}
 use Rattle.gtfs_tables.specs.Rows.{IsTransferOf, is_kept}
 use Rattle.gtfs_tables.specs.declared.tables.Frequency.{Frequency}
 use Rattle.gtfs_tables.proofs.JoinLemmas.{flex_told, none_first, of_ok, rows_are, transfer_first, trip_first, trips_are}
+use Rattle.gtfs_tables.proofs.JoinedLemmas.{joined_names, joined_trips}
 use Rattle.gtfs_tables.proofs.joining.feed_of.Goals as goal
 
 pub made_of-requires-clause-flex : goal.made_of-requires-clause-flex
@@ -46,3 +47,20 @@ returns-in-Ok-clause-ok c = record {
 
 pub returns-in-Ok-clause-hash : goal.returns-in-Ok-clause-hash
 returns-in-Ok-clause-hash c = c.hasher-hash.ensures
+
+-- the trips of what was made are runnable, and its transfers name its stops
+pub invariant_of-result : goal.invariant_of-result
+invariant_of-result c =
+    let stops = c.in-Ok.ensures.stops (stop_named c.args.tables.stops.items) c.requires.stations in
+    record {
+      runnable = joined_trips c.args.strict c.args.tables
+          (turns_in (trips_by (trip_named c.args.tables.trips.items) c.args.tables) c.args.links.order c.args.tables.stop_times.rows.items)
+          c.in-Ok.made.stops.items c.in-Ok.made.stop_times.items c.in-Ok.made.trips.items
+          (none_first c.args.strict c.args.tables c.args.links c.requires c.in-Ok.made.transfers c.in-Ok.ensures.fine c.in-Ok.ensures.transfers)
+          stops
+          (c.in-Ok.ensures.rows ∙ rows_are c.args.strict c.args.tables c.args.links c.requires)
+          (trips_are c.args.strict c.args.tables c.args.links c.requires c.in-Ok.made.trips.items c.in-Ok.ensures.trips);
+      named = joined_names c.args.tables c.in-Ok.made.stops.items c.in-Ok.made.transfers.items stops
+          (of_ok c.args.links.transfers c.in-Ok.made.transfers (λ kept. AllZip (IsTransferOf (stop_named c.args.tables.stops.items))
+          (filter is_kept c.args.tables.transfers.items) kept.items) c.in-Ok.ensures.transfers c.requires.transfers);
+    }

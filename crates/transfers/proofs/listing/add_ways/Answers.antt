@@ -1,4 +1,4 @@
-use Rattle.std.proofs.Common.{◌≡◌, ◌↔◌, ◌+◌, ◌++◌, List, Contains, refl, sym, subst, OnOk, rules}
+use Rattle.std.proofs.Common.{◌≡◌, ◌↔◌, ◌+◌, ◌++◌, List, length, Contains, refl, sym, subst, OnOk, rules}
 use Rattle.std.proofs.lemmas.Result.{on_ok_weaker}
 use Rattle.timetable.specs.declared.network.Footpath.{Footpath}
 use Rattle.transfers.specs.declared.claims.Claim.{Claim}
@@ -7,7 +7,7 @@ use Rattle.transfers.specs.Claims.{AreSorted, IsClaimInto}
 use Rattle.transfers.specs.Listed.{AreListed, LeadBelow}
 use Rattle.transfers.proofs.OrderLemmas.{sorted_claims}
 use Rattle.transfers.proofs.FinalLemmas.{moved_claims, ways_listed}
-use Rattle.transfers.proofs.HeardLemmas.{same_listed}
+use Rattle.transfers.proofs.HeardLemmas.{same_listed, still_named}
 use Rattle.transfers.proofs.ListedLemmas.{listed_next}
 use Rattle.gtfs_tables.specs.declared.tables.Feed.{Feed}
 use Rattle.transfers.proofs.listing.add_ways.Goals as goal
@@ -20,7 +20,10 @@ pub returns : goal.returns
 returns c = λ before.
     let stops = c.args.known.now.feed.now.stops.items in
     let rows = c.args.known.now.lookup.now.transfers.items in
-    let heard : Feed = record (c.args.known.now.feed.now) { transfers = c.args.known.now.lookup.now.transfers } in
+    let heard : Feed = record (c.args.known.now.feed.now) {
+      transfers = c.args.known.now.lookup.now.transfers;
+      named = still_named (length stops) c.args.known.now.feed.now.transfers.items rows c.requires.heard c.args.known.now.feed.now.named;
+    } in
     let claims = c.deref.result.now in
     let sorted : AreSorted claims = subst
     (λ (claims : List Claim). AreSorted claims) (sym c.deref.ensures.value) (sorted_claims c.sort.new.self.items c.in_ok-sort.ensures.sorted) in
