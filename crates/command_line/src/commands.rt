@@ -55,7 +55,11 @@ const SOURCE: [Argument; 1] = [Argument::Option(
 
 /// The other options of a query.
 const DESTINATION: [Argument; 4] = [
-    Argument::Option("to", "STOP_ID", "The stop_id of the stop where it ends"),
+    Argument::Option(
+        "to",
+        "STOP_ID",
+        "The stop_id of the stop where the journey ends",
+    ),
     Argument::Option(
         "after",
         "CLOCK",

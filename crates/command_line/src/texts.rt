@@ -23,7 +23,7 @@ pub(crate) const INFO: &str = "Each line is a word and a value, with a space bet
 \x20 stops           stops\n\
 \x20 trips           trips, each on one service day\n\
 \x20 connections     rides from one stop to the next\n\
-\x20 footpaths       walks from stop to stop, that of each stop to itself included\n\
+\x20 footpaths       walks from stop to stop, counting that of each stop to itself\n\
 \x20 name-bytes      bytes of all stop_ids and trip_ids together\n\
 \x20 trips-YYYYMMDD  trips of this service day, each repetition by itself; the earliest day first, days without\n\
 \x20                 trips left out\n\
@@ -100,7 +100,7 @@ pub(crate) const BUILD: &str = "Standard output has one line of counts:\n\
 \x20 stops        stops and platforms in stops.txt; stations, entrances and the like are not counted\n\
 \x20 runs         trips on the days on which they run, each repetition of frequencies.txt by itself\n\
 \x20 connections  rides of these runs from one stop to the next\n\
-\x20 footpaths    pairs of stops with a walk from one to the other, that of each stop with itself included\n\
+\x20 footpaths    pairs of stops with a walk from one to the other, counting each stop with itself\n\
 \x20 lifted       trips with a time that was moved, so that each hop takes at least one second\n\
 \x20 flex         trips left out because one of their rows in stop_times.txt has no stop_id\n\
 \x20 frequencies  trips that frequencies.txt names\n\
