@@ -98,9 +98,7 @@ pub struct Feed {
     /// The hash by which ids are looked up. Nothing that is found depends on it.
     pub hash: IdHash,
     // each trip's rows are among the stop times; if it makes connections, they have times at both ends and stops
-    pub ghost runnable: { AreRunnable (length stops.items) stop_times.items trips.items } by { AreRunnable-prop
-        (length stops.items) stop_times.items trips.items },
+    pub ghost runnable: { AreRunnable (length stops.items) stop_times.items trips.items } by { AreRunnable-prop (length stops.items) stop_times.items trips.items },
     // the stops that transfers name are the feed's
-    pub ghost named: { NameStopsBelow (length stops.items) transfers.items } by { NameStopsBelow-prop
-        (length stops.items) transfers.items },
+    pub ghost named: { NameStopsBelow (length stops.items) transfers.items } by { NameStopsBelow-prop (length stops.items) transfers.items },
 }
