@@ -286,6 +286,8 @@ impl<F: FeedFiles, R: Reports> FeedFiles for ReportedFiles<F, R> {
 
     ghost failed = { λ reported. F.failed reported.files };
 
+    ghost reads = { λ reported. F.reads reported.files };
+
     ghost holds = { λ reported. F.holds reported.files };
 
     ghost hash = { λ reported. F.hash reported.files };
