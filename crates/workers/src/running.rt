@@ -2,7 +2,6 @@
 
 ghost use denote.Param.Send.{IsSend, IsSync};
 ghost use Rattle.std.specs.Prelude.{◌≡◌, ◌≤◌, ◌++◌, ◌∷◌, [], All, length, IfOk, OnOk};
-ghost use Rattle.client_queue.specs.Ends.{nothing_put};
 ghost use Rattle.workers.specs.Carrying.{AllCarriedOut};
 ghost use Rattle.workers.specs.Sessions.{AreServedSince, IsShare};
 
@@ -96,9 +95,6 @@ where
         (F.is_plan feeds.now) (length (F.named feeds.now)) ran.orders
         (T.Loads.answers loader) (T.Loads.answers ran.loader)) }
 {
-    let mut dealer = client_queue(alloc)?;
-    let room = Vec::with_capacity(alloc, seats.len())?;
-    let (mut asks, orders) = order_queue(alloc)?;
     thread::scope(
         thread::scope_env(),
         rt,
@@ -108,7 +104,6 @@ where
                 × IsSend T.Notice.row × IsSend C.row × IsSend C.Reader.row × IsSend C.Writer.row
                 × IsSend F.Files.row × IsSend E.row
                 × All (T.Versions.fits shelves.now) seats.items × T.Loads.loads shelves.now loader
-                × (orders.taken ≡ []) × (orders.answered ≡ []) × (dealer.view ≡ nothing_put) × (room.items ≡ [])
                 × (1 ≤ length seats.items) }
             ensures none_left { IfOk result (λ ran. K.none_left ran.clients) }
             ensures shares { IfOk result (λ ran. AreServedSince form C.opens C.Reader.remaining C.Writer.contents
@@ -118,6 +113,9 @@ where
                 AllCarriedOut T.Versions.noted (F.are_files feeds.entry.now) F.Files.holds (F.is_plan feeds.entry.now)
                 (length (F.named feeds.entry.now)) ran.orders (T.Loads.answers loader) (T.Loads.answers ran.loader)) }
         {
+            let mut dealer = client_queue(alloc)?;
+            let room = Vec::with_capacity(alloc, seats.len())?;
+            let (mut asks, orders) = order_queue(alloc)?;
             let loader_seat = loader;
             let promise = LoadsAt::<T, F>::of(&loader_seat, feeds);
             let started = scope.spawn_with(
@@ -145,7 +143,7 @@ where
             for seat in seats {
                 let taker = dealer.taker()?;
                 let end = asks.another()?;
-                let started = scope.spawn_with(
+                let begun = scope.spawn_with(
                     ShareAt::<C, T>::of(&taker, &seat, form),
                     move || -> Share<C, T::Seat>
                         requires { T.Versions.fits shelves.now seat × (taker.taken ≡ []) }
@@ -165,7 +163,7 @@ where
                         Worker { desk }.work(taker, seat, orders).0
                     },
                 );
-                let Ok(worker) = started else {
+                let Ok(worker) = begun else {
                     return Err(WorkersFault);
                 };
                 also(&mut workers, worker)?;

@@ -4,12 +4,13 @@ use Rattle.std.specs.Vec.Iter.{into_iter_items}
 use Rattle.client_queue.specs.Ends.{nothing_put}
 use Rattle.workers.proofs.Shared.{one_more_out, seated_none, seated_next, seated_all}
 use mathlib.Core.Path.{sym}
+use Rattle.workers.specs.Carrying.{AllCarriedOut}
 use Rattle.workers.specs.Sessions.{AreServedSince}
 use Rattle.workers.proofs.running.fn.run_workers.scope.Goals as goal
 
 -- the next seat is one of those that are left
-pub spawn_with-started-requires-clause-runs : goal.spawn_with-started-requires-clause-runs
-spawn_with-started-requires-clause-runs g c =
+pub spawn_with-begun-requires-clause-runs : goal.spawn_with-begun-requires-clause-runs
+spawn_with-begun-requires-clause-runs g c =
     let left : All (g.T.Versions.fits c.captures.shelves.now) (c.in-Some.seat ∷ c.next.new.self.rest.items) =
     subst (λ items. All (g.T.Versions.fits c.captures.shelves.now) items) c.in-Some.ensures.steps.0 c.loop-seat.invariant.fit in
     let fits : g.T.Versions.fits c.captures.shelves.now c.in-Some.seat = left 0 c.in-Some.seat (omega arith) in
@@ -22,8 +23,8 @@ loop-seat-preserved g c =
     let left : All (g.T.Versions.fits c.captures.shelves.now) (c.in-Some.seat ∷ c.next.new.self.rest.items) =
     subst (λ items. All (g.T.Versions.fits c.captures.shelves.now) items) step.0 was.fit in
     let short = ap length step.0 in
-    let worker = c.in-Ok.worker in
-    let promise = c.in-Ok.ensures.ok in
+    let worker = c.in-Ok-begun.worker in
+    let promise = c.in-Ok-begun.ensures.ok in
     let items = c.in_ok-also.ensures in
     let out = c.in_ok-taker.ensures.out in
     let taker = c.in_ok-taker.ensures.taker in
@@ -55,11 +56,30 @@ loop-seat-init g c =
       fit = subst (λ items. All (g.T.Versions.fits c.captures.shelves.now) items) (sym c.into_iter-seat-iterator.ensures.into_iter_gives.0) all;
       len = search rules;
       forms = subst (λ workers. All (λ worker. worker.promise.form ≡ c.captures.form) workers) (sym none) (All-nil _);
-      queues = subst (λ workers. All (λ worker. worker.promise.taker.value.queue ≡ c.captures.dealer.queue) workers) (sym none) (All-nil _);
-      dealer = c.requires.16 ∙ ap (λ list. record nothing_put { out = length list }) (sym none);
+      queues = subst (λ workers. All (λ worker. worker.promise.taker.value.queue ≡ c.in_ok-dealer.dealer.queue) workers) (sym none) (All-nil _);
+      dealer = c.in_ok-dealer.ensures ∙ ap (λ list. record nothing_put { out = length list }) (sym none);
       seated = seated_none _ _ _ none;
     }
 
 -- there was a worker at each seat, and all were joined; and so was the loader
-pub returns : goal.returns
-returns g c = ?
+pub returns-in-Ok-served : goal.returns-in-Ok-served
+returns-in-Ok-served g c =
+    let was = c.loop-seat.invariant in
+    let none = sym was.len ∙ c.in-None.ensures.steps.0 in
+    let seats = seated_all _ _ _ _ was.seated none ∙ c.into_iter-seat-iterator.ensures.into_iter_gives.0 in
+    let ran = c.in-Ok-served in
+    let shares = subst (λ seats. AreServedSince c.captures.form g.C.Client.opens g.C.Reader.Read.remaining g.C.Writer.Write.contents
+    g.T.Versions.number g.T.Versions.value g.T.Versions.known (g.K.Clients.came c.captures.clients) (g.K.Clients.came ran.clients)
+    seats ran.served ran.seats.items) seats ran.ensures.shares in
+    let done = c.join-orders.result in
+    let promised = c.in-Ok.ensures.ok in
+    let feeds = ap (λ promise. promise.feeds.value) promised ∙ c.of-promise.ensures.feeds in
+    let seat = ap (λ promise. promise.seat.value) promised ∙ c.of-promise.ensures.seat in
+    let at_feeds = subst (λ feeds. AllCarriedOut g.T.Versions.noted (g.F.Feeds.are_files feeds) g.F.Files.FeedFiles.holds
+    (g.F.Feeds.is_plan feeds) (length (g.F.Feeds.named feeds)) done.0
+    (g.T.Loads.answers c.in-Ok.loading.promise.seat.value) (g.T.Loads.answers done.1)) feeds c.join-orders.ensures in
+    let loads = subst (λ seat. AllCarriedOut g.T.Versions.noted (g.F.Feeds.are_files c.captures.feeds.now)
+    g.F.Files.FeedFiles.holds
+    (g.F.Feeds.is_plan c.captures.feeds.now) (length (g.F.Feeds.named c.captures.feeds.now)) done.0
+    (g.T.Loads.answers seat) (g.T.Loads.answers done.1)) seat at_feeds in
+    record { none_left = ran.ensures.none_left; shares = shares; loads = loads }
