@@ -295,7 +295,7 @@ fn serve_all<
     ensures seats { IfOk result (λ ran. All (λ seat. seat.table ≡ made.0) ran.seats.items) }
     ensures shares { IfOk result (λ ran. AreServedSince form ⟦<Visitor<'d, L> as Client>⟧.opens
         ⟦<Requests<TcpStream, Option<Visit<'d, L>>> as Read>⟧.remaining ⟦<TcpStream as Write>⟧.contents
-        (λ seat. seat.number) (λ seat. seat.shown) (λ seat. known_of seat.view) door.came ran.clients.came
+        (λ seat. seat.number) (λ seat. seat.shown) (λ seat. known_of seat.view) door.entry.came ran.clients.came
         made.2.items ran.served ran.seats.items) }
     ensures loads { IfOk result (λ ran. ComeOfOrders (λ (notice : NoticeValue). notice.version)
         (⟦<Folders<'f, H> as Feeds>⟧.are_files folders.now) ⟦<FolderFiles<'f, H> as FeedFiles>⟧.holds
