@@ -1,7 +1,10 @@
 //! The end of the queue where clients are put, and the ends where they are taken.
 
 ghost use Rattle.std.specs.Prelude.{◌≡◌, ◌+◌, ◌++◌, ◌∷◌, [], false, IfOk, OnErr, OnOk, MatchOption};
-ghost use Rattle.client_queue.specs.Dealing.{AllWereTaken};
+ghost use Rattle.crossbeam_channel.specs.Claims.{IsSeatAt, view as view_of};
+ghost use Rattle.crossbeam_channel.specs.Ends.{ruled_capacity, sends_on};
+ghost use Rattle.crossbeam_channel.specs.Fifo.{Pushes};
+ghost use Rattle.client_queue.specs.Dealing.{AllWereTaken, IsDealing, IsOneMore};
 ghost use Rattle.client_queue.specs.Ends.{DealerValue, TakerValue, closed_once_more, nothing_put, out_once_more};
 ghost use Rattle.client_queue.specs.Ends.{with_back, with_sent};
 
@@ -10,12 +13,6 @@ use crossbeam_channel::{Pass, RuledReceiver, RuledSender, bounded_with};
 use std::alloc::{AllocError, Global};
 use std::marker::Model;
 use std::sync::Wait;
-use thiserror::Error;
-
-/// Nobody takes clients any more. It doesn't come while the end lives where they are put.
-#[derive(Clone, Copy, Debug, PartialEq, Eq, Error)]
-#[error("nobody takes clients any more")]
-pub struct NobodyTakes;
 
 /// Where clients are put. Contracts see which queue, which clients were put, in order, how many takers are out, and
 /// what those that came back had taken.
@@ -29,7 +26,7 @@ pub struct Dealer<C: Drop> {
 impl<C: Drop> Model for Dealer<C> {
     ghost use Rattle.std.specs.Prelude.{◌≡◌};
     ghost use Rattle.crossbeam_channel.specs.Claims.{IsSeatAt, view as view_of};
-    ghost use Rattle.crossbeam_channel.specs.Ends.{receives_on, sends_on};
+    ghost use Rattle.crossbeam_channel.specs.Ends.{receives_on, ruled_capacity, sends_on};
     ghost use Rattle.client_queue.specs.Ends.{DealerValue, IsDealerSide, dealer_of};
 
     ghost Value = { DealerValue C };
@@ -37,7 +34,7 @@ impl<C: Drop> Model for Dealer<C> {
     ghost view = { λ s. record { queue = (s.pass.table_id, s.pass.me.0.of); view = dealer_of (view_of s.pass) } };
 
     ghost invariant = { λ s. IsSeatAt (sends_on s.sender) s.pass × (receives_on s.receiver ≡ sends_on s.sender)
-        × IsDealerSide (view_of s.pass) };
+        × IsDealerSide (view_of s.pass) × (ruled_capacity (sends_on s.sender) ≡ 1) };
 }
 
 /// Where clients are taken. Contracts see which queue, which clients were taken here, in order, and whether the queue
@@ -94,30 +91,19 @@ impl<C: Drop> Dealer<C> {
     }
 
     /// Puts a client, once there is room.
-    pub fn put<R: Wait>(&mut self, rt: &R, client: C) -> Result<(), NobodyTakes>
+    pub fn put<R: Wait>(&mut self, rt: &R, client: C)
         requires { self.old.view.closings ≡ 0 }
-        ensures put { OnOk result (self.new ≡ with_sent self.old client) }
-        ensures refused { OnErr result (self.new ≡ self.old) }
+        ensures { self.new ≡ with_sent self.old client }
     {
         let arrival = Arrival::Client { client };
-        match self.sender.send_as::<Moves, R>(rt, &mut self.pass, arrival) {
-            Ok(()) => Ok(()),
-            Err(_) => Err(NobodyTakes),
-        }
+        send(rt, &self.sender, &mut self.pass, arrival);
     }
 
     /// Closes the queue for one taker, once there is room: no client comes any more.
-    pub fn close<R: Wait>(&mut self, rt: &R) -> Result<(), NobodyTakes>
-        ensures closed { OnOk result (self.new ≡ closed_once_more self.old) }
-        ensures refused { OnErr result (self.new ≡ self.old) }
+    pub fn close<R: Wait>(&mut self, rt: &R)
+        ensures { self.new ≡ closed_once_more self.old }
     {
-        match self
-            .sender
-            .send_as::<Moves, R>(rt, &mut self.pass, Arrival::Closing)
-        {
-            Ok(()) => Ok(()),
-            Err(_) => Err(NobodyTakes),
-        }
+        send(rt, &self.sender, &mut self.pass, Arrival::Closing);
     }
 
     /// A taker comes back, with what it had taken.
@@ -136,6 +122,28 @@ impl<C: Drop> Dealer<C> {
     {
         self.sender.learn_as::<AllBack>(&mut self.pass);
     }
+}
+
+// Sends once there is room. What comes back unsent is sent again: this end of the queue lives.
+fn send<R: Wait, C: Drop>(
+    rt: &R,
+    sender: &RuledSender<Arrival<C>, Side<C>, EachOnce, Global>,
+    pass: &mut Pass<Arrival<C>, Side<C>>,
+    mut arrival: Arrival<C>,
+)
+    requires channel { IsSeatAt (sends_on sender.now) pass.old }
+    requires rule { Pushes IsDealing (ruled_capacity (sends_on sender.now)) pass.old.id (view_of pass.old) arrival
+        (IsOneMore (view_of pass.old) arrival) }
+    ensures channel { IsSeatAt (sends_on sender.now) pass.new × (pass.new.id ≡ pass.old.id) }
+    ensures sent { IsOneMore (view_of pass.old) arrival (view_of pass.new) }
+{
+    for _ in rt.forever() {
+        match sender.send_as::<Moves, R>(rt, pass, arrival) {
+            Ok(()) => return,
+            Err(unsent) => arrival = unsent.into_inner(),
+        }
+    }
+    unreachable!()
 }
 
 impl<C: Drop> Taker<C> {

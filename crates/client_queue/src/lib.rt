@@ -5,5 +5,5 @@
 mod ends;
 mod queue;
 
-pub use ends::{Dealer, NobodyTakes, Taker, client_queue};
+pub use ends::{Dealer, Taker, client_queue};
 pub use queue::Arrival;

@@ -8,11 +8,9 @@ use Rattle.client_queue.specs.declared.queue.Arrival.{Arrival}
 use Rattle.client_queue.proofs.DealingLemmas.{closes}
 use Rattle.client_queue.proofs.ends.Dealer.close.Goals as goal
 
-pub send_as-requires-clause-rule : goal.send_as-requires-clause-rule
-send_as-requires-clause-rule g c =
+pub send-requires-clause-rule : goal.send-requires-clause-rule
+send-requires-clause-rule g c =
     let here = c.self.inside in
-    let room = ruled_capacity (sends_on here.sender) in (
-      subst (λ side. Pushes IsDealing room here.pass.id side Arrival.Closing (IsOneMore side Arrival.Closing)) (sym c.self.invariant.2)
-          (closes room here.pass.id (dealer_of (view_of here.pass))),
-      λ items ends holds at. tt,
-    )
+    let room = ruled_capacity (sends_on here.sender) in
+    subst (λ side. Pushes IsDealing room here.pass.id side Arrival.Closing (IsOneMore side Arrival.Closing)) (sym c.self.invariant.2)
+    (closes room here.pass.id (dealer_of (view_of here.pass)))
