@@ -9,7 +9,7 @@ use Rattle.session.specs.declared.fault.Ended.{Ended}
 use Rattle.session.specs.declared.fault.SessionFault.{SessionFault}
 use Rattle.session.specs.declared.point_form.PointForm.{PointForm}
 use Rattle.session.specs.Sessions.{LastRelease, Serves}
-use Rattle.workers.specs.Ends.{end_of}
+use Rattle.workers.specs.Ends.{Session, end_of}
 use Rattle.workers.specs.Loading.{IsEarly, IsNotPublished}
 use Rattle.workers.specs.Sessions.{AreServed, IsServed, IsServedAt, IsSession}
 use Rattle.workers.specs.declared.clients.ConnFault.{ConnFault}
@@ -44,48 +44,48 @@ module _ {C R W S : Type 0} (form : PointForm) (opens : C → Result (R × W) Co
     (remaining : R → Option (List ℕ)) (contents : W → Option (List ℕ))
     (number : S → ℕ) (value : S → SeatValue) (known : S → Known) where
   -- one client more is served behind the others
-  pub served_also : (clients : List C) (ends : List End) (end : End) (client : C) (now : Option (Streams R W)) (a m b : S)
+  pub served_also : (clients : List C) (sessions : List (Session R W)) (client : C) (session : Session R W) (a m b : S)
       (asked between asked_then : List OrderValue)
-      → AreServed form opens remaining contents number value known clients ends a asked m between
-      → IsServedAt form opens remaining contents number value known client now end m between b asked_then
-      → AreServed form opens remaining contents number value known (clients ++ client ∷ []) (ends ++ end ∷ []) a asked b asked_then
-  served_also [] [] end client now a m b asked between asked_then before also =
+      → AreServed form opens remaining contents number value known clients sessions a asked m between
+      → IsServedAt form opens remaining contents number value known client session m between b asked_then
+      → AreServed form opens remaining contents number value known (clients ++ client ∷ []) (sessions ++ session ∷ []) a asked b asked_then
+  served_also [] [] client session a m b asked between asked_then before also =
       let At = λ (seat : S) (orders : List OrderValue).
-      IsServedAt form opens remaining contents number value known client now end seat orders b asked_then in
+      IsServedAt form opens remaining contents number value known client session seat orders b asked_then in
       let from_seat = subst (λ seat. At seat between) before.0 also in
       let from_both = subst (λ orders. At a orders) before.1 from_seat in
-      (now, b, asked_then, from_both, (refl, refl))
-  served_also [] (first ∷ ends) end client now a m b asked between asked_then before also = absurd before
-  served_also (c ∷ clients) [] end client now a m b asked between asked_then before also = absurd before
-  served_also (c ∷ clients) (first ∷ ends) end client now a m b asked between asked_then before also =
-      let rest = served_also clients ends end client now before.1 m b before.2 between asked_then before.4 also in
-      (before.0, before.1, before.2, before.3, rest)
+      (b, asked_then, from_both, (refl, refl))
+  served_also [] (first ∷ sessions) client session a m b asked between asked_then before also = absurd before
+  served_also (c ∷ clients) [] client session a m b asked between asked_then before also = absurd before
+  served_also (c ∷ clients) (first ∷ sessions) client session a m b asked between asked_then before also =
+      let rest = served_also clients sessions client session before.0 m b before.1 between asked_then before.3 also in
+      (before.0, before.1, before.2, rest)
 
   -- no client was taken
-  pub serves_none : (has : List C) (ends : List End) (a : S) (asked : List OrderValue) → has ≡ [] → ends ≡ []
-      → AreServed form opens remaining contents number value known has ends a asked a asked
-  serves_none has ends a asked none unserved =
-      let Are = λ (clients : List C) (list : List End).
+  pub serves_none : (has : List C) (sessions : List (Session R W)) (a : S) (asked : List OrderValue) → has ≡ [] → sessions ≡ []
+      → AreServed form opens remaining contents number value known has sessions a asked a asked
+  serves_none has sessions a asked none unserved =
+      let Are = λ (clients : List C) (list : List (Session R W)).
       AreServed form opens remaining contents number value known clients list a asked a asked in
       let nothing : Are [] [] = (refl, refl) in
-      subst (λ clients. Are clients ends) (sym none) (subst (λ list. Are [] list) (sym unserved) nothing)
+      subst (λ clients. Are clients sessions) (sym none) (subst (λ list. Are [] list) (sym unserved) nothing)
 
   -- and one more, who is taken and served
-  pub serves_next : (has has_then : List C) (ends ends_then : List End) (client : C) (now : Option (Streams R W))
+  pub serves_next : (has has_then : List C) (sessions sessions_then : List (Session R W)) (client : C) (session : Session R W)
       (a m b : S) (asked between asked_then : List OrderValue)
-      → AreServed form opens remaining contents number value known has ends a asked m between → has_then ≡ has ++ client ∷ []
+      → AreServed form opens remaining contents number value known has sessions a asked m between → has_then ≡ has ++ client ∷ []
       → number b ≡ number m → Learns (known m) (value m) (known b) (value b) → TellPublished (known b) (value m) (value b)
       → ((value m).held ≡ None → (value b).held ≡ None)
-      → ((end : End) × (ends_then ≡ ends ++ end ∷ [])
-      × IsServed form opens remaining contents (number m) client now end (value m) between (value b) asked_then)
-      → AreServed form opens remaining contents number value known has_then ends_then a asked b asked_then
-  serves_next has has_then ends ends_then client now a m b asked between asked_then before takes same learns profiles idle also =
-      let Are = λ (clients : List C) (list : List End).
+      → sessions_then ≡ sessions ++ session ∷ []
+      → IsServed form opens remaining contents (number m) client session.0 session.1 (value m) between (value b) asked_then
+      → AreServed form opens remaining contents number value known has_then sessions_then a asked b asked_then
+  serves_next has has_then sessions sessions_then client session a m b asked between asked_then before takes same learns profiles idle adds served =
+      let Are = λ (clients : List C) (list : List (Session R W)).
       AreServed form opens remaining contents number value known clients list a asked b asked_then in
-      let one : IsServedAt form opens remaining contents number value known client now also.0 m between b asked_then =
-      (also.2, same, learns, profiles, idle) in
-      let all = served_also has ends also.0 client now a m b asked between asked_then before one in
-      subst (λ clients. Are clients ends_then) (sym takes) (subst (λ list. Are (has ++ client ∷ []) list) (sym also.1) all)
+      let one : IsServedAt form opens remaining contents number value known client session m between b asked_then =
+      (served, same, learns, profiles, idle) in
+      let all = served_also has sessions client session a m b asked between asked_then before one in
+      subst (λ clients. Are clients sessions_then) (sym takes) (subst (λ list. Are (has ++ client ∷ []) list) (sym adds) all)
 
 -- what is told before a publish was tried leaves the loader's seat as it was
 pub not_published : (answers : List LoaderAnswer) (refusal : LoadRefusal) → IsEarly refusal → IsNotPublished answers refusal answers

@@ -1,3 +1,4 @@
 pub mod Ending
 pub mod Carried
+pub mod Reading
 pub mod Shared

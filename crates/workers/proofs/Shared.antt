@@ -4,12 +4,12 @@ use Rattle.std.proofs.lemmas.List.{append_assoc, append-nil, length-append, map-
 use Rattle.epochs.specs.Seats.{SeatValue}
 use Rattle.shelf_steps.specs.declared.views.Known.{Known}
 use Rattle.session.specs.declared.point_form.PointForm.{PointForm}
+use Rattle.workers.specs.Ends.{Session}
 use Rattle.workers.specs.Sessions.{AreAllServed, AreShares, IsShare}
 use Rattle.std.specs.Prelude.{IsPermutation, flat_map}
 use Rattle.client_queue.specs.Ends.{DealerValue, nothing_put, out_once_more}
 use Rattle.client_queue.specs.declared.queue.DealerView.{DealerView}
 use Rattle.workers.specs.declared.clients.ConnFault.{ConnFault}
-use Rattle.workers.specs.declared.served.End.{End}
 
 nothing_left : {X : Type 0} (list : List X) → length list ≡ 0 → list ≡ []
 nothing_left [] none = refl
@@ -26,8 +26,8 @@ module _ {C R W S : Type 0} (form : PointForm) (opens : C → Result (R × W) Co
     (remaining : R → Option (List ℕ)) (contents : W → Option (List ℕ))
     (number : S → ℕ) (value : S → SeatValue) (known : S → Known) where
   -- one share more behind the others
-  pub shares_also : (seats : List S) (hands : List (List C)) (ends : List End) (lasts : List S)
-      (seat : S) (hand : List C) (share : List End) (last : S)
+  pub shares_also : (seats : List S) (hands : List (List C)) (ends : List (Session R W)) (lasts : List S)
+      (seat : S) (hand : List C) (share : List (Session R W)) (last : S)
       → AreShares form opens remaining contents number value known seats hands ends lasts
       → IsShare form opens remaining contents number value known seat hand share last
       → AreShares form opens remaining contents number value known (seats ++ seat ∷ []) (hands ++ hand ∷ []) (ends ++ share) (lasts ++ last ∷ [])
@@ -44,19 +44,19 @@ module _ {C R W S : Type 0} (form : PointForm) (opens : C → Result (R × W) Co
 
   module _ {H : Type 0} (seat_of : H → S) where
     -- of all these workers those that are left weren't joined yet; what the others took is this
-    abbrev pub Joined : List H → List H → List C → List End → List S → Type 0
+    abbrev pub Joined : List H → List H → List C → List (Session R W) → List S → Type 0
     Joined all left taken ends lasts =
         (done : List H) × (hands : List (List C)) × (all ≡ done ++ left) × (taken ≡ flat_map (λ hand. hand) hands)
         × AreShares form opens remaining contents number value known (map seat_of done) hands ends lasts
 
-    pub joined_none : (all left : List H) (taken : List C) (ends : List End) (lasts : List S) → left ≡ all → taken ≡ [] → ends ≡ [] → lasts ≡ []
+    pub joined_none : (all left : List H) (taken : List C) (ends : List (Session R W)) (lasts : List S) → left ≡ all → taken ≡ [] → ends ≡ [] → lasts ≡ []
         → Joined all left taken ends lasts
     joined_none all left taken ends lasts same nothing none nobody =
         let shares = subst (λ list. AreShares form opens remaining contents number value known [] [] ends list) (sym nobody) none in
         ([], [], sym same, nothing, shares)
 
-    pub joined_next : (all left left_then : List H) (taken taken_then : List C) (ends ends_then : List End) (lasts lasts_then : List S)
-        (hand : List C) (share : List End) (last : S) (worker : H)
+    pub joined_next : (all left left_then : List H) (taken taken_then : List C) (ends ends_then : List (Session R W)) (lasts lasts_then : List S)
+        (hand : List C) (share : List (Session R W)) (last : S) (worker : H)
         → Joined all left taken ends lasts → left ≡ worker ∷ left_then
         → taken_then ≡ taken ++ hand → ends_then ≡ ends ++ share → lasts_then ≡ lasts ++ last ∷ []
         → IsShare form opens remaining contents number value known (seat_of worker) hand share last
@@ -64,7 +64,7 @@ module _ {C R W S : Type 0} (form : PointForm) (opens : C → Result (R × W) Co
     joined_next all left left_then taken taken_then ends ends_then lasts lasts_then hand share last worker before step takes grows back also =
         let done = before.0 in
         let hands = before.1 in
-        let Shares = λ (seats : List S) (list : List End) (seats_then : List S).
+        let Shares = λ (seats : List S) (list : List (Session R W)) (seats_then : List S).
         AreShares form opens remaining contents number value known seats (hands ++ hand ∷ []) list seats_then in
         let more : Shares (map seat_of done ++ seat_of worker ∷ []) (ends ++ share) (lasts ++ last ∷ []) =
         shares_also (map seat_of done) hands ends lasts (seat_of worker) hand share last before.4 also in
@@ -78,7 +78,7 @@ module _ {C R W S : Type 0} (form : PointForm) (opens : C → Result (R × W) Co
         )
 
     -- all were joined, and what they took is what was put
-    pub joined_all : (all left : List H) (sent taken : List C) (ends : List End) (lasts : List S)
+    pub joined_all : (all left : List H) (sent taken : List C) (ends : List (Session R W)) (lasts : List S)
         → Joined all left taken ends lasts → length left ≡ 0 → IsPermutation sent taken
         → AreAllServed form opens remaining contents number value known sent (map seat_of all) ends lasts
     joined_all all left sent taken ends lasts before none dealt =

@@ -1,6 +1,7 @@
 -- Orders that are carried out.
 use Rattle.std.specs.Prelude.{◌≡◌, ◌≤◌, ◌⊎◌, ◌∷◌, ℕ, true, List, [], Option, Result}
 use Rattle.epochs.specs.declared.seats.LoaderAnswer.{LoaderAnswer}
+use Rattle.feed_files.specs.Files.{FileRead}
 use Rattle.feed_loader.specs.declared.plan.Plan.{Plan}
 use Rattle.load_orders.specs.Telling.{AnsweredValue, IsToldBack, LoaderOrdersValue}
 use Rattle.load_orders.specs.declared.queue.OrderMark.{OrderMark}
@@ -11,13 +12,14 @@ use Rattle.workers.specs.Loading.{Holds, IsOutcome, load_answer}
 use Rattle.workers.specs.declared.loading.Loaded.{Loaded}
 use Rattle.workers.specs.declared.refusal.LoadRefusal.{LoadRefusal}
 
--- over notices of these versions, and feeds at so many places with these files and plans
-module _ {N D : Type 0} (noted : N → ℕ) (are_files : ℕ → D → Type 0) (holds : D → Holds) (is_plan : Plan → Type 0) (places : ℕ) where
+-- over notices of these versions, and feeds at so many places with these files, their reads, and these plans
+module _ {N D : Type 0} (noted : N → ℕ) (are_files : ℕ → D → Type 0) (holds : D → Holds) (reads : D → List FileRead) (is_plan : Plan → Type 0)
+    (places : ℕ) where
   -- the files of the feed at this place are loaded, and the answer is what came of that; or there is no such feed
   abbrev pub IsLoadOf : ℕ → LoadAnswer N → List LoaderAnswer → List LoaderAnswer → Type 0
   IsLoadOf feed answer before after =
-      ((files : D) × (plan : Plan) × (outcome : Result (Loaded × Option N) LoadRefusal) × are_files feed files × is_plan plan
-      × IsOutcome noted (holds files) plan before outcome after × (answer ≡ load_answer outcome))
+      ((files : D) × (files_then : D) × (plan : Plan) × (outcome : Result (Loaded × Option N) LoadRefusal) × are_files feed files × is_plan plan
+      × IsOutcome noted (holds files) (reads files) (reads files_then) plan before outcome after × (answer ≡ load_answer outcome))
       ⊎ ((places ≤ feed) × (after ≡ before) × (answer ≡ LoadAnswer.Refused (order_fault_number OrderFault.UnknownFeed)))
 
   -- an order is carried out: its own feed is loaded, and by its own way back it is told what came of that very load

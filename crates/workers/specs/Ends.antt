@@ -1,9 +1,14 @@
--- Ends of sessions, and how many there are of each.
-use Rattle.std.specs.Prelude.{◌≡◌, ◌-◌, ◌^◌, ℕ, min, Bool, true, false, List, Result, Ok, Err}
+-- Sessions that ended, and how many there are of each end.
+use Rattle.std.specs.Prelude.{◌≡◌, ◌-◌, ◌^◌, ℕ, min, Bool, true, false, List, Option, Result, Ok, Err}
 use Rattle.std.specs.List.{count_by}
 use Rattle.session.specs.declared.fault.Ended.{Ended}
 use Rattle.session.specs.declared.fault.SessionFault.{SessionFault}
+use Rattle.session.specs.declared.desk.Streams.{Streams}
 use Rattle.workers.specs.declared.served.End.{End}
+
+-- a session: its client's reader and writer as they were when it ended, or none where the client couldn't be opened; and how it ended
+abbrev pub Session : Type 0 → Type 0 → Type 0
+Session R W = Option (Streams R W) × End
 
 -- a count stays at the greatest value
 abbrev pub capped : ℕ → ℕ
@@ -21,20 +26,20 @@ abbrev pub is_spent : End → Bool
 is_spent End.Spent = true
 is_spent _ = false
 
-abbrev pub ended_in : List End → ℕ
-ended_in ends = capped (count_by has_ended ends)
+abbrev pub ended_in : {R W : Type 0} → List (Session R W) → ℕ
+ended_in sessions = capped (count_by (λ session. has_ended session.1) sessions)
 
-abbrev pub failed_in : List End → ℕ
-failed_in ends = capped (count_by has_failed ends)
+abbrev pub failed_in : {R W : Type 0} → List (Session R W) → ℕ
+failed_in sessions = capped (count_by (λ session. has_failed session.1) sessions)
 
-abbrev pub spent_in : List End → ℕ
-spent_in ends = capped (count_by is_spent ends)
+abbrev pub spent_in : {R W : Type 0} → List (Session R W) → ℕ
+spent_in sessions = capped (count_by (λ session. is_spent session.1) sessions)
 
--- the numbers count the list
-pub record AreCounted (ends : List End) (ended failed spent : ℕ) : Type 0 where
-  pub ended_are : ended ≡ ended_in ends
-  pub failed_are : failed ≡ failed_in ends
-  pub spent_are : spent ≡ spent_in ends
+-- the numbers count the sessions
+pub record AreCounted {R W : Type 0} (sessions : List (Session R W)) (ended failed spent : ℕ) : Type 0 where
+  pub ended_are : ended ≡ ended_in sessions
+  pub failed_are : failed ≡ failed_in sessions
+  pub spent_are : spent ≡ spent_in sessions
 
 -- how a session ended
 abbrev pub end_of : Result Ended SessionFault → End

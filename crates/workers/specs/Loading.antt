@@ -1,8 +1,11 @@
 -- What comes of an order to load a feed.
-use Rattle.std.specs.Prelude.{◌≡◌, ◌⊎◌, ℕ, List, Option, Some, None, Result, Ok, Err, IfSome}
+use Rattle.std.specs.Prelude.{◌≡◌, ◌⊎◌, ℕ, List, take, Option, Some, None, Result, Ok, Err, IfSome}
 use Rattle.image_layout.specs.Image.{ImageValue}
 use Rattle.connections.specs.declared.report.Report.{Report}
+use Rattle.feed_files.specs.Files.{FileRead}
 use Rattle.feed_files.specs.Reading.{Content, Tells}
+use Rattle.feed_files.specs.Reads.{AreRead, all_tables}
+use Rattle.gtfs_rows.specs.declared.fault.Table.{Table}
 use Rattle.feed_loader.specs.Faults.{fault_number}
 use Rattle.feed_loader.specs.Refused.{IsLoadRefusal, IsLoaded, IsWantOfMemory}
 use Rattle.feed_loader.specs.declared.fault.LoadFault.{LoadFault}
@@ -46,14 +49,27 @@ IsNotPublished before (LoadRefusal.Publish fault) after = ((after ≡ before) ×
 abbrev pub Holds : Type 0
 Holds = List ℕ → Option (Option (List ℕ))
 
--- what comes of files that hold this: their image is published as the version that is told, with its counts, and a notice is of that version;
--- or nothing is published, and the first refusal is told
-abbrev pub IsOutcome : {N : Type 0} → (N → ℕ) → Holds → Plan → List LoaderAnswer → Result (Loaded × Option N) LoadRefusal → List LoaderAnswer → Type 0
-IsOutcome noted holds plan before (Ok loaded) after =
-    (image : ImageValue) × ((content : Content) → Tells holds content → IsImageOf content plan image loaded.0.report)
+-- all of a feed's files were read between two moments, each once; or the first of them were
+abbrev pub AllWereRead : List FileRead → List FileRead → Type 0
+AllWereRead old new = (content : Content) × AreRead content all_tables old new
+
+abbrev pub SomeWereRead : List FileRead → List FileRead → Type 0
+SomeWereRead old new = (count : ℕ) × (content : Content) × AreRead content (take count all_tables) old new
+
+-- the files show this content: they are known to hold it, or the reads between two moments gave it
+abbrev pub ShowsContent : Holds → List FileRead → List FileRead → Content → Type 0
+ShowsContent holds old new content = Tells holds content ⊎ ((ts : List Table) × AreRead content ts old new)
+
+-- what comes of files: each was read once, the image of what they show is published as the version that is told, with its counts, and a notice is
+-- of that version; or the first of them were read, nothing is published, and the first refusal is told
+abbrev pub IsOutcome : {N : Type 0} → (N → ℕ) → Holds → List FileRead → List FileRead → Plan
+    → List LoaderAnswer → Result (Loaded × Option N) LoadRefusal → List LoaderAnswer → Type 0
+IsOutcome noted holds old new plan before (Ok loaded) after =
+    (image : ImageValue) × AllWereRead old new × ((content : Content) → ShowsContent holds old new content → IsImageOf content plan image loaded.0.report)
     × IsPublished before image loaded.0.version after × IfSome loaded.1 (λ notice. noted notice ≡ loaded.0.version)
-IsOutcome noted holds plan before (Err refusal) after =
-    ((content : Content) → Tells holds content → MayRefuse content plan refusal) × IsNotPublished before refusal after
+IsOutcome noted holds old new plan before (Err refusal) after =
+    SomeWereRead old new × ((content : Content) → ShowsContent holds old new content → MayRefuse content plan refusal)
+    × IsNotPublished before refusal after
 
 -- the number by which a refusal is told
 abbrev pub refusal_number : LoadRefusal → ℕ

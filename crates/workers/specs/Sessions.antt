@@ -10,7 +10,7 @@ use Rattle.session.specs.declared.fault.Ended.{Ended}
 use Rattle.session.specs.declared.fault.SessionFault.{SessionFault}
 use Rattle.session.specs.declared.point_form.PointForm.{PointForm}
 use Rattle.session.specs.Sessions.{LastRelease, Serves}
-use Rattle.workers.specs.Ends.{end_of}
+use Rattle.workers.specs.Ends.{Session, end_of}
 use Rattle.workers.specs.declared.clients.ConnFault.{ConnFault}
 use Rattle.workers.specs.declared.served.End.{End}
 use Rattle.session.specs.declared.desk.Streams.{Streams}
@@ -45,41 +45,41 @@ module _ {C R W : Type 0} (form : PointForm) (opens : C → Result (R × W) Conn
   module _ {S : Type 0} (number : S → ℕ) (value : S → SeatValue) (known : S → Known) where
     -- a client is served at this seat, which learns meanwhile: each profile is answered over the image that the history published as its
     -- version, and the seat holds nothing then if it held nothing
-    abbrev pub IsServedAt : C → Option (Streams R W) → End → S → List OrderValue → S → List OrderValue → Type 0
-    IsServedAt client now end a asked b asked_then =
-        IsServed (number a) client now end (value a) asked (value b) asked_then × (number b ≡ number a)
+    abbrev pub IsServedAt : C → Session R W → S → List OrderValue → S → List OrderValue → Type 0
+    IsServedAt client session a asked b asked_then =
+        IsServed (number a) client session.0 session.1 (value a) asked (value b) asked_then × (number b ≡ number a)
         × Learns (known a) (value a) (known b) (value b) × TellPublished (known b) (value a) (value b)
         × ((value a).held ≡ None → (value b).held ≡ None)
 
-    -- the clients are served at this seat one after the other, and the session of each ends so
-    abbrev pub AreServed : List C → List End → S → List OrderValue → S → List OrderValue → Type 0
+    -- the clients are served at this seat one after the other, each in one of these sessions
+    abbrev pub AreServed : List C → List (Session R W) → S → List OrderValue → S → List OrderValue → Type 0
     AreServed [] [] a asked b asked_then = (b ≡ a) × (asked_then ≡ asked)
-    AreServed (client ∷ clients) (end ∷ ends) a asked b asked_then =
-        (now : Option (Streams R W)) × (m : S) × (between : List OrderValue)
-        × IsServedAt client now end a asked m between × AreServed clients ends m between b asked_then
+    AreServed (client ∷ clients) (session ∷ sessions) a asked b asked_then =
+        (m : S) × (between : List OrderValue) × IsServedAt client session a asked m between × AreServed clients sessions m between b asked_then
     AreServed _ _ _ _ _ _ = ⊥
 
-    -- a worker's share: these are the ends of these clients' sessions at its seat, with no order put before, and the seat is so then
-    abbrev pub IsShare : S → List C → List End → S → Type 0
-    IsShare seat clients ends last = (asked : List OrderValue) × AreServed clients ends seat [] last asked
+    -- a worker's share: these are these clients' sessions at its seat, with no order put before, and the seat is so then
+    abbrev pub IsShare : S → List C → List (Session R W) → S → Type 0
+    IsShare seat clients sessions last = (asked : List OrderValue) × AreServed clients sessions seat [] last asked
 
-    -- the ends are the workers' shares, one behind the other: at each of the seats one hand of clients was served, and it is so then
-    abbrev pub AreShares : List S → List (List C) → List End → List S → Type 0
-    AreShares [] [] ends [] = ends ≡ []
-    AreShares (seat ∷ seats) (hand ∷ hands) ends (last ∷ lasts) =
-        (share : List End) × (rest : List End) × (ends ≡ share ++ rest) × IsShare seat hand share last × AreShares seats hands rest lasts
+    -- the sessions are the workers' shares, one behind the other: at each of the seats one hand of clients was served, and it is so then
+    abbrev pub AreShares : List S → List (List C) → List (Session R W) → List S → Type 0
+    AreShares [] [] sessions [] = sessions ≡ []
+    AreShares (seat ∷ seats) (hand ∷ hands) sessions (last ∷ lasts) =
+        (share : List (Session R W)) × (rest : List (Session R W)) × (sessions ≡ share ++ rest)
+        × IsShare seat hand share last × AreShares seats hands rest lasts
     AreShares _ _ _ _ = ⊥
 
     -- the clients are dealt to the workers, each to one and once; each worker serves its hand at its seat, one after the other; and
-    -- the ends are those of their sessions, one for each client
-    abbrev pub AreAllServed : List C → List S → List End → List S → Type 0
-    AreAllServed clients seats ends lasts =
-        (hands : List (List C)) × IsPermutation clients (flat_map (λ hand. hand) hands) × AreShares seats hands ends lasts
+    -- these are their sessions, one for each client
+    abbrev pub AreAllServed : List C → List S → List (Session R W) → List S → Type 0
+    AreAllServed clients seats sessions lasts =
+        (hands : List (List C)) × IsPermutation clients (flat_map (λ hand. hand) hands) × AreShares seats hands sessions lasts
 
     -- those who came since are all served
-    abbrev pub AreServedSince : List C → List C → List S → List End → List S → Type 0
-    AreServedSince before after seats ends lasts =
-        (clients : List C) × (after ≡ before ++ clients) × AreAllServed clients seats ends lasts
+    abbrev pub AreServedSince : List C → List C → List S → List (Session R W) → List S → Type 0
+    AreServedSince before after seats sessions lasts =
+        (clients : List C) × (after ≡ before ++ clients) × AreAllServed clients seats sessions lasts
 
 -- so many workers are out, none is back, and the queue was closed for each
 pub record IsReadyToJoin {C : Type 0} (dealer : DealerView C) (workers : ℕ) : Type 0 where

@@ -41,7 +41,7 @@ impl<'a, R: Wait, N: Drop, T: Versions<Notice = N> + Loads, F: Feeds> Loading<'a
         requires loads { T.Loads.loads self.now.shelves.now seat }
         requires none { (orders.taken ≡ []) × (orders.answered ≡ []) }
         ensures loads { T.Loads.loads self.now.shelves.now result.1 }
-        ensures carried { AllCarriedOut T.Versions.noted (F.are_files self.now.feeds.now) F.Files.holds
+        ensures carried { AllCarriedOut T.Versions.noted (F.are_files self.now.feeds.now) F.Files.holds F.Files.reads
             (F.is_plan self.now.feeds.now) (length (F.named self.now.feeds.now))
             result.0 (T.Loads.answers seat) (T.Loads.answers result.1) }
     {
@@ -66,7 +66,7 @@ impl<'a, R: Wait, N: Drop, T: Versions<Notice = N> + Loads, F: Feeds> Loading<'a
         ensures loads { T.Loads.loads self.now.shelves.now seat.new }
         ensures taken { orders.new.taken ≡ orders.old.taken }
         ensures carried { (answer : AnsweredValue N) × (orders.new.answered ≡ orders.old.answered ++ answer ∷ [])
-            × IsCarriedOut T.Versions.noted (F.are_files self.now.feeds.now) F.Files.holds
+            × IsCarriedOut T.Versions.noted (F.are_files self.now.feeds.now) F.Files.holds F.Files.reads
             (F.is_plan self.now.feeds.now)
             (length (F.named self.now.feeds.now)) (mark_of order) answer
             (T.Loads.answers seat.old) (T.Loads.answers seat.new) }
@@ -84,7 +84,7 @@ impl<'a, R: Wait, N: Drop, T: Versions<Notice = N> + Loads, F: Feeds> Loading<'a
     ) -> LoadAnswer<N>
         requires { T.Loads.loads self.now.shelves.now seat.old }
         ensures loads { T.Loads.loads self.now.shelves.now seat.new }
-        ensures load { IsLoadOf T.Versions.noted (F.are_files self.now.feeds.now) F.Files.holds
+        ensures load { IsLoadOf T.Versions.noted (F.are_files self.now.feeds.now) F.Files.holds F.Files.reads
             (F.is_plan self.now.feeds.now)
             (length (F.named self.now.feeds.now)) place result (T.Loads.answers seat.old) (T.Loads.answers seat.new) }
     {
@@ -113,9 +113,9 @@ impl<'a, R: Wait, N: Drop, T: Versions<Notice = N> + Loads, F: Feeds> Loading<'a
         requires loads { T.Loads.loads self.now.shelves.now seat.old }
         requires failures { F.Files.failures files ≡ 0 }
         ensures loads { T.Loads.loads self.now.shelves.now seat.new }
-        ensures outcome { (plan : Plan) × F.is_plan self.now.feeds.now plan
-            × IsOutcome T.Versions.noted (F.Files.holds files) plan (T.Loads.answers seat.old) result
-            (T.Loads.answers seat.new) }
+        ensures outcome { (files_then : F.Files) × (plan : Plan) × F.is_plan self.now.feeds.now plan
+            × IsOutcome T.Versions.noted (F.Files.holds files) (F.Files.reads files) (F.Files.reads files_then) plan
+            (T.Loads.answers seat.old) result (T.Loads.answers seat.new) }
     {
         match self.feeds.plan(self.alloc) {
             Ok(plan) => load_one(self.rt, self.alloc, &mut files, &plan, self.shelves, seat),

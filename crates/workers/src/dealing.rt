@@ -1,10 +1,10 @@
 //! The clients are put in the queue.
 
-ghost use Rattle.std.specs.Prelude.{◌≡◌, ◌+◌, ◌++◌, List, IfOk, OnOk};
+ghost use Rattle.std.specs.Prelude.{◌≡◌, ◌+◌, ◌++◌, List};
 ghost use Rattle.workers.specs.Dealing.{IsClosedFor, IsPutSince};
 
 use crate::clients::Clients;
-use client_queue::{Dealer, NobodyTakes};
+use client_queue::Dealer;
 use std::sync::Wait;
 
 /// Puts each client that comes in the queue, until there are no more, and then closes the queue for so many takers.
@@ -14,15 +14,15 @@ pub(crate) fn deal_all<R: Wait, C: Drop, K: Clients<C> + Drop>(
     clients: K,
     dealer: &mut Dealer<C>,
     takers: usize,
-) -> Result<K, NobodyTakes>
+) -> K
     requires { dealer.old.view.closings ≡ 0 }
-    ensures none_left { IfOk result K.none_left }
-    ensures put { IfOk result (λ source. (since : List C) × (K.came source ≡ K.came clients ++ since)
-        × IsClosedFor takers since dealer.old dealer.new) }
+    ensures none_left { K.none_left result }
+    ensures put { (since : List C) × (K.came result ≡ K.came clients ++ since)
+        × IsClosedFor takers since dealer.old dealer.new }
 {
-    let source = put_all(rt, clients, dealer)?;
-    close_for(rt, dealer, takers)?;
-    Ok(source)
+    let source = put_all(rt, clients, dealer);
+    close_for(rt, dealer, takers);
+    source
 }
 
 // Puts each client that comes in the queue.
@@ -30,31 +30,26 @@ fn put_all<R: Wait, C: Drop, K: Clients<C> + Drop>(
     rt: &R,
     mut clients: K,
     dealer: &mut Dealer<C>,
-) -> Result<K, NobodyTakes>
+) -> K
     requires { dealer.old.view.closings ≡ 0 }
-    ensures none_left { IfOk result K.none_left }
-    ensures put { IfOk result (λ source. IsPutSince (K.came clients) (K.came source) dealer.old dealer.new) }
+    ensures none_left { K.none_left result }
+    ensures put { IsPutSince (K.came clients) (K.came result) dealer.old dealer.new }
 {
     for _ in rt.forever() {
         match clients.next() {
-            Some(client) => dealer.put(rt, client)?,
-            None => return Ok(clients),
+            Some(client) => dealer.put(rt, client),
+            None => return clients,
         }
     }
     unreachable!()
 }
 
 // Closes the queue for so many takers.
-fn close_for<R: Wait, C: Drop>(
-    rt: &R,
-    dealer: &mut Dealer<C>,
-    takers: usize,
-) -> Result<(), NobodyTakes>
-    ensures { OnOk result (dealer.new
-        ≡ record dealer.old { view = record dealer.old.view { closings = dealer.old.view.closings + takers } }) }
+fn close_for<R: Wait, C: Drop>(rt: &R, dealer: &mut Dealer<C>, takers: usize)
+    ensures { dealer.new
+        ≡ record dealer.old { view = record dealer.old.view { closings = dealer.old.view.closings + takers } } }
 {
     for _taker in 0..takers {
-        dealer.close(rt)?;
+        dealer.close(rt);
     }
-    Ok(())
 }

@@ -1,12 +1,13 @@
 //! A feed is loaded and published.
 
-ghost use Rattle.std.specs.Prelude.{◌≡◌, ◌<◌, ◌≤◌, ◌+◌, ◌-◌, ◌^◌, IfOk, IfErr, IfSome, MatchResult};
+ghost use Rattle.std.specs.Prelude.{◌≡◌, ◌<◌, ◌≤◌, ◌+◌, ◌-◌, ◌^◌, IfOk, IfErr, IfSome, MatchResult, OnOk};
 ghost use Rattle.std.specs.Arc.{arc_value};
 ghost use Rattle.connections.specs.declared.days.TheConstants.{MAX_DAYS};
-ghost use Rattle.feed_files.specs.Reading.{Content, Tells};
+ghost use Rattle.feed_files.specs.Reading.{Content};
 ghost use Rattle.feed_loader.specs.Faults.{failed_by, failed_in};
 ghost use Rattle.epochs.specs.Seats.{RefuseStep};
-ghost use Rattle.workers.specs.Loading.{IsEarly, IsImageOf, IsOutcome, IsPublished, MayRefuse, reading};
+ghost use Rattle.workers.specs.Loading.{AllWereRead, IsEarly, IsImageOf, IsOutcome, IsPublished, MayRefuse, ShowsContent};
+ghost use Rattle.workers.specs.Loading.{SomeWereRead, reading};
 
 use crate::refusal::LoadRefusal;
 use epochs::{Loads, PublishFault, Versions};
@@ -40,8 +41,8 @@ pub fn load_one<R: Wait, F: FeedFiles, N, T: Versions<Notice = N> + Loads>(
     ensures same { F.holds files.new ≡ F.holds files.old }
     ensures failures { F.failures files.new ≡ F.failures files.old + failed_in (reading result) }
     ensures failed { F.failed files.new ≡ failed_by (F.failed files.old) (reading result) }
-    ensures outcome { IsOutcome T.Versions.noted (F.holds files.old) plan.now (T.Loads.answers loader.old) result
-        (T.Loads.answers loader.new) }
+    ensures outcome { IsOutcome T.Versions.noted (F.holds files.old) (F.reads files.old) (F.reads files.new) plan.now
+        (T.Loads.answers loader.old) result (T.Loads.answers loader.new) }
 {
     match shared_image(alloc, files, plan) {
         Ok((image, report)) => match publish_image(rt, shelves, loader, image) {
@@ -64,9 +65,12 @@ fn shared_image<F: FeedFiles>(
     ensures same { F.holds files.new ≡ F.holds files.old }
     ensures failures { F.failures files.new ≡ F.failures files.old + failed_in (reading result) }
     ensures failed { F.failed files.new ≡ failed_by (F.failed files.old) (reading result) }
-    ensures ok { (content : Content) → Tells (F.holds files.old) content →
+    ensures all_read { OnOk result (AllWereRead (F.reads files.old) (F.reads files.new)) }
+    ensures first_read { SomeWereRead (F.reads files.old) (F.reads files.new) }
+    ensures ok { (content : Content) → ShowsContent (F.holds files.old) (F.reads files.old) (F.reads files.new) content →
         IfOk result (λ made. IsImageOf content plan.now (arc_value made.0) made.1) }
-    ensures err { (content : Content) → Tells (F.holds files.old) content → IfErr result (MayRefuse content plan.now) }
+    ensures err { (content : Content) → ShowsContent (F.holds files.old) (F.reads files.old) (F.reads files.new) content
+        → IfErr result (MayRefuse content plan.now) }
     ensures early { IfErr result IsEarly }
 {
     let (image, report) = match load(alloc, files, plan) {

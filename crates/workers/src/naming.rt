@@ -10,29 +10,25 @@ use crate::clients::{Client, Clients};
 use crate::feeds::Feeds;
 use crate::running::{WorkersFault, run_workers};
 use crate::served::Served;
-use epochs::{
-    LoaderAnswer, Named, NamedLoader, NamedSeat, NamedShelves, ShelfLoader, ShelfSeat, Shelves,
-};
+use epochs::{Named, NamedLoader, NamedSeat, NamedShelves, ShelfLoader, ShelfSeat, Shelves};
 use orders::Gate;
 use session::PointForm;
 use std::alloc::{AllocError, Global};
-use std::collections::LinkedList;
 use std::io::Write;
 use std::sync::Wait;
 use std::thread::Threads;
-use timetable::Kept;
 
 /// What is left once all clients of shelves were served.
 #[derive(Drop)]
-pub struct ShelvesRan<K> {
-    /// How the sessions ended, seat after seat.
-    pub served: Served,
+pub struct ShelvesRan<C: Client, K> {
+    /// The sessions, seat after seat.
+    pub served: Served<C::Reader, C::Writer>,
     /// The clients' source.
     pub clients: K,
     /// The workers' seats, in their order.
     pub seats: Vec<ShelfSeat>,
-    /// What the loader's seat has answered in all. Contracts alone see it.
-    pub answers: Kept<LinkedList<LoaderAnswer>>,
+    /// The loader's seat.
+    pub loader: ShelfLoader,
 }
 
 /// `run_workers` at these shelves: their notices are of them by their type.
@@ -55,7 +51,7 @@ pub fn run_shelves<
     gate: &G,
     form: PointForm,
     errors: E,
-) -> Result<ShelvesRan<K>, WorkersFault>
+) -> Result<ShelvesRan<C, K>, WorkersFault>
     requires shelves { shelves ≡ B.table }
     requires seats { All (λ seat. seat.table ≡ B.table) seats.items }
     requires loader { loader.table ≡ B.table }
@@ -63,12 +59,13 @@ pub fn run_shelves<
     requires few { length seats.items ≤ 16 }
     ensures none_left { IfOk result (λ ran. K.none_left ran.clients) }
     ensures seats { IfOk result (λ ran. All (λ seat. seat.table ≡ shelves) ran.seats.items) }
+    ensures loader { IfOk result (λ ran. ran.loader.table ≡ shelves) }
     ensures shares { IfOk result (λ ran. AreServedSince form C.opens C.Reader.remaining C.Writer.contents
         (λ seat. seat.number) (λ seat. seat.shown) (λ seat. known_of seat.view) (K.came clients) (K.came ran.clients)
         seats.items ran.served ran.seats.items) }
     ensures loads { IfOk result (λ ran. ComeOfOrders (λ (notice : NoticeValue). notice.version)
-        (F.are_files feeds.now) F.Files.holds (F.is_plan feeds.now) (length (F.named feeds.now))
-        loader.answers ran.answers.value) }
+        (F.are_files feeds.now) F.Files.holds F.Files.reads (F.is_plan feeds.now) (length (F.named feeds.now))
+        loader.answers ran.loader.answers) }
 {
     let room = Vec::with_capacity(alloc, seats.len())?;
     let seats = named_seats::<B>(alloc, seats)?;
@@ -77,20 +74,12 @@ pub fn run_shelves<
     let ran = run_workers(
         rt, alloc, clients, &shelves, seats, loader, feeds, gate, form, errors,
     )?;
-    let answers = answers_of(&ran.loader);
     Ok(ShelvesRan {
         served: ran.served,
         clients: ran.clients,
         seats: unnamed_seats(ran.seats, room)?,
-        answers,
+        loader: ran.loader.into_inner(),
     })
-}
-
-// What a loader's seat has answered.
-fn answers_of<B: Named>(loader: &NamedLoader<B>) -> Kept<LinkedList<LoaderAnswer>>
-    ensures { result.value ≡ loader.now.answers }
-{
-    Kept::at(loader, &())
 }
 
 // The seats, under their shelves' name.

@@ -11,7 +11,7 @@ use crate::feeds::Feeds;
 use crate::served::Served;
 use crate::serving::Worker;
 use crate::shares::{LoadsAt, Share, ShareAt, deal_and_join};
-use client_queue::{NobodyTakes, client_queue};
+use client_queue::client_queue;
 use epochs::{Loads, Versions};
 use load_orders::{LoaderOrders, WorkerOrders, order_queue};
 use orders::Gate;
@@ -34,17 +34,11 @@ impl From<AllocError> for WorkersFault {
     }
 }
 
-impl From<NobodyTakes> for WorkersFault {
-    fn from(_gone: NobodyTakes) -> WorkersFault {
-        WorkersFault
-    }
-}
-
 /// What is left once all clients were served.
 #[derive(Drop)]
-pub struct Ran<K, S, L, N: Drop> {
-    /// How the sessions ended, seat after seat.
-    pub served: Served,
+pub struct Ran<C: Client, K, S, L, N: Drop> {
+    /// The sessions, seat after seat.
+    pub served: Served<C::Reader, C::Writer>,
     /// The clients' source.
     pub clients: K,
     /// The workers' seats, in their order.
@@ -78,7 +72,7 @@ pub fn run_workers<
     gate: &G,
     form: PointForm,
     errors: E,
-) -> Result<Ran<K, T::Seat, T::Loader, T::Notice>, WorkersFault>
+) -> Result<Ran<C, K, T::Seat, T::Loader, T::Notice>, WorkersFault>
 where
     T::Seat: Send + Drop,
     T::Loader: Send + Drop,
@@ -91,14 +85,14 @@ where
     ensures shares { IfOk result (λ ran. AreServedSince form C.opens C.Reader.remaining C.Writer.contents
         T.Versions.number T.Versions.value T.Versions.known (K.came clients) (K.came ran.clients)
         seats.items ran.served ran.seats.items) }
-    ensures loads { IfOk result (λ ran. AllCarriedOut T.Versions.noted (F.are_files feeds.now) F.Files.holds
+    ensures loads { IfOk result (λ ran. AllCarriedOut T.Versions.noted (F.are_files feeds.now) F.Files.holds F.Files.reads
         (F.is_plan feeds.now) (length (F.named feeds.now)) ran.orders
         (T.Loads.answers loader) (T.Loads.answers ran.loader)) }
 {
     thread::scope(
         thread::scope_env(),
         rt,
-        move |scope| -> Result<Ran<K, T::Seat, T::Loader, T::Notice>, WorkersFault>
+        move |scope| -> Result<Ran<C, K, T::Seat, T::Loader, T::Notice>, WorkersFault>
             requires { IsSync R.row × IsSync T.row × IsSync F.row × IsSync G.row × IsSend T.Seat.row
                 × IsSend T.Loader.row
                 × IsSend T.Notice.row × IsSend C.row × IsSend C.Reader.row × IsSend C.Writer.row
@@ -110,8 +104,8 @@ where
                 T.Versions.number T.Versions.value T.Versions.known (K.came clients) (K.came ran.clients)
                 seats.items ran.served ran.seats.items) }
             ensures loads { IfOk result (λ ran.
-                AllCarriedOut T.Versions.noted (F.are_files feeds.entry.now) F.Files.holds (F.is_plan feeds.entry.now)
-                (length (F.named feeds.entry.now)) ran.orders (T.Loads.answers loader) (T.Loads.answers ran.loader)) }
+                AllCarriedOut T.Versions.noted (F.are_files feeds.entry.now) F.Files.holds F.Files.reads
+                (F.is_plan feeds.entry.now) (length (F.named feeds.entry.now)) ran.orders (T.Loads.answers loader) (T.Loads.answers ran.loader)) }
         {
             let mut dealer = client_queue(alloc)?;
             let room = Vec::with_capacity(alloc, seats.len())?;
@@ -122,7 +116,7 @@ where
                 promise,
                 move || -> (LoaderOrders<T::Notice>, T::Loader)
                     requires { T.Loads.loads shelves.now loader_seat × (orders.taken ≡ []) × (orders.answered ≡ []) }
-                    ensures { AllCarriedOut T.Versions.noted (F.are_files feeds.entry.now) F.Files.holds
+                    ensures { AllCarriedOut T.Versions.noted (F.are_files feeds.entry.now) F.Files.holds F.Files.reads
                         (F.is_plan feeds.entry.now) (length (F.named feeds.entry.now))
                         result.0 (T.Loads.answers loader_seat) (T.Loads.answers result.1) }
                 {

@@ -3,9 +3,9 @@
 ghost use Rattle.std.specs.Prelude.{◌≡◌};
 ghost use Rattle.workers.specs.Ends.{end_of as end_of_outcome};
 
-use session::{Ended, SessionFault};
+use load_orders::Notes;
+use session::{Ended, SessionFault, Streams};
 use std::marker::Model;
-use timetable::Trace;
 
 /// How a session ended.
 #[derive(Clone, Copy, Debug, PartialEq, Eq)]
@@ -29,69 +29,69 @@ pub(crate) fn end_of(outcome: Result<Ended, SessionFault>) -> End
     }
 }
 
-/// How many sessions ended in each way: those of a worker, and then those of all. Contracts see the list of their ends.
+/// How many sessions ended in each way: those of a worker, and then those of all. Contracts see the list of the
+/// sessions: of each its client's reader and writer as they were then, if the client could be opened, and how it ended.
 #[derive(Drop)]
-pub struct Served {
+pub struct Served<R, W> {
     ended: u64,
     failed: u64,
     spent: u64,
-    ends: Trace<End>,
+    sessions: Notes<(Option<Streams<R, W>>, End)>,
 }
 
-impl Model for Served {
+impl<R, W> Model for Served<R, W> {
     ghost use Rattle.std.specs.Prelude.{List};
-    ghost use Rattle.workers.specs.declared.served.End.{End};
-    ghost use Rattle.workers.specs.Ends.{AreCounted};
+    ghost use Rattle.workers.specs.Ends.{AreCounted, Session};
 
-    ghost Value = { List End };
+    ghost Value = { List (Session R W) };
 
-    ghost view = { λ s. s.ends };
+    ghost view = { λ s. s.sessions };
 
-    ghost invariant = { λ s. AreCounted s.ends s.ended s.failed s.spent };
+    ghost invariant = { λ s. AreCounted s.sessions s.ended s.failed s.spent };
 }
 
-impl Served {
+impl<R, W> Served<R, W> {
     ghost use Rattle.std.specs.Prelude.{◌≡◌, ◌++◌, ◌∷◌, []};
     ghost use Rattle.workers.specs.Ends.{ended_in, failed_in, spent_in};
 
     /// Of no session.
-    pub fn new() -> Served
+    pub fn new() -> Served<R, W>
         ensures { result ≡ [] }
     {
         Served {
             ended: 0,
             failed: 0,
             spent: 0,
-            ends: Trace::new(),
+            sessions: Notes::none(),
         }
     }
 
     /// One session more.
-    pub fn add(&mut self, end: End)
-        ensures { self.new ≡ self.old ++ end ∷ [] }
+    pub fn add(&mut self, session: &(Option<Streams<R, W>>, End))
+        ensures { self.new ≡ self.old ++ session.now ∷ [] }
     {
-        match end {
+        match session.1 {
             End::Ended => self.ended = self.ended.saturating_add(1),
             End::Failed => self.failed = self.failed.saturating_add(1),
             End::Spent => self.spent = self.spent.saturating_add(1),
         }
-        self.ends.note(&end);
+        self.sessions.note(session);
     }
 
     /// Another worker's sessions too.
-    pub fn join(&mut self, other: Served)
+    pub fn join(&mut self, other: Served<R, W>)
         ensures { self.new ≡ self.old ++ other }
     {
         let Served {
             ended,
             failed,
             spent,
-            ends,
+            sessions,
         } = other;
         self.ended = self.ended.saturating_add(ended);
         self.failed = self.failed.saturating_add(failed);
         self.spent = self.spent.saturating_add(spent);
-        self.ends.append(ends);
+        self.sessions.append(sessions);
     }
 
     /// How many sessions ended with all lines answered. This and the other counts stay at their greatest value.

@@ -22,15 +22,15 @@ pub struct Worker<'a, R, T, G> {
 }
 
 impl<'a, R: Wait, N: Drop, T: Versions<Notice = N>, G: Gate> Worker<'a, R, T, G> {
-    /// Serves a client at this seat, and adds how its session ended. A client that can't be opened
-    /// is a session that failed, and then there is no reader and no writer to give back. How it
-    /// ended is returned beside them.
+    /// Serves a client at this seat, and adds its session: the client's reader and writer as they are then, and how it
+    /// ended. A client that can't be opened is a session that failed, without a reader and a writer. The session is
+    /// returned too.
     pub fn serve_client<C: Client, O: Orders<Notice = N>>(
         &self,
         client: C,
         seat: &mut T::Seat,
         orders: &mut O,
-        served: &mut Served,
+        served: &mut Served<C::Reader, C::Writer>,
     ) -> (Option<Streams<C::Reader, C::Writer>>, End)
         requires fits { T.fits self.now.desk.shelves.now seat.old }
         requires notices { AgreeOnNotices O.told T.noted }
@@ -39,7 +39,7 @@ impl<'a, R: Wait, N: Drop, T: Versions<Notice = N>, G: Gate> Worker<'a, R, T, G>
         ensures learns { Learns (T.known seat.old) (T.value seat.old) (T.known seat.new) (T.value seat.new) }
         ensures profiles { TellPublished (T.known seat.new) (T.value seat.old) (T.value seat.new) }
         ensures idle { (T.value seat.old).held ≡ None → (T.value seat.new).held ≡ None }
-        ensures served { served.new ≡ served.old ++ result.1 ∷ [] }
+        ensures served { served.new ≡ served.old ++ result ∷ [] }
         ensures session { IsServed self.now.desk.form C.opens C.Reader.remaining C.Writer.contents
             (T.number seat.old) client
             result.0 result.1 (T.value seat.old) (O.asked orders.old) (T.value seat.new) (O.asked orders.new) }
@@ -48,19 +48,20 @@ impl<'a, R: Wait, N: Drop, T: Versions<Notice = N>, G: Gate> Worker<'a, R, T, G>
             Ok((reader, writer)) => {
                 let mut streams = Streams::new(reader, writer);
                 let outcome = self.desk.serve(&mut streams, seat, orders);
-                let end = end_of(outcome);
-                served.add(end);
-                (Some(streams), end)
+                let session = (Some(streams), end_of(outcome));
+                served.add(&session);
+                session
             }
             Err(ConnFault) => {
-                served.add(End::Failed);
-                (None, End::Failed)
+                let unopened = (None, End::Failed);
+                served.add(&unopened);
+                unopened
             }
         }
     }
 
-    /// Serves each client that is taken from the queue, until none comes: how their sessions ended, in turn, with this
-    /// end of the queue and the seat; and the orders.
+    /// Serves each client that is taken from the queue, until none comes: their sessions, in turn, with this end of the
+    /// queue and the seat; and the orders.
     pub(crate) fn work<C: Client + Drop, O: Orders<Notice = N>>(
         &self,
         mut taker: Taker<C>,

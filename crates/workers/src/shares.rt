@@ -17,16 +17,15 @@ use std::snapshot::Snapshot;
 use std::sync::Wait;
 use std::thread::{Promise, PromisedHandle, Threads};
 
-/// What a worker leaves: how its clients' sessions ended, its end of the queue of clients, and its seat.
+/// What a worker leaves: its clients' sessions, its end of the queue of clients, and its seat.
 #[derive(Drop)]
-pub(crate) struct Share<C: Drop, S> {
-    pub served: Served,
+pub(crate) struct Share<C: Client + Drop, S> {
+    pub served: Served<C::Reader, C::Writer>,
     pub taker: Taker<C>,
     pub seat: S,
 }
 
-/// That a worker's share is the ends of the sessions of the clients that it took at this end of the queue, served at
-/// its seat, from what the seat was when the worker began, with replies in this form.
+/// That a worker's share is the sessions of the clients that it took at this end of the queue, served at its seat, from what the seat was when the worker began, with replies in this form.
 #[derive(Drop)]
 pub(crate) struct ShareAt<C: Drop, T: Versions> {
     pub taker: Snapshot<Taker<C>>,
@@ -85,8 +84,8 @@ impl<L, N: Drop, T: Versions<Notice = N> + Loads<Loader = L>, F: Feeds> Promise<
     ghost use Rattle.workers.specs.Carrying.{AllCarriedOut};
 
     ghost kept_by = { λ promise done.
-        AllCarriedOut T.Versions.noted (F.are_files promise.feeds.value) F.Files.holds (F.is_plan promise.feeds.value)
-        (length (F.named promise.feeds.value)) done.0 (T.Loads.answers promise.seat.value) (T.Loads.answers done.1) };
+        AllCarriedOut T.Versions.noted (F.are_files promise.feeds.value) F.Files.holds F.Files.reads
+        (F.is_plan promise.feeds.value) (length (F.named promise.feeds.value)) done.0 (T.Loads.answers promise.seat.value) (T.Loads.answers done.1) };
 }
 
 /// Puts all clients in the queue, and joins the workers once it was closed for each: the clients' source, the workers'
@@ -104,7 +103,7 @@ pub(crate) fn deal_and_join<
     mut dealer: Dealer<C>,
     workers: Vec<PromisedHandle<Share<C, S>, ShareAt<C, T>>>,
     room: Vec<S>,
-) -> Result<(K, Served, Vec<S>), WorkersFault>
+) -> Result<(K, Served<C::Reader, C::Writer>, Vec<S>), WorkersFault>
     requires forms { All (λ worker. worker.promise.form ≡ form) workers.items }
     requires queues { All (λ worker. worker.promise.taker.value.queue ≡ dealer.queue) workers.items }
     requires some { 1 ≤ length workers.items }
@@ -115,10 +114,7 @@ pub(crate) fn deal_and_join<
         T.number T.value T.known (K.came clients) (K.came ran.0)
         (map (λ worker. worker.promise.seat.value) workers.items) ran.1 ran.2.items) }
 {
-    let source = match deal_all(rt, clients, &mut dealer, workers.len()) {
-        Ok(source) => source,
-        Err(_) => return Err(WorkersFault),
-    };
+    let source = deal_all(rt, clients, &mut dealer, workers.len());
     match join_workers(rt, form, dealer, workers, room) {
         Ok((served, seats)) => Ok((source, served, seats)),
         Err(fault) => Err(fault),
@@ -133,7 +129,7 @@ fn join_workers<C: Client + Drop, S: Drop, T: Versions<Seat = S>, R: Threads>(
     mut dealer: Dealer<C>,
     workers: Vec<PromisedHandle<Share<C, S>, ShareAt<C, T>>>,
     room: Vec<S>,
-) -> Result<(Served, Vec<S>), WorkersFault>
+) -> Result<(Served<C::Reader, C::Writer>, Vec<S>), WorkersFault>
     requires forms { All (λ worker. worker.promise.form ≡ form) workers.items }
     requires queues { All (λ worker. worker.promise.taker.value.queue ≡ dealer.queue) workers.items }
     requires some { 1 ≤ length workers.items }

@@ -29,9 +29,9 @@ loop-preserved g c =
       learns = learns_on _ _ _ _ _ _ was.learns one.ensures.learns;
       served = serves_next c.args.self.now.desk.form g.C.Client.opens g.C.Reader.Read.remaining g.C.Writer.Write.contents
           g.T.Versions.number g.T.Versions.value g.T.Versions.known _ _
-          c.loop.served one.new.served c.in-Some-next.client one.result.0
+          c.loop.served one.new.served c.in-Some-next.client one.result
           c.args.seat c.loop.seat one.new.seat
           (asked c.args.orders) (asked c.loop.orders) (asked one.new.orders) was.served c.in-Some-next.ensures.taken
           one.ensures.number one.ensures.learns one.ensures.profiles one.ensures.idle
-          (one.result.1, one.ensures.served, one.ensures.session);
+          one.ensures.served one.ensures.session;
     }
