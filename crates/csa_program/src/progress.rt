@@ -1,9 +1,11 @@
 //! What is reported while an image is made.
 
-ghost use Rattle.std.specs.Prelude.{◌≡◌, ◌≤◌, ◌<◌, ◌+◌, ◌-◌, ◌^◌, IfOk, IfErr};
+ghost use Rattle.std.specs.Prelude.{◌≡◌, ◌≤◌, ◌<◌, ◌+◌, ◌-◌, ◌^◌, ℕ, List, take, IfOk, IfErr, OnOk};
 ghost use Rattle.image_layout.specs.declared.layout.TheConstants.{LAYOUT};
 ghost use Rattle.connections.specs.declared.days.TheConstants.{MAX_DAYS};
 ghost use Rattle.feed_files.specs.Reading.{Content, Tells};
+ghost use Rattle.feed_files.specs.Reads.{AreRead, all_tables};
+ghost use Rattle.gtfs_rows.specs.declared.fault.Table.{Table};
 ghost use Rattle.feed_loader.specs.Faults.{failed_by, failed_in};
 ghost use Rattle.feed_loader.specs.Refused.{IsLoadRefusal, IsLoaded, IsWantOfMemory};
 
@@ -55,6 +57,16 @@ pub fn load_reported<F: FeedFiles, R: Reports>(
     ensures failures { F.failures files.new.files ≡ F.failures files.old.files + failed_in result }
     ensures failed { F.failed files.new.files ≡ failed_by (F.failed files.old.files) result }
     ensures layout { IfOk result (λ loaded. loaded.0.layout ≡ LAYOUT) }
+    ensures all_read { OnOk result ((content : Content)
+        × AreRead content all_tables (F.reads files.old.files) (F.reads files.new.files)) }
+    ensures first_read { (count : ℕ) × (content : Content)
+        × AreRead content (take count all_tables) (F.reads files.old.files) (F.reads files.new.files) }
+    ensures read_ok { (content : Content) (ts : List Table)
+        → AreRead content ts (F.reads files.old.files) (F.reads files.new.files)
+        → IfOk result (λ loaded. IsLoaded content plan.now loaded.0.timetable loaded.0.names loaded.1) }
+    ensures read_err { (content : Content) (ts : List Table)
+        → AreRead content ts (F.reads files.old.files) (F.reads files.new.files)
+        → IfErr result (λ fault. ¬ (IsWantOfMemory fault) → IsLoadRefusal content plan.now fault) }
     ensures ok { (content : Content) → Tells (F.holds files.old.files) content →
         IfOk result (λ loaded. IsLoaded content plan.now loaded.0.timetable loaded.0.names loaded.1) }
     ensures err { (content : Content) → Tells (F.holds files.old.files) content →

@@ -234,12 +234,12 @@ fn listen<
     }
     let errors = Mutex::new(errors);
     match serve_at(rt, &listener, request, made, folders, &errors) {
-        Ok((served, is_deaf)) => tell_served(alloc, &served, is_deaf, output),
+        Ok((ends, is_deaf)) => tell_served(alloc, ends, is_deaf, output),
         Err(_) => status::OUT_OF_MEMORY,
     }
 }
 
-// Serves whoever comes, and returns how the sessions ended, and whether accepting failed. Whatever the server's threads
+// Serves whoever comes, and returns how many sessions ended in each way, and whether accepting failed. Whatever the server's threads
 // report goes through one lock.
 fn serve_at<H: Disk + Explains + Clock + Threads + Wait + Sync, E: Write + Send>(
     rt: &H,
@@ -248,7 +248,7 @@ fn serve_at<H: Disk + Explains + Clock + Threads + Wait + Sync, E: Write + Send>
     made: (Shelves, ShelfLoader, Vec<ShelfSeat>),
     folders: &Folders<'_, H>,
     errors: &Mutex<E>,
-) -> Result<(Served, bool), WorkersFault>
+) -> Result<(Ends, bool), WorkersFault>
     requires loader { made.1.table ≡ made.0 }
     requires seats { All (λ seat. seat.table ≡ made.0) made.2.items }
     requires new { SeatsHanded made.0 (length made.2.items) made.2.items }
@@ -267,7 +267,7 @@ fn serve_at<H: Disk + Explains + Clock + Threads + Wait + Sync, E: Write + Send>
         form_of(request.legs),
         loader_errors,
     )?;
-    Ok((ran.served, ran.clients.has_failed()))
+    Ok((ends_of(&ran.served), ran.clients.has_failed()))
 }
 
 // Serves whoever comes to the door at these shelves, until nobody is left.
@@ -284,7 +284,7 @@ fn serve_all<
     folders: &Folders<'f, H>,
     form: PointForm,
     errors: E,
-) -> Result<ShelvesRan<Door<'d, L>>, WorkersFault>
+) -> Result<ShelvesRan<Visitor<'d, L>, Door<'d, L>>, WorkersFault>
     requires loader { made.1.table ≡ made.0 }
     requires seats { All (λ seat. seat.table ≡ made.0) made.2.items }
     requires new { SeatsHanded made.0 (length made.2.items) made.2.items }
@@ -293,14 +293,16 @@ fn serve_all<
     ensures none_left { IfOk result (λ ran. (ran.clients.failed ≡ true)
         ⊎ ((ran.clients.is_endless ≡ false) × (ran.clients.left ≡ 0))) }
     ensures seats { IfOk result (λ ran. All (λ seat. seat.table ≡ made.0) ran.seats.items) }
+    ensures loader { IfOk result (λ ran. ran.loader.table ≡ made.0) }
     ensures shares { IfOk result (λ ran. AreServedSince form ⟦<Visitor<'d, L> as Client>⟧.opens
         ⟦<Requests<TcpStream, Option<Visit<'d, L>>> as Read>⟧.remaining ⟦<TcpStream as Write>⟧.contents
         (λ seat. seat.number) (λ seat. seat.shown) (λ seat. known_of seat.view) door.entry.came ran.clients.came
         made.2.items ran.served ran.seats.items) }
     ensures loads { IfOk result (λ ran. ComeOfOrders (λ (notice : NoticeValue). notice.version)
         (⟦<Folders<'f, H> as Feeds>⟧.are_files folders.now) ⟦<FolderFiles<'f, H> as FeedFiles>⟧.holds
+        ⟦<FolderFiles<'f, H> as FeedFiles>⟧.reads
         (IsPlanNow folders.now.asked.now folders.now.zone_bytes.items) (length folders.now.names.items)
-        made.1.answers ran.answers.value) }
+        made.1.answers ran.loader.answers) }
 {
     let (shelves, loader, seats) = made;
     run_shelves::<Brand, _, _, _, _, _, _>(
@@ -378,13 +380,11 @@ fn unheard<E: Write>(alloc: Global, errors: &mut E, port: u16, kind: ErrorKind) 
 
 // Prints how many sessions there were. The status is that of their ends and of the door, unless the line
 // can't be printed.
-fn tell_served<O: Write>(alloc: Global, served: &Served, is_deaf: bool, output: &mut O) -> u8
-    ensures status { (result ≡ status_of is_deaf (counts_of served.now)) ⊎ (result ≡ INPUT_OUTPUT)
-        ⊎ (result ≡ OUT_OF_MEMORY) }
+fn tell_served<O: Write>(alloc: Global, ends: Ends, is_deaf: bool, output: &mut O) -> u8
+    ensures status { (result ≡ status_of is_deaf ends) ⊎ (result ≡ INPUT_OUTPUT) ⊎ (result ≡ OUT_OF_MEMORY) }
     ensures printed { (result ≢ INPUT_OUTPUT) × (result ≢ OUT_OF_MEMORY) →
-        Appends (O.contents output.old) (O.contents output.new) (served_text (counts_of served.now)) }
+        Appends (O.contents output.old) (O.contents output.new) (served_text ends) }
 {
-    let ends = ends_of(served);
     let status = ends.status(is_deaf);
     match served_line(alloc, ends) {
         Ok(line) => status::write_text(output, line.as_str(), status),
@@ -402,7 +402,7 @@ fn served_line(alloc: Global, ends: Ends) -> Result<String, AllocError>
 }
 
 // How many sessions ended in each way.
-fn ends_of(served: &Served) -> Ends
+fn ends_of<R, W>(served: &Served<R, W>) -> Ends
     ensures { result ≡ counts_of served.now }
 {
     Ends {

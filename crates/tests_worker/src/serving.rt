@@ -260,6 +260,14 @@ fn shelves_for(alloc: Global, two: bool) -> Result<(Shelves, ShelfLoader, Vec<Sh
     Ok((shelves, loader, seats))
 }
 
+/// How many sessions ended in each way.
+#[derive(Clone, Copy, Debug, PartialEq, Eq)]
+struct Counts {
+    ended: u64,
+    failed: u64,
+    spent: u64,
+}
+
 /// Serves the visitors; how their sessions ended, and what was written to the errors.
 fn serve_all<R: Threads + Wait + Sync + Abort, G: Gate + Sync>(
     rt: &R,
@@ -268,7 +276,7 @@ fn serve_all<R: Threads + Wait + Sync + Abort, G: Gate + Sync>(
     two: bool,
     gate: &G,
     form: PointForm,
-) -> Result<(Served, Vec<u8>), Fail> {
+) -> Result<(Counts, Vec<u8>), Fail> {
     let (shelves, loader, seats) = shelves_for(alloc, two)?;
     let feeds = two_feeds(alloc)?;
     let told = Mutex::new(Vec::new(alloc));
@@ -286,7 +294,12 @@ fn serve_all<R: Threads + Wait + Sync + Abort, G: Gate + Sync>(
     ) else {
         return Err(AllocError.into());
     };
-    Ok((ran.served, told.into_inner()))
+    let counts = Counts {
+        ended: ran.served.ended(),
+        failed: ran.served.failed(),
+        spent: ran.served.spent(),
+    };
+    Ok((counts, told.into_inner()))
 }
 
 /// What a visitor does with the replies.
@@ -306,7 +319,7 @@ fn serve_asking<R: Threads + Wait + Sync + Abort, G: Gate + Sync>(
     asking: &[(&'static str, Manner)],
     two: bool,
     gate: &G,
-) -> Result<(Served, Vec<u8>, Vec<u8>), Fail> {
+) -> Result<(Counts, Vec<u8>, Vec<u8>), Fail> {
     serve_in(rt, alloc, asking, two, gate, PointForm::Bare)
 }
 
@@ -318,14 +331,14 @@ fn serve_in<R: Threads + Wait + Sync + Abort, G: Gate + Sync>(
     two: bool,
     gate: &G,
     form: PointForm,
-) -> Result<(Served, Vec<u8>, Vec<u8>), Fail> {
+) -> Result<(Counts, Vec<u8>, Vec<u8>), Fail> {
     let bytes = Mutex::new(Vec::new(alloc));
     let mut visitors = Vec::new(alloc);
     for (requests, manner) in asking {
         visitors.push(visitor_of(rt, *requests, *manner, &bytes))?;
     }
-    let (served, told) = serve_all(rt, alloc, visitors, two, gate, form)?;
-    Ok((served, bytes.into_inner(), told))
+    let (counts, told) = serve_all(rt, alloc, visitors, two, gate, form)?;
+    Ok((counts, bytes.into_inner(), told))
 }
 
 /// A visitor whose replies go to these bytes.
@@ -354,10 +367,10 @@ fn visitor_of<'a, R>(
 fn a_client_is_served(rt: HostRuntime) -> Result<(), Fail> {
     let (requests, expected) = LOADING;
     let asking = [(requests, Manner::Reads), ("", Manner::IsShut)];
-    let (served, replies, told) = serve_asking(&rt, rt.alloc(), &asking, true, &OpenGate)?;
-    assert_eq!(&rt; served.ended(), 1);
-    assert_eq!(&rt; served.failed(), 1);
-    assert_eq!(&rt; served.spent(), 0);
+    let (counts, replies, told) = serve_asking(&rt, rt.alloc(), &asking, true, &OpenGate)?;
+    assert_eq!(&rt; counts.ended, 1);
+    assert_eq!(&rt; counts.failed, 1);
+    assert_eq!(&rt; counts.spent, 0);
     assert!(&rt; replies.as_slice() == expected.as_bytes());
     assert!(&rt; told.as_slice() == b"loaded slow version 2\n0: 2 3 2 3\n".as_slice());
     Ok(())
@@ -367,7 +380,7 @@ fn a_client_is_served(rt: HostRuntime) -> Result<(), Fail> {
 #[test]
 fn legs_are_replied(rt: HostRuntime) -> Result<(), Fail> {
     let asking = [(PROFILE, Manner::Reads)];
-    let (served, replies, _) = serve_in(
+    let (counts, replies, _) = serve_in(
         &rt,
         rt.alloc(),
         &asking,
@@ -375,7 +388,7 @@ fn legs_are_replied(rt: HostRuntime) -> Result<(), Fail> {
         &OpenGate,
         PointForm::WithLegs,
     )?;
-    assert_eq!(&rt; served.ended(), 1);
+    assert_eq!(&rt; counts.ended, 1);
     assert_eq!(&rt; str::from_utf8(&replies).unwrap_or("?"), WITH_LEGS);
     Ok(())
 }
@@ -385,8 +398,8 @@ fn legs_are_replied(rt: HostRuntime) -> Result<(), Fail> {
 fn loads_are_waited_for(rt: HostRuntime) -> Result<(), Fail> {
     let (requests, expected) = WAITING;
     let asking = [(requests, Manner::Reads)];
-    let (served, replies, told) = serve_asking(&rt, rt.alloc(), &asking, false, &OpenGate)?;
-    assert_eq!(&rt; served.ended(), 1);
+    let (counts, replies, told) = serve_asking(&rt, rt.alloc(), &asking, false, &OpenGate)?;
+    assert_eq!(&rt; counts.ended, 1);
     assert_eq!(&rt; str::from_utf8(&replies).unwrap_or("?"), expected);
     assert_eq!(&rt; str::from_utf8(&told).unwrap_or("?"), LOADED);
     Ok(())
@@ -403,9 +416,9 @@ fn whoever_waits_may_go_away(rt: HostRuntime) -> Result<(), Fail> {
         (wait, Manner::GoesAway),
         (pin, Manner::GoesAway),
     ];
-    let (served, replies, told) = serve_asking(&rt, rt.alloc(), &asking, false, &OpenGate)?;
-    assert_eq!(&rt; served.ended(), 1);
-    assert_eq!(&rt; served.failed(), 2);
+    let (counts, replies, told) = serve_asking(&rt, rt.alloc(), &asking, false, &OpenGate)?;
+    assert_eq!(&rt; counts.ended, 1);
+    assert_eq!(&rt; counts.failed, 2);
     assert!(&rt;
         replies.as_slice() == b"{\"base\":1705276800,\"ok\":\"pin\",\"version\":2}\n".as_slice()
     );
@@ -442,8 +455,8 @@ fn scans_meet<R: Threads + Wait + Sync + Clock + Abort>(
         sleeps,
     };
     let asking = [(PROFILE, Manner::Reads), (PROFILE, Manner::Reads)];
-    let (served, _, _) = serve_asking(rt, alloc, &asking, two, &gate)?;
-    assert_eq!(rt; served.ended(), 2);
+    let (counts, _, _) = serve_asking(rt, alloc, &asking, two, &gate)?;
+    assert_eq!(rt; counts.ended, 2);
     Ok(gate.missed.load(Ordering::SeqCst) == 0)
 }
 
@@ -459,7 +472,7 @@ fn two_scans_at_once(rt: HostRuntime) -> Result<(), Fail> {
 #[test]
 fn refused_growth_serves_nobody(rt: HostRuntime) -> Result<(), Fail> {
     let alloc: Global = rt.alloc();
-    let (served, _) = serve_all(
+    let (counts, _) = serve_all(
         &rt,
         alloc,
         Vec::new(alloc),
@@ -467,6 +480,6 @@ fn refused_growth_serves_nobody(rt: HostRuntime) -> Result<(), Fail> {
         &OpenGate,
         PointForm::Bare,
     )?;
-    assert_eq!(&rt; served.ended(), 0);
+    assert_eq!(&rt; counts.ended, 0);
     Ok(())
 }
