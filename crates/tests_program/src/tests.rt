@@ -11,6 +11,7 @@ mod informing;
 mod profiles;
 mod running;
 mod serving;
+mod sessions;
 mod tables;
 mod town_journeys;
 mod transcript;
