@@ -1,5 +1,5 @@
 -- What a pin and a release did last in the history that the seat knows.
-use Rattle.std.proofs.Common.{◌≡◌, ℕ, [], ◌∷◌, Some, refl, sym, ◌∙◌, subst}
+use Rattle.std.proofs.Common.{◌≡◌, ℕ, [], ◌∷◌, refl, sym, ◌∙◌, subst}
 use Rattle.version_core.specs.declared.event.Event.{Event}
 use Rattle.version_core.specs.declared.event.Reply.{Reply}
 use Rattle.version_core.specs.declared.state.Worker.{Worker}
@@ -93,7 +93,7 @@ pub moves_end : (u : View) (m : Mine) (number n : ℕ) → Moves u n m.0 → IsI
 moves_end u m number n h is =
     let t = h.3 in let third = t.2.2.0 in let fourth = t.2.2.2.0 in
     subst (λ (v : View). IsOf number v → EndsLate (known_of u) number n (known_of v)) (sym t.2.2.2.2)
-    (late_ends (known_of u) third fourth number n (lates_grow (h.0 ∷ h.1 ∷ h.2 ∷ []) u third (t.0, t.1, t.2.0, t.2.1, t.2.2.0, t.2.2.1, refl)) t.2.2.2.1)
+    (late_ends (known_of u) third fourth number n (lates_grow (h.0 ∷ h.1 ∷ h.2 ∷ []) u third (t.0, t.1, (t.2.0, t.2.1, (third, t.2.2.1, refl)))) t.2.2.2.1)
     (idle_is number m.0 is.0)
 
 let_go : (a b : WorkerView) (number : ℕ) → LetGo a b → b.number ≡ number → Happened a.known (Event.Drop number) Reply.Dropped b.known
