@@ -57,7 +57,7 @@ well_grows View.Spent u' n shelf e h = absurd h
 same_grows : (u u' : View) → u' ≡ u → Grows (known_of u) (known_of u')
 same_grows u u' same = subst (λ (x : View). Grows (known_of u) (known_of x)) (sym same) (grows_same (known_of u))
 
-lates_grow : (ns : List ℕ) (u u' : View) → Lates u ns u' → Grows (known_of u) (known_of u')
+pub lates_grow : (ns : List ℕ) (u u' : View) → Lates u ns u' → Grows (known_of u) (known_of u')
 lates_grow [] u u' h = same_grows u u' h
 lates_grow (n ∷ ns) u u' h = growths_join (known_of u) (known_of h.0) (known_of u') (late_grows u h.0 n h.1) (lates_grow ns h.0 u' h.2)
 

@@ -1,11 +1,14 @@
 -- What a seat knows of the one history of its shelves: the events so far with their replies, and the image of each version.
-use Rattle.std.specs.Prelude.{◌≡◌, ℕ, Option, Some, IfSome}
+use Rattle.std.specs.Prelude.{◌≡◌, ℕ, Option, Some, IfSome, Result, Ok, Err}
 use mathlib.Core.List.{IsPrefix}
 use Rattle.image_layout.specs.Image.{ImageValue}
+use Rattle.version_core.specs.declared.event.Event.{Event}
+use Rattle.version_core.specs.declared.event.Reply.{Reply}
 use Rattle.version_core.specs.State.{State}
 use Rattle.version_core.specs.Steps.{Holds}
 use Rattle.shelf_steps.specs.declared.views.Known.{Known}
-use Rattle.shelf_steps.specs.Course.{Goes, leading_to, image_of}
+use Rattle.shelf_steps.specs.Course.{Goes, leading_to, image_of, Happened}
+use Rattle.epochs.specs.declared.faults.PinFault.{PinFault}
 
 -- the history published this image as this version
 abbrev pub IsPublished : Known → ℕ → ImageValue → Type 0
@@ -28,6 +31,33 @@ pub record HoldsIn (known : Known) (number version : ℕ) (image : ImageValue) :
 -- what a seat holds, if anything, its worker holds in the history that the seat knows
 abbrev pub HoldsAsKnown : Known → ℕ → Option (ℕ × ImageValue) → Type 0
 HoldsAsKnown known number held = IfSome held (λ h. HoldsIn known number h.0 h.1)
+
+-- in a history that has grown since then, the worker looked: the current version was this one, on this shelf
+pub record IsFound (before : Known) (number version shelf : ℕ) (looked : Known) : Type 0 where
+  pub first : Known
+  pub since : Grows before first
+  pub look : Happened first (Event.Look number) (Reply.Looked version shelf) looked
+
+-- the worker looked and found the version, and then took it: it was still there
+abbrev pub EndsHolding : Known → ℕ → ℕ → Known → Type 0
+EndsHolding before number version after = (shelf : ℕ) × (looked : Known) × IsFound before number version shelf looked
+    × Happened looked (Event.Take number) (Reply.Holds version) after
+
+-- the worker looked and found the version, came too late to take it, and left the shelf
+abbrev pub EndsLate : Known → ℕ → ℕ → Known → Type 0
+EndsLate before number version after = (shelf : ℕ) × (looked : Known) × (late : Known) × IsFound before number version shelf looked
+    × Happened looked (Event.Take number) Reply.Late late × Happened late (Event.Drop number) Reply.Dropped after
+
+-- what a pin with this result did last in the history, from what was known before it to what is known after it. Another refusal did nothing
+abbrev pub EndsPin : Known → ℕ → Result (Unit {0}) PinFault → Option (ℕ × ImageValue) → Known → Type 0
+EndsPin before number (Ok u) held after = IfSome held (λ h. EndsHolding before number h.0 after)
+EndsPin before number (Err (PinFault.Moved newest)) held after = EndsLate before number newest after
+EndsPin before number (Err _) held after = after ≡ before
+
+-- and what a release did: the worker dropped what it held; a refusal did nothing
+abbrev pub EndsRelease : Known → ℕ → Result (Unit {0}) PinFault → Known → Type 0
+EndsRelease before number (Ok u) after = Happened before (Event.Drop number) Reply.Dropped after
+EndsRelease before number (Err _) after = after ≡ before
 
 -- a version that was published with one image is never published with another
 abbrev pub OneImageEach : Type 0

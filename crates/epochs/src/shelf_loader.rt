@@ -11,7 +11,7 @@ ghost use Rattle.shelf_steps.specs.Plays.{gives_notice};
 ghost use Rattle.shelf_steps.specs.declared.views.View.{View};
 ghost use Rattle.epochs.specs.Seats.{PublishStep, RefuseStep, CollectStep};
 ghost use Rattle.epochs.specs.ShelfLoads.{CollectsBySteps, TriedShelf, shelf_of, IsFreeIn, HasFree, IsLeastFree};
-ghost use Rattle.epochs.specs.ShelfLoads.{MakesRoomBySteps, PublishesBySteps, RefusesBySteps, IsUnspent};
+ghost use Rattle.epochs.specs.ShelfLoads.{MakesRoomBySteps, PublishesBySteps, RefusesBySteps, IsUnspent, IsSpentAt};
 ghost use Rattle.epochs.specs.declared.faults.PublishFault.{PublishFault};
 
 use crate::collected::Collected;
@@ -115,6 +115,7 @@ impl ShelfLoader {
         ensures next { IfOk result (λ v. v ≡ self.old.current + 1) }
         ensures loader { MatchResult result (λ v. PublishStep self.old.answers (arc_value image) v self.new.answers)
             (λ e. RefuseStep self.old.answers e.1 self.new.answers) }
+        ensures spent { IfErr result (λ e. IsSpentAt self.old.current e.1) }
         ensures steps { MatchResult result (λ v. (room : View) × MakesRoomBySteps self.old.view room
             × PublishesBySteps room (arc_value image) v self.new.view)
             (λ e. RefusesBySteps self.old.view e.1 self.new.view) }
@@ -150,6 +151,7 @@ impl ShelfLoader {
         ensures published { IfOk result (λ v. (room : View) × MakesRoomBySteps self.old.view room
             × PublishesBySteps room (arc_value image.now) v self.new.view) }
         ensures refused { IfErr result (λ e. RefusesBySteps self.old.view e self.new.view) }
+        ensures spent { IfErr result (λ e. IsSpentAt self.old.current e) }
     {
         if self.current >= MOST_VERSIONS {
             return Err(PublishFault::VersionsSpent);

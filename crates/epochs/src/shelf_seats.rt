@@ -4,7 +4,7 @@ ghost use Rattle.std.specs.Prelude.{◌≡◌, ◌<◌, [], None, Some, MatchOpt
 ghost use Rattle.std.specs.Arc.{arc_value};
 ghost use Rattle.shelf_steps.specs.Plays.{newcomer};
 ghost use Rattle.shelf_steps.specs.declared.views.View.{View};
-ghost use Rattle.epochs.specs.SeatHistory.{Grows, HoldsAsKnown};
+ghost use Rattle.epochs.specs.SeatHistory.{Grows, HoldsAsKnown, EndsPin, EndsRelease};
 ghost use Rattle.shelf_steps.specs.Events.{known_of};
 ghost use Rattle.epochs.specs.Seats.{PinStep, ReleaseStep, JoinStep};
 ghost use Rattle.epochs.specs.ShelfSeats.{PinsBySteps, ReleasesBySteps, JoinsByStep, ShowsWhatItKnows, new_seat};
@@ -93,6 +93,7 @@ impl ShelfSeat {
         ensures steps { PinsBySteps self.old result self.new }
         ensures known { HoldsAsKnown (known_of self.new.view) self.new.number self.new.shown.held }
         ensures grows { Grows (known_of self.old.view) (known_of self.new.view) }
+        ensures ends { EndsPin (known_of self.old.view) self.old.number result self.new.shown.held (known_of self.new.view) }
     {
         if self.held.is_some() {
             let fault = PinFault::AlreadyPinned;
@@ -122,6 +123,7 @@ impl ShelfSeat {
         ensures release { ReleaseStep self.old.shown result self.new.shown }
         ensures steps { ReleasesBySteps self.old result self.new }
         ensures grows { Grows (known_of self.old.view) (known_of self.new.view) }
+        ensures ends { EndsRelease (known_of self.old.view) self.old.number result (known_of self.new.view) }
     {
         match self.held.take() {
             Some((shelf, edition)) => {

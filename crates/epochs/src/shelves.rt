@@ -5,11 +5,11 @@ ghost use Rattle.std.specs.List.{All};
 ghost use Rattle.std.specs.Arc.{arc_value};
 ghost use Rattle.shelf_steps.specs.Handed.{handed};
 ghost use Rattle.shelf_steps.specs.declared.views.View.{View};
-ghost use Rattle.epochs.specs.SeatHistory.{Grows, HoldsAsKnown};
+ghost use Rattle.epochs.specs.SeatHistory.{Grows, HoldsAsKnown, EndsPin, EndsRelease};
 ghost use Rattle.shelf_steps.specs.Events.{known_of};
 ghost use Rattle.epochs.specs.Seats.{PinStep, ReleaseStep, JoinStep, PublishStep, RefuseStep, CollectStep};
 ghost use Rattle.epochs.specs.ShelfSeats.{PinsBySteps, ReleasesBySteps, JoinsByStep, SeatsHanded};
-ghost use Rattle.epochs.specs.ShelfLoads.{CollectsBySteps, MakesRoomBySteps, PublishesWithNotice, RefusesBySteps};
+ghost use Rattle.epochs.specs.ShelfLoads.{CollectsBySteps, MakesRoomBySteps, PublishesWithNotice, RefusesBySteps, IsSpentAt};
 ghost use Rattle.epochs.specs.declared.faults.PublishFault.{PublishFault};
 
 use crate::collected::Collected;
@@ -83,6 +83,7 @@ impl Shelves {
         ensures steps { PinsBySteps seat.old result seat.new }
         ensures known { HoldsAsKnown (known_of seat.new.view) seat.new.number seat.new.shown.held }
         ensures grows { Grows (known_of seat.old.view) (known_of seat.new.view) }
+        ensures ends { EndsPin (known_of seat.old.view) seat.old.number result seat.new.shown.held (known_of seat.new.view) }
     {
         seat.pin_at(&self.table)
     }
@@ -94,6 +95,7 @@ impl Shelves {
         ensures release { ReleaseStep seat.old.shown result seat.new.shown }
         ensures steps { ReleasesBySteps seat.old result seat.new }
         ensures grows { Grows (known_of seat.old.view) (known_of seat.new.view) }
+        ensures ends { EndsRelease (known_of seat.old.view) seat.old.number result (known_of seat.new.view) }
     {
         seat.release_at(&self.table)
     }
@@ -117,6 +119,7 @@ impl Shelves {
         ensures loader { MatchResult result (λ r.
             PublishStep loader.old.answers (arc_value image) r.0 loader.new.answers)
             (λ e. RefuseStep loader.old.answers e.1 loader.new.answers) }
+        ensures spent { IfErr result (λ e. IsSpentAt loader.old.current e.1) }
         ensures steps { MatchResult result (λ r. (room : View) × MakesRoomBySteps loader.old.view room
             × PublishesWithNotice room (arc_value image) r.0 loader.new.view)
             (λ e. RefusesBySteps loader.old.view e.1 loader.new.view) }

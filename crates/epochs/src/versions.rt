@@ -3,7 +3,8 @@
 ghost use Rattle.std.specs.Prelude.{◌≡◌, ◌+◌, ℕ, List, None, Some, MatchOption, MatchResult, IfErr, IfOk, IfSome};
 ghost use Rattle.std.specs.Arc.{arc_value};
 ghost use Rattle.epochs.specs.Seats.{SeatValue, PinStep, ReleaseStep, JoinStep, PublishStep, RefuseStep, CollectStep};
-ghost use Rattle.epochs.specs.SeatHistory.{Grows, HoldsAsKnown};
+ghost use Rattle.epochs.specs.SeatHistory.{Grows, HoldsAsKnown, EndsPin, EndsRelease};
+ghost use Rattle.epochs.specs.ShelfLoads.{IsSpentAt};
 ghost use Rattle.shelf_steps.specs.declared.views.Known.{Known};
 ghost use Rattle.epochs.specs.declared.seats.LoaderAnswer.{LoaderAnswer};
 
@@ -43,7 +44,8 @@ pub trait Versions {
         ensures number { number seat.new ≡ number seat.old }
         ensures pin { PinStep (value seat.old) result (value seat.new) }
         ensures known { HoldsAsKnown (known seat.new) (number seat.new) (value seat.new).held }
-        ensures grows { Grows (known seat.old) (known seat.new) };
+        ensures grows { Grows (known seat.old) (known seat.new) }
+        ensures ends { EndsPin (known seat.old) (number seat.old) result (value seat.new).held (known seat.new) };
 
     /// The version that the seat holds, with its image: the one that the history published as that version.
     fn edition(seat: &Self::Seat) -> Option<&Edition>
@@ -57,7 +59,8 @@ pub trait Versions {
         ensures fits { fits self.now seat.new }
         ensures number { number seat.new ≡ number seat.old }
         ensures release { ReleaseStep (value seat.old) result (value seat.new) }
-        ensures grows { Grows (known seat.old) (known seat.new) };
+        ensures grows { Grows (known seat.old) (known seat.new) }
+        ensures ends { EndsRelease (known seat.old) (number seat.old) result (known seat.new) };
 
     /// The seat has seen the notice's version from now on.
     fn join<R: Wait>(&self, rt: &R, seat: &mut Self::Seat, notice: Self::Notice)
@@ -102,6 +105,7 @@ pub trait Loads: Versions {
         ensures loader { MatchResult result (λ r.
             PublishStep (answers loader.old) (arc_value image) r.0 (answers loader.new))
             (λ e. RefuseStep (answers loader.old) e.1 (answers loader.new)) }
+        ensures spent { IfErr result (λ e. IsSpentAt (current loader.old) e.1) }
         ensures notice { IfOk result (λ r. IfSome r.1 (λ n. Self.Versions.noted n ≡ r.0)) };
 
     /// Tries each closing shelf: it is freed, if no worker is there.

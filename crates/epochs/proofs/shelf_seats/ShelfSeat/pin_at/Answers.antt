@@ -2,10 +2,11 @@ use Rattle.std.proofs.Common.{rules, ◌≡◌, ◌≤◌, [], ◌∷◌, ◌++�
 use Rattle.std.specs.Arc.{arc_value}
 use Rattle.shelf_steps.specs.Pinning.{Moves}
 use Rattle.epochs.specs.declared.seats.Answer.{Answer}
-use Rattle.epochs.specs.SeatHistory.{Grows}
+use Rattle.epochs.specs.SeatHistory.{Grows, EndsHolding, EndsLate}
 use Rattle.shelf_steps.specs.Events.{known_of}
 use Rattle.epochs.specs.ShelfSeats.{ShelfSeatValue}
 use Rattle.epochs.proofs.GrowthLemmas.{moves_grow, pins_grow}
+use Rattle.epochs.proofs.EndLemmas.{pins_end, moves_end}
 use Rattle.epochs.proofs.ShelfPins.{pins_seen, pins_hold, pinned_is}
 use Rattle.epochs.proofs.shelf_seats.ShelfSeat.pin_at.Goals as goal
 
@@ -37,3 +38,14 @@ returns-in-Err-clause-grows c =
 pub returns-in-Err-clause-steps : goal.returns-in-Err-clause-steps
 returns-in-Err-clause-steps c =
     (search rules, subst (λ (s : ShelfSeatValue). Moves s.view c.in-Err.newest c.pin.new.worker.me.0) c.self.view_is c.in-Err.ensures.moves.0, search rules)
+
+pub returns-in-Ok-clause-ends : goal.returns-in-Ok-clause-ends
+returns-in-Ok-clause-ends c =
+    let e = c.in-Ok.edition in
+    subst (λ (s : ShelfSeatValue). EndsHolding (known_of s.view) s.number e.version (known_of c.pin.new.worker.me.0)) c.self.view_is
+    (pins_end c.self.inside.place.me.0 c.pin.new.worker.me c.self.inside.number e.version c.in-Ok.shelf e c.in-Ok.ensures.pins.1 c.in-Ok.ensures.pins.2)
+
+pub returns-in-Err-clause-ends : goal.returns-in-Err-clause-ends
+returns-in-Err-clause-ends c =
+    subst (λ (s : ShelfSeatValue). EndsLate (known_of s.view) s.number c.in-Err.newest (known_of c.pin.new.worker.me.0)) c.self.view_is
+    (moves_end c.self.inside.place.me.0 c.pin.new.worker.me c.self.inside.number c.in-Err.newest c.in-Err.ensures.moves.0 c.in-Err.ensures.moves.1)
