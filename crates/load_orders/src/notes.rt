@@ -34,4 +34,11 @@ impl<T> Notes<T> {
     {
         self.items = Kept::at(&self.items, item);
     }
+
+    /// Adds what others noted at the end.
+    pub fn append(&mut self, others: Notes<T>)
+        ensures { self.new ≡ self.old ++ others }
+    {
+        self.items = Kept::at(&self.items, &others.items);
+    }
 }
