@@ -302,6 +302,8 @@ impl<F: FeedFiles, R: Reports> FeedFiles for ReportedFiles<F, R> {
 
     ghost holds = { λ reported. F.holds reported.files };
 
+    ghost may_give = { λ reported. F.may_give reported.files };
+
     ghost hash = { λ reported. F.hash reported.files };
 
     fn read(&mut self, alloc: Global, name: &str) -> Result<Option<Vec<u8>>, FileFault> {

@@ -20,6 +20,10 @@ failed_also before name (Ok file) = before
 failed_also before name (Err faults.Failed) = before ++ name ∷ []
 failed_also before name (Err faults.OutOfMemory) = before
 
+-- what comes of asking for a file: its bytes, or none if there is no such file, or why they can't be had
+abbrev pub FileAnswer : Type 0
+FileAnswer = Result (Option (Vec ℕ Global)) FileFault
+
 -- what a read gave: the name of the file, and its bytes, or none if there is no such file
 abbrev pub FileRead : Type 0
 FileRead = List ℕ × Option (List ℕ)

@@ -2,7 +2,7 @@
 
 ghost use Rattle.std.specs.Prelude.{◌≡◌, ℕ, List, Option, Some, IfOk, IfSome, option_map};
 ghost use Rattle.gtfs_rows.specs.declared.id_hash.IdHash.{IdHash as Hash};
-ghost use Rattle.feed_files.specs.Files.{FileRead, counted, failed_also, read_also};
+ghost use Rattle.feed_files.specs.Files.{FileAnswer, FileRead, counted, failed_also, read_also};
 
 use gtfs_tables::IdHash;
 use std::alloc::Global;
@@ -35,6 +35,9 @@ pub trait FeedFiles {
     // What a file of a name holds, where that is told: none where there is no such file.
     ghost holds: { Self → List ℕ → Option (Option (List ℕ)) };
 
+    // What may come of reading the file of a name.
+    ghost may_give: { Self → List ℕ → FileAnswer → Type 0 } = { λ _ _ _. Unit {0} };
+
     // The hash by which ids that the files have are looked up, where that is told.
     ghost hash: { Self → Option Hash };
 
@@ -42,6 +45,9 @@ pub trait FeedFiles {
     fn read(&mut self, alloc: Global, name: &str) -> Result<Option<Vec<u8>>, FileFault>
         ensures told { IfOk result (λ file. IfSome (holds self.old name.now)
             (λ bytes. option_map (λ read. read.items) file ≡ bytes)) }
+        ensures gives { may_give self.old name.now result }
+        ensures stays { (other : List ℕ) (answer : FileAnswer)
+            → may_give self.new other answer → may_give self.old other answer }
         ensures reads { reads self.new ≡ read_also (reads self.old) name.now result }
         ensures same { holds self.new ≡ holds self.old }
         ensures hash { hash self.new ≡ hash self.old }

@@ -1,9 +1,9 @@
 //! The files of a folder.
 
 ghost use Rattle.std.specs.Prelude.{◌≡◌, ◌≤◌, ◌↔◌, ◌⊎◌, [], length, None, Some, IfErr, IfOk, IfSome, IsNone, IsOk};
-ghost use Rattle.std.specs.Prelude.{IsTrue};
+ghost use Rattle.std.specs.Prelude.{IsTrue, List, ℕ};
 ghost use Rattle.std_io.specs.declared.io.kind.ErrorKind.TheVariants.{NotADirectory, NotFound, OutOfMemory};
-ghost use Rattle.feed_files.specs.Files.{one_more};
+ghost use Rattle.feed_files.specs.Files.{FileAnswer, one_more};
 ghost use Rattle.feed_files.specs.declared.files.FileFault.TheVariants.{OutOfMemory as WasOutOfMemory};
 ghost use Rattle.feed_files.specs.declared.files.TheConstants.{LONGEST_FILE};
 
@@ -20,6 +20,9 @@ use std::rt::Files;
 
 /// A disk with feeds' folders. It asks of a machine no more than that, so that its files can be read from any thread.
 pub trait Disk {
+    // What may come of asking it for the file of a name in a folder: first the folder, then the name.
+    ghost gives: { Self → List ℕ → List ℕ → FileAnswer → Type 0 } = { λ _ _ _ _. Unit {0} };
+
     /// The bytes of a file of a folder, at most [`LONGEST_FILE`], none where there is no such file.
     ///
     /// # Errors
@@ -31,7 +34,8 @@ pub trait Disk {
         folder: &str,
         name: &str,
     ) -> Result<Option<Vec<u8>>, FileFault>
-        ensures { IfOk result (λ file. IfSome file (λ bytes. length bytes.items ≤ LONGEST_FILE)) };
+        ensures gives { gives self.now folder.now name.now result }
+        ensures short { IfOk result (λ file. IfSome file (λ bytes. length bytes.items ≤ LONGEST_FILE)) };
 
     /// A hash of a new random key, by which ids of a feed's files are looked up.
     fn id_hash(&self) -> IdHash;
@@ -173,6 +177,9 @@ impl<'a, H: Disk> FeedFiles for FolderFiles<'a, H> {
     ghost reads = { λ files. files.reads };
 
     ghost holds = { λ files name. None };
+
+    // exactly what its disk may, asked for that file of its folder
+    ghost may_give = { λ files. H.gives files.disk.now files.folder.now };
 
     ghost hash = { λ files. Some files.hash };
 
