@@ -42,6 +42,9 @@ pub trait Disk {
 }
 
 impl<H: Files + RandomSource> Disk for H {
+    // no more is known of a machine's files
+    ghost gives = { λ _ _ _ answer. IfOk answer (λ file. IfSome file (λ bytes. length bytes.items ≤ LONGEST_FILE)) };
+
     fn feed_file(
         &self,
         alloc: Global,
@@ -71,6 +74,7 @@ impl<'a, H: Disk> FolderFiles<'a, H> {
     /// The files of the folder at a path, which need not be there: then no file is. Their ids get a
     /// hash of a random key.
     pub fn new(disk: &'a H, folder: &'a str) -> FolderFiles<'a, H>
+        ensures disk { result.disk.now ≡ disk.now }
         ensures folder { result.folder.now ≡ folder.now }
         ensures failures { result.failures ≡ 0 }
         ensures failed { result.failed ≡ [] }
