@@ -1,7 +1,8 @@
 -- A front put before a list.
 use Rattle.std.proofs.Common.{◌≡◌, ◌⊎◌, ℕ, ◌+◌, ◌<◌, ◌≤◌, true, false, not, List, [], ◌∷◌, ◌++◌, length, take, drop}
-use Rattle.std.proofs.Common.{get_or, Contains, inl, inr, refl, sym, ◌∙◌, ap, subst, arith, length-append, append_assoc}
-use Rattle.std.proofs.lemmas.Bool.{cases_Bool}
+use Rattle.std.proofs.Common.{get_or, Contains, inl, inr, refl, sym, ◌∙◌, ap, subst, arith, cond, ◌||◌}
+use Rattle.std.proofs.Common.{length-append, append-nil, append_assoc}
+use Rattle.std.proofs.lemmas.Bool.{cases_Bool, true≢false}
 use Rattle.std.proofs.lemmas.List.{length_push, drop_at, take_all}
 use Rattle.std.proofs.lemmas.List.Elements.{Contains-append_left, Contains-append_right, Contains-append_cases}
 use Rattle.reasoning.proofs.ListLemmas.{from_filter, into_filter, one_passes, slice_get-middle}
@@ -10,7 +11,7 @@ use Rattle.fronts.specs.declared.entry.Item.{Item}
 use Rattle.fronts.specs.declared.entry.Entry.{Entry}
 use Rattle.fronts.specs.Front.{own, front, next_in, next_of, departure_in, departure_of, points_from, Betters, Extends}
 use Rattle.fronts.specs.Entries.{IsLinked, AreEntries}
-use Rattle.fronts.specs.Putting.{betters, left_by, MayPut, IsUnion, Follows}
+use Rattle.fronts.specs.Putting.{betters, outdoes_alone, left_by, MayPut, IsUnion, Follows}
 use Rattle.fronts.proofs.Growth.{same_points}
 use Rattle.fronts.proofs.Points.{of_front, of_next, front_or_next, unrolled, next_within, departs_at, next_at}
 use Rattle.fronts.proofs.Pushing.{front_new, pushed}
@@ -22,31 +23,40 @@ first_and_rest : {X : Type 0} (xs : List X) (x : X) → 0 < length xs → x ≡ 
 first_and_rest [] x some is = absurd (omega arith)
 first_and_rest (y ∷ ys) x some is = ap (λ z. z ∷ ys) is
 
+-- the items that were pushed
+part_pushed : {X : Type 0} (items more tail : List X) (rest count : ℕ) → more ≡ items ++ tail → rest ≡ length items
+    → length items + count ≡ length more → take count (drop rest more) ≡ tail
+part_pushed items more tail rest count filled at long =
+    let grown = ap length filled ∙ length-append items tail in
+    ap (λ n. take count (drop n more)) at ∙ ap (λ xs. take count (drop (length items) xs)) filled
+    ∙ ap (take count) (drop_at items tail (length items) refl) ∙ take_all count tail (omega arith)
+
+-- a point leaves nothing of a front that it outdoes
+none_left : {V : Type 0} (rules : Rules V) (x : Item V) (points : List (Item V))
+    → outdoes_alone rules x.value points ≡ true → left_by rules (x ∷ []) points ≡ []
+none_left rules x [] out = refl
+none_left rules x (p ∷ []) out = ap (λ b. cond (not (b || false)) (p ∷ []) []) out
+none_left rules x (p ∷ q ∷ points) out = absurd (true≢false (sym out))
+
 -- what is put
 module _ {V : Type 0} (rules : Rules V) (laws : Laws rules) (entries : List (Entry V)) (items more : List (Item V))
     (are : AreEntries rules entries items) (departure m : ℕ) (points : List (Item V))
     (may : MayPut rules entries departure m points) (e : Entry V) (first : own e ∷ drop 1 points
     ≡ points) (departs : e.departure ≡ departure)
     (follows : Follows (departure_of entries m) (next_of entries m) m departure e.next)
-    (filled : more ≡ items ++ (drop 1 points ++ left_by rules points (front entries items m))) (rest : e.rest
-    ≡ length items) (count : length items + e.count ≡ length more) where
+    (filled : more ≡ items ++ (drop 1 points ++ left_by rules points (front entries items m)))
+    (part : take e.count (drop e.rest more) ≡ drop 1 points ++ left_by rules points (front entries items m))
+    (room : e.rest + e.count ≤ length more) where
   pub put_extends : Extends items more
   put_extends = (drop 1 points ++ left_by rules points (front entries items m), filled)
 
   pub put_front : List (Item V)
   put_front = points ++ left_by rules points (front entries items m)
 
-  put_part : take e.count (drop e.rest more) ≡ drop 1 points ++ left_by rules points (front entries items m)
-  put_part =
-      let tail = drop 1 points ++ left_by rules points (front entries items m) in
-      let long = ap length filled ∙ length-append items tail in
-      ap (λ n. take e.count (drop n more)) rest ∙ ap (λ xs. take e.count (drop (length items) xs)) filled
-      ∙ ap (take e.count) (drop_at items tail (length items) refl) ∙ take_all e.count tail (omega arith)
-
   put_whole : own e ∷ take e.count (drop e.rest more) ≡ put_front
   unfolding put_front
   put_whole =
-      ap (λ xs. own e ∷ xs) put_part
+      ap (λ xs. own e ∷ xs) part
       ∙ sym (append_assoc (own e ∷ []) (drop 1 points) (left_by rules points (front entries items m)))
       ∙ ap (λ xs. xs ++ left_by rules points (front entries items m)) first
 
@@ -126,7 +136,7 @@ module _ {V : Type 0} (rules : Rules V) (laws : Laws rules) (entries : List (Ent
 
   pub put_are : AreEntries rules (entries ++ e ∷ []) more
   put_are =
-      pushed rules entries items more are put_extends e (omega arith) put_next
+      pushed rules entries items more are put_extends e room put_next
       (subst (λ d. IsLinked rules d e.next (departure_of entries e.next) (own e ∷ take e.count (drop e.rest more)) (front entries items e.next)) (sym departs)
       (subst (λ ps. IsLinked rules departure e.next (departure_of entries e.next) ps (front entries items e.next)) (sym put_whole) put_linked))
 
@@ -208,6 +218,37 @@ pub record IsPut {V : Type 0} (rules : Rules V) (old now : List (Entry V)) (item
   pub departs : departure_of now place ≡ departure
   pub union : IsUnion rules points (points_from old items m) (points_from now more place)
 
+is_put : {V : Type 0} (rules : Rules V) (laws : Laws rules) (entries : List (Entry V)) (items more : List (Item V))
+    (are : AreEntries rules entries items) (departure m : ℕ) (points : List (Item V)) (may : MayPut rules entries departure m points)
+    (e : Entry V) → own e ∷ drop 1 points ≡ points → e.departure ≡ departure
+    → Follows (departure_of entries m) (next_of entries m) m departure e.next
+    → more ≡ items ++ (drop 1 points ++ left_by rules points (front entries items m))
+    → take e.count (drop e.rest more) ≡ drop 1 points ++ left_by rules points (front entries items m)
+    → e.rest + e.count ≤ length more → (now : List (Entry V)) (place : ℕ) → now ≡ entries ++ e ∷ [] → place ≡ length entries
+    → IsPut rules entries now items more departure m points place
+is_put {V} rules laws entries items more are departure m points may e first departs f filled part room now place pushed_is place_is =
+    subst (λ n. IsPut rules entries now items more departure m points n) (sym place_is)
+    (subst (λ (es : List (Entry V)). IsPut rules entries es items more departure m points (length entries)) (sym pushed_is) (record {
+      are = put_are rules laws entries items more are departure m points may e first departs f filled part room;
+      within = put_within rules laws entries items more are departure m points may e first departs f filled part room;
+      departs = put_departs rules laws entries items more are departure m points may e first departs f filled part room;
+      union = put_union rules laws entries items more are departure m points may e first departs f filled part room;
+    }))
+
+-- one point put before a list whose front it outdoes: nothing is left of that front, and no item is pushed
+pub put_one : {V : Type 0} (rules : Rules V) (laws : Laws rules) (entries now : List (Entry V)) (items : List (Item V))
+    (m place : ℕ) (x : Item V) (e after : Entry V) → AreEntries rules entries items
+    → MayPut rules entries x.departure m (x ∷ []) → outdoes_alone rules x.value (front entries items m) ≡ true
+    → own e ≡ x → e.rest ≡ 0 → e.count ≡ 0 → after ≡ get_or entries m after
+    → Follows after.departure after.next m x.departure e.next → now ≡ entries ++ e ∷ [] → place ≡ length entries
+    → IsPut rules entries now items items x.departure m (x ∷ []) place
+put_one {V} rules laws entries now items m place x e after are may out own_is rest count after_is follows pushed_is place_is =
+    let left = none_left rules x (front entries items m) out in
+    let f = follows_at entries m x.departure e.next after may.within after_is follows in
+    is_put rules laws entries items items are x.departure m (x ∷ []) may e (ap (λ z. z ∷ []) own_is)
+    (ap (λ (z : Item V). z.departure) own_is) f (sym (append-nil items) ∙ ap (λ xs. items ++ xs) (sym left))
+    (ap (λ n. take n (drop e.rest items)) count ∙ sym left) (omega arith) now place pushed_is place_is
+
 -- all that the code does, at the end
 pub put_all : {V : Type 0} (rules : Rules V) (laws : Laws rules) (entries read now : List (Entry V))
     (items more : List (Item V)) (departure m place : ℕ) (points : List (Item V)) (e after : Entry V) (x : Item V)
@@ -228,13 +269,9 @@ put_all {V} rules laws entries read now items more departure m place points e af
     let filled_here : more ≡ items ++ (drop 1 points ++ left_by rules points (front entries items m)) =
     filled ∙ ap (λ (es : List (Entry V)). items
     ++ (drop 1 points ++ left_by rules points (front es items m))) same in
-    subst (λ n. IsPut rules entries now items more departure m points n) (sym place_is)
-    (subst (λ (es : List (Entry V)). IsPut rules entries es items more departure m points (length entries)) (sym pushed_is) (record {
-      are = put_are rules laws entries items more are departure m points may e first departs f filled_here rest count;
-      within = put_within rules laws entries items more are departure m points may e first departs f filled_here rest count;
-      departs = put_departs rules laws entries items more are departure m points may e first departs f filled_here rest count;
-      union = put_union rules laws entries items more are departure m points may e first departs f filled_here rest count;
-    }))
+    let part = part_pushed items more (drop 1 points ++ left_by rules points (front entries items m)) e.rest e.count filled_here rest count in
+    is_put rules laws entries items more are departure m points may e first departs f filled_here part (omega arith) now place
+    pushed_is place_is
   where
     item : ℕ → V → ℕ → Item V
     item d v t = record { departure = d; value = v; tag = t }

@@ -1,6 +1,7 @@
 -- The points along a list, and the front of its first entry.
 use Rattle.std.proofs.Common.{◌≡◌, ◌⊎◌, ℕ, zero, suc, ◌+◌, ◌<◌, ◌≤◌, List, [], ◌∷◌, ◌++◌, length, Contains, inl, inr}
-use Rattle.std.proofs.Common.{get_or, Some, true, false, ◌||◌, take, drop, refl, sym, ◌∙◌, ap, subst, arith}
+use Rattle.std.proofs.Common.{get_or, Some, true, false, ◌||◌, take, drop, refl, sym, ◌∙◌, ap, subst, arith, length-drop}
+use Rattle.std.proofs.lemmas.List.{length-take-le}
 use Rattle.std.proofs.lemmas.List.Elements.{Contains-append_left, Contains-append_right, Contains-append_cases}
 use Rattle.std.proofs.lemmas.Option.{slice_get-get_or}
 use Rattle.reasoning.proofs.ListLemmas.{not_in_nil, contains_first, contains_rest}
@@ -9,7 +10,7 @@ use Rattle.fronts.specs.declared.entry.Item.{Item}
 use Rattle.fronts.specs.declared.entry.Entry.{Entry}
 use Rattle.fronts.specs.Front.{own, front_of, front, next_in, departure_in, next_of, departure_of, points_to, points_from, Betters}
 use Rattle.fronts.specs.Entries.{AreEntries}
-use Rattle.fronts.specs.Putting.{IsLate, betters}
+use Rattle.fronts.specs.Putting.{IsLate, betters, outdoes_alone}
 
 -- on the way to the first late entry
 pub record LeadsTo {V : Type 0} (entries : List (Entry V)) (items : List (Item V)) (head time m : ℕ) : Type 0 where
@@ -168,6 +169,25 @@ first_betters rules points rest p v e t = ap (λ ps. betters rules ps v) e ∙ a
 pub rest_betters : {V : Type 0} (rules : Rules V) (points rest : List (Item V)) (p : Item V) (v : V) → points ≡ p ∷ rest
     → rules.no_worse p.value v ≡ false → betters rules points v ≡ betters rules rest v
 rest_betters rules points rest p v e t = ap (λ ps. betters rules ps v) e ∙ ap (λ b. b || betters rules rest v) t
+
+-- whether a front is outdone, by what its entry has
+pub one_outdone : {V : Type 0} (rules : Rules V) (v : V) (points items : List (Item V)) (e : Entry V)
+    → points ≡ own e ∷ take e.count (drop e.rest items) → e.count ≡ 0 → outdoes_alone rules v points ≡ rules.no_worse v e.value
+one_outdone rules v points items e is none =
+    ap (outdoes_alone rules v) (is ∙ ap (λ n. own e ∷ take n (drop e.rest items)) none)
+
+of_several : {V : Type 0} (rules : Rules V) (v : V) (p : Item V) (points : List (Item V)) → 0 < length points
+    → outdoes_alone rules v (p ∷ points) ≡ false
+of_several rules v p [] some = absurd (omega arith)
+of_several rules v p (q ∷ points) some = refl
+
+pub several_not_outdone : {V : Type 0} (rules : Rules V) (v : V) (points items : List (Item V)) (e : Entry V)
+    → points ≡ own e ∷ take e.count (drop e.rest items) → 0 < e.count → e.rest + e.count ≤ length items
+    → outdoes_alone rules v points ≡ false
+several_not_outdone rules v points items e is some within =
+    let len = length-drop e.rest items in
+    let long = length-take-le e.count (drop e.rest items) (omega arith) in
+    ap (outdoes_alone rules v) is ∙ of_several rules v (own e) (take e.count (drop e.rest items)) (omega arith)
 
 pub entry_part : {V : Type 0} (rules : Rules V) (entries : List (Entry V)) (items : List (Item V))
     → AreEntries rules entries items → (m : ℕ) (e : Entry V) → m < length entries → e ≡ get_or entries m e

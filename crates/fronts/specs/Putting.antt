@@ -1,5 +1,6 @@
 -- What a search in a list, and what is put before one, make of its points.
-use Rattle.std.specs.Prelude.{◌≡◌, ◌⊎◌, ℕ, ◌<◌, ◌≤◌, List, [], ◌∷◌, Bool, not, filter, Contains, length}
+use Rattle.std.specs.Prelude.{◌≡◌, ◌⊎◌, ℕ, ◌<◌, ◌≤◌, List, [], ◌∷◌, Bool, true, false, not, filter}
+use Rattle.std.specs.Prelude.{Contains, length}
 use Rattle.std.specs.List.{list_any}
 use Rattle.criteria.specs.Laws.{Rules, Admits}
 use Rattle.fronts.specs.declared.entry.Item.{Item}
@@ -9,6 +10,12 @@ use Rattle.fronts.specs.Front.{next_of, departure_of, points_from, Covers}
 -- whether a point of a list is no worse than v
 abbrev pub betters : {V : Type 0} → Rules V → List (Item V) → V → Bool
 betters rules points v = list_any (λ p. rules.no_worse p.value v) points
+
+-- whether v is no worse than the one point of a list, if that has no more than one
+abbrev pub outdoes_alone : {V : Type 0} → Rules V → V → List (Item V) → Bool
+outdoes_alone rules v [] = true
+outdoes_alone rules v (p ∷ []) = rules.no_worse v p.value
+outdoes_alone rules v (p ∷ q ∷ points) = false
 
 -- those of a list that none of some points betters
 abbrev pub left_by : {V : Type 0} → Rules V → List (Item V) → List (Item V) → List (Item V)

@@ -2,8 +2,8 @@
 
 use crate::entry::{Arena, Boarding, Entry, Item, Ridden, Step};
 use crate::insertion::insert;
-use crate::putting::{place_of, put};
-use crate::search::{front_betters, late};
+use crate::putting::{place_of, put, put_alone};
+use crate::search::{front_betters, late, outdoes};
 use bags::Point;
 use criteria::Criterion;
 use std::alloc::{AllocError, Global};
@@ -30,6 +30,7 @@ impl<C: Criterion> FrontLists<C> {
     ghost use Rattle.fronts.specs.Walking.{TakesBoardings};
     ghost use Rattle.fronts.specs.Lists.{IsSound, lists_criterion, entries_of, items_of, steps_of, list_points};
     ghost use Rattle.fronts.specs.Lists.{front_at, IsBettered, TakesRidden};
+    ghost use Rattle.fronts.specs.Putting.{MayPut, IsUnion};
 
     /// No lists but the empty one.
     pub fn new(alloc: Global, criterion: C) -> Result<Self, AllocError>
@@ -217,19 +218,47 @@ impl<C: Criterion> FrontLists<C> {
             label: ride.label,
             walk: boarding.walk,
         })?;
-        self.kept.clear();
-        self.kept.push(Item {
+        let point = Item {
             departure: boarding.departure,
             value,
             tag,
-        })?;
+        };
+        self.put_one(head, point)
+    }
+
+    // Puts one point before a list whose first entry departs no earlier, with what it leaves of that list's front. That
+    // is mostly nothing, and then the point is put by itself.
+    #[inline(always)]
+    fn put_one(&mut self, head: u32, point: Item<C::V>) -> Result<u32, AllocError>
+        requires sound { IsSound C.rules self.old }
+        requires may { MayPut (C.rules (lists_criterion self.old)) (entries_of self.old) point.departure head
+            (point ∷ []) }
+        ensures sound { IsSound C.rules self.new }
+        ensures criterion { lists_criterion self.new ≡ lists_criterion self.old }
+        ensures more_entries { Extends (entries_of self.old) (entries_of self.new) }
+        ensures more_items { Extends (items_of self.old) (items_of self.new) }
+        ensures steps { steps_of self.new ≡ steps_of self.old }
+        ensures within { IfOk result (λ new. new < length (entries_of self.new)) }
+        ensures union { IfOk result (λ new. IsUnion (C.rules (lists_criterion self.old)) (point ∷ [])
+            (points_from (entries_of self.old) (items_of self.old) head)
+            (points_from (entries_of self.new) (items_of self.new) new)) }
+    {
+        let arena = Arena {
+            entries: &self.entries,
+            items: &self.items,
+        };
+        if outdoes(&self.criterion, arena, head, &point.value) {
+            return put_alone(&self.criterion, &mut self.entries, &self.items, point, head);
+        }
+        self.kept.clear();
+        self.kept.push(point)?;
         put(
             &self.criterion,
             &mut self.entries,
             &mut self.items,
             &self.kept,
             head,
-            boarding.departure,
+            point.departure,
         )
     }
 }

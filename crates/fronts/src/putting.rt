@@ -1,10 +1,11 @@
 //! Fronts put before lists.
 
-ghost use Rattle.std.specs.Prelude.{◌≡◌, ◌+◌, ◌++◌, ◌∷◌, [], ℕ, ◌<◌, ◌≤◌, take, drop, length, Contains, IfOk, OnOk};
+ghost use Rattle.std.specs.Prelude.{◌≡◌, ◌+◌, ◌++◌, ◌∷◌, [], ℕ, ◌<◌, ◌≤◌, take, drop, length, true};
+ghost use Rattle.std.specs.Prelude.{Contains, IfOk, OnOk};
 ghost use Rattle.criteria.specs.Laws.{Admits};
 ghost use Rattle.fronts.specs.Front.{front, departure_of, points_from, Extends};
 ghost use Rattle.fronts.specs.Entries.{AreEntries};
-ghost use Rattle.fronts.specs.Putting.{Follows, left_by, MayPut, IsUnion};
+ghost use Rattle.fronts.specs.Putting.{Follows, left_by, outdoes_alone, MayPut, IsUnion};
 
 use crate::entry::{Entry, Item};
 use crate::valued::some_no_worse;
@@ -153,6 +154,39 @@ pub fn put<C: Criterion>(
         count,
         tag: first.tag,
         value: first.value,
+    };
+    entries.push(entry)?;
+    Ok(new)
+}
+
+/// Puts one point before a list, whose front has no other that it isn't no worse than: it is all of its own front.
+#[inline(always)]
+pub fn put_alone<C: Criterion>(
+    criterion: &C,
+    entries: &mut Vec<Entry<C::V>>,
+    items: &[Item<C::V>],
+    point: Item<C::V>,
+    place: u32,
+) -> Result<u32, AllocError>
+    requires entries { AreEntries (C.rules criterion.now) entries.old.items items.now }
+    requires may { MayPut (C.rules criterion.now) entries.old.items point.departure place (point ∷ []) }
+    requires outdone { outdoes_alone (C.rules criterion.now) point.value (front entries.old.items items.now place)
+        ≡ true }
+    ensures entries { AreEntries (C.rules criterion.now) entries.new.items items.now }
+    ensures more_entries { Extends entries.old.items entries.new.items }
+    ensures within { IfOk result (λ new. new < length entries.new.items) }
+    ensures union { IfOk result (λ new. IsUnion (C.rules criterion.now) (point ∷ [])
+        (points_from entries.old.items items.now place) (points_from entries.new.items items.now new)) }
+{
+    let new = place_of(entries.len())?;
+    let next = follow(&entries[place as usize], place, point.departure);
+    let entry = Entry {
+        departure: point.departure,
+        next,
+        rest: 0,
+        count: 0,
+        tag: point.tag,
+        value: point.value,
     };
     entries.push(entry)?;
     Ok(new)

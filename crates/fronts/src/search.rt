@@ -4,7 +4,7 @@ ghost use Rattle.std.specs.Prelude.{◌≡◌, ℕ, ◌<◌, ◌≤◌, ◌+◌,
 ghost use Rattle.criteria.specs.Laws.{Admits};
 ghost use Rattle.fronts.specs.Front.{front, departure_of};
 ghost use Rattle.fronts.specs.Entries.{AreEntries};
-ghost use Rattle.fronts.specs.Putting.{betters, IsLate, IsPath, DepartBefore};
+ghost use Rattle.fronts.specs.Putting.{betters, outdoes_alone, IsLate, IsPath, DepartBefore};
 
 use crate::entry::{Arena, Item};
 use crate::valued::some_no_worse;
@@ -32,6 +32,30 @@ pub fn front_betters<C: Criterion>(
         return true;
     }
     some_no_worse(criterion, part(arena.items, entry.rest, entry.count), value)
+}
+
+/// Whether a value is no worse than the one point of the front at a place, if that has no more than one.
+#[inline(always)]
+pub fn outdoes<C: Criterion>(
+    criterion: &C,
+    arena: Arena<'_, '_, C::V>,
+    place: u32,
+    value: &C::V,
+) -> bool
+    requires entries { AreEntries (C.rules criterion.now) arena.entries.now arena.items.now }
+    requires place { place < length arena.entries.now }
+    requires value { Admits (C.rules criterion.now) value.now }
+    ensures { result ≡ outdoes_alone (C.rules criterion.now) value.now
+        (front arena.entry.entries.now arena.entry.items.now place) }
+{
+    if place == 0 {
+        return true;
+    }
+    let entry = arena.entries[place as usize];
+    if entry.count > 0 {
+        return false;
+    }
+    criterion.no_worse(value, &entry.value)
 }
 
 /// The items from a place on, so many of them.

@@ -124,7 +124,13 @@ impl<C: Criterion> Trips<C> {
     {
         let head = stops.head(hop.connection.to);
         let place = stops.lists.front_from(head, hop.connection.arr);
-        for k in 0..stops.lists.front_len(place) {
+        let count = stops.lists.front_len(place);
+        if count == 0 {
+            return Ok(());
+        }
+        let own = stops.lists.front_point(place, 0);
+        self.change_by(asked, hop, &own)?;
+        for k in 1..count {
             let point = stops.lists.front_point(place, k);
             self.change_by(asked, hop, &point)?;
         }

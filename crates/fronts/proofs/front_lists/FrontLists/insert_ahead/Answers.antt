@@ -1,9 +1,9 @@
-use Rattle.std.proofs.Common.{◌≡◌, [], ◌∷◌, ◌++◌, length, sym, ◌∙◌, ap, subst, arith}
+use Rattle.std.proofs.Common.{◌≡◌, [], ◌∷◌, length, sym, subst, arith}
 use Rattle.std.proofs.lemmas.Result.{IfOk-weaker}
 use Rattle.reasoning.proofs.ListLemmas.{extends_none}
 use Rattle.fronts.specs.Front.{Extends, points_from}
 use Rattle.fronts.specs.Lists.{lists_criterion, entries_of, items_of, steps_of}
-use Rattle.fronts.specs.Putting.{MayPut, IsUnion}
+use Rattle.fronts.specs.Walking.{TakesBoardings}
 use Rattle.fronts.proofs.Ahead.{read_low, ahead_none, ahead_may, ahead_one}
 use Rattle.fronts.proofs.front_lists.FrontLists.insert_ahead.Goals as goal
 
@@ -24,33 +24,29 @@ returns-in_err-push-clause-more_steps g c =
     subst (λ steps. Extends (steps_of c.args.self.now) steps) (sym c.in_err-push.ensures.items)
     (extends_none (steps_of c.args.self.now))
 
-pub put-requires-clause-may : goal.put-requires-clause-may
-put-requires-clause-may g c =
+pub put_one-requires-clause-may : goal.put_one-requires-clause-may
+put_one-requires-clause-may g c =
     let lists = c.args.self.now in
     let rules = g.C.Criterion.rules (lists_criterion lists) in
     let by = c.args.boarding in
-    let kept_is = c.deref-3.ensures.value ∙ c.in_ok-push-2.ensures.items
-    ∙ ap (λ kept. kept ++ record { departure = by.departure; value = c.walk-value.result; tag = c.in_ok-tag.tag } ∷ []) c.clear.ensures.items in
-    subst (λ points. MayPut rules (entries_of lists) by.departure c.args.head points) (sym kept_is)
-    (ahead_may rules (g.met.C.Criterion.laws (lists_criterion lists)) (entries_of lists) (items_of lists) c.requires.sound
+    ahead_may rules (g.met.C.Criterion.laws (lists_criterion lists)) (entries_of lists) (items_of lists) c.requires.sound
     c.args.head by.departure by.first by.walk by.secs c.args.ride c.requires.head c.requires.ahead c.requires.secs
     c.requires.ride (steps_of lists) c.push.new.self.items c.in_ok-tag.tag c.walk-value.result c.walk-value.ensures
-    c.in_ok-push.ensures.items (omega arith))
+    c.in_ok-push.ensures.items (omega arith)
 
 pub returns-clause-takes : goal.returns-clause-takes
 returns-clause-takes g c =
     let lists = c.args.self.now in
     let rules = g.C.Criterion.rules (lists_criterion lists) in
     let by = c.args.boarding in
-    let kept_is = c.deref-3.ensures.value ∙ c.in_ok-push-2.ensures.items
-    ∙ ap (λ kept. kept ++ record { departure = by.departure; value = c.walk-value.result; tag = c.in_ok-tag.tag } ∷ []) c.clear.ensures.items in
     let numbered : c.in_ok-tag.tag ≡ length (steps_of lists) = omega arith in
-    IfOk-weaker c.put.result _ _
-    (λ new union. ahead_one rules (g.met.C.Criterion.laws (lists_criterion lists)) (entries_of lists) (items_of lists)
+    IfOk-weaker c.put_one.result _ _
+    (λ new union. subst (λ steps. TakesBoardings rules steps by.departure by.first by.walk by.secs (c.args.ride ∷ [])
+    (points_from (entries_of lists) (items_of lists) c.args.head)
+    (points_from (entries_of c.put_one.new.self) (items_of c.put_one.new.self) new)) (sym c.put_one.ensures.steps)
+    (ahead_one rules (g.met.C.Criterion.laws (lists_criterion lists)) (entries_of lists) (items_of lists)
     c.requires.sound c.args.head by.departure by.first by.walk by.secs c.args.ride c.requires.head c.requires.ahead
     c.requires.secs c.requires.ride (steps_of lists) c.push.new.self.items c.in_ok-tag.tag c.walk-value.result
     c.walk-value.ensures c.in_ok-push.ensures.items numbered
-    (points_from c.put.new.entries.items c.put.new.items.items new)
-    (subst (λ points. IsUnion rules points (points_from (entries_of lists) (items_of lists) c.args.head)
-    (points_from c.put.new.entries.items c.put.new.items.items new)) kept_is union))
-    c.put.ensures.union
+    (points_from (entries_of c.put_one.new.self) (items_of c.put_one.new.self) new) union))
+    c.put_one.ensures.union

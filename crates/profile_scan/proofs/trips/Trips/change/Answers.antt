@@ -8,28 +8,49 @@ use Rattle.profile_scan.specs.Adding.{changes_from, trip_points}
 use Rattle.profile_scan.specs.Bound.{carried}
 use Rattle.profile_scan.specs.Steps.{TakesIn}
 use Rattle.profile_scan.proofs.LabelLemmas.{trip_admitted}
-use Rattle.profile_scan.proofs.PartLemmas.{changes_none, changes_on, still_there}
+use Rattle.profile_scan.proofs.PartLemmas.{changes_on, still_there}
 use Rattle.profile_scan.proofs.Admitted.{AreAdmitted}
 use Rattle.profile_scan.proofs.Offers.{takes_first, takes_next}
 use Rattle.profile_scan.proofs.StoryLemmas.{exits_grow, grows_on}
 use Rattle.profile_scan.proofs.ChangeLemmas.{AreOf, change_way, changes_under}
 use Rattle.profile_scan.proofs.trips.Trips.change.Goals as goal
 
-pub loop-k-init : goal.loop-k-init
-loop-k-init g c = record {
-  trip = changes_none (g.C.Criterion.rules c.args.asked.now.criterion) c.args.hop.now.connection.trip c.args.self.now c.requires.trip;
-  takes = λ walks steps set_outs before all ext_before ext.
-      takes_first (g.C.Criterion.rules c.args.asked.now.criterion)
-      (front_at c.args.stops.now.lists c.front_from-place.result) _
-      (trip_points c.args.self.now.labels c.args.hop.now.connection.trip);
-}
-
 pub change_by-requires-clause-point : goal.change_by-requires-clause-point
 change_by-requires-clause-point g c =
     let front = front_at c.args.stops.now.lists c.front_from-place.result in
     let are = subst (λ k. AreOf (g.C.Criterion.rules k) (list_points c.args.stops.now.lists c.head-head.result)
     c.args.hop.now.connection.arr front) c.requires.stop.stops.under c.front_from-place.ensures.made_of in
+    (are c.front_point-own.result (Contains-At front 0 c.front_point-own.result c.front_point-own.ensures)).2
+
+-- the first point was offered
+pub loop-k-init : goal.loop-k-init
+loop-k-init g c =
+    let rules = g.C.Criterion.rules c.args.asked.now.criterion in
+    let labels = trip_points c.args.self.now.labels c.args.hop.now.connection.trip in
+    let front = front_at c.args.stops.now.lists c.front_from-place.result in
+    let are = subst (λ k. AreOf (g.C.Criterion.rules k) (list_points c.args.stops.now.lists c.head-head.result)
+    c.args.hop.now.connection.arr front) c.requires.stop.stops.under c.front_from-place.ensures.made_of in
+    record {
+      trip = c.in_ok-change_by.ensures.trip;
+      takes = λ walks steps set_outs before all ext_before ext.
+          let way = change_way rules (from_to (told walks before) (told walks all)) c.args.hop.now.place c.args.hop.now.bound.now in
+          takes_next rules front way 0 c.front_point-own.result labels labels
+          (trip_points c.change_by.new.self.labels c.args.hop.now.connection.trip) c.front_point-own.ensures
+          (λ y way is opened. (are y is).2) (takes_first rules front way labels)
+          (c.in_ok-change_by.ensures.takes walks steps set_outs before all ext_before ext);
+    }
+
+pub change_by-requires-in-loop-k-clause-point : goal.change_by-requires-in-loop-k-clause-point
+change_by-requires-in-loop-k-clause-point g c =
+    let front = front_at c.args.stops.now.lists c.front_from-place.result in
+    let are = subst (λ k. AreOf (g.C.Criterion.rules k) (list_points c.args.stops.now.lists c.head-head.result)
+    c.args.hop.now.connection.arr front) c.requires.stop.stops.under c.front_from-place.ensures.made_of in
     (are c.front_point-point.result (Contains-At front c.loop-k.k c.front_point-point.result c.front_point-point.ensures)).2
+
+pub change_by-requires-in-loop-k-clause-trip : goal.change_by-requires-in-loop-k-clause-trip
+change_by-requires-in-loop-k-clause-trip g c =
+    still_there (g.C.Criterion.rules c.args.asked.now.criterion) c.args.hop.now.connection.trip c.args.self.now
+    c.loop-k.self c.requires.trip c.loop-k.invariant.trip
 
 pub loop-k-preserved : goal.loop-k-preserved
 loop-k-preserved g c =
@@ -39,24 +60,50 @@ loop-k-preserved g c =
     let are = subst (λ k. AreOf (g.C.Criterion.rules k) (list_points c.args.stops.now.lists c.head-head.result)
     c.args.hop.now.connection.arr front) c.requires.stop.stops.under c.front_from-place.ensures.made_of in
     record {
-      trip = changes_on rules c.args.hop.now.connection.trip c.args.self.now c.loop-k.self c.change_by.new.self
-          c.loop-k.invariant.trip c.in_ok-change_by.ensures.trip;
+      trip = changes_on rules c.args.hop.now.connection.trip c.args.self.now c.loop-k.self c.change_by-in-loop-k.new.self
+          c.loop-k.invariant.trip c.in_ok-change_by-2.ensures.trip;
       takes = λ walks steps set_outs before all ext_before ext.
           let was = story c.args.self.now.exits.items steps set_outs in
           let mid = story c.loop-k.self.exits.items steps set_outs in
-          let now = story c.change_by.new.self.exits.items steps set_outs in
+          let now = story c.change_by-in-loop-k.new.self.exits.items steps set_outs in
           takes_next rules front (change_way rules (from_to (told walks before) (told walks all)) c.args.hop.now.place c.args.hop.now.bound.now)
           c.loop-k.k x (trip_points c.args.self.now.labels c.args.hop.now.connection.trip)
           (trip_points c.loop-k.self.labels c.args.hop.now.connection.trip)
-          (trip_points c.change_by.new.self.labels c.args.hop.now.connection.trip) c.front_point-point.ensures
+          (trip_points c.change_by-in-loop-k.new.self.labels c.args.hop.now.connection.trip) c.front_point-point.ensures
           (λ y way is opened. (are y is).2)
           (c.loop-k.invariant.takes walks steps set_outs before all ext_before
-          (grows_on mid now all (exits_grow c.loop-k.self.exits.items c.change_by.new.self.exits.items steps
-          set_outs c.in_ok-change_by.ensures.trip.exits) ext))
-          (c.in_ok-change_by.ensures.takes walks steps set_outs before all
+          (grows_on mid now all (exits_grow c.loop-k.self.exits.items c.change_by-in-loop-k.new.self.exits.items steps
+          set_outs c.in_ok-change_by-2.ensures.trip.exits) ext))
+          (c.in_ok-change_by-2.ensures.takes walks steps set_outs before all
           (grows_on before was mid ext_before (exits_grow c.args.self.now.exits.items c.loop-k.self.exits.items
           steps set_outs c.loop-k.invariant.trip.exits)) ext);
     }
+
+pub returns-then-count-eq0-clause-takes : goal.returns-then-count-eq0-clause-takes
+returns-then-count-eq0-clause-takes g c walks steps set_outs before all ext_before ext =
+    let lists = c.args.stops.now.lists in
+    let laws = g.met.C.Criterion.laws c.args.asked.now.criterion in
+    let front = front_at lists c.front_from-place.result in
+    let points = list_points lists c.head-head.result in
+    let admitted = subst (λ k. AreAdmitted (g.C.Criterion.rules k) points) c.requires.stop.stops.under
+    (list_admitted (g.C.Criterion.rules (lists_criterion lists)) lists.entries.items lists.items.items
+    c.requires.stop.stops.sound c.head-head.result) in
+    subst (λ (n : ℕ). TakesIn (g.C.Criterion.rules c.args.asked.now.criterion)
+    (changes_from (from_to (told walks before) (told walks all)) c.args.hop.now.place c.args.hop.now.connection.arr
+    (carried (g.C.Criterion.rules c.args.asked.now.criterion) c.args.hop.now.bound.now (list_points lists n)))
+    (trip_points c.args.self.now.labels c.args.hop.now.connection.trip)
+    (trip_points c.args.self.now.labels c.args.hop.now.connection.trip)) c.head-head.ensures
+    (changes_under g.C.Criterion.rules (lists_criterion lists) c.args.asked.now.criterion c.requires.stop.stops.under
+    points laws admitted (from_to (told walks before) (told walks all)) c.args.hop.now.place
+    c.args.hop.now.connection.arr c.args.hop.now.bound.now c.requires.hop.bound front 0
+    (trip_points c.args.self.now.labels c.args.hop.now.connection.trip)
+    (trip_points c.args.self.now.labels c.args.hop.now.connection.trip)
+    (trip_admitted (g.C.Criterion.rules c.args.asked.now.criterion) c.args.self.now.labels
+    c.requires.trip.labels c.args.hop.now.connection.trip)
+    c.front_from-place.ensures.made_of c.front_from-place.ensures.betters (omega arith)
+    (takes_first (g.C.Criterion.rules c.args.asked.now.criterion) front
+    (change_way (g.C.Criterion.rules c.args.asked.now.criterion) (from_to (told walks before) (told walks all)) c.args.hop.now.place c.args.hop.now.bound.now)
+    (trip_points c.args.self.now.labels c.args.hop.now.connection.trip)))
 
 pub returns-clause-takes : goal.returns-clause-takes
 returns-clause-takes g c walks steps set_outs before all ext_before ext =
@@ -81,11 +128,6 @@ returns-clause-takes g c walks steps set_outs before all ext_before ext =
     c.loop-k.invariant.trip.labels.labels c.args.hop.now.connection.trip)
     c.front_from-place.ensures.made_of c.front_from-place.ensures.betters (omega arith)
     (c.loop-k.invariant.takes walks steps set_outs before all ext_before ext))
-
-pub change_by-requires-clause-trip : goal.change_by-requires-clause-trip
-change_by-requires-clause-trip g c =
-    still_there (g.C.Criterion.rules c.args.asked.now.criterion) c.args.hop.now.connection.trip c.args.self.now
-    c.loop-k.self c.requires.trip c.loop-k.invariant.trip
 
 pub front_from-place-requires-clause-head : goal.front_from-place-requires-clause-head
 front_from-place-requires-clause-head g c =
