@@ -1,5 +1,5 @@
 -- What a pin and a release did last in the history that the seat knows.
-use Rattle.std.proofs.Common.{◌≡◌, ℕ, [], ◌∷◌, refl, sym, ◌∙◌, subst}
+use Rattle.std.proofs.Common.{◌≡◌, ℕ, [], ◌∷◌, Some, refl, sym, ◌∙◌, subst}
 use Rattle.version_core.specs.declared.event.Event.{Event}
 use Rattle.version_core.specs.declared.event.Reply.{Reply}
 use Rattle.version_core.specs.declared.state.Worker.{Worker}

@@ -93,7 +93,8 @@ impl ShelfSeat {
         ensures steps { PinsBySteps self.old result self.new }
         ensures known { HoldsAsKnown (known_of self.new.view) self.new.number self.new.shown.held }
         ensures grows { Grows (known_of self.old.view) (known_of self.new.view) }
-        ensures ends { EndsPin (known_of self.old.view) self.old.number result self.new.shown.held (known_of self.new.view) }
+        ensures ends { EndsPin (known_of self.old.view) self.old.number result self.new.shown.held
+            (known_of self.new.view) }
     {
         if self.held.is_some() {
             let fault = PinFault::AlreadyPinned;

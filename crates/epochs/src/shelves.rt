@@ -9,7 +9,8 @@ ghost use Rattle.epochs.specs.SeatHistory.{Grows, HoldsAsKnown, EndsPin, EndsRel
 ghost use Rattle.shelf_steps.specs.Events.{known_of};
 ghost use Rattle.epochs.specs.Seats.{PinStep, ReleaseStep, JoinStep, PublishStep, RefuseStep, CollectStep};
 ghost use Rattle.epochs.specs.ShelfSeats.{PinsBySteps, ReleasesBySteps, JoinsByStep, SeatsHanded};
-ghost use Rattle.epochs.specs.ShelfLoads.{CollectsBySteps, MakesRoomBySteps, PublishesWithNotice, RefusesBySteps, IsSpentAt};
+ghost use Rattle.epochs.specs.ShelfLoads.{CollectsBySteps, MakesRoomBySteps, PublishesWithNotice, RefusesBySteps};
+ghost use Rattle.epochs.specs.ShelfLoads.{IsSpentAt};
 ghost use Rattle.epochs.specs.declared.faults.PublishFault.{PublishFault};
 
 use crate::collected::Collected;
@@ -83,7 +84,8 @@ impl Shelves {
         ensures steps { PinsBySteps seat.old result seat.new }
         ensures known { HoldsAsKnown (known_of seat.new.view) seat.new.number seat.new.shown.held }
         ensures grows { Grows (known_of seat.old.view) (known_of seat.new.view) }
-        ensures ends { EndsPin (known_of seat.old.view) seat.old.number result seat.new.shown.held (known_of seat.new.view) }
+        ensures ends { EndsPin (known_of seat.old.view) seat.old.number result seat.new.shown.held
+            (known_of seat.new.view) }
     {
         seat.pin_at(&self.table)
     }

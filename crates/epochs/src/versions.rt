@@ -37,7 +37,7 @@ pub trait Versions {
     // The version that the notice is of.
     ghost noted: { Self.Notice → ℕ };
 
-    /// Pins the current version.
+    /// Pins the current version, as a look of this call finds it. Where it moved, the last look found `newest`.
     fn pin<R: Wait>(&self, rt: &R, seat: &mut Self::Seat) -> Result<(), PinFault>
         requires { fits self.now seat.old }
         ensures fits { fits self.now seat.new }
@@ -89,7 +89,8 @@ pub trait Loads: Versions {
     ghost current: { Self.Loader → ℕ };
 
     /// Publishes the image as the next version, and gives a notice of it. A refusal gives the image
-    /// back. No notice comes only where there was no memory for one.
+    /// back; versions are spent only at the last one. No notice comes only where there was no memory
+    /// for one.
     fn publish<R: Wait>(
         &self,
         rt: &R,
