@@ -1,2 +1,3 @@
+pub mod FolderLemmas
 pub mod ReadLemmas
 pub mod ReadingLemmas

@@ -108,14 +108,15 @@ fn fault_of(kind: ErrorKind) -> FileFault
     FileFault::Failed
 }
 
-// The bytes of an open file, at most so many. Room is made for them at once, as far as its length is told; a file of
+// The bytes of an open file, all of them, but at most so many. Room is made for them at once, as far as its length is told; a file of
 // which less is told than it has, as those of `/proc`, is read all the same.
 fn bytes_up_to<F: OpenFile + Read + Drop>(
     limit: u32,
     alloc: Global,
     file: F,
 ) -> Result<Vec<u8>, FileFault>
-    ensures { IfOk result (λ bytes. length bytes.items ≤ limit) }
+    ensures short { IfOk result (λ bytes. length bytes.items ≤ limit) }
+    ensures whole { IfOk result (λ bytes. IfSome (F.remaining file) (λ held. bytes.items ≡ held)) }
 {
     let told = match file.metadata() {
         Ok(metadata) => metadata.len(),
