@@ -137,10 +137,12 @@ where
             for seat in seats {
                 let taker = dealer.taker()?;
                 let end = asks.another()?;
+                // Made here, since what a thread returns has to be of types that it captures.
+                let nobody_yet = Served::new();
                 let begun = scope.spawn_with(
                     ShareAt::<C, T>::of(&taker, &seat, form),
                     move || -> Share<C, T::Seat>
-                        requires { T.Versions.fits shelves.now seat × (taker.taken ≡ []) }
+                        requires { T.Versions.fits shelves.now seat × (taker.taken ≡ []) × (nobody_yet ≡ []) }
                         ensures { (result.taker.queue ≡ taker.queue)
                             × IsShare form C.opens C.Reader.remaining C.Writer.contents
                             T.Versions.number T.Versions.value T.Versions.known seat
@@ -154,7 +156,7 @@ where
                             form,
                         };
                         let orders = WorkerOrders::new(alloc, feeds.names(), shelves, end);
-                        Worker { desk }.work(taker, seat, orders).0
+                        Worker { desk }.work(taker, seat, orders, nobody_yet).0
                     },
                 );
                 let Ok(worker) = begun else {

@@ -60,24 +60,24 @@ impl<'a, R: Wait, N: Drop, T: Versions<Notice = N>, G: Gate> Worker<'a, R, T, G>
         }
     }
 
-    /// Serves each client that is taken from the queue, until none comes: their sessions, in turn, with this end of the
-    /// queue and the seat; and the orders.
+    /// Serves each client that is taken from the queue, until none comes, and adds their sessions, in turn, to an empty
+    /// list: this list, this end of the queue, and the seat; and the orders.
     pub(crate) fn work<C: Client + Drop, O: Orders<Notice = N>>(
         &self,
         mut taker: Taker<C>,
         mut seat: T::Seat,
         mut orders: O,
+        mut served: Served<C::Reader, C::Writer>,
     ) -> (Share<C, T::Seat>, O)
         requires fits { T.fits self.now.desk.shelves.now seat }
         requires notices { AgreeOnNotices O.told T.noted }
-        requires none { taker.taken ≡ [] }
+        requires none { (taker.taken ≡ []) × (served ≡ []) }
         ensures queue { result.0.taker.queue ≡ taker.queue }
         ensures learns { Learns (T.known seat) (T.value seat) (T.known result.0.seat) (T.value result.0.seat) }
         ensures served { AreServed self.now.desk.form C.opens C.Reader.remaining C.Writer.contents T.number T.value
             T.known
             result.0.taker.taken result.0.served seat (O.asked orders) result.0.seat (O.asked result.1) }
     {
-        let mut served = Served::new();
         for _ in self.desk.rt.forever() {
             match taker.next(self.desk.rt) {
                 Some(client) => {

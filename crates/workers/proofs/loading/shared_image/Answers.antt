@@ -1,7 +1,8 @@
-use Rattle.std.proofs.Common.{refl, sym, subst}
+use Rattle.std.proofs.Common.{sym, subst}
 use Rattle.image_layout.specs.Image.{ImageValue}
 use Rattle.feed_loader.specs.Refused.{IsLoaded}
 use Rattle.workers.specs.Loading.{IsImageOf, MayRefuse}
+use Rattle.workers.specs.declared.refusal.LoadRefusal.{LoadRefusal}
 use Rattle.workers.proofs.Reading.{either_way}
 use Rattle.workers.proofs.loading.shared_image.Goals as goal
 
@@ -10,10 +11,10 @@ pub returns-in-Ok-new-clause-ok : goal.returns-in-Ok-new-clause-ok
 returns-in-Ok-new-clause-ok g c content shows =
     let report = c.in-Ok.made.1 in
     let load = c.in-Ok.ensures in
-    let made = either_way _ _ _ (λ content. IsImageOf content c.args.plan.now c.in-Ok.made.0.view report) load.ok load.read_ok content shows in
+    let made = either_way _ _ _ (λ content. IsImageOf content c.args.plan.now c.in-Ok.made.0 report) load.ok load.read_ok content shows in
     subst (λ (i : ImageValue). IsLoaded content c.args.plan.now i.timetable i.names report) (sym c.in-Ok-new.ensures.ok) made
 
 -- what refuses the files is the load's own fault
 pub returns-in-Err-clause-err : goal.returns-in-Err-clause-err
 returns-in-Err-clause-err g c content shows =
-    either_way _ _ _ (λ content. MayRefuse content c.args.plan.now c.in-Err.refusal) c.in-Err.ensures.err c.in-Err.ensures.read_err content shows
+    either_way _ _ _ (λ content. MayRefuse content c.args.plan.now (LoadRefusal.Load c.in-Err.fault)) c.in-Err.ensures.err c.in-Err.ensures.read_err content shows

@@ -6,7 +6,7 @@ pub returns-in-Ok-clause-outcome : goal.returns-in-Ok-clause-outcome
 returns-in-Ok-clause-outcome g c = (c.load_one.new.files, c.in-Ok.plan, c.in-Ok.ensures.plan, c.load_one.ensures.outcome)
 
 -- without a plan nothing is read
-pub returns-in-Err-clause-outcome : goal.returns-in-Err-clause-outcome
-returns-in-Err-clause-outcome g c =
-    let possible = c.in-Err.ensures.possible in
+pub returns-clause-outcome : goal.returns-clause-outcome
+returns-clause-outcome g c =
+    let possible = c.plan.ensures.possible in
     (c.args.files, possible.0, possible.1, (none_read _, λ content shows not. absurd (not refl), refl))

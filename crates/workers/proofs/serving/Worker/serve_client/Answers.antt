@@ -18,7 +18,7 @@ returns-in-Ok-clause-session g c =
     let served = c.serve-outcome.ensures.session in
     let session = session_of _ _ _ _ _ _ (g.C.Reader.Read.remaining (inner_of now.reader)) _ _ (g.C.Writer.Write.contents (inner_of now.writer))
     (failures_of c.new-streams.result.reader) (failures_of now.reader) (failures_of c.new-streams.result.writer) (failures_of now.writer) _ _ served.0 _ _
-    c.end_of-end.ensures (ap g.C.Reader.Read.remaining was.reader) (ap g.C.Writer.Write.contents was.writer) was.reads was.writes served.1 served.2 in
+    c.end_of.ensures (ap g.C.Reader.Read.remaining was.reader) (ap g.C.Writer.Write.contents was.writer) was.reads was.writes served.1 served.2 in
     ((c.in-Ok.reader, c.in-Ok.writer), c.in-Ok.ensures, session)
 
 pub returns-in-Err-clause-session : goal.returns-in-Err-clause-session

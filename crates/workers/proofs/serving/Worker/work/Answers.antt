@@ -12,7 +12,7 @@ loop-init g c = record {
   learns = learns_same (g.T.Versions.known c.args.seat) (g.T.Versions.value c.args.seat);
   served = serves_none c.args.self.now.desk.form g.C.Client.opens g.C.Reader.Read.remaining g.C.Writer.Write.contents
       g.T.Versions.number g.T.Versions.value g.T.Versions.known
-      _ _ c.args.seat (g.O.Orders.asked c.args.orders) c.requires.none c.new-served.ensures;
+      _ _ c.args.seat (g.O.Orders.asked c.args.orders) c.requires.none.0 c.requires.none.1;
 }
 
 -- a client more was taken and served
