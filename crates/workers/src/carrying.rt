@@ -14,7 +14,7 @@ use epochs::{Loads, Versions};
 use feed_loader::LoadFault;
 use load_orders::{LoadAnswer, LoaderOrders, Order, OrderFault};
 use service_days::DayFault;
-use std::alloc::Global;
+use std::alloc::{AllocError, Global};
 use std::io;
 use std::io::Write;
 use std::sync::Wait;
@@ -119,7 +119,7 @@ impl<'a, R: Wait, N: Drop, T: Versions<Notice = N> + Loads, F: Feeds> Loading<'a
     {
         match self.feeds.plan(self.alloc) {
             Ok(plan) => load_one(self.rt, self.alloc, &mut files, &plan, self.shelves, seat),
-            Err(_) => Err(LoadRefusal::Load(LoadFault::Day(DayFault::OutOfMemory))),
+            Err(AllocError) => Err(LoadRefusal::Load(LoadFault::Day(DayFault::OutOfMemory))),
         }
     }
 }

@@ -11,10 +11,12 @@ pub returns-in-Ok-new-clause-ok : goal.returns-in-Ok-new-clause-ok
 returns-in-Ok-new-clause-ok g c content shows =
     let report = c.in-Ok.made.1 in
     let load = c.in-Ok.ensures in
-    let made = either_way _ _ _ (λ content. IsImageOf content c.args.plan.now c.in-Ok.made.0 report) load.ok load.read_ok content shows in
+    let made = either_way (g.F.FeedFiles.holds c.args.files.now) (g.F.FeedFiles.reads c.args.files.now) (g.F.FeedFiles.reads c.load.new.files)
+    (λ content. IsImageOf content c.args.plan.now c.in-Ok.made.0 report) load.ok load.read_ok content shows in
     subst (λ (i : ImageValue). IsLoaded content c.args.plan.now i.timetable i.names report) (sym c.in-Ok-new.ensures.ok) made
 
 -- what refuses the files is the load's own fault
 pub returns-in-Err-clause-err : goal.returns-in-Err-clause-err
 returns-in-Err-clause-err g c content shows =
-    either_way _ _ _ (λ content. MayRefuse content c.args.plan.now (LoadRefusal.Load c.in-Err.fault)) c.in-Err.ensures.err c.in-Err.ensures.read_err content shows
+    either_way (g.F.FeedFiles.holds c.args.files.now) (g.F.FeedFiles.reads c.args.files.now) (g.F.FeedFiles.reads c.load.new.files)
+    (λ content. MayRefuse content c.args.plan.now (LoadRefusal.Load c.in-Err.fault)) c.in-Err.ensures.err c.in-Err.ensures.read_err content shows

@@ -8,5 +8,5 @@ returns-in-Ok-clause-outcome g c = (c.load_one.new.files, c.in-Ok.plan, c.in-Ok.
 -- without a plan nothing is read
 pub returns-clause-outcome : goal.returns-clause-outcome
 returns-clause-outcome g c =
-    let possible = c.plan.ensures.possible in
+    let possible = c.in-Err.ensures.possible in
     (c.args.files, possible.0, possible.1, (none_read _, λ content shows not. absurd (not refl), refl))
