@@ -2,4 +2,4 @@
 
 /// The sum of all sources but this file, as `release/sources --program` prints it. `release/stamp` writes it, and
 /// `.ci/run` compares it with the sources.
-pub const SOURCES: &str = "116626753d58767038fa5b8327151d08b451a62f35dbff6d17313910434d3988";
+pub const SOURCES: &str = "f28d8adb4abb6d9222575c5b22dd78f28449487e681b5c79998e5ca46c9d5b01";

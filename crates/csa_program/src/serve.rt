@@ -1,7 +1,8 @@
 //! `csa serve --image IMAGE --port P --workers W --sessions N [--legs] [--log] --first DAY --days N --zone ZONE
 //! [NAME=FOLDER]..`.
 
-ghost use Rattle.std.specs.Prelude.{◌≡◌, ◌≢◌, ◌≤◌, ◌⊎◌, true, false, [], All, length, map, slice_get, Some, string_bytes, IfOk};
+ghost use Rattle.std.specs.Prelude.{◌≡◌, ◌≢◌, ◌≤◌, ◌⊎◌, true, false, [], All, length, map};
+ghost use Rattle.std.specs.Prelude.{slice_get, Some, string_bytes, IfOk};
 ghost use Rattle.std.specs.Io.KnownBytes.{Appends};
 ghost use Rattle.command_requests.specs.Ending.{status_of};
 ghost use Rattle.command_requests.specs.declared.statuses.TheConstants.{INPUT_OUTPUT, OUT_OF_MEMORY};
@@ -239,8 +240,8 @@ fn listen<
     }
 }
 
-// Serves whoever comes, and returns how many sessions ended in each way, and whether accepting failed. Whatever the server's threads
-// report goes through one lock.
+// Serves whoever comes, and returns how many sessions ended in each way, and whether accepting failed. Whatever the
+// server's threads report goes through one lock.
 fn serve_at<H: Disk + Explains + Clock + Threads + Wait + Sync, E: Write + Send>(
     rt: &H,
     listener: &TcpListener,

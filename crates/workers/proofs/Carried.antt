@@ -8,7 +8,8 @@ use Rattle.load_orders.specs.declared.queue.OrderMark.{OrderMark}
 use Rattle.workers.specs.Carrying.{AllCarriedOut, AreCarriedOut, IsCarriedOut}
 use Rattle.workers.specs.Loading.{Holds}
 
-module _ {N D : Type 0} (noted : N → ℕ) (are_files : ℕ → D → Type 0) (holds : D → Holds) (reads : D → List FileRead) (is_plan : Plan → Type 0) (places : ℕ) where
+module _ {N D : Type 0} (noted : N → ℕ) (are_files : ℕ → D → Type 0) (holds : D → Holds) (reads : D → List FileRead)
+    (is_plan : Plan → Type 0) (places : ℕ) where
   -- one more behind the others
   pub carried_also : (orders : List OrderMark) (answered : List (AnsweredValue N)) (order : OrderMark) (answer : AnsweredValue N)
       (before between after : List LoaderAnswer)

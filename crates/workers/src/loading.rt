@@ -6,8 +6,8 @@ ghost use Rattle.connections.specs.declared.days.TheConstants.{MAX_DAYS};
 ghost use Rattle.feed_files.specs.Reading.{Content};
 ghost use Rattle.feed_loader.specs.Faults.{failed_by, failed_in};
 ghost use Rattle.epochs.specs.Seats.{RefuseStep};
-ghost use Rattle.workers.specs.Loading.{AllWereRead, IsEarly, IsImageOf, IsOutcome, IsPublished, MayRefuse, ShowsContent};
-ghost use Rattle.workers.specs.Loading.{SomeWereRead, reading};
+ghost use Rattle.workers.specs.Loading.{AllWereRead, ShowsContent, SomeWereRead, reading};
+ghost use Rattle.workers.specs.Loading.{IsEarly, IsImageOf, IsOutcome, IsPublished, MayRefuse};
 
 use crate::refusal::LoadRefusal;
 use epochs::{Loads, PublishFault, Versions};
@@ -67,8 +67,8 @@ fn shared_image<F: FeedFiles>(
     ensures failed { F.failed files.new ≡ failed_by (F.failed files.old) (reading result) }
     ensures all_read { OnOk result (AllWereRead (F.reads files.old) (F.reads files.new)) }
     ensures first_read { SomeWereRead (F.reads files.old) (F.reads files.new) }
-    ensures ok { (content : Content) → ShowsContent (F.holds files.old) (F.reads files.old) (F.reads files.new) content →
-        IfOk result (λ made. IsImageOf content plan.now (arc_value made.0) made.1) }
+    ensures ok { (content : Content) → ShowsContent (F.holds files.old) (F.reads files.old) (F.reads files.new) content
+        → IfOk result (λ made. IsImageOf content plan.now (arc_value made.0) made.1) }
     ensures err { (content : Content) → ShowsContent (F.holds files.old) (F.reads files.old) (F.reads files.new) content
         → IfErr result (MayRefuse content plan.now) }
     ensures early { IfErr result IsEarly }

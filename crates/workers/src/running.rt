@@ -85,8 +85,8 @@ where
     ensures shares { IfOk result (λ ran. AreServedSince form C.opens C.Reader.remaining C.Writer.contents
         T.Versions.number T.Versions.value T.Versions.known (K.came clients) (K.came ran.clients)
         seats.items ran.served ran.seats.items) }
-    ensures loads { IfOk result (λ ran. AllCarriedOut T.Versions.noted (F.are_files feeds.now) F.Files.holds F.Files.reads
-        (F.is_plan feeds.now) (length (F.named feeds.now)) ran.orders
+    ensures loads { IfOk result (λ ran. AllCarriedOut T.Versions.noted (F.are_files feeds.now) F.Files.holds
+        F.Files.reads (F.is_plan feeds.now) (length (F.named feeds.now)) ran.orders
         (T.Loads.answers loader) (T.Loads.answers ran.loader)) }
 {
     thread::scope(
@@ -105,7 +105,8 @@ where
                 seats.items ran.served ran.seats.items) }
             ensures loads { IfOk result (λ ran.
                 AllCarriedOut T.Versions.noted (F.are_files feeds.entry.now) F.Files.holds F.Files.reads
-                (F.is_plan feeds.entry.now) (length (F.named feeds.entry.now)) ran.orders (T.Loads.answers loader) (T.Loads.answers ran.loader)) }
+                (F.is_plan feeds.entry.now) (length (F.named feeds.entry.now)) ran.orders
+                (T.Loads.answers loader) (T.Loads.answers ran.loader)) }
         {
             let mut dealer = client_queue(alloc)?;
             let room = Vec::with_capacity(alloc, seats.len())?;

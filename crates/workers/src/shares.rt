@@ -25,7 +25,8 @@ pub(crate) struct Share<C: Client + Drop, S> {
     pub seat: S,
 }
 
-/// That a worker's share is the sessions of the clients that it took at this end of the queue, served at its seat, from what the seat was when the worker began, with replies in this form.
+/// That a worker's share is the sessions of the clients that it took at this end of the queue, served at its seat, from
+/// what the seat was when the worker began, with replies in this form.
 #[derive(Drop)]
 pub(crate) struct ShareAt<C: Drop, T: Versions> {
     pub taker: Snapshot<Taker<C>>,
@@ -85,7 +86,8 @@ impl<L, N: Drop, T: Versions<Notice = N> + Loads<Loader = L>, F: Feeds> Promise<
 
     ghost kept_by = { λ promise done.
         AllCarriedOut T.Versions.noted (F.are_files promise.feeds.value) F.Files.holds F.Files.reads
-        (F.is_plan promise.feeds.value) (length (F.named promise.feeds.value)) done.0 (T.Loads.answers promise.seat.value) (T.Loads.answers done.1) };
+        (F.is_plan promise.feeds.value) (length (F.named promise.feeds.value)) done.0
+        (T.Loads.answers promise.seat.value) (T.Loads.answers done.1) };
 }
 
 /// Puts all clients in the queue, and joins the workers once it was closed for each: the clients' source, the workers'

@@ -13,11 +13,17 @@ use std::time::Duration;
 use std::{fs, io, thread};
 
 /// What a client asks: the profile is answered over the version that is pinned, whatever is loaded meanwhile.
-const ASKED: &str =
-    "{\"do\":\"pin\"}\n{\"do\":\"load\",\"feed\":\"slow\",\"wait\":true}\n{\"do\":\"profile\",\"from\":\"A\",\"to\":\"C\",\"after\":\"07:00:00\",\"until\":\"09:00:00\",\"by\":\"10:00:00\",\"criterion\":\"arrival\"}\n";
+const ASKED: &str = "{\"do\":\"pin\"}
+{\"do\":\"load\",\"feed\":\"slow\",\"wait\":true}
+{\"do\":\"profile\",\"from\":\"A\",\"to\":\"C\",\"after\":\"07:00:00\",\
+\"until\":\"09:00:00\",\"by\":\"10:00:00\",\"criterion\":\"arrival\"}
+";
 
-const REPLIES: &str =
-    "{\"base\":1705276800,\"ok\":\"pin\",\"version\":1}\n{\"feed\":\"slow\",\"ok\":\"load\",\"version\":2}\n{\"ok\":\"profile\",\"points\":[{\"arr\":\"08:20:00\",\"dep\":\"08:00:00\",\"journey\":\"ride 0 0 walk 1 1 0 ride 2 2\"}],\"version\":1,\"walk\":null}\n";
+const REPLIES: &str = "{\"base\":1705276800,\"ok\":\"pin\",\"version\":1}
+{\"feed\":\"slow\",\"ok\":\"load\",\"version\":2}
+{\"ok\":\"profile\",\"points\":[{\"arr\":\"08:20:00\",\"dep\":\"08:00:00\",\
+\"journey\":\"ride 0 0 walk 1 1 0 ride 2 2\"}],\"version\":1,\"walk\":null}
+";
 
 /// The sample, from the standard input, to one session, beside the feed `slow` of a folder.
 const WORDS: [&str; 17] = [

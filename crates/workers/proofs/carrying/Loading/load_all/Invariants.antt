@@ -7,6 +7,7 @@ invariant-loop g l = record {
   next : (goal.iterator-loop g).can_next l.iterator';
   finite : (goal.iterator-loop g).is_finite l.iterator';
   loads : g.T.Loads.loads l.self.shelves.now l.seat;
-  carried : AreCarriedOut g.T.Versions.noted (g.F.Feeds.are_files l.self.feeds.now) g.F.Files.FeedFiles.holds g.F.Files.FeedFiles.reads (g.F.Feeds.is_plan l.self.feeds.now)
+  carried : AreCarriedOut g.T.Versions.noted (g.F.Feeds.are_files l.self.feeds.now) g.F.Files.FeedFiles.holds g.F.Files.FeedFiles.reads
+      (g.F.Feeds.is_plan l.self.feeds.now)
       (length (g.F.Feeds.named l.self.feeds.now)) l.orders.taken l.orders.answered (g.T.Loads.answers l.fn.seat) (g.T.Loads.answers l.seat);
 }
