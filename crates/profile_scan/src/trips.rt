@@ -56,7 +56,8 @@ impl<C: Criterion> Trips<C> {
         })
     }
 
-    // Offers the labels of a trip one value, with how one goes on from it, which is kept only if the label was accepted.
+    // Offers the labels of a trip one value, with how one goes on from it, which is kept only if the label was
+    // accepted.
     fn offer(&mut self, criterion: &C, trip: u32, value: C::V, exit: Exit) -> Result<(), AllocError>
         requires trip { HasTrip (C.rules criterion.now) trip self.old }
         requires admitted { Admits (C.rules criterion.now) value }
