@@ -36,7 +36,7 @@ impl Form {
 #[derive(Clone, Copy)]
 pub struct Suspect(pub &'static str, pub Form, pub &'static str);
 
-const BAD_TIME: &str = "isn't a time, H:MM:SS or HH:MM:SS";
+const BAD_TIME: &str = "isn't a time, H:MM:SS or HH:MM:SS with minutes and seconds below 60";
 
 const BAD_DATE: &str = "isn't a date, YYYYMMDD";
 

@@ -11,7 +11,8 @@ answers tables agencies 1 stops 3 trips 2 stop_times 5 calendar 1 calendar_dates
 
 # Values: minutes, and a number with a fraction.
 with stop_times.txt 2 T1,08:60:00,08:10:00,B,2
-tells csa: stop_times.txt, line 3: arrival_time \"08:60:00\" isn't a time, H:MM:SS or HH:MM:SS
+tells csa: stop_times.txt, line 3: arrival_time \"08:60:00\" isn't a time, H:MM:SS or HH:MM:SS \
+with minutes and seconds below 60
 answers refused 5 BadTime stop_times.txt 2
 with stop_times.txt 2 T1,08:10:00,08:10:00,B,2.5
 tells csa: stop_times.txt, line 3: stop_sequence \"2.5\" isn't a number of at most nine digits
