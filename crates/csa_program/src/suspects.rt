@@ -200,6 +200,16 @@ fn suspects_by_id(kind: FaultKind, table: Table) -> &'static [Suspect] {
     }
 }
 
+/// The columns of which no two records of a table may have the same values.
+pub fn key_columns(table: Table) -> &'static [&'static str] {
+    match table {
+        Table::Stops => &["stop_id"],
+        Table::Trips => &["trip_id"],
+        Table::CalendarDates => &["service_id", "date"],
+        _ => &["service_id"],
+    }
+}
+
 /// The columns that a table must have.
 pub fn required_columns(table: Table) -> &'static [&'static str] {
     match table {
