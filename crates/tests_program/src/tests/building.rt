@@ -172,6 +172,10 @@ asks profile feed.csa --from P --to Q --after 00:00:00 --until 01:00:00 --by 01:
 answers points 0 read 0 walk 120
 asks profile feed.csa --from Q --to P --after 00:00:00 --until 01:00:00 --by 01:00:00 --criterion arrival
 answers points 0 read 0 walk 120
+asks profile feed.csa --from S --to P --after 00:00:00 --until 01:00:00 --by 01:00:00 --criterion arrival
+tells csa: --from S: no stop of the image has this stop_id \
+(stations aren't stops: give a platform's stop_id, which `csa stops IMAGE TEXT` lists)
+answers refused 31 UnknownStop
 rows feed/transfers.txt from_stop_id,to_stop_id,transfer_type,min_transfer_time | S,S,2,180
 run build feed feed.csa --first 20240115 --days 1 --zone fixed:0
 tells csa: warning: no trip runs on these days, so no query has a departure
