@@ -100,7 +100,7 @@ const UNKNOWN_END: &[Suspect] = &[
 const UNKNOWN_STATION: &[Suspect] = &[Suspect(
     "parent_station",
     Form::Other,
-    "isn't a station in stops.txt",
+    "isn't a station in stops.txt (the field may be left blank)",
 )];
 
 const STOP_TWICE: &[Suspect] = &[Suspect("stop_id", Form::Other, TWICE)];

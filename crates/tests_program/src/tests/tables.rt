@@ -59,7 +59,8 @@ tells csa: transfers.txt, line 3: to_stop_id \"Q\" isn't in stops.txt; 2 further
 answers refused 9 UnknownId transfers.txt 2
 remove base_feed/transfers.txt
 rows base_feed/stops.txt stop_id,parent_station | A,Q | B,Q | C,Q | Q,
-tells csa: stops.txt, line 2: parent_station \"Q\" isn't a station in stops.txt; 2 further rows name it too
+tells csa: stops.txt, line 2: parent_station \"Q\" isn't a station in stops.txt (the field may be left blank); \
+2 further rows name it too
 answers refused 9 UnknownId stops.txt 1
 rows base_feed/stops.txt stop_id | A | B | C
 
@@ -137,7 +138,7 @@ remove base_feed/calendar_dates.txt
 
 # Then the order is: parents, stop times, frequencies, trips, transfers. The first trip comes back in time over a blank row.
 rows base_feed/transfers.txt from_stop_id,to_stop_id | A,Q
-tells csa: stops.txt, line 2: parent_station \"Q\" isn't a station in stops.txt
+tells csa: stops.txt, line 2: parent_station \"Q\" isn't a station in stops.txt (the field may be left blank)
 answers refused 9 UnknownId stops.txt 1
 rows base_feed/stops.txt stop_id | A | B | C
 file base_feed/stop_times.txt
