@@ -11,7 +11,7 @@ ghost use Rattle.csa_program.specs.Departing.{AreAllPrinted, ArePrinted, AreShow
 ghost use Rattle.csa_program.specs.Departing.{form_of, window_asked};
 
 use crate::explaining::explain;
-use crate::question::{explain_end, window_reason};
+use crate::question::{explain_end, explain_unknown, window_reason};
 use crate::refusal::Refusal;
 use crate::status;
 use crate::wanted_stops::{NoList, wanted_from};
@@ -123,9 +123,8 @@ fn explain_list<H: Files + AllocGlobal, E: Write>(
 }
 
 fn explain_line<E: Write>(alloc: Global, path: &str, line: usize, errors: &mut E) {
-    if let Ok(place) = format!(in alloc; ", line {line}") {
-        let reason = ": no stop of the image has this stop_id";
-        explain(errors, &["csa: --from ", path, place.as_str(), reason]);
+    if let Ok(place) = format!(in alloc; "{path}, line {line}") {
+        explain_unknown("--from", place.as_str(), errors);
     }
 }
 

@@ -1,4 +1,5 @@
-//! How many rows of a file name an id that isn't found, so that it need not be mended row by row.
+//! Which other rows have what is at fault in one: how many name an id that isn't found, so that it need not be
+//! mended row by row, and which is the first with a key that is there twice.
 
 use crate::records::{Records, Search};
 use crate::suspects::{Form, Suspect};
@@ -35,5 +36,31 @@ impl<'a> Search for FurtherRows<'a> {
             self.rows = self.rows.saturating_add(1);
         }
         false
+    }
+}
+
+/// Looks for the first row that has the key of a later one.
+#[derive(Drop)]
+pub struct SameKey<'a> {
+    /// The columns of the key.
+    pub columns: &'static [&'static str],
+    /// The header, and the later row.
+    pub later: &'a Records,
+}
+
+impl<'a> SameKey<'a> {
+    fn is_key_of(&self, records: &Records) -> bool {
+        for column in self.columns {
+            if !records.has(column, self.later.value(column)) {
+                return false;
+            }
+        }
+        true
+    }
+}
+
+impl<'a> Search for SameKey<'a> {
+    fn is_found(&mut self, records: &Records) -> bool {
+        records.is_behind_header() && records.record.is_whole() && self.is_key_of(records)
     }
 }

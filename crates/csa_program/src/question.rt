@@ -89,7 +89,14 @@ pub fn window_reason(after: u32, until: u32, by: u32) -> &'static str {
 /// Says that an option's stop is no stop of the image, if it is none.
 pub fn explain_end<'a, E: Write>(image: &Verified, option: &'a str, stop: &'a str, errors: &mut E) {
     if image.find(stop.as_bytes()).is_none() {
-        let reason = ": no stop of the image has this stop_id";
-        explain(errors, &["csa: ", option, " ", stop, reason]);
+        explain_unknown(option, stop, errors);
     }
+}
+
+/// Says that what an option gives, a stop_id or a line of a file, is no stop of the image. An image doesn't know
+/// stations, so it may be one.
+pub fn explain_unknown<'a, E: Write>(option: &'a str, given: &'a str, errors: &mut E) {
+    let reason = ": no stop of the image has this stop_id \
+(stations aren't stops: give a platform's stop_id, which `csa stops IMAGE TEXT` lists)";
+    explain(errors, &["csa: ", option, " ", given, reason]);
 }

@@ -36,7 +36,7 @@ impl Form {
 #[derive(Clone, Copy)]
 pub struct Suspect(pub &'static str, pub Form, pub &'static str);
 
-const BAD_TIME: &str = "isn't a time, H:MM:SS or HH:MM:SS";
+const BAD_TIME: &str = "isn't a time, H:MM:SS or HH:MM:SS with minutes and seconds below 60";
 
 const BAD_DATE: &str = "isn't a date, YYYYMMDD";
 
@@ -100,7 +100,7 @@ const UNKNOWN_END: &[Suspect] = &[
 const UNKNOWN_STATION: &[Suspect] = &[Suspect(
     "parent_station",
     Form::Other,
-    "isn't a station in stops.txt",
+    "isn't a station in stops.txt (the field may be left blank)",
 )];
 
 const STOP_TWICE: &[Suspect] = &[Suspect("stop_id", Form::Other, TWICE)];
@@ -197,6 +197,16 @@ fn suspects_by_id(kind: FaultKind, table: Table) -> &'static [Suspect] {
         (FaultKind::UnknownId, _) => UNKNOWN_TRIP_OR_STOP,
         (_, Table::Transfers) => ENTRANCE,
         _ => STATION,
+    }
+}
+
+/// The columns of which no two records of a table may have the same values.
+pub fn key_columns(table: Table) -> &'static [&'static str] {
+    match table {
+        Table::Stops => &["stop_id"],
+        Table::Trips => &["trip_id"],
+        Table::CalendarDates => &["service_id", "date"],
+        _ => &["service_id"],
     }
 }
 

@@ -2,9 +2,9 @@
 
 use crate::explaining::{explain, is_file, quoted, unread_reason};
 use crate::folders::missing_file;
-use crate::further_rows::FurtherRows;
+use crate::further_rows::{FurtherRows, SameKey};
 use crate::records::{Records, Search, Unread, Wanted, find};
-use crate::suspects::{Form, Suspect, required_columns, suspects_of};
+use crate::suspects::{Form, Suspect, key_columns, required_columns, suspects_of};
 use feed_files::LONGEST_FILE;
 use gtfs_rows::values::number;
 use gtfs_rows::{Day, FaultKind, Table, TableFault, Time};
@@ -147,23 +147,29 @@ fn wrong_value<H: Files + AllocGlobal>(
         if found.header.index_of(column.as_bytes()).is_some() {
             let value = found.value(column);
             if is_wrong(rt, folder, form, value).ok()? {
-                return what_is_wrong(rt, folder, fault, *suspect, value);
+                return what_is_wrong(rt, folder, fault, *suspect, found);
             }
         }
     }
     None
 }
 
-/// The column, its value and what is wrong with it; of an id that isn't found also how many rows behind name it.
+/// The column, its value and what is wrong with it; of a key that is there twice also the line of the first record
+/// that has it, and of an id that isn't found how many rows behind name it.
 fn what_is_wrong<H: Files + AllocGlobal>(
     rt: &H,
     folder: &str,
     fault: &TableFault,
     suspect: Suspect,
-    value: &[u8],
+    found: &Records,
 ) -> Option<String> {
     let Suspect(column, form, reason) = suspect;
+    let value = found.value(column);
     let shown = quoted(rt.alloc(), value).ok()?;
+    if let Some(line) = earlier_line(rt, folder, fault, found) {
+        let whose = whose_key(fault.table);
+        return format!(in rt.alloc(); "{column} {shown}{whose} is in line {line} too").ok();
+    }
     match further_rows(rt, folder, fault, form, value) {
         0 => format!(in rt.alloc(); "{column} {shown} {reason}").ok(),
         1 => {
@@ -174,6 +180,36 @@ fn what_is_wrong<H: Files + AllocGlobal>(
                 "{column} {shown} {reason}; {rows} further rows name it too"
             ).ok()
         }
+    }
+}
+
+/// Whose id or date is there twice.
+fn whose_key(table: Table) -> &'static str {
+    match table {
+        Table::CalendarDates => " of this service",
+        _ => "",
+    }
+}
+
+/// The line of the first record that has the key of a later one; none for another fault, or if it can't be found.
+fn earlier_line<H: Files + AllocGlobal>(
+    rt: &H,
+    folder: &str,
+    fault: &TableFault,
+    later: &Records,
+) -> Option<u64> {
+    if fault.kind != FaultKind::IdTwice {
+        return None;
+    }
+    let mut same = SameKey {
+        columns: key_columns(fault.table),
+        later,
+    };
+    let earlier = search_in(rt, folder, fault.table.file_name(), &mut same).ok()??;
+    if earlier.number() < fault.row {
+        Some(earlier.record.line)
+    } else {
+        None
     }
 }
 

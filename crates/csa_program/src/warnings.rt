@@ -98,11 +98,46 @@ fn has_trip_on(image: &Verified, day: u32) -> bool {
     false
 }
 
-/// How many transfers are left out, by why.
+/// Rows that are left out for one reason.
+#[derive(Drop)]
+struct Rows {
+    count: u64,
+    /// The line of the first one, 0 if there is none.
+    first: u64,
+}
+
+impl Rows {
+    fn none() -> Rows {
+        Rows { count: 0, first: 0 }
+    }
+
+    fn add(&mut self, line: u64) {
+        if self.count == 0 {
+            self.first = line;
+        }
+        self.count = self.count.saturating_add(1);
+    }
+
+    /// Appends how many they are and where the first one is, if there are any; of the first reason behind a colon.
+    fn append(&self, text: &mut String, reason: &str) -> Result<(), AllocError> {
+        let separator = if text.ends_with("out") { ": " } else { ", " };
+        let first = self.first;
+        match self.count {
+            0 => Ok(()),
+            1 => write!(text, "{separator}1 {reason} (line {first})"),
+            count => write!(
+                text,
+                "{separator}{count} {reason} (the first in line {first})"
+            ),
+        }
+    }
+}
+
+/// Which transfers are left out, by why.
 #[derive(Drop)]
 struct LeftOut {
-    between_trips: u64,
-    of_other_types: u64,
+    between_trips: Rows,
+    of_other_types: Rows,
 }
 
 /// The columns of `transfers.txt` by which a row is of trips or routes.
@@ -113,9 +148,9 @@ impl Search for LeftOut {
         if records.is_behind_header() {
             let transfer_type = records.value("transfer_type");
             if has_any(records, &TRIPS_AND_ROUTES) {
-                self.between_trips = self.between_trips.saturating_add(1);
+                self.between_trips.add(records.record.line);
             } else if !transfer_type.is_empty() && number(transfer_type).unwrap_or(4) > 3 {
-                self.of_other_types = self.of_other_types.saturating_add(1);
+                self.of_other_types.add(records.record.line);
             }
         }
         false
@@ -130,8 +165,8 @@ fn has_any(records: &Records, columns: &[&str]) -> bool {
 
 fn warn_of_transfers<H: Files + AllocGlobal, E: Write>(rt: &H, folder: &str, errors: &mut E) {
     let mut left_out = LeftOut {
-        between_trips: 0,
-        of_other_types: 0,
+        between_trips: Rows::none(),
+        of_other_types: Rows::none(),
     };
     if search_in(rt, folder, "transfers.txt", &mut left_out).is_ok()
         && let Ok(line) = transfers_line(rt.alloc(), &left_out)
@@ -143,12 +178,14 @@ fn warn_of_transfers<H: Files + AllocGlobal, E: Write>(rt: &H, folder: &str, err
 }
 
 fn transfers_line(alloc: Global, left_out: &LeftOut) -> Result<String, AllocError> {
-    let trips = left_out.between_trips;
-    let types = left_out.of_other_types;
-    format!(in alloc;
-        "rows of transfers.txt are left out: {trips} between trips or routes, {types} of a transfer_type \
-that isn't one of 0, 1, 2, 3; a change there may need more time than answers give it"
-    )
+    let mut text = format!(in alloc; "rows of transfers.txt are left out")?;
+    let other_type = "of a transfer_type that isn't one of 0, 1, 2, 3";
+    left_out
+        .between_trips
+        .append(&mut text, "between trips or routes")?;
+    left_out.of_other_types.append(&mut text, other_type)?;
+    text.push_str("; a change there may need more time than answers give it")?;
+    Ok(text)
 }
 
 /// What is said if days begin at other instants in the feed's own zone, by the system's file of it.

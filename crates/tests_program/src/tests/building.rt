@@ -77,9 +77,21 @@ rows base_feed/transfers.txt from_stop_id,to_stop_id,transfer_type,min_transfer_
 run build base_feed built.csa --first 20240115 --days 1 --zone fixed:0 --no-warnings
 answers stops 3 runs 2 connections 3 footpaths 3 lifted 0 flex 0 frequencies 0 skipped 1
 run build base_feed built.csa --first 20240115 --days 1 --zone fixed:0
-tells csa: warning: rows of transfers.txt are left out: 0 between trips or routes, 1 of a transfer_type that isn't \
-one of 0, 1, 2, 3; a change there may need more time than answers give it
+tells csa: warning: rows of transfers.txt are left out: 1 of a transfer_type that isn't one of 0, 1, 2, 3 (line 2); \
+a change there may need more time than answers give it
 answers stops 3 runs 2 connections 3 footpaths 3 lifted 0 flex 0 frequencies 0 skipped 1
+rows base_feed/transfers.txt from_stop_id,to_stop_id,transfer_type,from_trip_id,to_trip_id | B,B,1,T1,T2
+run build base_feed built.csa --first 20240115 --days 1 --zone fixed:0
+tells csa: warning: rows of transfers.txt are left out: 1 between trips or routes (line 2); \
+a change there may need more time than answers give it
+answers stops 3 runs 2 connections 3 footpaths 3 lifted 0 flex 0 frequencies 0 skipped 1
+rows base_feed/transfers.txt from_stop_id,to_stop_id,transfer_type,from_trip_id | B,B,, | B,B,7, |  | B,B,1,T1 | B,B,4,T2 \
+| B,B,5,
+run build base_feed built.csa --first 20240115 --days 1 --zone fixed:0
+tells csa: warning: rows of transfers.txt are left out: 2 between trips or routes (the first in line 5), \
+2 of a transfer_type that isn't one of 0, 1, 2, 3 (the first in line 3); \
+a change there may need more time than answers give it
+answers stops 3 runs 2 connections 3 footpaths 3 lifted 0 flex 0 frequencies 0 skipped 4
 remove base_feed/transfers.txt
 
 # A trip that repeats every twenty minutes until before ten.
@@ -142,8 +154,9 @@ rows feed/stop_times.txt trip_id,arrival_time,departure_time,stop_id,stop_sequen
 rows feed/frequencies.txt trip_id,start_time,end_time,headway_secs | P,09:00:00,09:20:00,600 | Q,09:00:00,09:20:00,600 | R,09:00:00,09:20:00,600
 rows feed/transfers.txt from_stop_id,to_stop_id,transfer_type,min_transfer_time | A,B,4, | A,B,5, | A,B,4, | B,A,5,
 run build feed feed.csa --first 20240115 --days 1 --zone fixed:0
-tells csa: warning: rows of transfers.txt are left out: 0 between trips or routes, 4 of a transfer_type that isn't \
-one of 0, 1, 2, 3; a change there may need more time than answers give it
+tells csa: warning: rows of transfers.txt are left out: \
+4 of a transfer_type that isn't one of 0, 1, 2, 3 (the first in line 2); \
+a change there may need more time than answers give it
 answers stops 2 runs 7 connections 7 footpaths 2 lifted 1 flex 2 frequencies 3 skipped 4
 remove feed/frequencies.txt
 remove feed/transfers.txt
@@ -172,6 +185,10 @@ asks profile feed.csa --from P --to Q --after 00:00:00 --until 01:00:00 --by 01:
 answers points 0 read 0 walk 120
 asks profile feed.csa --from Q --to P --after 00:00:00 --until 01:00:00 --by 01:00:00 --criterion arrival
 answers points 0 read 0 walk 120
+asks profile feed.csa --from S --to P --after 00:00:00 --until 01:00:00 --by 01:00:00 --criterion arrival
+tells csa: --from S: no stop of the image has this stop_id \
+(stations aren't stops: give a platform's stop_id, which `csa stops IMAGE TEXT` lists)
+answers refused 31 UnknownStop
 rows feed/transfers.txt from_stop_id,to_stop_id,transfer_type,min_transfer_time | S,S,2,180
 run build feed feed.csa --first 20240115 --days 1 --zone fixed:0
 tells csa: warning: no trip runs on these days, so no query has a departure

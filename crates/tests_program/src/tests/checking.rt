@@ -88,10 +88,12 @@ run journey - 'no journey' --from A --to A --after 07:00:00 --until 09:00:00 --b
 tells csa: --from and --to are the same stop
 answers refused 32 SameStop
 run journey - 'no journey' --from A --to D --after 07:00:00 --until 09:00:00 --by 10:00:00
-tells csa: --to D: no stop of the image has this stop_id
+tells csa: --to D: no stop of the image has this stop_id \
+(stations aren't stops: give a platform's stop_id, which `csa stops IMAGE TEXT` lists)
 answers refused 31 UnknownStop
 run journey - 'no journey' --from d --to C --after 07:00:00 --until 09:00:00 --by 10:00:00
-tells csa: --from d: no stop of the image has this stop_id
+tells csa: --from d: no stop of the image has this stop_id \
+(stations aren't stops: give a platform's stop_id, which `csa stops IMAGE TEXT` lists)
 answers refused 31 UnknownStop
 run journey - 'no journey' --from A --to D --after 07:00:00 --until 9:0:0 --by 10:00:00
 complains 64

@@ -305,7 +305,8 @@ prints B dep 08:12:00 arr 08:20:00 : ride 2 2
 answers stops 1 points 1 read 3
 rows wanted B | D | A
 asks departures - --to C --after 07:00:00 --until 09:00:00 --by 10:00:00 --criterion arrival --from wanted
-tells csa: --from wanted, line 2: no stop of the image has this stop_id
+tells csa: --from wanted, line 2: no stop of the image has this stop_id \
+(stations aren't stops: give a platform's stop_id, which `csa stops IMAGE TEXT` lists)
 ends 2
 asks departures - --to C --after 07:00:00 --until 09:00:00 --by 10:00:00 --criterion arrival --from nowhere
 tells csa: nowhere can't be read: no such file or folder
@@ -314,7 +315,8 @@ ends 3
 # The first line that is no stop_id is reported, and a line that is there twice is one stop: of two stops of a name the first.
 rows wanted A | B | A | E | D
 asks departures - --to C --after 07:00:00 --until 09:00:00 --by 10:00:00 --criterion arrival --from wanted
-tells csa: --from wanted, line 4: no stop of the image has this stop_id
+tells csa: --from wanted, line 4: no stop of the image has this stop_id \
+(stations aren't stops: give a platform's stop_id, which `csa stops IMAGE TEXT` lists)
 ends 2
 set 45 1413693761
 rows wanted A | C | A
@@ -348,7 +350,8 @@ answers stops 0 points 0 read 0
 
 # What can't be asked.
 asks departures - --to D --after 07:00:00 --until 09:00:00 --by 10:00:00 --criterion arrival
-tells csa: --to D: no stop of the image has this stop_id
+tells csa: --to D: no stop of the image has this stop_id \
+(stations aren't stops: give a platform's stop_id, which `csa stops IMAGE TEXT` lists)
 answers refused 31 UnknownStop
 asks departures - --to C --after 07:00:00 --until 06:00:00 --by 10:00:00 --criterion arrival
 tells csa: --until is before --after

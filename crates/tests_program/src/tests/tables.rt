@@ -11,7 +11,8 @@ answers tables agencies 1 stops 3 trips 2 stop_times 5 calendar 1 calendar_dates
 
 # Values: minutes, and a number with a fraction.
 with stop_times.txt 2 T1,08:60:00,08:10:00,B,2
-tells csa: stop_times.txt, line 3: arrival_time \"08:60:00\" isn't a time, H:MM:SS or HH:MM:SS
+tells csa: stop_times.txt, line 3: arrival_time \"08:60:00\" isn't a time, H:MM:SS or HH:MM:SS \
+with minutes and seconds below 60
 answers refused 5 BadTime stop_times.txt 2
 with stop_times.txt 2 T1,08:10:00,08:10:00,B,2.5
 tells csa: stop_times.txt, line 3: stop_sequence \"2.5\" isn't a number of at most nine digits
@@ -58,7 +59,8 @@ tells csa: transfers.txt, line 3: to_stop_id \"Q\" isn't in stops.txt; 2 further
 answers refused 9 UnknownId transfers.txt 2
 remove base_feed/transfers.txt
 rows base_feed/stops.txt stop_id,parent_station | A,Q | B,Q | C,Q | Q,
-tells csa: stops.txt, line 2: parent_station \"Q\" isn't a station in stops.txt; 2 further rows name it too
+tells csa: stops.txt, line 2: parent_station \"Q\" isn't a station in stops.txt (the field may be left blank); \
+2 further rows name it too
 answers refused 9 UnknownId stops.txt 1
 rows base_feed/stops.txt stop_id | A | B | C
 
@@ -136,7 +138,7 @@ remove base_feed/calendar_dates.txt
 
 # Then the order is: parents, stop times, frequencies, trips, transfers. The first trip comes back in time over a blank row.
 rows base_feed/transfers.txt from_stop_id,to_stop_id | A,Q
-tells csa: stops.txt, line 2: parent_station \"Q\" isn't a station in stops.txt
+tells csa: stops.txt, line 2: parent_station \"Q\" isn't a station in stops.txt (the field may be left blank)
 answers refused 9 UnknownId stops.txt 1
 rows base_feed/stops.txt stop_id | A | B | C
 file base_feed/stop_times.txt
@@ -189,11 +191,42 @@ rows base_feed/stop_times.txt trip_id,arrival_time,stop_id
 tells csa: stop_times.txt, line 1: the header lacks departure_time, stop_sequence
 answers refused 2 MissingColumn stop_times.txt 0
 rows base_feed/stops.txt stop_id | A | B | A
-tells csa: stops.txt, line 4: stop_id \"A\" is in an earlier record too
+tells csa: stops.txt, line 4: stop_id \"A\" is in line 2 too
 answers refused 8 IdTwice stops.txt 3
 file base_feed/stops.txt
 tells csa: stops.txt: there is no header
 answers refused 2 MissingColumn stops.txt 0
+
+# The first line that has the id is named, whatever is quoted or empty ahead of it; of a date that of the same service.
+remove base_feed
+base
+file base_feed/stops.txt
+has stop_name,stop_id
+has
+has \"Alder
+has Street\",\" A \"
+has A,B
+has x,C
+has x,A
+has x,A
+tells csa: stops.txt, line 7: stop_id \"A\" is in line 3 too
+answers refused 8 IdTwice stops.txt 4
+rows base_feed/stops.txt stop_id | A | B | C
+rows base_feed/trips.txt trip_id,service_id | T1,S | S,T2 | T2,S | T2,S
+tells csa: trips.txt, line 5: trip_id \"T2\" is in line 4 too
+answers refused 8 IdTwice trips.txt 4
+rows base_feed/trips.txt trip_id,service_id | T1,S | T2,S
+rows base_feed/calendar_dates.txt date,service_id,exception_type | 20240115,X,1 | 20240116,S,1 | 20240115,S,1 \
+| 20240116,S,2
+tells csa: calendar_dates.txt, line 5: date \"20240116\" of this service is in line 3 too
+answers refused 8 IdTwice calendar_dates.txt 4
+remove base_feed/calendar_dates.txt
+rows base_feed/calendar.txt service_id,monday,tuesday,wednesday,thursday,friday,saturday,sunday,start_date,end_date \
+| S,1,1,1,1,1,1,1,20240101,20241231 | S,1,1,1,1,1,1,1,20240101,20241231
+tells csa: calendar.txt, line 3: service_id \"S\" is in line 2 too
+answers refused 8 IdTwice calendar.txt 2
+remove base_feed
+base
 
 # Spaces at the ends of names and of fields don't count, and a line may end with CR LF.
 file base_feed/stops.txt
