@@ -1,5 +1,5 @@
 -- What a seat knows only grows.
-use Rattle.std.proofs.Common.{◌≡◌, ℕ, zero, suc, List, [], ◌∷◌, ◌++◌, Option, None, Some, slice_get, refl, sym, ap, ◌∙◌, subst, append_assoc, append-nil}
+use Rattle.std.proofs.Common.{◌≡◌, ℕ, zero, suc, List, [], ◌∷◌, ◌++◌, Option, None, Some, slice_get, refl, sym, ap, ◌∙◌, subst, append_assoc}
 use mathlib.Core.List.{IsPrefix}
 use Rattle.image_layout.specs.Image.{ImageValue}
 use Rattle.version_core.specs.declared.event.Event.{Event}
@@ -12,7 +12,7 @@ use Rattle.shelf_steps.specs.Pinning.{Late, Lates, Well, Pins, Moves, Releases}
 use Rattle.shelf_steps.specs.Plays.{joins_notice}
 use Rattle.shelf_steps.proofs.Courses.{prefix_same, prefix_trans}
 use Rattle.reasoning.proofs.ListLemmas.{slice_get-append}
-use Rattle.epochs.specs.SeatHistory.{Grows, GrowthsJoin, IsPublished, OneImageEach, PublishedStay}
+use Rattle.epochs.specs.SeatHistory.{Grows, GrowthsJoin, OneImageEach, PublishedStay}
 use Rattle.shelf_steps.specs.Events.{known_of}
 
 pub grows_same : (k : Known) → Grows k k

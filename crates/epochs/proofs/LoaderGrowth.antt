@@ -1,5 +1,5 @@
 -- What the loader knows only grows; and what its calls did in it.
-use Rattle.std.proofs.Common.{◌≡◌, ℕ, zero, suc, ◌+◌, ◌<◌, ◌≤◌, Bool, true, false, List, [], ◌∷◌, ◌++◌, length, get_or, Option, None, Some}
+use Rattle.std.proofs.Common.{◌≡◌, ℕ, zero, suc, ◌+◌, ◌<◌, Bool, true, false, List, [], ◌∷◌, ◌++◌, length, get_or, Option, None, Some}
 use Rattle.std.proofs.Common.{slice_get, refl, sym, ap, ◌∙◌, subst, arith, inl, inr}
 use mathlib.Core.Logic.{dite}
 use native.Mathlib.Decide.{ℕ_discrete}
@@ -13,7 +13,7 @@ use Rattle.shelf_steps.specs.declared.views.View.{View}
 use Rattle.shelf_steps.specs.Course.{image_of}
 use Rattle.shelf_steps.specs.Events.{known_of}
 use Rattle.shelf_steps.specs.Loading.{Loaded, Loads, Freed, Frees, FoundBusy, FindsBusy}
-use Rattle.shelf_steps.specs.Plays.{OfLoader, newest_of, gives_notice}
+use Rattle.shelf_steps.specs.Plays.{OfLoader, gives_notice}
 use Rattle.epochs.specs.declared.collected.Collected.{Collected}
 use Rattle.epochs.specs.declared.faults.PublishFault.{PublishFault}
 use Rattle.epochs.specs.SeatHistory.{Grows, IsPublished, EndsPublish, IsTried, FindsByTries}
