@@ -60,8 +60,8 @@ abbrev pub EndsRelease : Known → ℕ → Result (Unit {0}) PinFault → Known 
 EndsRelease before number (Ok u) after = Happened before (Event.Drop number) Reply.Dropped after
 EndsRelease before number (Err _) after = after ≡ before
 
--- what a publish did last in the history, from what was known before it to what is known after it: the version became the current one, and
--- then the shelf of the version before it was closed
+-- what a publish did last in the history that the loader knows, from what was known before it to what is known after it: the version became
+-- the current one, and then a shelf was closed
 abbrev pub EndsPublish : Known → ℕ → Known → Type 0
 EndsPublish before version after = (shelf : ℕ) × (opened : Known) × (current : Known) × Grows before opened
     × Happened opened Event.Publish (Reply.Published version) current
