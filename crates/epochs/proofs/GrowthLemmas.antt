@@ -1,5 +1,5 @@
 -- What a seat knows only grows.
-use Rattle.std.proofs.Common.{◌≡◌, ℕ, zero, suc, List, [], ◌∷◌, ◌++◌, Option, None, Some, slice_get, refl, sym, ap, ◌∙◌, subst, append_assoc, append-nil}
+use Rattle.std.proofs.Common.{◌≡◌, ℕ, zero, suc, List, [], ◌∷◌, ◌++◌, Option, None, Some, slice_get, refl, sym, ap, ◌∙◌, subst, append_assoc}
 use mathlib.Core.List.{IsPrefix}
 use Rattle.image_layout.specs.Image.{ImageValue}
 use Rattle.version_core.specs.declared.event.Event.{Event}
@@ -12,7 +12,7 @@ use Rattle.shelf_steps.specs.Pinning.{Late, Lates, Well, Pins, Moves, Releases}
 use Rattle.shelf_steps.specs.Plays.{joins_notice}
 use Rattle.shelf_steps.proofs.Courses.{prefix_same, prefix_trans}
 use Rattle.reasoning.proofs.ListLemmas.{slice_get-append}
-use Rattle.epochs.specs.SeatHistory.{Grows, GrowthsJoin, IsPublished, OneImageEach, PublishedStay}
+use Rattle.epochs.specs.SeatHistory.{Grows, GrowthsJoin, OneImageEach, PublishedStay}
 use Rattle.shelf_steps.specs.Events.{known_of}
 
 pub grows_same : (k : Known) → Grows k k
@@ -25,7 +25,7 @@ growths_join a b c p q = record {
   images = prefix_trans a.images b.images c.images p.images q.images;
 }
 
-happened_grows : (k k' : Known) (e : Event) (r : Reply) → Happened k e r k' → Grows k k'
+pub happened_grows : (k k' : Known) (e : Event) (r : Reply) → Happened k e r k' → Grows k k'
 happened_grows k k' e r h = record {
   events = (h.events.0 ++ e ∷ [], sym (h.events.1 ∙ append_assoc k.events h.events.0 (e ∷ [])));
   replies = (h.replies.0 ++ r ∷ [], sym (h.replies.1 ∙ append_assoc k.replies h.replies.0 (r ∷ [])));
@@ -54,7 +54,7 @@ well_grows (View.Loading l) u' n shelf e h = absurd h
 well_grows (View.Noting v) u' n shelf e h = absurd h
 well_grows View.Spent u' n shelf e h = absurd h
 
-same_grows : (u u' : View) → u' ≡ u → Grows (known_of u) (known_of u')
+pub same_grows : (u u' : View) → u' ≡ u → Grows (known_of u) (known_of u')
 same_grows u u' same = subst (λ (x : View). Grows (known_of u) (known_of x)) (sym same) (grows_same (known_of u))
 
 pub lates_grow : (ns : List ℕ) (u u' : View) → Lates u ns u' → Grows (known_of u) (known_of u')

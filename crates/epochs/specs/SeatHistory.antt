@@ -1,5 +1,5 @@
 -- What a seat knows of the one history of its shelves: the events so far with their replies, and the image of each version.
-use Rattle.std.specs.Prelude.{◌≡◌, ℕ, Option, Some, IfSome, Result, Ok, Err}
+use Rattle.std.specs.Prelude.{◌≡◌, ℕ, ◌<◌, true, slice_get, Option, Some, IfSome, Result, Ok, Err}
 use mathlib.Core.List.{IsPrefix}
 use Rattle.image_layout.specs.Image.{ImageValue}
 use Rattle.version_core.specs.declared.event.Event.{Event}
@@ -9,6 +9,7 @@ use Rattle.version_core.specs.Steps.{Holds}
 use Rattle.shelf_steps.specs.declared.views.Known.{Known}
 use Rattle.shelf_steps.specs.Course.{Goes, leading_to, image_of, Happened}
 use Rattle.epochs.specs.declared.faults.PinFault.{PinFault}
+use Rattle.epochs.specs.declared.collected.Collected.{Collected}
 
 -- the history published this image as this version
 abbrev pub IsPublished : Known → ℕ → ImageValue → Type 0
@@ -58,6 +59,24 @@ EndsPin before number (Err _) held after = after ≡ before
 abbrev pub EndsRelease : Known → ℕ → Result (Unit {0}) PinFault → Known → Type 0
 EndsRelease before number (Ok u) after = Happened before (Event.Drop number) Reply.Dropped after
 EndsRelease before number (Err _) after = after ≡ before
+
+-- what a publish did last in the history that the loader knows, from what was known before it to what is known after it: the version became
+-- the current one, and then a shelf was closed
+abbrev pub EndsPublish : Known → ℕ → Known → Type 0
+EndsPublish before version after = (shelf : ℕ) × (opened : Known) × (current : Known) × Grows before opened
+    × Happened opened Event.Publish (Reply.Published version) current
+    × Happened current (Event.Close shelf) Reply.Closing after
+
+-- between what was known before and what is known after, a try at the shelf was answered so
+abbrev pub IsTried : Known → ℕ → Reply → Known → Type 0
+IsTried before shelf reply after = (first : Known) × (tried : Known) × Grows before first
+    × Happened first (Event.Collect shelf) reply tried × Grows tried after
+
+-- what a collection reports was found by tries in the history since then: of each shelf that it reports as freed, a try freed it; and each
+-- count above 0 that it reports, a try found at that shelf
+pub record FindsByTries (before : Known) (found : Collected) (after : Known) : Type 0 where
+  pub freed : (k : ℕ) → k < 8 → slice_get found.freed k ≡ Some true → IsTried before k Reply.Freed after
+  pub busy : (k count : ℕ) → k < 8 → 0 < count → slice_get found.busy k ≡ Some count → IsTried before k (Reply.Busy count) after
 
 -- a version that was published with one image is never published with another
 abbrev pub OneImageEach : Type 0

@@ -3,7 +3,8 @@
 ghost use Rattle.std.specs.Prelude.{◌≡◌, ◌+◌, ◌<◌, Some, None, IfOk, IfErr, IfSome, MatchOption, MatchResult};
 ghost use Rattle.std.specs.Arc.{arc_value};
 ghost use Rattle.shelf_steps.specs.declared.views.View.{View};
-ghost use Rattle.epochs.specs.SeatHistory.{Grows, HoldsAsKnown, EndsPin, EndsRelease};
+ghost use Rattle.epochs.specs.SeatHistory.{Grows, HoldsAsKnown, EndsPin, EndsRelease, IsPublished, EndsPublish};
+ghost use Rattle.epochs.specs.SeatHistory.{FindsByTries};
 ghost use Rattle.shelf_steps.specs.Events.{known_of};
 ghost use Rattle.epochs.specs.Seats.{PinStep, ReleaseStep, JoinStep, PublishStep, RefuseStep, CollectStep};
 ghost use Rattle.epochs.specs.ShelfSeats.{PinsBySteps, ReleasesBySteps, JoinsByStep, ShowsWhatItKnows};
@@ -267,6 +268,8 @@ impl<B: Named, K> Loads for NamedShelves<B, K> {
 
     ghost current = { λ loader. loader.current };
 
+    ghost learned = { λ loader. known_of loader.view };
+
     fn publish<R: Wait>(
         &self,
         _rt: &R,
@@ -285,6 +288,9 @@ impl<B: Named, K> Loads for NamedShelves<B, K> {
             × PublishesWithNotice room (arc_value image) r.0 loader.new.view)
             (λ e. RefusesBySteps loader.old.view e.1 loader.new.view) }
         ensures notice { IfOk result (λ r. r.1 ≡ Some (record { table = self.now; version = r.0 })) }
+        ensures published { IfOk result (λ r. IsPublished (known_of loader.new.view) r.0 (arc_value image)) }
+        ensures grows { Grows (known_of loader.old.view) (known_of loader.new.view) }
+        ensures ends { IfOk result (λ r. EndsPublish (known_of loader.old.view) r.0 (known_of loader.new.view)) }
     {
         let published = match self.shelves.publish(&mut loader.inner, image) {
             Ok(published) => published,
@@ -297,6 +303,8 @@ impl<B: Named, K> Loads for NamedShelves<B, K> {
         ensures current { loader.new.current ≡ loader.old.current }
         ensures loader { CollectStep loader.old.answers result loader.new.answers }
         ensures steps { CollectsBySteps loader.old.view result loader.new.view }
+        ensures grows { Grows (known_of loader.old.view) (known_of loader.new.view) }
+        ensures tries { FindsByTries (known_of loader.old.view) result (known_of loader.new.view) }
     {
         self.shelves.collect(&mut loader.inner)
     }

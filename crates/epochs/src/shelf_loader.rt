@@ -9,6 +9,8 @@ ghost use Rattle.shelf_steps.specs.Handed.{handed};
 ghost use Rattle.shelf_steps.specs.Loading.{Loads};
 ghost use Rattle.shelf_steps.specs.Plays.{gives_notice};
 ghost use Rattle.shelf_steps.specs.declared.views.View.{View};
+ghost use Rattle.shelf_steps.specs.Events.{known_of};
+ghost use Rattle.epochs.specs.SeatHistory.{Grows, IsPublished, EndsPublish, FindsByTries};
 ghost use Rattle.epochs.specs.Seats.{PublishStep, RefuseStep, CollectStep};
 ghost use Rattle.epochs.specs.ShelfLoads.{CollectsBySteps, TriedShelf, shelf_of, IsFreeIn, HasFree, IsLeastFree};
 ghost use Rattle.epochs.specs.ShelfLoads.{MakesRoomBySteps, PublishesBySteps, RefusesBySteps, IsUnspent, IsSpentAt};
@@ -77,6 +79,8 @@ impl ShelfLoader {
         ensures table { (self.new.table ≡ self.old.table) × (self.new.current ≡ self.old.current) }
         ensures loader { CollectStep self.old.answers result self.new.answers }
         ensures steps { CollectsBySteps self.old.view result self.new.view }
+        ensures grows { Grows (known_of self.old.view) (known_of self.new.view) }
+        ensures tries { FindsByTries (known_of self.old.view) result (known_of self.new.view) }
     {
         let found = self.try_all(table);
         self.tell(LoaderAnswer::Collected { found });
@@ -119,6 +123,9 @@ impl ShelfLoader {
         ensures steps { MatchResult result (λ v. (room : View) × MakesRoomBySteps self.old.view room
             × PublishesBySteps room (arc_value image) v self.new.view)
             (λ e. RefusesBySteps self.old.view e.1 self.new.view) }
+        ensures published { IfOk result (λ v. IsPublished (known_of self.new.view) v (arc_value image)) }
+        ensures grows { Grows (known_of self.old.view) (known_of self.new.view) }
+        ensures ends { IfOk result (λ v. EndsPublish (known_of self.old.view) v (known_of self.new.view)) }
     {
         match self.publish_quietly(table, alloc, &image) {
             Ok(version) => {
@@ -150,6 +157,7 @@ impl ShelfLoader {
         ensures current { MatchResult result (λ v. self.new.current ≡ v) (λ _. self.new.current ≡ self.old.current) }
         ensures published { IfOk result (λ v. (room : View) × MakesRoomBySteps self.old.view room
             × PublishesBySteps room (arc_value image.now) v self.new.view) }
+        ensures known { IfOk result (λ v. IsPublished (known_of self.new.view) v (arc_value image.now)) }
         ensures refused { IfErr result (λ e. RefusesBySteps self.old.view e self.new.view) }
         ensures spent { IfErr result (λ e. IsSpentAt self.old.current e) }
     {
@@ -226,6 +234,7 @@ impl ShelfLoader {
         ensures next { IfOk result (λ v. v ≡ self.old.current + 1) }
         ensures loads { IfOk result (λ version. (before : ℕ)
             × Loads shelf version before (arc_value image.now) self.old.view self.new.view) }
+        ensures known { IfOk result (λ v. IsPublished (known_of self.new.view) v (arc_value image.now)) }
         ensures refused { OnErr result (self.new ≡ self.old) }
     {
         let version = self.current + 1;

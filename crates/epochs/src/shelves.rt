@@ -5,7 +5,8 @@ ghost use Rattle.std.specs.List.{All};
 ghost use Rattle.std.specs.Arc.{arc_value};
 ghost use Rattle.shelf_steps.specs.Handed.{handed};
 ghost use Rattle.shelf_steps.specs.declared.views.View.{View};
-ghost use Rattle.epochs.specs.SeatHistory.{Grows, HoldsAsKnown, EndsPin, EndsRelease};
+ghost use Rattle.epochs.specs.SeatHistory.{Grows, HoldsAsKnown, EndsPin, EndsRelease, IsPublished, EndsPublish};
+ghost use Rattle.epochs.specs.SeatHistory.{FindsByTries};
 ghost use Rattle.shelf_steps.specs.Events.{known_of};
 ghost use Rattle.epochs.specs.Seats.{PinStep, ReleaseStep, JoinStep, PublishStep, RefuseStep, CollectStep};
 ghost use Rattle.epochs.specs.ShelfSeats.{PinsBySteps, ReleasesBySteps, JoinsByStep, SeatsHanded};
@@ -126,6 +127,9 @@ impl Shelves {
             × PublishesWithNotice room (arc_value image) r.0 loader.new.view)
             (λ e. RefusesBySteps loader.old.view e.1 loader.new.view) }
         ensures notice { IfOk result (λ r. r.1 ≡ Some (record { table = self.now; version = r.0 })) }
+        ensures published { IfOk result (λ r. IsPublished (known_of loader.new.view) r.0 (arc_value image)) }
+        ensures grows { Grows (known_of loader.old.view) (known_of loader.new.view) }
+        ensures ends { IfOk result (λ r. EndsPublish (known_of loader.old.view) r.0 (known_of loader.new.view)) }
     {
         match loader.publish_at(&self.table, self.alloc, image) {
             Ok(version) => {
@@ -154,6 +158,8 @@ impl Shelves {
         ensures table { (loader.new.table ≡ loader.old.table) × (loader.new.current ≡ loader.old.current) }
         ensures loader { CollectStep loader.old.answers result loader.new.answers }
         ensures steps { CollectsBySteps loader.old.view result loader.new.view }
+        ensures grows { Grows (known_of loader.old.view) (known_of loader.new.view) }
+        ensures tries { FindsByTries (known_of loader.old.view) result (known_of loader.new.view) }
     {
         loader.collect_at(&self.table)
     }

@@ -3,7 +3,8 @@
 ghost use Rattle.std.specs.Prelude.{◌≡◌, ◌+◌, ℕ, List, None, Some, MatchOption, MatchResult, IfErr, IfOk, IfSome};
 ghost use Rattle.std.specs.Arc.{arc_value};
 ghost use Rattle.epochs.specs.Seats.{SeatValue, PinStep, ReleaseStep, JoinStep, PublishStep, RefuseStep, CollectStep};
-ghost use Rattle.epochs.specs.SeatHistory.{Grows, HoldsAsKnown, EndsPin, EndsRelease};
+ghost use Rattle.epochs.specs.SeatHistory.{Grows, HoldsAsKnown, EndsPin, EndsRelease, IsPublished, EndsPublish};
+ghost use Rattle.epochs.specs.SeatHistory.{FindsByTries};
 ghost use Rattle.epochs.specs.ShelfLoads.{IsSpentAt};
 ghost use Rattle.shelf_steps.specs.declared.views.Known.{Known};
 ghost use Rattle.epochs.specs.declared.seats.LoaderAnswer.{LoaderAnswer};
@@ -88,6 +89,9 @@ pub trait Loads: Versions {
     // The version that it published last, which is current.
     ghost current: { Self.Loader → ℕ };
 
+    // What the loader knows of its shelves' one history: a beginning of it, which only grows.
+    ghost learned: { Self.Loader → Known };
+
     /// Publishes the image as the next version, and gives a notice of it. A refusal gives the image
     /// back; versions are spent only at the last one. No notice comes only where there was no memory
     /// for one.
@@ -107,12 +111,17 @@ pub trait Loads: Versions {
             PublishStep (answers loader.old) (arc_value image) r.0 (answers loader.new))
             (λ e. RefuseStep (answers loader.old) e.1 (answers loader.new)) }
         ensures spent { IfErr result (λ e. IsSpentAt (current loader.old) e.1) }
-        ensures notice { IfOk result (λ r. IfSome r.1 (λ n. Self.Versions.noted n ≡ r.0)) };
+        ensures notice { IfOk result (λ r. IfSome r.1 (λ n. Self.Versions.noted n ≡ r.0)) }
+        ensures published { IfOk result (λ r. IsPublished (learned loader.new) r.0 (arc_value image)) }
+        ensures grows { Grows (learned loader.old) (learned loader.new) }
+        ensures ends { IfOk result (λ r. EndsPublish (learned loader.old) r.0 (learned loader.new)) };
 
     /// Tries each closing shelf: it is freed, if no worker is there.
     fn collect<R: Wait>(&self, rt: &R, loader: &mut Self::Loader) -> Collected
         requires { loads self.now loader.old }
         ensures loads { loads self.now loader.new }
         ensures current { current loader.new ≡ current loader.old }
-        ensures loader { CollectStep (answers loader.old) result (answers loader.new) };
+        ensures loader { CollectStep (answers loader.old) result (answers loader.new) }
+        ensures grows { Grows (learned loader.old) (learned loader.new) }
+        ensures tries { FindsByTries (learned loader.old) result (learned loader.new) };
 }

@@ -1,5 +1,7 @@
 use Rattle.std.proofs.Common.{◌≡◌, ℕ, Option, ap, sym, subst}
 use Rattle.std.specs.Arc.{arc_value}
+use Rattle.shelf_steps.specs.Events.{known_of}
+use Rattle.epochs.specs.SeatHistory.{IsPublished, EndsPublish}
 use Rattle.epochs.specs.ShelfSeats.{NoticeValue}
 use Rattle.epochs.specs.ShelfLoads.{ShelfLoaderValue, MakesRoomBySteps, PublishesWithNotice}
 use Rattle.epochs.proofs.named.NamedShelvesLoads.publish.Goals as goal
@@ -12,3 +14,14 @@ returns-clause-steps g c =
       subst (λ (s : ShelfLoaderValue). MakesRoomBySteps s.view p.0) c.loader.view_is p.1,
       subst (λ n. PublishesWithNotice p.0 (arc_value c.args.image) n c.publish.new.loader.view) (sym same) p.2,
     )
+
+pub returns-clause-published : goal.returns-clause-published
+returns-clause-published g c =
+    let same : c.under_name.result.0 ≡ c.in-Ok.published.0 = ap (λ (x : ℕ × Option NoticeValue). x.0) c.under_name.ensures in
+    subst (λ n. IsPublished (known_of c.publish.new.loader.view) n (arc_value c.args.image)) (sym same) c.in-Ok.ensures.published
+
+pub returns-clause-ends : goal.returns-clause-ends
+returns-clause-ends g c =
+    let same : c.under_name.result.0 ≡ c.in-Ok.published.0 = ap (λ (x : ℕ × Option NoticeValue). x.0) c.under_name.ensures in
+    subst (λ (s : ShelfLoaderValue). EndsPublish (known_of s.view) c.under_name.result.0 (known_of c.publish.new.loader.view)) c.loader.view_is
+    (subst (λ n. EndsPublish (known_of c.loader.inside.inner.view) n (known_of c.publish.new.loader.view)) (sym same) c.in-Ok.ensures.ends)

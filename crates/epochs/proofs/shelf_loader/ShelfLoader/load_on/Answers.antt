@@ -2,6 +2,7 @@ use Rattle.std.proofs.Common.{◌≡◌, ◌<◌, arith, refl, subst, sym, Some}
 use Rattle.std.specs.Arc.{arc_value}
 use Rattle.version_core.specs.declared.state.Shelf.{Shelf}
 use Rattle.epochs.specs.ShelfLoads.{ShelfLoaderValue, shelf_of}
+use Rattle.epochs.proofs.LoaderGrowth.{loads_published}
 use Rattle.epochs.proofs.ShelfResting.{rests_after}
 use Rattle.epochs.proofs.shelf_loader.ShelfLoader.load_on.Goals as goal
 
@@ -15,3 +16,9 @@ invariant_of-self c =
           ≡ Some Shelf.Free) (sym c.self.view_is) c.requires.free.1) refl (omega arith) c.in-Ok.ensures.load,
       c.load.ensures.empty,
     )
+
+pub returns-in-Ok-clause-known : goal.returns-in-Ok-clause-known
+returns-in-Ok-clause-known c =
+    let inside = c.self.inside in
+    loads_published inside.current inside.current_shelf inside.shelves (arc_value c.args.image.now) c.args.shelf _ inside.current_shelf
+    inside.place.me.0 c.load.new.loader.me.0 c.self.invariant.0 refl c.in-Ok.ensures.load
