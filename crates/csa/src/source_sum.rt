@@ -2,4 +2,4 @@
 
 /// The sum of all sources but this file, as `release/sources --program` prints it. `release/stamp` writes it, and
 /// `.ci/run` compares it with the sources.
-pub const SOURCES: &str = "f28d8adb4abb6d9222575c5b22dd78f28449487e681b5c79998e5ca46c9d5b01";
+pub const SOURCES: &str = "6088f35cdf4a611cd9dc522980a8566ad447836aa8f2ea939524df02e1a232b2";
