@@ -2,4 +2,4 @@
 
 /// The sum of all sources but this file, as `release/sources --program` prints it. `release/stamp` writes it, and
 /// `.ci/run` compares it with the sources.
-pub const SOURCES: &str = "6088f35cdf4a611cd9dc522980a8566ad447836aa8f2ea939524df02e1a232b2";
+pub const SOURCES: &str = "43d490ed022b05a87602d022fc63b75817a6b0e8431db8407544dc9c4ea9f048";

@@ -12,7 +12,7 @@ use criteria::Criterion;
 use fronts::{Label, Ridden};
 use std::alloc::AllocError;
 
-/// A tag or an index as a number of 32 bits. One past 2^32 - 1 counts as out of memory.
+/// A tag as a number of 32 bits. Past 2^32 - 1 there is no room.
 pub fn number_of(tag: usize) -> Result<u32, AllocError>
     ensures { IfOk result (λ number. number ≡ tag) }
 {

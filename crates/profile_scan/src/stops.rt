@@ -16,7 +16,7 @@ use timetable::Footpath;
 pub struct Stops<C: Criterion> {
     pub lists: FrontLists<C>,
     pub heads: Vec<u32>,
-    // scratch memory: the values of one trip's labels after the ride, overwritten by each boarding
+    // room for the labels of one trip, after the ride
     pub ridden: Vec<Ridden<C::V>>,
 }
 
@@ -55,8 +55,8 @@ impl<C: Criterion> Stops<C> {
         self.heads[stop as usize]
     }
 
-    // Offers the list of the stop where a footpath begins each ridden value, boarded after it. `place` is the index of
-    // the footpath.
+    // Offers the list of the stop where a footpath begins each ridden value, boarded after it. `place` is the
+    // footpath's.
     #[inline(always)]
     fn board_after(
         &mut self,
