@@ -6,7 +6,7 @@ use Rattle.std.specs.Io.KnownBytes.{Appends, Consumes, IsAtEnd}
 use Rattle.std.proofs.KnownBytes.{Appends-nil, Appends-trans}
 use Rattle.epochs.specs.Seats.{SeatValue}
 use Rattle.lines.specs.Counting.{one_more}
-use Rattle.lines.specs.Cutting.{IsOneLine, lines_of, rest_of}
+use Rattle.lines.specs.Cutting.{IsCut, IsOneLine, lines_of, rest_of, whole_lines}
 use Rattle.lines.specs.Reading.{GivesEnded, GivesRest, HasGiven, unread_of}
 use Rattle.lines.specs.declared.reader.LineReader.{LineReader}
 use Rattle.lines.proofs.CutLemmas.{IsCut-lines, IsCut-rest, IsCut-whole, lines_of-some}
@@ -15,7 +15,7 @@ use Rattle.orders.specs.Ordering.{OrderValue}
 use Rattle.session.specs.declared.point_form.PointForm.{PointForm}
 use Rattle.session.specs.declared.fault.Ended.{Ended}
 use Rattle.session.specs.declared.fault.SessionFault.{SessionFault}
-use Rattle.session.specs.Sessions.{AreShort, AreTurns, EndsSo, IsCutShort, Serves, lines_in, text_of}
+use Rattle.session.specs.Sessions.{AnswerLines, AreShort, AreTurns, EndsSo, IsCutShort, Serves, lines_in, text_of}
 use Rattle.session.specs.Turns.{Turn, TurnsTo}
 use Rattle.session.proofs.TurnLemmas.{AreTurns-more, lines_in-more, text_of-more}
 
@@ -55,6 +55,11 @@ short_turn t line is short = subst (λ (l : List ℕ). length l ≤ 16_777_216) 
 AreShort-more : (turns : List Turn) (t : Turn) → AreShort turns → length t.line ≤ 16_777_216 → AreShort (turns ++ t ∷ [])
 AreShort-more [] t all short = (short, tt)
 AreShort-more (u ∷ turns) t all short = (all.0, AreShort-more turns t all.1 short)
+
+-- the whole lines of what was read are those that were given and those of what is still to be cut
+IsCut-wholes : (read unread : List ℕ) (given : List (List ℕ)) → IsCut read given unread → whole_lines read ≡ given ++ whole_lines unread
+IsCut-wholes read unread given cut =
+    ap whole_lines (sym (append-nil read)) ∙ cut.whole [] ∙ ap (λ (k : List ℕ). given ++ whole_lines k) (append-nil unread)
 
 -- the lines of all that was read, of which so many were given first
 first_of : (given rest : List (List ℕ)) (all : List (List ℕ)) → all ≡ given ++ rest → given ≡ take (length given) all
@@ -151,20 +156,30 @@ ends_with_rest {form} number to_read known later unread bytes contents wrote wri
       ends = (gives.end, no_read, no_write, lines, refl);
     }
 
--- a reply isn't wholly written: these bytes were read, and of all their lines those given are the first
-cut_short : {form : PointForm} (number : ℕ) (to_read later : Option (List ℕ)) (read : List ℕ) (rest : List (List ℕ)) (line : List ℕ)
+-- the lines before one are answered, and it too
+AnswerLines-more : (turns : List Turn) (t : Turn) (read line : List ℕ) (at_end : Type 0) → t.line ≡ line
+    → ((rest : List (List ℕ)) × (whole_lines read ≡ (lines_in turns ++ line ∷ []) ++ rest)) ⊎ (at_end × (lines_of read ≡ lines_in turns ++ line ∷ []))
+    → AnswerLines (turns ++ t ∷ []) read at_end
+AnswerLines-more turns t read line at_end line_is (inl whole) =
+    let lines : whole_lines read ≡ lines_in (turns ++ t ∷ []) ++ whole.0 =
+    whole.1 ∙ ap (λ (ls : List (List ℕ)). ls ++ whole.0) (sym (more_lines turns t line line_is)) in
+    inl (length (lines_in (turns ++ t ∷ [])), first_of (lines_in (turns ++ t ∷ [])) whole.0 (whole_lines read) lines)
+AnswerLines-more turns t read line at_end line_is (inr all) = inr (all.0, more_lines turns t line line_is ∙ sym all.1)
+
+-- a reply isn't wholly written: these bytes were read, and of their lines those given are the first
+cut_short : {form : PointForm} (number : ℕ) (to_read later : Option (List ℕ)) (read : List ℕ) (line : List ℕ)
     (contents wrote writes : Option (List ℕ)) (a b after : SeatValue) (asked between asked_then : List OrderValue)
     (read_failed write_failed : Type 0) (turns : List Turn)
     → Consumes to_read later read → AreTurns form number a asked turns b between → Appends contents wrote (text_of turns)
-    → lines_of read ≡ (lines_in turns ++ line ∷ []) ++ rest
+    → ((rest : List (List ℕ)) × (whole_lines read ≡ (lines_in turns ++ line ∷ []) ++ rest))
+    ⊎ (IsAtEnd later × (lines_of read ≡ lines_in turns ++ line ∷ []))
     → length turns < 1_000_000 → AreShort turns → length line ≤ 16_777_216
     → (t : Turn) → t.line ≡ line → TurnsTo form number b between t after asked_then → (n : ℕ) → Appends wrote writes (take n t.reply) → (¬ read_failed)
     → write_failed
     → Serves form number (Err SessionFault.WriteFailed) to_read later contents writes read_failed write_failed a asked after asked_then
-cut_short {form} number to_read later read rest line contents wrote writes a b after asked between asked_then
+cut_short {form} number to_read later read line contents wrote writes a b after asked between asked_then
     read_failed write_failed turns consumed does before all few short short_line t line_is turn n written no_read
     failed =
-    let lines : lines_of read ≡ lines_in (turns ++ t ∷ []) ++ rest = all ∙ ap (λ (ls : List (List ℕ)). ls ++ rest) (sym (more_lines turns t line line_is)) in
     let cut : IsCutShort (text_of turns ++ take n t.reply) (turns ++ t ∷ []) =
     record { answered = turns; last = t; count = n; turns_are = refl; written_is = refl } in
     record {
@@ -176,7 +191,7 @@ cut_short {form} number to_read later read rest line contents wrote writes a b a
       does = AreTurns-more number a b after asked between asked_then turns t does turn;
       few = omega (arith, few, length_push turns t);
       short = AreShort-more turns t short (short_turn t line line_is short_line);
-      ends = (failed, no_read, (length (lines_in (turns ++ t ∷ [])), first_of (lines_in (turns ++ t ∷ [])) rest (lines_of read) lines), cut);
+      ends = (failed, no_read, AnswerLines-more turns t read line (IsAtEnd later) line_is all, cut);
     }
 
 pub cut_short_at_line : {form : PointForm} (number : ℕ) (to_read known later : Option (List ℕ)) (unread bytes : List ℕ)
@@ -190,9 +205,10 @@ pub cut_short_at_line : {form : PointForm} (number : ℕ) (to_read known later :
 cut_short_at_line {form} number to_read known later unread bytes contents wrote writes a b after asked between
     asked_then count new read_failed write_failed few so_far came gives t line_is turn n written no_read failed =
     let given = HasGiven-ended to_read known later unread bytes (lines_in so_far.turns) new so_far.given came gives in
-    cut_short number to_read later given.read (lines_of (unread_of new)) gives.line contents wrote writes a b after
+    let whole = IsCut-wholes given.read (unread_of new) (lines_in so_far.turns ++ gives.line ∷ []) given.cut in
+    cut_short number to_read later given.read gives.line contents wrote writes a b after
     asked between asked_then read_failed write_failed so_far.turns given.consumed so_far.does so_far.writes
-    (IsCut-lines given.read (unread_of new) (lines_in so_far.turns ++ gives.line ∷ []) given.cut)
+    (inl (whole_lines (unread_of new), whole))
     (omega (arith, few, so_far.many)) so_far.short gives.short t line_is turn n written no_read failed
 
 pub cut_short_at_rest : {form : PointForm} (number : ℕ) (to_read known later : Option (List ℕ)) (unread bytes : List ℕ)
@@ -206,12 +222,10 @@ pub cut_short_at_rest : {form : PointForm} (number : ℕ) (to_read known later :
 cut_short_at_rest {form} number to_read known later unread bytes contents wrote writes a b after asked between
     asked_then count new read_failed write_failed few so_far came gives t line_is turn n written no_read failed =
     let more = HasGiven-read to_read known later unread bytes (lines_in so_far.turns) so_far.given came in
-    let lines : lines_of more.read ≡ (lines_in so_far.turns ++ (unread ++ bytes) ∷ []) ++ [] =
-    HasGiven-rest to_read later (unread ++ bytes) (lines_in so_far.turns) more gives.one gives.some
-    ∙ sym (append-nil (lines_in so_far.turns ++ (unread ++ bytes) ∷ [])) in
-    cut_short number to_read later more.read [] (unread
-    ++ bytes) contents wrote writes a b after asked between asked_then read_failed write_failed so_far.turns
-    more.consumed so_far.does so_far.writes lines
+    let lines : lines_of more.read ≡ lines_in so_far.turns ++ (unread ++ bytes) ∷ [] =
+    HasGiven-rest to_read later (unread ++ bytes) (lines_in so_far.turns) more gives.one gives.some in
+    cut_short number to_read later more.read (unread ++ bytes) contents wrote writes a b after asked between asked_then
+    read_failed write_failed so_far.turns more.consumed so_far.does so_far.writes (inr (gives.end, lines))
     (omega (arith, few, so_far.many)) so_far.short gives.short t line_is turn n written no_read failed
 
 -- a line can't be read: the lines before it are answered

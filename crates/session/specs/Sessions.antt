@@ -47,6 +47,10 @@ pub record IsCutShort (written : List ℕ) (turns : List Turn) : Type 0 where
   pub turns_are : turns ≡ answered ++ last ∷ []
   pub written_is : written ≡ text_of answered ++ take count last.reply
 
+-- lines of what was read are answered, from the first on: whole ones; or all, where there is nothing behind the last, which needs no line end then
+abbrev pub AnswerLines : List Turn → List ℕ → Type 0 → Type 0
+AnswerLines turns read at_end = ((n : ℕ) × (lines_in turns ≡ take n (whole_lines read))) ⊎ (at_end × (lines_in turns ≡ lines_of read))
+
 -- at the end what is held is given back
 abbrev pub LastRelease : ℕ → SeatValue → SeatValue → Type 0
 LastRelease number a b = ((a.held ≡ None) × (b ≡ a)) ⊎ ((a.held ≢ None) × ((last : Answer) × IsGivenBack last × AnswerStep number a last b))
@@ -61,7 +65,7 @@ EndsSo (Err SessionFault.ReadFailed) read written turns at_end read_failed write
     (read_failed ⊎ (length (rest_of read) ≡ 16_777_217)) × (¬ write_failed) × (lines_in turns ≡ whole_lines read) × (written ≡ text_of turns)
 -- the last line that was read isn't answered, or not wholly
 EndsSo (Err SessionFault.WriteFailed) read written turns at_end read_failed write_failed =
-    write_failed × (¬ read_failed) × ((n : ℕ) × (lines_in turns ≡ take n (lines_of read))) × IsCutShort written turns
+    write_failed × (¬ read_failed) × AnswerLines turns read at_end × IsCutShort written turns
 -- the first million lines are answered, and a byte behind them was read
 EndsSo (Err SessionFault.TooManyRequests) read written turns at_end read_failed write_failed =
     (¬ read_failed) × (¬ write_failed) × (length turns ≡ 1_000_000) × (1_000_000 < length (lines_of read))
