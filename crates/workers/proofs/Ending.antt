@@ -1,7 +1,8 @@
 -- How a session and an order end.
-use Rattle.std.proofs.Common.{◌≡◌, ◌<◌, ◌∷◌, ◌++◌, ℕ, List, [], Option, None, Result, refl, sym, subst, inl}
+use Rattle.std.proofs.Common.{◌≡◌, ◌<◌, ◌∷◌, ◌++◌, ℕ, List, [], Option, Some, None, IfSome, Result, refl, sym, subst, inl}
 use Rattle.epochs.specs.Seats.{SeatValue}
 use Rattle.epochs.specs.declared.seats.LoaderAnswer.{LoaderAnswer}
+use Rattle.lines.specs.Counting.{inner_of}
 use Rattle.orders.specs.Ordering.{OrderValue}
 use Rattle.shelf_steps.specs.declared.views.Known.{Known}
 use Rattle.session.specs.Learning.{Learns, TellPublished}
@@ -11,7 +12,7 @@ use Rattle.session.specs.declared.point_form.PointForm.{PointForm}
 use Rattle.session.specs.Sessions.{LastRelease, Serves}
 use Rattle.workers.specs.Ends.{Session, end_of}
 use Rattle.workers.specs.Loading.{IsEarly, IsNotPublished}
-use Rattle.workers.specs.Sessions.{AreServed, IsServed, IsServedAt, IsSession}
+use Rattle.workers.specs.Sessions.{AreServed, IsServed, IsServedAt, IsSession, MayClose}
 use Rattle.workers.specs.declared.clients.ConnFault.{ConnFault}
 use Rattle.workers.specs.declared.refusal.LoadRefusal.{LoadRefusal}
 use Rattle.workers.specs.declared.served.End.{End}
@@ -86,6 +87,14 @@ module _ {C R W S : Type 0} (form : PointForm) (opens : C → Result (R × W) Co
       (served, same, learns, profiles, idle) in
       let all = served_also has sessions client session a m b asked between asked_then before one in
       subst (λ clients. Are clients sessions_then) (sym takes) (subst (λ list. Are (has ++ client ∷ []) list) (sym adds) all)
+
+  -- the reader and the writer of a session that was served may be closed
+  pub may_close : (closes : R → W → End → Type 0) (n : ℕ) (client : C) (streams : Option (Streams R W)) (end : End) (a b : SeatValue)
+      (asked asked_then : List OrderValue) → MayClose form opens remaining contents closes
+      → IsServed form opens remaining contents n client streams end a asked b asked_then
+      → IfSome streams (λ now. closes (inner_of now.reader) (inner_of now.writer) end)
+  may_close closes n client None end a b asked asked_then may served = tt
+  may_close closes n client (Some now) end a b asked asked_then may served = may n client now end a b asked asked_then served
 
 -- what is told before a publish was tried leaves the loader's seat as it was
 pub not_published : (answers : List LoaderAnswer) (refusal : LoadRefusal) → IsEarly refusal → IsNotPublished answers refusal answers

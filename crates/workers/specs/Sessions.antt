@@ -41,6 +41,11 @@ module _ {C R W : Type 0} (form : PointForm) (opens : C → Result (R × W) Conn
       (0 < failures_of now.reader) (0 < failures_of now.writer) a asked b asked_then
   IsServed number client None end a asked b asked_then = (fault : ConnFault) × opens client (Err fault) × IsUnopened end a asked b asked_then
 
+  -- whatever session was served, its reader and its writer may be closed as they are then
+  abbrev pub MayClose : (R → W → End → Type 0) → Type 0
+  MayClose closes = (number : ℕ) (client : C) (now : Streams R W) (end : End) (a b : SeatValue) (asked asked_then : List OrderValue)
+      → IsServed number client (Some now) end a asked b asked_then → closes (inner_of now.reader) (inner_of now.writer) end
+
   -- over seats with these numbers, values, and parts of their shelves' one history that they know
   module _ {S : Type 0} (number : S → ℕ) (value : S → SeatValue) (known : S → Known) where
     -- a client is served at this seat, which learns meanwhile: each profile is answered over the image that the history published as its

@@ -2,6 +2,7 @@
 
 ghost use Rattle.std.specs.Prelude.{◌≡◌, ◌++◌, ◌∷◌, [], List, Result, MatchOption, ⊤};
 ghost use Rattle.workers.specs.declared.clients.ConnFault.{ConnFault};
+ghost use Rattle.workers.specs.declared.served.End.{End};
 
 use crate::served::End;
 use std::io::{Read, Write};
@@ -10,14 +11,17 @@ use std::io::{Read, Write};
 #[derive(Clone, Copy, Debug, PartialEq, Eq)]
 pub struct ConnFault;
 
-/// Whoever asks for a session.
+/// Whoever asks for a session. What is opened can't be dropped: it has to be closed.
 pub trait Client {
-    type Reader: Read + Send + Drop;
+    type Reader: Read + Send;
 
-    type Writer: Write + Send + Drop;
+    type Writer: Write + Send;
 
     // What may come of opening the client.
     ghost opens: { Self → Result (Self.Reader × Self.Writer) ConnFault → Type 0 };
+
+    // Whether this reader and this writer, as they are now, may be closed as those of a session that ended so.
+    ghost closes: { Self.Reader → Self.Writer → End → Type 0 } = { λ _ _ _. Unit {0} };
 
     /// Where its requests are read and its replies are written.
     fn open(self) -> Result<(Self::Reader, Self::Writer), ConnFault>
@@ -25,7 +29,8 @@ pub trait Client {
 
     /// Called once its session has ended, with what was opened and how it ended. Nothing else hangs
     /// on what is done here.
-    fn close(reader: Self::Reader, writer: Self::Writer, end: End);
+    fn close(reader: Self::Reader, writer: Self::Writer, end: End)
+        requires { closes reader writer end };
 }
 
 /// Clients, one after the other.

@@ -4,7 +4,7 @@ ghost use Rattle.std.specs.Prelude.{◌≡◌, ◌≤◌, [], All, length, IfOk}
 ghost use Rattle.epochs.specs.ShelfSeats.{NoticeValue};
 ghost use Rattle.shelf_steps.specs.Events.{known_of};
 ghost use Rattle.workers.specs.Carrying.{ComeOfOrders};
-ghost use Rattle.workers.specs.Sessions.{AreServedSince};
+ghost use Rattle.workers.specs.Sessions.{AreServedSince, MayClose};
 
 use crate::clients::{Client, Clients};
 use crate::feeds::Feeds;
@@ -57,6 +57,7 @@ pub fn run_shelves<
     requires loader { loader.table ≡ B.table }
     requires some { 1 ≤ length seats.items }
     requires few { length seats.items ≤ 16 }
+    requires closes { MayClose form C.opens C.Reader.remaining C.Writer.contents C.closes }
     ensures none_left { IfOk result (λ ran. K.none_left ran.clients) }
     ensures seats { IfOk result (λ ran. All (λ seat. seat.table ≡ shelves) ran.seats.items) }
     ensures loader { IfOk result (λ ran. ran.loader.table ≡ shelves) }

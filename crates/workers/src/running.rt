@@ -3,7 +3,7 @@
 ghost use denote.Param.Send.{IsSend, IsSync};
 ghost use Rattle.std.specs.Prelude.{◌≡◌, ◌≤◌, ◌++◌, ◌∷◌, [], All, length, IfOk, OnOk};
 ghost use Rattle.workers.specs.Carrying.{AllCarriedOut};
-ghost use Rattle.workers.specs.Sessions.{AreServedSince, IsShare};
+ghost use Rattle.workers.specs.Sessions.{AreServedSince, IsShare, MayClose};
 
 use crate::carrying::Loading;
 use crate::clients::{Client, Clients};
@@ -81,7 +81,10 @@ where
     requires loader { T.Loads.loads shelves.now loader }
     requires some { 1 ≤ length seats.items }
     requires few { length seats.items ≤ 16 }
+    requires closes { MayClose form C.opens C.Reader.remaining C.Writer.contents C.closes }
     ensures none_left { IfOk result (λ ran. K.none_left ran.clients) }
+    ensures seats { IfOk result (λ ran. All (T.Versions.fits shelves.now) ran.seats.items) }
+    ensures loader { IfOk result (λ ran. T.Loads.loads shelves.now ran.loader) }
     ensures shares { IfOk result (λ ran. AreServedSince form C.opens C.Reader.remaining C.Writer.contents
         T.Versions.number T.Versions.value T.Versions.known (K.came clients) (K.came ran.clients)
         seats.items ran.served ran.seats.items) }
@@ -98,8 +101,11 @@ where
                 × IsSend T.Notice.row × IsSend C.row × IsSend C.Reader.row × IsSend C.Writer.row
                 × IsSend F.Files.row × IsSend E.row
                 × All (T.Versions.fits shelves.now) seats.items × T.Loads.loads shelves.now loader
-                × (1 ≤ length seats.items) }
+                × (1 ≤ length seats.items)
+                × MayClose form C.opens C.Reader.remaining C.Writer.contents C.closes }
             ensures none_left { IfOk result (λ ran. K.none_left ran.clients) }
+            ensures seats { IfOk result (λ ran. All (T.Versions.fits shelves.entry.now) ran.seats.items) }
+            ensures loader { IfOk result (λ ran. T.Loads.loads shelves.entry.now ran.loader) }
             ensures shares { IfOk result (λ ran. AreServedSince form C.opens C.Reader.remaining C.Writer.contents
                 T.Versions.number T.Versions.value T.Versions.known (K.came clients) (K.came ran.clients)
                 seats.items ran.served ran.seats.items) }
@@ -112,12 +118,13 @@ where
             let room = Vec::with_capacity(alloc, seats.len())?;
             let (mut asks, orders) = order_queue(alloc)?;
             let loader_seat = loader;
-            let promise = LoadsAt::<T, F>::of(&loader_seat, feeds);
+            let promise = LoadsAt::<T, F>::of(shelves, &loader_seat, feeds);
             let started = scope.spawn_with(
                 promise,
                 move || -> (LoaderOrders<T::Notice>, T::Loader)
                     requires { T.Loads.loads shelves.now loader_seat × (orders.taken ≡ []) × (orders.answered ≡ []) }
-                    ensures { AllCarriedOut T.Versions.noted (F.are_files feeds.entry.now) F.Files.holds F.Files.reads
+                    ensures { T.Loads.loads shelves.entry.now result.1
+                        × AllCarriedOut T.Versions.noted (F.are_files feeds.entry.now) F.Files.holds F.Files.reads
                         (F.is_plan feeds.entry.now) (length (F.named feeds.entry.now))
                         result.0 (T.Loads.answers loader_seat) (T.Loads.answers result.1) }
                 {
@@ -141,10 +148,12 @@ where
                 // Made here, since what a thread returns has to be of types that it captures.
                 let nobody_yet = Served::new();
                 let begun = scope.spawn_with(
-                    ShareAt::<C, T>::of(&taker, &seat, form),
+                    ShareAt::<C, T>::of(shelves, &taker, &seat, form),
                     move || -> Share<C, T::Seat>
-                        requires { T.Versions.fits shelves.now seat × (taker.taken ≡ []) × (nobody_yet ≡ []) }
+                        requires { T.Versions.fits shelves.now seat × (taker.taken ≡ []) × (nobody_yet ≡ [])
+                            × MayClose form C.opens C.Reader.remaining C.Writer.contents C.closes }
                         ensures { (result.taker.queue ≡ taker.queue)
+                            × T.Versions.fits shelves.entry.now result.seat
                             × IsShare form C.opens C.Reader.remaining C.Writer.contents
                             T.Versions.number T.Versions.value T.Versions.known seat
                             result.taker.taken result.served result.seat }
@@ -165,7 +174,7 @@ where
                 };
                 also(&mut workers, worker)?;
             }
-            let served = deal_and_join(rt, form, clients, dealer, workers, room);
+            let served = deal_and_join(rt, shelves, form, clients, dealer, workers, room);
             // No order is refused for want of a loader before all sessions have ended.
             drop(asks);
             let (orders, loader) = loading.join(rt);

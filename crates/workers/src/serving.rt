@@ -1,9 +1,10 @@
 //! A worker: client after client on its seat.
 
-ghost use Rattle.std.specs.Prelude.{◌≡◌, ◌∷◌, ◌++◌, [], None};
+ghost use Rattle.std.specs.Prelude.{◌≡◌, ◌∷◌, ◌++◌, [], None, IfSome};
+ghost use Rattle.lines.specs.Counting.{inner_of};
 ghost use Rattle.session.specs.Learning.{Learns, TellPublished};
 ghost use Rattle.session.specs.Turns.{AgreeOnNotices};
-ghost use Rattle.workers.specs.Sessions.{AreServed, IsServed};
+ghost use Rattle.workers.specs.Sessions.{AreServed, IsServed, MayClose};
 ghost use Rattle.workers.specs.declared.served.End.{End};
 
 use crate::clients::{Client, ConnFault};
@@ -72,6 +73,8 @@ impl<'a, R: Wait, N: Drop, T: Versions<Notice = N>, G: Gate> Worker<'a, R, T, G>
         requires fits { T.fits self.now.desk.shelves.now seat }
         requires notices { AgreeOnNotices O.told T.noted }
         requires none { (taker.taken ≡ []) × (served ≡ []) }
+        requires closes { MayClose self.now.desk.form C.opens C.Reader.remaining C.Writer.contents C.closes }
+        ensures fits { T.fits self.now.desk.shelves.now result.0.seat }
         ensures queue { result.0.taker.queue ≡ taker.queue }
         ensures learns { Learns (T.known seat) (T.value seat) (T.known result.0.seat) (T.value result.0.seat) }
         ensures served { AreServed self.now.desk.form C.opens C.Reader.remaining C.Writer.contents T.number T.value
@@ -104,7 +107,9 @@ impl<'a, R: Wait, N: Drop, T: Versions<Notice = N>, G: Gate> Worker<'a, R, T, G>
 }
 
 // Gives a client's reader and writer back, if there are any.
-fn close<C: Client>(streams: Option<Streams<C::Reader, C::Writer>>, end: End) {
+fn close<C: Client>(streams: Option<Streams<C::Reader, C::Writer>>, end: End)
+    requires { IfSome streams (λ now. C.closes (inner_of now.reader) (inner_of now.writer) end) }
+{
     if let Some(Streams { reader, writer }) = streams {
         C::close(reader.into_inner(), writer.into_inner(), end);
     }

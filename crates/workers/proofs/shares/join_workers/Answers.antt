@@ -1,4 +1,5 @@
 use Rattle.std.proofs.Common.{rules, ◌≡◌, ◌∙◌, ◌+◌, ◌-◌, All, true, suc, sym, subst, refl, map, ap, arith, length}
+use Rattle.std.proofs.lemmas.List.Elements.{All-nil, All-push}
 use Rattle.std.specs.Prelude.{IsPermutation}
 use Rattle.client_queue.specs.Ends.{times}
 use Rattle.workers.specs.Sessions.{AreAllServed, IsShare}
@@ -16,6 +17,8 @@ loop-worker-init g c =
       next = tt;
       finite = tt;
       len = search rules;
+      at = subst (λ workers. All (λ worker. worker.promise.shelves.value ≡ c.args.shelves.now) workers) (sym items) c.requires.shelves;
+      fit = subst (λ seats. All (g.T.Versions.fits c.args.shelves.now) seats) (sym c.requires.room) (All-nil _);
       forms = subst (λ workers. All (λ worker. worker.promise.form ≡ c.args.form) workers) (sym items) c.requires.forms;
       queues = subst (λ workers. All (λ worker. worker.promise.taker.value.queue ≡ c.args.dealer.queue) workers) (sym items) c.requires.queues;
       queue = refl;
@@ -36,10 +39,12 @@ loop-worker-preserved g c =
     let short = ap length step.0 in
     let forms = subst (λ workers. All (λ worker. worker.promise.form ≡ c.args.form) workers) step.0 was.forms in
     let queues = subst (λ workers. All (λ worker. worker.promise.taker.value.queue ≡ c.args.dealer.queue) workers) step.0 was.queues in
+    let at = subst (λ workers. All (λ worker. worker.promise.shelves.value ≡ c.args.shelves.now) workers) step.0 was.at in
     let done = c.join-share.result in
     let share = subst (λ form. IsShare form g.C.Client.opens g.C.Reader.Read.remaining g.C.Writer.Write.contents
     g.T.Versions.number g.T.Versions.value g.T.Versions.known c.in-Some.worker.promise.seat.value done.taker.taken done.served done.seat)
-    (forms 0 c.in-Some.worker (omega arith)) c.join-share.ensures.1 in
+    (forms 0 c.in-Some.worker (omega arith)) c.join-share.ensures.2 in
+    let fits = subst (λ shelves. g.T.Versions.fits shelves done.seat) (at 0 c.in-Some.worker (omega arith)) c.join-share.ensures.1 in
     let back = c.take_back.ensures in
     let view = ap (λ dealer. dealer.view) back in
     let closed : done.taker.closed ≡ true = search rules in
@@ -53,6 +58,9 @@ loop-worker-preserved g c =
       next = tt;
       finite = tt;
       len = omega (arith, short, step.1, was.len);
+      at = λ k d small. at (suc k) d (omega arith);
+      fit = subst (λ seats. All (g.T.Versions.fits c.args.shelves.now) seats) (sym c.in-Ok.ensures.items)
+          (All-push (g.T.Versions.fits c.args.shelves.now) _ done.seat was.fit fits);
       forms = λ k d small. forms (suc k) d (omega arith);
       queues = λ k d small. queues (suc k) d (omega arith);
       queue = ap (λ dealer. dealer.queue) back ∙ was.queue;
@@ -82,6 +90,7 @@ returns g c =
     let served = joined_all c.args.form g.C.Client.opens g.C.Reader.Read.remaining g.C.Writer.Write.contents
     g.T.Versions.number g.T.Versions.value g.T.Versions.known
     _ _ _ _ _ _ _ was.joined none sent in
-    subst (λ workers. AreAllServed c.args.form g.C.Client.opens g.C.Reader.Read.remaining g.C.Writer.Write.contents
+    let shares = subst (λ workers. AreAllServed c.args.form g.C.Client.opens g.C.Reader.Read.remaining g.C.Writer.Write.contents
     g.T.Versions.number g.T.Versions.value g.T.Versions.known c.args.dealer.view.sent
-    (map (λ worker. worker.promise.seat.value) workers) c.loop-worker.served c.loop-worker.seats.items) items served
+    (map (λ worker. worker.promise.seat.value) workers) c.loop-worker.served c.loop-worker.seats.items) items served in
+    record { fits = was.fit; shares = shares }

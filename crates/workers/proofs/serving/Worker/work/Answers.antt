@@ -1,6 +1,6 @@
 use Rattle.std.proofs.Common.{refl, ◌∙◌}
 use Rattle.session.proofs.LearnLemmas.{learns_on, learns_same}
-use Rattle.workers.proofs.Ending.{serves_next, serves_none}
+use Rattle.workers.proofs.Ending.{may_close, serves_next, serves_none}
 use Rattle.workers.proofs.serving.Worker.work.Goals as goal
 
 pub loop-init : goal.loop-init
@@ -35,3 +35,11 @@ loop-preserved g c =
           one.ensures.number one.ensures.learns one.ensures.profiles one.ensures.idle
           one.ensures.served one.ensures.session;
     }
+
+-- what was served may be closed
+pub close-requires : goal.close-requires
+close-requires g c =
+    let one = c.serve_client-streams in
+    may_close c.args.self.now.desk.form g.C.Client.opens g.C.Reader.Read.remaining g.C.Writer.Write.contents
+        g.T.Versions.number g.T.Versions.value g.T.Versions.known g.C.Client.closes
+        _ _ one.result.0 one.result.1 _ _ _ _ c.requires.closes one.ensures.session

@@ -14,6 +14,7 @@ spawn_with-begun-requires-clause-runs g c =
     let left : All (g.T.Versions.fits c.captures.shelves.now) (c.in-Some.seat ∷ c.next.new.self.rest.items) =
     subst (λ items. All (g.T.Versions.fits c.captures.shelves.now) items) c.in-Some.ensures.steps.0 c.loop-seat.invariant.fit in
     let fits : g.T.Versions.fits c.captures.shelves.now c.in-Some.seat = left 0 c.in-Some.seat (omega arith) in
+    let closes = c.requires.15 in
     search rules
 
 pub loop-seat-preserved : goal.loop-seat-preserved
@@ -34,6 +35,9 @@ loop-seat-preserved g c =
       finite = tt;
       fit = λ k d small. left (suc k) d (omega arith);
       len = omega (arith, short, step.1, was.len);
+      at = subst (λ workers. All (λ worker. worker.promise.shelves.value ≡ c.captures.shelves.now) workers) (sym items)
+          (All-push (λ worker. worker.promise.shelves.value ≡ c.captures.shelves.now) _ worker was.at
+          (ap (λ promise. promise.shelves.value) promise ∙ c.of.ensures.shelves));
       forms = subst (λ workers. All (λ worker. worker.promise.form ≡ c.captures.form) workers) (sym items)
           (All-push (λ worker. worker.promise.form ≡ c.captures.form) _ worker was.forms (ap (λ promise. promise.form) promise ∙ c.of.ensures.form));
       queues = subst (λ workers. All (λ worker. worker.promise.taker.value.queue ≡ c.taker.new.self.queue) workers) (sym items)
@@ -55,6 +59,7 @@ loop-seat-init g c =
       finite = tt;
       fit = subst (λ items. All (g.T.Versions.fits c.captures.shelves.now) items) (sym c.into_iter-seat-iterator.ensures.into_iter_gives.0) all;
       len = search rules;
+      at = subst (λ workers. All (λ worker. worker.promise.shelves.value ≡ c.captures.shelves.now) workers) (sym none) (All-nil _);
       forms = subst (λ workers. All (λ worker. worker.promise.form ≡ c.captures.form) workers) (sym none) (All-nil _);
       queues = subst (λ workers. All (λ worker. worker.promise.taker.value.queue ≡ c.in_ok-dealer.dealer.queue) workers) (sym none) (All-nil _);
       dealer = c.in_ok-dealer.ensures ∙ ap (λ list. record nothing_put { out = length list }) (sym none);
@@ -77,9 +82,11 @@ returns-in-Ok-served g c =
     let seat = ap (λ promise. promise.seat.value) promised ∙ c.of-promise.ensures.seat in
     let at_feeds = subst (λ feeds. AllCarriedOut g.T.Versions.noted (g.F.Feeds.are_files feeds) g.F.Files.FeedFiles.holds g.F.Files.FeedFiles.reads
     (g.F.Feeds.is_plan feeds) (length (g.F.Feeds.named feeds)) done.0
-    (g.T.Loads.answers c.in-Ok.loading.promise.seat.value) (g.T.Loads.answers done.1)) feeds c.join-orders.ensures in
+    (g.T.Loads.answers c.in-Ok.loading.promise.seat.value) (g.T.Loads.answers done.1)) feeds c.join-orders.ensures.1 in
+    let loader = subst (λ shelves. g.T.Loads.loads shelves done.1) (ap (λ promise. promise.shelves.value) promised ∙ c.of-promise.ensures.shelves)
+    c.join-orders.ensures.0 in
     let loads = subst (λ seat. AllCarriedOut g.T.Versions.noted (g.F.Feeds.are_files c.captures.feeds.now)
     g.F.Files.FeedFiles.holds g.F.Files.FeedFiles.reads
     (g.F.Feeds.is_plan c.captures.feeds.now) (length (g.F.Feeds.named c.captures.feeds.now)) done.0
     (g.T.Loads.answers seat) (g.T.Loads.answers done.1)) seat at_feeds in
-    record { none_left = ran.ensures.none_left; shares = shares; loads = loads }
+    record { none_left = ran.ensures.none_left; seats = ran.ensures.fits; loader = loader; shares = shares; loads = loads }

@@ -10,6 +10,7 @@ invariant-loop-seat g l = record {
   finite : (goal.iterator-loop-seat g).is_finite l.seat-iterator;
   fit : All (g.T.Versions.fits l.shelves) l.seat-iterator.rest.items;
   len : into_iter_len l.seat-iterator ≡ length (into_iter_items l.seat-iterator);
+  at : All (λ worker. worker.promise.shelves.value ≡ l.shelves) l.workers.items;
   forms : All (λ worker. worker.promise.form ≡ l.form) l.workers.items;
   queues : All (λ worker. worker.promise.taker.value.queue ≡ l.dealer.queue) l.workers.items;
   dealer : l.dealer.view ≡ record nothing_put { out = length l.workers.items };
