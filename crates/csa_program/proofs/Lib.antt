@@ -1,4 +1,2 @@
-mod AnswerLemmas
 mod FeedNames
 mod NewSeats
-mod Picturing

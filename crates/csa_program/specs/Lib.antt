@@ -1,11 +1,2 @@
-pub mod Answering
-pub mod Asking
-pub mod Building
-pub mod Departing
-pub mod Informing
-pub mod Judging
-pub mod Listing
 pub mod Logging
-pub mod Opening
-pub mod Picturing
 pub mod Serving

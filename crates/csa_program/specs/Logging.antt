@@ -1,5 +1,5 @@
 -- The lines that a server logs, behind the instant and ahead of the seconds.
-use Rattle.std.specs.Prelude.{List, ℕ, ◌++◌, ◌==◌, Bool, codes, decimal}
+use Rattle.std.specs.Prelude.{List, ℕ, ◌++◌, codes, decimal}
 use Rattle.workers.specs.declared.loading.Loaded.{Loaded}
 use Rattle.workers.specs.declared.served.End.{End}
 
@@ -19,7 +19,3 @@ unfoldable pub loaded_text : Loaded → List ℕ
 loaded_text loaded =
     (codes " version " ++ decimal loaded.version) ++ (codes " runs " ++ decimal loaded.report.runs)
     ++ (codes " connections " ++ decimal loaded.report.connections)
-
--- the end of a line
-abbrev pub is_line_end : ℕ → Bool
-is_line_end byte = byte == 10

@@ -1,50 +1,20 @@
 //! The body of the program `csa`: words, a reader and two writers in, an exit status out.
 #![tactic(auto)]
 
-mod asked;
 mod bases;
-mod build;
-mod days;
-mod departures;
 mod explaining;
 mod folders;
-mod further_rows;
-mod info;
-mod journey;
-mod listing;
 mod logging;
 mod machine;
-mod naming;
-mod opening;
-mod pictured;
-mod planning;
-mod profile;
-mod progress;
-mod question;
-mod records;
-mod refusal;
-mod replying;
 mod requests;
 mod serve;
 mod sockets;
-mod status;
-mod stops;
-mod suspects;
-mod table_fault;
-mod tables;
-mod upgrade;
-mod verify;
-mod wanted_stops;
-mod warnings;
-mod windows;
-mod writing;
 
-use crate::asked::{Asked, answer};
 pub use crate::explaining::Explains;
-use crate::explaining::{explain, explain_zone};
 pub use crate::machine::Machine;
 use command_line::{Unread, read, wants_warnings};
 use command_requests::Request;
+use csa_commands::{Asked, answer, build, days, explain, explain_zone, status, tables};
 pub use feed_files::Disk;
 use std::convert::AsStr;
 use std::io::{Read, Write};

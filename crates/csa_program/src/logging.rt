@@ -8,39 +8,19 @@ ghost use Rattle.csa_program.specs.Logging.{end_word, loaded_text, session_text}
 
 use arrayvec::ArrayVec;
 use clock_days::instant;
+use csa_commands::{Begun, put_seconds};
 use jiff::Timestamp;
 use std::alloc::{AllocError, Global};
 use std::fmt::Write as _;
 use std::io;
 use std::io::Write;
 use std::sync::{Mutex, Wait};
-use std::time::{Clock, Duration, Instant};
+use std::time::{Clock, Duration};
 use text_pieces::{put_number, put_text, put_word};
 use workers::{End, LoadRefusal, Loaded};
 
 /// How many bytes of a line are kept until it ends.
 const LONGEST_LINE: usize = 4096;
-
-/// When something began; nothing if the clock couldn't be read.
-#[derive(Clone, Copy, Drop)]
-pub struct Begun(Option<Instant>);
-
-impl Begun {
-    /// It begins now.
-    pub fn now<C: Clock>(clock: &C) -> Begun {
-        Begun(Instant::now(clock).ok())
-    }
-
-    /// It began then, if that is known.
-    pub fn at(instant: Option<Instant>) -> Begun {
-        Begun(instant)
-    }
-
-    /// How long it has lasted by now.
-    pub fn elapsed<C: Clock>(self, clock: &C) -> Option<Duration> {
-        self.0?.elapsed(clock).ok()
-    }
-}
 
 /// Standard error of a server, which its threads share.
 #[derive(Drop)]
@@ -238,17 +218,4 @@ fn put_loaded(line: &mut String, loaded: &Loaded) -> Result<(), AllocError>
 fn put_end(line: &mut String, lasted: Option<Duration>) -> Result<(), AllocError> {
     put_seconds(line, lasted)?;
     put_text(line, "\n")
-}
-
-/// Adds how many seconds something took; a hyphen if the clock couldn't be read.
-pub fn put_seconds(line: &mut String, lasted: Option<Duration>) -> Result<(), AllocError> {
-    match lasted {
-        Some(lasted) => write!(
-            line,
-            " seconds {}.{:03}",
-            lasted.as_secs(),
-            lasted.subsec_millis()
-        ),
-        None => put_text(line, " seconds -"),
-    }
 }

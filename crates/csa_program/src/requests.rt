@@ -1,9 +1,8 @@
 //! How many requests a session sends: the lines that are read.
 
 ghost use Rattle.std.specs.Prelude.{◌≡◌};
-ghost use Rattle.std.specs.List.{count_by};
-ghost use Rattle.csa_program.specs.Logging.{is_line_end};
 
+use csa_commands::line_ends;
 use std::io;
 use std::io::Read;
 
@@ -59,17 +58,4 @@ impl<S: Read, V> Read for Requests<S, V> {
             Err(error) => Err(error),
         }
     }
-}
-
-/// How many lines end in the bytes.
-pub fn line_ends(bytes: &[u8]) -> u64
-    ensures { result ≡ count_by is_line_end bytes.now }
-{
-    bytes.iter().filter(|byte| is_end(**byte)).count() as u64
-}
-
-fn is_end(byte: u8) -> bool
-    ensures { result ≡ is_line_end byte }
-{
-    byte == b'\n'
 }

@@ -16,18 +16,17 @@ ghost use Rattle.csa_program.specs.Serving.{counts_of, form_with, served_text};
 ghost use Rattle.feed_plans.specs.Planning.{IsPlanNow};
 
 use crate::bases::warn_of_bases;
-use crate::explaining::{Explains, explain_load, reason_of};
+use crate::explaining::Explains;
 use crate::folders::warn_of_folders;
-use crate::logging::{Begun, LoaderErrors, SessionLog, SharedErrors, log_load};
+use crate::logging::{LoaderErrors, SessionLog, SharedErrors, log_load};
 use crate::machine::Machine;
-use crate::opening::open_image;
-use crate::planning::{PlanFailure, zone_bytes};
-use crate::refusal::refuse_feed;
 use crate::requests::Requests;
 use crate::sockets::{Door, Visit, Visitor};
-use crate::status;
 use clock_days::instant;
 use command_requests::{Ends, NamedFolder, PlanText, ServeRequest};
+use csa_commands::{
+    Begun, PlanFailure, explain_load, open_image, reason_of, refuse_feed, status, zone_bytes,
+};
 use epochs::{ShelfLoader, ShelfSeat, Shelves};
 use feed_files::{Disk, FeedFiles, FolderFiles};
 use feed_loader::Plan;

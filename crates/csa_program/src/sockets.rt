@@ -2,8 +2,9 @@
 
 ghost use Rattle.std.specs.Prelude.{◌≡◌, ◌⊎◌, ◌↔◌, ◌+◌, ◌++◌, ◌∷◌, [], true, false, IfSome, IsTrue, MatchOption, ⊤};
 
-use crate::logging::{Begun, SessionLog};
+use crate::logging::SessionLog;
 use crate::requests::Requests;
+use csa_commands::Begun;
 use load_orders::Notes;
 use std::io::ErrorKind;
 use std::net::{TcpListener, TcpStream};

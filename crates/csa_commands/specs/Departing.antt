@@ -1,0 +1,72 @@
+-- What `csa departures` prints of an image.
+use Rattle.std.specs.Prelude.{◌≡◌, ◌≢◌, ◌⊎◌, ℕ, List, Option, None}
+use Rattle.std.specs.Io.KnownBytes.{Appends}
+use Rattle.std.specs.Str.Lines.{lines}
+use Rattle.criteria.specs.declared.name.CriterionName.{CriterionName}
+use Rattle.timetable.specs.NamesValue.{NamesValue}
+use Rattle.timetable.specs.declared.query.QueryFault.{QueryFault}
+use Rattle.image_layout.specs.Image.{ImageValue}
+use Rattle.profile_scan.specs.declared.destination.Destination.{Destination}
+use Rattle.journeys.specs.Questions.{AsksAll, IsRefusedOfAll}
+use Rattle.journeys.specs.declared.question.Window.{Window}
+use Rattle.session.specs.Valuing.{arrival_told, by_arrival, by_trips, by_walking, trips_told, walking_told}
+use Rattle.command_requests.specs.declared.requests.DeparturesForm.{DeparturesForm}
+use Rattle.command_requests.specs.declared.requests.DeparturesRequest.{DeparturesRequest}
+use Rattle.departure_lines.specs.Naming.{AreWanted, IsUnknownLine}
+use Rattle.departure_lines.specs.Showing.{AreShown}
+use Rattle.departure_lines.specs.declared.form.LineForm.{LineForm}
+use Rattle.departure_lines.specs.declared.stop_lists.Wanted.{Wanted}
+use Rattle.departure_lines.specs.declared.stop_lists.Wanted.TheVariants.{All}
+use Rattle.csa_commands.specs.declared.wanted_stops.NoList.{NoList}
+use Rattle.csa_commands.specs.declared.wanted_stops.NoList.TheVariants.{NotText, UnknownStop, Unreadable, OutOfMemory}
+
+-- how departures are printed in a form that was asked for
+abbrev pub form_of : DeparturesForm → LineForm
+form_of DeparturesForm.Journeys = LineForm.Journeys
+form_of DeparturesForm.Points = LineForm.Points
+form_of DeparturesForm.Summary = LineForm.Summary
+form_of DeparturesForm.Json = LineForm.Json
+form_of DeparturesForm.JsonPoints = LineForm.JsonPoints
+
+-- the departures of the stops that are wanted, by the criterion of a name
+abbrev pub AreShownBy : CriterionName → DeparturesForm → ImageValue → Destination → Wanted → List ℕ → Type 0
+AreShownBy CriterionName.Arrival form image d wanted printed = AreShown arrival_told by_arrival (form_of form) image d wanted printed
+AreShownBy CriterionName.ArrivalTrips form image d wanted printed = AreShown trips_told by_trips (form_of form) image d wanted printed
+AreShownBy CriterionName.ArrivalTripsWalk form image d wanted printed = AreShown walking_told by_walking (form_of form) image d wanted printed
+
+-- when one travels, as the command line asks it
+abbrev pub window_asked : DeparturesRequest → Window
+window_asked request = record { from = request.after; until = request.until; by = request.by }
+
+-- some list names the stops that are wanted
+abbrev pub IsListed : NamesValue → Wanted → Type 0
+IsListed names wanted = (list : List ℕ) × AreWanted names (lines list) wanted
+
+-- all stops, unless a file is given: then those that its text names
+abbrev pub IsWantedFrom : {A : Type 0} → NamesValue → Option A → Wanted → Type 0
+IsWantedFrom names None wanted = wanted ≡ All
+IsWantedFrom names _ wanted = IsListed names wanted
+
+-- if a line is said to be unknown, it is the first of some list that is no stop_id
+abbrev pub IsUnknown : NamesValue → NoList → Type 0
+IsUnknown names (UnknownStop number) = (list : List ℕ) × IsUnknownLine names (lines list) number
+IsUnknown names Unreadable = Unit
+IsUnknown names NotText = Unit
+IsUnknown names OutOfMemory = Unit
+
+-- the departures from the stops that are wanted were added to what was printed before, and nothing else
+abbrev pub ArePrinted : CriterionName → DeparturesForm → ImageValue → Destination → Wanted → Option (List ℕ) → Option (List ℕ) → Type 0
+ArePrinted criterion form image d wanted before after =
+    (printed : List ℕ) × AreShownBy criterion form image d wanted printed × Appends before after printed
+
+-- those of what is asked
+abbrev pub AreAllPrinted : ImageValue → DeparturesRequest → Option (List ℕ) → Option (List ℕ) → Type 0
+AreAllPrinted image request before after =
+    (d : Destination) × (wanted : Wanted) × AsksAll image.names request.to.now (window_asked request) d × IsWantedFrom image.names request.from wanted
+    × ArePrinted request.criterion request.form image d wanted before after
+
+-- nothing is asked of the image, for a fault; or else a file is given that has a line that is no stop_id
+abbrev pub IsNoneAsked : ImageValue → DeparturesRequest → Type 0
+IsNoneAsked image request =
+    ((fault : QueryFault) × IsRefusedOfAll image request.to.now (window_asked request) fault)
+    ⊎ ((request.from ≢ None) × (list : List ℕ) × (number : ℕ) × IsUnknownLine image.names (lines list) number)

@@ -1,0 +1,46 @@
+-- What `csa journey` finds of a journey's text and a question.
+use Rattle.std.specs.Prelude.{◌≡◌, ◌≢◌, ◌++◌, ℕ, List, Option, Some, Result, Ok, Err, codes}
+use Rattle.std.specs.Io.KnownBytes.{Appends}
+use Rattle.timetable.specs.declared.journey.Times.{Times}
+use Rattle.timetable.specs.declared.query.Query.{Query}
+use Rattle.timetable.specs.JourneyValue.{JourneyValue}
+use Rattle.timetable.specs.Journeys.{Counts, arrival}
+use Rattle.image_layout.specs.Image.{ImageValue}
+use Rattle.journeys.specs.Faults.{first_fault}
+use Rattle.journeys.specs.Questions.{Asks, IsRefused}
+use Rattle.journeys.specs.Texts.{HasText, text_of}
+use Rattle.command_requests.specs.declared.requests.Question.{Question}
+use Rattle.csa_commands.specs.Asking.{window_of}
+use Rattle.departure_lines.specs.Words.{times_text}
+use Rattle.csa_commands.specs.declared.journey.Failure.{Failure}
+use Rattle.csa_commands.specs.declared.journey.Failure.TheVariants.{BadQuery, BadText, Faulty, OutOfMemory}
+
+-- the question asks this query of the image, and the text is that of this journey
+pub record IsPosed (image : ImageValue) (question : Question) (text : List ℕ) (q : Query) (j : JourneyValue) : Type 0 where
+  pub asks : Asks image.names question.from.now question.to.now (window_of question) q
+  pub has_text : HasText j
+  pub spells : text ≡ text_of j
+
+-- when a journey that counts for the query departs and is over; or the first fault: of the query, of the text, of the journey
+abbrev pub IsVerdict : ImageValue → Question → List ℕ → Result Times Failure → Type 0
+IsVerdict image question text (Ok times) =
+    (q : Query) × (j : JourneyValue) × IsPosed image question text q j × Counts image.timetable q times.dep j × (times.arr ≡ arrival image.timetable j)
+IsVerdict image question text (Err (BadQuery fault)) = IsRefused image question.from.now question.to.now (window_of question) fault
+IsVerdict image question text (Err BadText) =
+    ((q : Query) × Asks image.names question.from.now question.to.now (window_of question) q) × ((j : JourneyValue) → HasText j → ¬ (text ≡ text_of j))
+IsVerdict image question text (Err (Faulty fault)) =
+    (q : Query) × (j : JourneyValue) × IsPosed image question text q j × (first_fault image.timetable q j ≡ Some fault)
+IsVerdict image question text (Err OutOfMemory) = Unit {0}
+
+-- the line of a journey that counts
+abbrev pub times_line : Times → List ℕ
+times_line times = codes "ok " ++ times_text times.dep times.arr ++ codes "\n"
+
+-- the journey counts, and its line was added to what was printed before, and nothing else
+abbrev pub IsAccepted : ImageValue → Question → List ℕ → Option (List ℕ) → Option (List ℕ) → Type 0
+IsAccepted image question text before after =
+    (times : Times) × IsVerdict image question text (Ok times) × Appends before after (times_line times)
+
+-- there is a first fault, of the query, of the text or of the journey
+abbrev pub IsFaulty : ImageValue → Question → List ℕ → Type 0
+IsFaulty image question text = (failure : Failure) × (failure ≢ OutOfMemory) × IsVerdict image question text (Err failure)

@@ -1,0 +1,10 @@
+pub mod Answering
+pub mod Asking
+pub mod Building
+pub mod Departing
+pub mod Informing
+pub mod Judging
+pub mod Listing
+pub mod Newlines
+pub mod Opening
+pub mod Picturing

@@ -1,0 +1,166 @@
+//! `csa build FOLDER OUT --first DAY --days N --zone ZONE [--strict] [--progress] [--no-warnings]`.
+
+ghost use Rattle.std.specs.Prelude.{◌≡◌, ◌≤◌, ◌<◌, ◌-◌, ◌^◌, ◌++◌, IfOk, OnOk, string_bytes};
+ghost use Rattle.connections.specs.declared.days.TheConstants.{MAX_DAYS};
+ghost use Rattle.csa_commands.specs.Building.{changed_text, made_text, report_line};
+
+use crate::explaining::{explain_refused, reason_of};
+use crate::planning::{PlanFailure, plan_of};
+use crate::progress::{Progress, ReportedFiles, Reports, load_reported};
+use crate::refusal::refuse_feed;
+use crate::status;
+use crate::warnings::{Built, warn};
+use crate::writing::put_image;
+use command_requests::BuildRequest;
+use feed_files::{FeedFiles, FolderFiles};
+use feed_loader::{LoadFault, Plan, Report};
+use std::alloc::{AllocError, Global};
+use std::io;
+use std::io::{ErrorKind, Write};
+use std::random::RandomSource;
+use std::rt::Files;
+use std::time::Clock;
+use text_pieces::{put_number, put_text};
+
+/// Why no image is written.
+enum Failure<'a> {
+    /// The feed isn't loaded, or the zone is none.
+    Refused(LoadFault),
+    /// The file at the path can't be read.
+    Unreadable(&'a str),
+    /// The file at the path can't be written, for this reason.
+    Unwritable(&'a str, &'static str),
+    OutOfMemory,
+}
+
+impl<'a> From<LoadFault> for Failure<'a> {
+    fn from(fault: LoadFault) -> Failure<'a> {
+        Failure::Refused(fault)
+    }
+}
+
+impl<'a> From<PlanFailure<'a>> for Failure<'a> {
+    fn from(failure: PlanFailure<'a>) -> Failure<'a> {
+        match failure {
+            PlanFailure::Refused(fault) => Failure::Refused(fault),
+            PlanFailure::Unreadable(path) => Failure::Unreadable(path),
+            PlanFailure::OutOfMemory => Failure::OutOfMemory,
+        }
+    }
+}
+
+/// Builds the image of the folder's feed, writes it, and prints its counts; or reports the first thing that is wrong.
+/// The file is written only where nothing was. Explanations go to `errors`, and so do warnings, if they are wanted, and
+/// progress, where it is asked for or where that is a terminal.
+pub fn run<H: Files + RandomSource + AllocGlobal + Clock, O: Write, E: Write>(
+    rt: &H,
+    request: BuildRequest<'_>,
+    output: &mut O,
+    errors: &mut E,
+    is_terminal: bool,
+    warnings: bool,
+) -> u8 {
+    let alloc = rt.alloc();
+    let folder = request.folder;
+    let log = if request.progress || is_terminal {
+        Some(&mut *errors)
+    } else {
+        None
+    };
+    match build(rt, &request, log, is_terminal) {
+        Ok(built) => {
+            if warnings {
+                warn(rt, folder, &request.plan.zone, &built, errors);
+            }
+            status::write_line(output, counts(alloc, &built.report), status::ACCEPTED)
+        }
+        Err(Failure::Refused(fault)) => {
+            explain_refused(rt, folder, &fault, errors);
+            refuse_feed(alloc, output, fault)
+        }
+        Err(Failure::Unreadable(path)) => status::report_unreadable(rt, errors, path),
+        Err(Failure::Unwritable(path, reason)) => {
+            status::report_unwritten(alloc, errors, path, reason)
+        }
+        Err(Failure::OutOfMemory) => status::OUT_OF_MEMORY,
+    }
+}
+
+// Builds the image, and writes it; progress is reported, if there is anything to report it to.
+fn build<'a, 'c, H: Files + RandomSource + AllocGlobal + Clock, E: Write>(
+    rt: &'c H,
+    request: &BuildRequest<'a>,
+    log: Option<&'c mut E>,
+    is_terminal: bool,
+) -> Result<Built, Failure<'a>> {
+    let plan = plan_of(rt, &request.plan)?;
+    let progress = Progress::new(rt.alloc(), rt, log, is_terminal);
+    let mut files = ReportedFiles::new(FolderFiles::new(rt, request.folder), progress);
+    let built = build_reported(rt, request.out, &mut files, plan);
+    files.close();
+    built
+}
+
+// Builds the image of the files, and writes it at the path.
+fn build_reported<'a, H: Files + AllocGlobal, F: FeedFiles, R: Reports>(
+    rt: &H,
+    out: &'a str,
+    files: &mut ReportedFiles<F, R>,
+    plan: Plan,
+) -> Result<Built, Failure<'a>>
+    requires failures { F.failures files.old.files < 2 ^ 64 - 1 }
+    requires some { 1 ≤ plan.days }
+    requires few { plan.days ≤ MAX_DAYS }
+{
+    let (image, report) = load_reported(rt.alloc(), files, &plan)?;
+    files.report_writing(out);
+    if let Err(error) = put_image(rt, out, image.words()) {
+        return Err(write_failure(&error, out));
+    }
+    files.report_written(out, image.words().len());
+    Ok(Built {
+        image,
+        plan,
+        report,
+    })
+}
+
+fn write_failure<'a>(error: &io::Error, path: &'a str) -> Failure<'a> {
+    match error.kind() {
+        ErrorKind::OutOfMemory => Failure::OutOfMemory,
+        kind => Failure::Unwritable(path, reason_of(kind)),
+    }
+}
+
+// The line of counts.
+fn counts(alloc: Global, report: &Report) -> Result<String, AllocError>
+    ensures { IfOk result (λ line. string_bytes line ≡ report_line report.now) }
+{
+    let mut line = String::new(alloc);
+    append_made(&mut line, report)?;
+    append_changed(&mut line, report)?;
+    put_text(&mut line, "\n")?;
+    Ok(line)
+}
+
+// Adds how much the image has.
+fn append_made(line: &mut String, report: &Report) -> Result<(), AllocError>
+    ensures { OnOk result (string_bytes line.new ≡ string_bytes line.old ++ made_text report.now) }
+{
+    put_number(line, "stops ", report.stops as u64)?;
+    put_number(line, " runs ", report.runs as u64)?;
+    put_number(line, " connections ", report.connections as u64)?;
+    put_number(line, " footpaths ", report.footpaths as u64)?;
+    Ok(())
+}
+
+// Adds how much of the feed was changed, repeated or left out.
+fn append_changed(line: &mut String, report: &Report) -> Result<(), AllocError>
+    ensures { OnOk result (string_bytes line.new ≡ string_bytes line.old ++ changed_text report.now) }
+{
+    put_number(line, " lifted ", report.lifted as u64)?;
+    put_number(line, " flex ", report.flex as u64)?;
+    put_number(line, " frequencies ", report.frequencies as u64)?;
+    put_number(line, " skipped ", report.skipped as u64)?;
+    Ok(())
+}

@@ -1,0 +1,58 @@
+//! `csa days FOLDER`.
+
+ghost use Rattle.std.specs.Prelude.{◌≡◌, ◌≢◌};
+ghost use Rattle.command_requests.specs.declared.statuses.TheConstants.{ACCEPTED, REFUSED};
+ghost use Rattle.csa_commands.specs.Informing.{IsInformedOfDays};
+
+use crate::explaining::explain_refused;
+use crate::refusal::refuse_feed;
+use crate::status;
+use feed_days::days_text;
+use feed_files::{FolderFiles, read_tables};
+use feed_loader::LoadFault;
+use gtfs_tables::{Feed, join};
+use std::alloc::Global;
+use std::io::Write;
+use std::random::RandomSource;
+use std::rt::Files;
+
+/// Reads and joins the tables of the folder's files, and prints which service days the feed has, or
+/// the first thing that is wrong.
+pub fn run<H: Files + RandomSource + AllocGlobal, O: Write, E: Write>(
+    rt: &H,
+    folder: &str,
+    output: &mut O,
+    errors: &mut E,
+) -> u8 {
+    let alloc = rt.alloc();
+    match read_feed(rt, folder) {
+        Ok(feed) => print_days(alloc, &feed, output),
+        Err(fault) => {
+            explain_refused(rt, folder, &fault, errors);
+            refuse_feed(alloc, output, fault)
+        }
+    }
+}
+
+// The feed of the folder's files.
+fn read_feed<H: Files + RandomSource + AllocGlobal>(
+    rt: &H,
+    folder: &str,
+) -> Result<Feed, LoadFault> {
+    let alloc = rt.alloc();
+    let mut files = FolderFiles::new(rt, folder);
+    let tables = read_tables(alloc, &mut files)?;
+    let feed = join(alloc, tables, false)?;
+    Ok(feed)
+}
+
+// Prints which service days a feed has. It refuses nothing.
+fn print_days<O: Write>(alloc: Global, feed: &Feed, output: &mut O) -> u8
+    ensures printed { result ≡ ACCEPTED → IsInformedOfDays feed.now (O.contents output.old) (O.contents output.new) }
+    ensures refused { result ≢ REFUSED }
+{
+    match days_text(alloc, feed) {
+        Ok(lines) => status::write_text(output, lines.as_str(), status::ACCEPTED),
+        Err(_) => status::OUT_OF_MEMORY,
+    }
+}

@@ -1,0 +1,179 @@
+//! What standard error says beside a refusal: enough for a person to mend what is wrong.
+//!
+//! A line that can't be written, or for which there is no memory, changes nothing.
+
+use crate::folders::explain_folder;
+use crate::table_fault::{explain_failed, explain_table};
+use crate::warnings::zone_path;
+use feed_loader::LoadFault;
+use std::alloc::{AllocError, Global};
+use std::convert::AsStr;
+use std::fmt::Write as _;
+use std::fs::{self, File};
+use std::io::{ErrorKind, Write};
+use std::rt::Files;
+
+/// How many bytes of a value are shown.
+const LONGEST_SHOWN: usize = 60;
+
+/// Writes the parts of a line, and its end.
+pub fn explain<E: Write>(errors: &mut E, parts: &[&str]) {
+    for part in parts {
+        if errors.write_all(part.as_bytes()).is_err() {
+            return;
+        }
+    }
+    let _ = errors.write_all(b"\n");
+}
+
+/// The system's reason, in words, where it is one that a user can act on.
+pub fn reason_of(kind: ErrorKind) -> &'static str {
+    match kind {
+        ErrorKind::NotFound => "no such file or folder",
+        ErrorKind::PermissionDenied => "permission denied",
+        ErrorKind::IsADirectory => "it is a folder",
+        ErrorKind::NotADirectory => "a part of its path is not a folder",
+        ErrorKind::ReadOnlyFilesystem => "the file system is read-only",
+        ErrorKind::StorageFull => "no space left on the device",
+        ErrorKind::QuotaExceeded => "the disk quota is exceeded",
+        ErrorKind::FileTooLarge => "the file would be too large",
+        ErrorKind::InvalidFilename => "the name is too long",
+        ErrorKind::AddrInUse => "it is in use",
+        _ => "an input or output error",
+    }
+}
+
+/// Why a file can't be read, as the system says when it is asked again. A pipe or a device isn't opened anew.
+pub fn unread_reason<H: Files>(rt: &H, path: &str) -> &'static str {
+    let metadata = match fs::metadata(rt, path) {
+        Ok(metadata) => metadata,
+        Err(error) => return reason_of(error.kind()),
+    };
+    if metadata.is_dir() {
+        return reason_of(ErrorKind::IsADirectory);
+    }
+    if !metadata.is_file() {
+        return reason_of(ErrorKind::Other);
+    }
+    match File::open(rt, path) {
+        Ok(_) => reason_of(ErrorKind::Other),
+        Err(error) => reason_of(error.kind()),
+    }
+}
+
+/// A value as it is shown: in quotes, with control characters escaped, and cut if it is long.
+pub fn quoted(alloc: Global, value: &[u8]) -> Result<String, AllocError> {
+    let shown = value.get(..LONGEST_SHOWN).unwrap_or(value);
+    let end = if shown.len() < value.len() { " .." } else { "" };
+    match str::from_utf8(shown) {
+        Ok(text) => format!(in alloc; "{text:?}{end}"),
+        Err(_) => quoted_bytes(alloc, shown, end),
+    }
+}
+
+/// Bytes that aren't UTF-8 as they are shown.
+fn quoted_bytes(alloc: Global, value: &[u8], end: &str) -> Result<String, AllocError> {
+    let mut text = format!(in alloc; "\"")?;
+    for byte in value {
+        push_shown(&mut text, *byte)?;
+    }
+    write!(text, "\"{end}")?;
+    Ok(text)
+}
+
+/// Adds a byte: plain ASCII as it is, anything else by its number.
+fn push_shown(text: &mut String, byte: u8) -> Result<(), AllocError> {
+    match byte {
+        b'"' => text.push_str("\\\""),
+        b'\\' => text.push_str("\\\\"),
+        b' '..=b'~' => text.push(byte as char),
+        _ => write!(text, "\\x{byte:02X}"),
+    }
+}
+
+/// Explains the refusal of a feed: what is wrong with its folder, or where a fault of a table is.
+/// Nothing is said if memory ran out.
+pub fn explain_refused<H: Files + AllocGlobal, E: Write>(
+    rt: &H,
+    folder: &str,
+    fault: &LoadFault,
+    errors: &mut E,
+) {
+    if fault.is_want_of_memory() {
+        return;
+    }
+    match fault {
+        LoadFault::Table(fault) => {
+            if is_folder(rt, folder) {
+                explain_table(rt, folder, fault, errors);
+            } else {
+                explain_folder(rt, folder, errors);
+            }
+        }
+        LoadFault::FileFailed(table) => explain_failed(rt, folder, *table, errors),
+        _ => explain_load(fault, errors),
+    }
+}
+
+/// Explains why a feed isn't loaded whose files are right, or why its zone is none.
+pub fn explain_load<E: Write>(fault: &LoadFault, errors: &mut E) {
+    let reason = match fault.number() {
+        21 =>
+            "--zone: neither a POSIX rule, such as CET-1CEST,M3.5.0,M10.5.0/3, nor a time zone file (TZif)",
+        22 =>
+            "--first, --days: a day is beyond the calendar, or a trip has a time that no image can have",
+        41 => "transfers.txt: walks that follow one another take more than 1000000 seconds",
+        42 =>
+            "transfers.txt, stops.txt: there are more than 5000000 footpaths, counting those that follow from others",
+        _ => return,
+    };
+    explain(errors, &["csa: ", reason]);
+}
+
+/// Says how a zone is spelled of which only the name was given, if the system has a file of it.
+pub fn explain_zone<H: Files + AllocGlobal, S: AsStr, E: Write>(
+    rt: &H,
+    words: &[S],
+    errors: &mut E,
+) {
+    if let Some(name) = value_of(words, "--zone")
+        && let Some(path) = zone_path(rt, name)
+    {
+        let parts = ["csa: for this zone write --zone file:", path.as_str()];
+        explain(errors, &parts);
+    }
+}
+
+/// The value of an option: the word behind it, or the rest of its own word behind `=`.
+fn value_of<'a, S: AsStr>(words: &'a [S], option: &str) -> Option<&'a str> {
+    let mut is_next = false;
+    for word in words {
+        let word = word.as_str();
+        if is_next {
+            return Some(word);
+        }
+        if let Some((name, value)) = word.split_once('=')
+            && name == option
+        {
+            return Some(value);
+        }
+        is_next = word == option;
+    }
+    None
+}
+
+/// Whether there is a plain file at the path.
+pub fn is_file<H: Files>(rt: &H, path: &str) -> bool {
+    match fs::metadata(rt, path) {
+        Ok(metadata) => metadata.is_file(),
+        Err(_) => false,
+    }
+}
+
+/// Whether there is a folder at the path.
+pub fn is_folder<H: Files>(rt: &H, path: &str) -> bool {
+    match fs::metadata(rt, path) {
+        Ok(metadata) => metadata.is_dir(),
+        Err(_) => false,
+    }
+}

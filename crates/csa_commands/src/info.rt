@@ -1,0 +1,22 @@
+//! `csa info IMAGE`.
+
+ghost use Rattle.std.specs.Prelude.{◌≡◌, ◌≢◌};
+ghost use Rattle.command_requests.specs.declared.statuses.TheConstants.{ACCEPTED, REFUSED};
+ghost use Rattle.csa_commands.specs.Informing.{IsInformed};
+
+use crate::status;
+use image_facts::facts_of;
+use image_verifier::Verified;
+use std::alloc::Global;
+use std::io::Write;
+
+/// Prints what an image has, which was judged when it was opened. It refuses nothing.
+pub fn run<O: Write>(alloc: Global, image: &Verified, output: &mut O) -> u8
+    ensures printed { result ≡ ACCEPTED → IsInformed image.now (O.contents output.old) (O.contents output.new) }
+    ensures refused { result ≢ REFUSED }
+{
+    match facts_of(alloc, image) {
+        Ok(lines) => status::write_text(output, lines.as_str(), status::ACCEPTED),
+        Err(_) => status::OUT_OF_MEMORY,
+    }
+}

@@ -1,0 +1,160 @@
+//! `csa journey IMAGE TEXT QUERY`.
+
+ghost use Rattle.std.specs.Prelude.{◌≡◌, ◌⊎◌, IfOk, string_bytes};
+ghost use Rattle.command_requests.specs.declared.statuses.TheConstants.{ACCEPTED, INPUT_OUTPUT, OUT_OF_MEMORY, REFUSED};
+ghost use Rattle.csa_commands.specs.Judging.{IsAccepted, IsFaulty, IsVerdict, times_line};
+
+use crate::explaining::explain;
+use crate::question::{query_asked, refuse_question};
+use crate::refusal::Refusal;
+use crate::status;
+use command_requests::JourneyRequest;
+use departure_lines::append_times;
+use image_verifier::Verified;
+use journeys::{JourneyFault, TextFault, check, journey_parse};
+use std::alloc::{AllocError, Global};
+use std::io::Write;
+use text_pieces::put_text;
+use timetable::{QueryFault, Times};
+
+/// Why a journey isn't accepted.
+#[derive(Drop)]
+pub enum Failure {
+    /// The question asks no query of the image.
+    BadQuery(QueryFault),
+    /// The text spells no journey.
+    BadText,
+    /// The journey doesn't hold in the image, or doesn't count for the query.
+    Faulty(JourneyFault),
+    OutOfMemory,
+}
+
+/// Prints when the journey departs and arrives, or why it doesn't hold in the image or doesn't count for the query, which
+/// standard error explains.
+pub fn run<O: Write, E: Write>(
+    alloc: Global,
+    image: &Verified,
+    request: JourneyRequest<'_>,
+    output: &mut O,
+    errors: &mut E,
+) -> u8
+    ensures accepted { result ≡ ACCEPTED → IsAccepted image.now request.entry.question request.entry.text.now
+        (O.contents output.old) (O.contents output.new) }
+    ensures refused { result ≡ REFUSED → IsFaulty image.now request.entry.question request.entry.text.now }
+{
+    match judge(alloc, image, &request) {
+        Ok(times) => match line_of(alloc, times) {
+            Ok(line) => status::write_text(output, line.as_str(), status::ACCEPTED),
+            Err(_) => status::OUT_OF_MEMORY,
+        },
+        Err(Failure::BadQuery(fault)) => {
+            refuse_question(alloc, image, &request.question, fault, output, errors)
+        }
+        Err(Failure::BadText) => refuse(alloc, &Refusal::BadText, output, errors),
+        Err(Failure::Faulty(fault)) => refuse(alloc, &Refusal::Journey(fault), output, errors),
+        Err(Failure::OutOfMemory) => status::OUT_OF_MEMORY,
+    }
+}
+
+/// When an accepted journey departs and arrives.
+fn line_of(alloc: Global, times: Times) -> Result<String, AllocError>
+    ensures { IfOk result (λ line. string_bytes line ≡ times_line times) }
+{
+    let mut line = String::new(alloc);
+    put_text(&mut line, "ok ")?;
+    append_times(&mut line, times.dep, times.arr)?;
+    put_text(&mut line, "\n")?;
+    Ok(line)
+}
+
+/// Prints why a journey is refused, and explains it.
+fn refuse<O: Write, E: Write>(
+    alloc: Global,
+    refusal: &Refusal,
+    output: &mut O,
+    errors: &mut E,
+) -> u8
+    ensures { (result ≡ REFUSED) ⊎ (result ≡ INPUT_OUTPUT) ⊎ (result ≡ OUT_OF_MEMORY) }
+{
+    let status = status::print_refusal(alloc, output, refusal);
+    if status == status::REFUSED {
+        explain_refusal(refusal, errors);
+    }
+    status
+}
+
+fn explain_refusal<E: Write>(refusal: &Refusal, errors: &mut E) {
+    match refusal {
+        Refusal::BadText => explain(
+            errors,
+            &[
+                "csa: a journey is `ride FIRST LAST` and `walk FROM TO SECS`, with one space between words",
+            ],
+        ),
+        Refusal::Journey(fault) => explain_fault(*fault, errors),
+        _ => {}
+    }
+}
+
+// It takes no memory.
+fn explain_fault<E: Write>(fault: JourneyFault, errors: &mut E) {
+    let reason = reason_of(fault);
+    let _ = match fault {
+        JourneyFault::LegRange(leg)
+        | JourneyFault::TwoTrips(leg)
+        | JourneyFault::NoBoarding(leg)
+        | JourneyFault::NoAlighting(leg)
+        | JourneyFault::TooEarly(leg) => {
+            write!(errors, "csa: ride {leg}, counted from 0: {reason}\n")
+        }
+        JourneyFault::NoFootpath(walk) | JourneyFault::WalkBroken(walk) => {
+            write!(
+                errors,
+                "csa: walk {walk}, walk 0 being the one before the first ride: {reason}\n"
+            )
+        }
+        JourneyFault::WrongEnds | JourneyFault::OutsideWindow => write!(errors, "csa: {reason}\n"),
+    };
+}
+
+fn reason_of(fault: JourneyFault) -> &'static str {
+    match fault {
+        JourneyFault::LegRange(_) => {
+            "there is no such ride, or the image has no such connections, or the first is after the last"
+        }
+        JourneyFault::TwoTrips(_) => "its first and its last connection are of different trips",
+        JourneyFault::NoBoarding(_) => "nobody may get on where it departs",
+        JourneyFault::NoAlighting(_) => "nobody may get off where it ends",
+        JourneyFault::NoFootpath(_) =>
+            "the image has no footpath from the one stop to the other with so many seconds",
+        JourneyFault::WalkBroken(_) => {
+            "it doesn't lead from where the ride before it ends to where the next departs; a change is a walk, \
+even at one stop and of 0 seconds"
+        }
+        JourneyFault::TooEarly(_) => "it departs before the ride and the walk before it are over",
+        JourneyFault::WrongEnds => "the journey doesn't begin at --from, or doesn't end at --to",
+        JourneyFault::OutsideWindow => {
+            "the journey departs before --after or after --until, or arrives after --by"
+        }
+    }
+}
+
+/// When the journey of a text departs and arrives, as an answer to the question; or the first fault: of the query,
+/// of the text, of the journey. Memory may run out while the text is read.
+fn judge(alloc: Global, image: &Verified, request: &JourneyRequest<'_>) -> Result<Times, Failure>
+    ensures { IsVerdict image.now request.now.question request.now.text.now result }
+{
+    let query = match query_asked(image, &request.question) {
+        Ok(query) => query,
+        Err(fault) => return Err(Failure::BadQuery(fault)),
+    };
+    let journey = match journey_parse(alloc, request.text.as_bytes()) {
+        Ok(journey) => journey,
+        Err(TextFault::BadText) => return Err(Failure::BadText),
+        Err(TextFault::OutOfMemory) => return Err(Failure::OutOfMemory),
+    };
+    match check(image, &query, &journey) {
+        Ok(times) => Ok(times),
+        Err(fault) => Err(Failure::Faulty(fault)),
+    }
+}

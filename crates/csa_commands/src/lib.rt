@@ -1,0 +1,46 @@
+//! The commands of `csa` but `serve`, over readers and writers; and what `serve` needs beside its sessions: statuses,
+//! the image that it opens, its zone, and what it says of a feed.
+#![tactic(auto)]
+
+mod asked;
+pub mod build;
+pub mod days;
+mod departures;
+mod elapsed;
+mod explaining;
+mod folders;
+mod further_rows;
+mod info;
+mod journey;
+mod listing;
+mod naming;
+mod newlines;
+mod opening;
+mod pictured;
+mod planning;
+mod profile;
+mod progress;
+mod question;
+mod records;
+mod refusal;
+mod replying;
+pub mod status;
+mod stops;
+mod suspects;
+mod table_fault;
+pub mod tables;
+mod upgrade;
+mod verify;
+mod wanted_stops;
+mod warnings;
+mod windows;
+mod writing;
+
+pub use asked::{Asked, answer};
+pub use elapsed::{Begun, put_seconds};
+pub use explaining::{explain, explain_load, explain_refused, explain_zone, reason_of};
+pub use folders::folder_fault;
+pub use newlines::line_ends;
+pub use opening::open_image;
+pub use planning::{PlanFailure, zone_bytes};
+pub use refusal::refuse_feed;

@@ -1,0 +1,58 @@
+//! What every command over an image begins with.
+
+ghost use Rattle.std.specs.Prelude.{◌≡◌, codes, IfOk, IfSome};
+ghost use Rattle.csa_commands.specs.Opening.{SpellsImage};
+
+use crate::refusal::Refusal;
+use crate::status;
+use image_files::{ImageFileFault, image_words};
+use image_verifier::{ImageFault, Verified, verify};
+use std::fmt;
+use std::io::{Read, Write};
+use std::rt::Files;
+
+/// The verified image at the path, or the status of a command that has said why there is none.
+pub fn open_image<H: Files + AllocGlobal, I: Read, O: Write, E: Write>(
+    rt: &H,
+    path: &str,
+    input: &mut I,
+    output: &mut O,
+    errors: &mut E,
+) -> Result<Verified, u8>
+    ensures { IfOk result (λ image. path.now ≡ codes "-" → IfSome (I.remaining input.old) (SpellsImage image.timetable image.names)) }
+{
+    let words = match image_words(rt, path, input) {
+        Ok(words) => words,
+        Err(ImageFileFault::OddLength) => {
+            let status = status::print_refusal(rt.alloc(), output, &Refusal::OddLength);
+            explain(
+                status,
+                path,
+                &"its size isn't a multiple of four bytes",
+                errors,
+            );
+            return Err(status);
+        }
+        Err(ImageFileFault::Unreadable) => {
+            return Err(status::report_unreadable(rt, errors, path));
+        }
+        Err(ImageFileFault::OutOfMemory) => return Err(status::OUT_OF_MEMORY),
+    };
+    match verify(rt.alloc(), words) {
+        Ok(image) => Ok(image),
+        Err((_words, ImageFault::OutOfMemory)) => Err(status::OUT_OF_MEMORY),
+        Err((_words, fault)) => {
+            let status = status::print_refusal(rt.alloc(), output, &Refusal::Image(fault));
+            explain(status, path, &fault, errors);
+            Err(status)
+        }
+    }
+}
+
+// Says what is wrong with the image at a path, once its refusal was printed. It takes no memory.
+fn explain<F: fmt::Display, E: Write>(status: u8, path: &str, fault: &F, errors: &mut E) {
+    let name = if path == "-" { "standard input" } else { path };
+    if status == status::REFUSED {
+        let _ = write!(errors, "csa: {name}: {fault}\n");
+    }
+}

@@ -1,0 +1,120 @@
+//! The picture of an answer, as an SVG file.
+
+ghost use Rattle.std.specs.Prelude.{◌≡◌, ◌-◌, IfOk, length, take, string_bytes};
+ghost use Rattle.std.specs.List.{AllZip};
+ghost use Rattle.csa_commands.specs.Picturing.{IsDrawnAs, IsPictureOf};
+
+use crate::explaining::reason_of;
+use answer_pictures::{Axis, JourneyLine, heading_of, journey_line, picture};
+use command_requests::ProfileRequest;
+use criteria::Told;
+use image_verifier::Verified;
+use journeys::{Answer, Departure};
+use std::alloc::{AllocError, Global};
+use std::fs::File;
+use std::io;
+use std::io::Write;
+use std::rt::Files;
+use timetable::Query;
+
+/// Why there is no picture.
+pub enum PictureFailure<'a> {
+    /// The file at the path can't be written, for this reason.
+    Unwritable(&'a str, &'static str),
+    OutOfMemory,
+}
+
+impl<'a> From<AllocError> for PictureFailure<'a> {
+    fn from(_error: AllocError) -> PictureFailure<'a> {
+        PictureFailure::OutOfMemory
+    }
+}
+
+/// The picture of an answer, with as many of its departures as are asked for.
+pub fn picture_text<C: Told>(
+    alloc: Global,
+    image: &Verified,
+    criterion: &C,
+    request: ProfileRequest<'_>,
+    query: &Query,
+    answer: &Answer<C>,
+) -> Result<String, AllocError>
+    ensures { IfOk result (λ text. IsPictureOf C.told image.now request.entry.criterion request.entry.rows.number
+        query.now
+        answer.now.departures.items answer.now.walk (string_bytes text)) }
+{
+    let rows = request.rows.number;
+    let heading = heading_of(alloc, image, query, request.criterion)?;
+    let drawn = first_of(&answer.departures, rows);
+    let lines = lines_of(alloc, image, criterion, drawn)?;
+    let axis = Axis::of_lines(&lines, query.from, query.until);
+    let left = left_of(&answer.departures, rows);
+    let text = picture(alloc, &heading, axis, answer.walk, &lines, left)?;
+    Ok(text)
+}
+
+/// As many departures as are drawn.
+fn first_of<V>(departures: &[Departure<V>], rows: usize) -> &[Departure<V>]
+    ensures { result.now ≡ take rows departures.now }
+{
+    if departures.len() <= rows {
+        departures
+    } else {
+        &departures[..rows]
+    }
+}
+
+/// How many departures aren't drawn.
+fn left_of<V>(departures: &[Departure<V>], rows: usize) -> usize
+    ensures { result ≡ length departures.now - rows }
+{
+    departures.len().saturating_sub(rows)
+}
+
+/// A line for each departure.
+fn lines_of<C: Told>(
+    alloc: Global,
+    image: &Verified,
+    criterion: &C,
+    departures: &[Departure<C::V>],
+) -> Result<Vec<JourneyLine>, AllocError>
+    ensures { IfOk result (λ lines. AllZip (IsDrawnAs C.told image.now) departures.now lines.items) }
+{
+    let mut lines = Vec::with_capacity(alloc, departures.len())?;
+    for departure in departures {
+        let line = line_of(alloc, image, criterion, departure)?;
+        lines.push(line)?;
+    }
+    Ok(lines)
+}
+
+fn line_of<C: Told>(
+    alloc: Global,
+    image: &Verified,
+    criterion: &C,
+    departure: &Departure<C::V>,
+) -> Result<JourneyLine, AllocError>
+    ensures { IfOk result (IsDrawnAs C.told image.now departure.now) }
+{
+    let told = criterion.tell(&departure.value);
+    journey_line(alloc, image, departure.time, told, &departure.journey)
+}
+
+/// Writes a picture into the file at the path.
+pub fn write_picture<'a, H: Files>(
+    rt: &H,
+    text: &str,
+    path: &'a str,
+) -> Result<(), PictureFailure<'a>> {
+    match write_file(rt, path, text) {
+        Ok(()) => Ok(()),
+        Err(error) => Err(PictureFailure::Unwritable(path, reason_of(error.kind()))),
+    }
+}
+
+// Writes the text into the file at the path.
+fn write_file<H: Files>(rt: &H, path: &str, text: &str) -> io::Result<()> {
+    let mut file = File::create(rt, path)?;
+    file.write_all(text.as_bytes())?;
+    file.flush()
+}

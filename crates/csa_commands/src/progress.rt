@@ -1,0 +1,321 @@
+//! What is reported while an image is made.
+
+ghost use Rattle.std.specs.Prelude.{◌≡◌, ◌≤◌, ◌<◌, ◌+◌, ◌-◌, ◌^◌, ℕ, List, take, IfOk, IfErr, OnOk};
+ghost use Rattle.image_layout.specs.declared.layout.TheConstants.{LAYOUT};
+ghost use Rattle.connections.specs.declared.days.TheConstants.{MAX_DAYS};
+ghost use Rattle.feed_files.specs.Reading.{Content, Tells};
+ghost use Rattle.feed_files.specs.Reads.{AreRead, all_tables};
+ghost use Rattle.gtfs_rows.specs.declared.fault.Table.{Table};
+ghost use Rattle.feed_loader.specs.Faults.{failed_by, failed_in};
+ghost use Rattle.feed_loader.specs.Refused.{IsLoadRefusal, IsLoaded, IsWantOfMemory};
+
+use crate::elapsed::{Begun, put_seconds};
+use crate::newlines::line_ends;
+use feed_files::{FeedFiles, FileFault};
+use feed_loader::{LoadFault, Plan, Report, load};
+use gtfs_tables::IdHash;
+use image_verifier::Verified;
+use std::alloc::{AllocError, Global};
+use std::io::Write;
+use std::time::{Clock, Duration};
+
+/// The file of a feed that is read last.
+const LAST_FILE: &str = "frequencies.txt";
+
+/// What is reported while a feed is loaded and its image is written.
+pub trait Reports {
+    /// A file is read next: the one before was judged.
+    fn begin_file(&mut self, name: &str);
+
+    /// The file was read, or isn't there. Behind the last one the image is made.
+    fn note_file(&mut self, name: &str, bytes: Option<&[u8]>);
+
+    /// The image was made, with these counts.
+    fn note_made(&mut self, report: &Report);
+
+    /// The image is written next, at a path.
+    fn begin_writing(&mut self, path: &str);
+
+    /// The image of so many words was written at a path.
+    fn note_written(&mut self, path: &str, words: usize);
+
+    /// Nothing more is reported.
+    fn close(&mut self);
+}
+
+/// Loads a feed as `load` does, and reports each file and then what the image has, if there is
+/// anything to report it to.
+pub fn load_reported<F: FeedFiles, R: Reports>(
+    alloc: Global,
+    files: &mut ReportedFiles<F, R>,
+    plan: &Plan,
+) -> Result<(Verified, Report), LoadFault>
+    requires failures { F.failures files.old.files < 2 ^ 64 - 1 }
+    requires some { 1 ≤ plan.now.days }
+    requires few { plan.now.days ≤ MAX_DAYS }
+    ensures same { F.holds files.new.files ≡ F.holds files.old.files }
+    ensures failures { F.failures files.new.files ≡ F.failures files.old.files + failed_in result }
+    ensures failed { F.failed files.new.files ≡ failed_by (F.failed files.old.files) result }
+    ensures layout { IfOk result (λ loaded. loaded.0.layout ≡ LAYOUT) }
+    ensures all_read { OnOk result ((content : Content)
+        × AreRead content all_tables (F.reads files.old.files) (F.reads files.new.files)) }
+    ensures first_read { (count : ℕ) × (content : Content)
+        × AreRead content (take count all_tables) (F.reads files.old.files) (F.reads files.new.files) }
+    ensures read_ok { (content : Content) (ts : List Table)
+        → AreRead content ts (F.reads files.old.files) (F.reads files.new.files)
+        → IfOk result (λ loaded. IsLoaded content plan.now loaded.0.timetable loaded.0.names loaded.1) }
+    ensures read_err { (content : Content) (ts : List Table)
+        → AreRead content ts (F.reads files.old.files) (F.reads files.new.files)
+        → IfErr result (λ fault. ¬ (IsWantOfMemory fault) → IsLoadRefusal content plan.now fault) }
+    ensures ok { (content : Content) → Tells (F.holds files.old.files) content →
+        IfOk result (λ loaded. IsLoaded content plan.now loaded.0.timetable loaded.0.names loaded.1) }
+    ensures err { (content : Content) → Tells (F.holds files.old.files) content →
+        IfErr result (λ fault. ¬ (IsWantOfMemory fault) → IsLoadRefusal content plan.now fault) }
+{
+    let loaded = load(alloc, files, plan);
+    if let Ok((_, report)) = &loaded {
+        files.report_made(report);
+    }
+    loaded
+}
+
+/// Where progress is reported: on a terminal by one line that is rewritten, else by a line for each
+/// thing that begins and one for each that is done. What can't be reported, or finds no memory, is
+/// left out.
+#[derive(Drop)]
+pub struct Progress<'c, C, W> {
+    alloc: Global,
+    clock: &'c C,
+    errors: &'c mut W,
+    is_terminal: bool,
+    /// When what is done now began.
+    begun: Begun,
+    /// The file that is read and judged now, with its bytes and lines.
+    file: Option<(String, u64, u64)>,
+}
+
+impl<'c, C: Clock, W: Write> Progress<'c, C, W> {
+    /// Nothing is done yet. None if there is nothing to report it to.
+    pub fn new(
+        alloc: Global,
+        clock: &'c C,
+        errors: Option<&'c mut W>,
+        is_terminal: bool,
+    ) -> Option<Progress<'c, C, W>> {
+        match errors {
+            Some(errors) => Some(Progress {
+                alloc,
+                clock,
+                errors,
+                is_terminal,
+                begun: Begun::now(clock),
+                file: None,
+            }),
+            None => None,
+        }
+    }
+
+    fn put(&mut self, text: &str) {
+        let _ = self.errors.write_all(text.as_bytes());
+    }
+
+    fn say(&mut self, line: Result<String, AllocError>) {
+        let Ok(line) = line else {
+            return;
+        };
+        if self.is_terminal {
+            self.put("\r\x1b[K");
+        }
+        self.put("csa: ");
+        self.put(line.as_str());
+        if !self.is_terminal {
+            self.put("\n");
+        }
+    }
+
+    /// Something begins.
+    fn begin(&mut self, doing: &str, what: &str) {
+        self.begun = Begun::now(self.clock);
+        self.say(format!(in self.alloc; "{doing} {what}"));
+    }
+
+    /// What began is done; these are its counts.
+    fn end(&mut self, counts: Result<String, AllocError>) {
+        let lasted = self.begun.elapsed(self.clock);
+        self.say(with_seconds(counts, lasted));
+    }
+
+    /// The file at hand was read, and is judged next.
+    fn keep_file(&mut self, name: &str, bytes: &[u8]) {
+        let (length, lines) = (bytes.len() as u64, lines_of(bytes));
+        if self.is_terminal {
+            self.say(format!(in self.alloc; "reading {name}: bytes {length} lines {lines}"));
+        }
+        if let Ok(name) = String::from_str(self.alloc, name) {
+            self.file = Some((name, length, lines));
+        }
+    }
+
+    /// The file at hand, if there is one, was judged.
+    fn end_file(&mut self) {
+        if let Some((name, length, lines)) = self.file.take() {
+            self.end(format!(in self.alloc; "read {name}: bytes {length} lines {lines}"));
+        }
+    }
+}
+
+impl<'c, C: Clock, W: Write> Reports for Progress<'c, C, W> {
+    fn begin_file(&mut self, name: &str) {
+        self.end_file();
+        self.begin("reading", name);
+    }
+
+    fn note_file(&mut self, name: &str, bytes: Option<&[u8]>) {
+        match bytes {
+            Some(bytes) => self.keep_file(name, bytes),
+            None => self.say(format!(in self.alloc; "no file {name}")),
+        }
+        if name == LAST_FILE {
+            self.end_file();
+            self.begin("making", "connections and footpaths");
+        }
+    }
+
+    fn note_made(&mut self, report: &Report) {
+        let Report {
+            runs,
+            connections,
+            footpaths,
+            ..
+        } = *report;
+        self.end(format!(in self.alloc;
+            "made runs {runs} connections {connections} footpaths {footpaths}"
+        ));
+    }
+
+    fn begin_writing(&mut self, path: &str) {
+        self.begin("writing", path);
+    }
+
+    fn note_written(&mut self, path: &str, words: usize) {
+        let bytes = (words as u64).saturating_mul(4);
+        self.end(format!(in self.alloc; "wrote {path}: bytes {bytes}"));
+    }
+
+    /// Takes the line of a terminal away.
+    fn close(&mut self) {
+        if self.is_terminal {
+            self.put("\r\x1b[K");
+        }
+    }
+}
+
+/// How many lines the bytes have; the last one need not end.
+fn lines_of(bytes: &[u8]) -> u64 {
+    let ended = line_ends(bytes);
+    match bytes.last() {
+        Some(b'\n') | None => ended,
+        Some(_) => ended.saturating_add(1),
+    }
+}
+
+/// A line with how many seconds something took.
+fn with_seconds(
+    line: Result<String, AllocError>,
+    lasted: Option<Duration>,
+) -> Result<String, AllocError> {
+    let mut line = line?;
+    put_seconds(&mut line, lasted)?;
+    Ok(line)
+}
+
+/// The files of a feed, each of which is reported when it is read, if there is anything to report it to.
+#[derive(Drop)]
+pub struct ReportedFiles<F, R> {
+    files: F,
+    reports: Option<R>,
+}
+
+impl<F: FeedFiles, R: Reports> ReportedFiles<F, R> {
+    /// The files, and where what is done is reported.
+    pub fn new(files: F, reports: Option<R>) -> ReportedFiles<F, R>
+        ensures { result.files ≡ files }
+    {
+        ReportedFiles { files, reports }
+    }
+
+    // Reports that a file is read next.
+    fn report_reading(&mut self, name: &str)
+        ensures { self.new.files ≡ self.old.files }
+    {
+        if let Some(reports) = &mut self.reports {
+            reports.begin_file(name);
+        }
+    }
+
+    // Reports that the file was read.
+    fn report_read(&mut self, name: &str, bytes: Option<&[u8]>)
+        ensures { self.new.files ≡ self.old.files }
+    {
+        if let Some(reports) = &mut self.reports {
+            reports.note_file(name, bytes);
+        }
+    }
+
+    // Reports what the image has.
+    fn report_made(&mut self, report: &Report)
+        ensures { self.new.files ≡ self.old.files }
+    {
+        if let Some(reports) = &mut self.reports {
+            reports.note_made(report);
+        }
+    }
+
+    /// Reports that the image is written at a path.
+    pub fn report_writing(&mut self, path: &str) {
+        if let Some(reports) = &mut self.reports {
+            reports.begin_writing(path);
+        }
+    }
+
+    /// Reports that the image of so many words was written at a path.
+    pub fn report_written(&mut self, path: &str, words: usize) {
+        if let Some(reports) = &mut self.reports {
+            reports.note_written(path, words);
+        }
+    }
+
+    /// Nothing more is reported.
+    pub fn close(&mut self) {
+        if let Some(reports) = &mut self.reports {
+            reports.close();
+        }
+    }
+}
+
+impl<F: FeedFiles, R: Reports> FeedFiles for ReportedFiles<F, R> {
+    ghost failures = { λ reported. F.failures reported.files };
+
+    ghost failed = { λ reported. F.failed reported.files };
+
+    ghost reads = { λ reported. F.reads reported.files };
+
+    ghost holds = { λ reported. F.holds reported.files };
+
+    ghost may_give = { λ reported. F.may_give reported.files };
+
+    ghost hash = { λ reported. F.hash reported.files };
+
+    fn read(&mut self, alloc: Global, name: &str) -> Result<Option<Vec<u8>>, FileFault> {
+        self.report_reading(name);
+        let read = self.files.read(alloc, name);
+        if let Ok(file) = &read {
+            self.report_read(name, file.as_deref());
+        }
+        read
+    }
+
+    fn id_hash(&self) -> IdHash {
+        self.files.id_hash()
+    }
+}

@@ -1,0 +1,102 @@
+//! The query of an image that the command line asks, or what is wrong with it.
+
+ghost use Rattle.std.specs.Prelude.{◌≡◌, ◌⊎◌, MatchResult};
+ghost use Rattle.timetable.specs.Queries.{IsAskable};
+ghost use Rattle.journeys.specs.Questions.{Asks, IsRefused};
+ghost use Rattle.command_requests.specs.declared.statuses.TheConstants.{INPUT_OUTPUT, OUT_OF_MEMORY, REFUSED};
+ghost use Rattle.csa_commands.specs.Asking.{window_of};
+
+use crate::explaining::explain;
+use crate::refusal::Refusal;
+use crate::status;
+use command_requests::Question;
+use image_verifier::Verified;
+use journeys::{Window, query_of};
+use std::alloc::Global;
+use std::io::Write;
+use timetable::{Query, QueryFault};
+
+/// The query between the stops of these names, from the earliest departure until the latest and by
+/// the latest arrival; or its first fault.
+pub fn query_asked(image: &Verified, question: &Question<'_>) -> Result<Query, QueryFault>
+    ensures { MatchResult result
+        (λ query. IsAskable image.now.timetable.stops query
+        × Asks image.now.names question.now.from.now question.now.to.now (window_of question.now) query)
+        (IsRefused image.now question.now.from.now question.now.to.now (window_of question.now)) }
+{
+    let window = Window {
+        from: question.after,
+        until: question.until,
+        by: question.by,
+    };
+    query_of(
+        image,
+        question.from.as_bytes(),
+        question.to.as_bytes(),
+        window,
+    )
+}
+
+/// Prints why a question asks no query of an image, and says which end or clock is at fault.
+pub fn refuse_question<O: Write, E: Write>(
+    alloc: Global,
+    image: &Verified,
+    question: &Question<'_>,
+    fault: QueryFault,
+    output: &mut O,
+    errors: &mut E,
+) -> u8
+    ensures { (result ≡ REFUSED) ⊎ (result ≡ INPUT_OUTPUT) ⊎ (result ≡ OUT_OF_MEMORY) }
+{
+    let status = status::print_refusal(alloc, output, &Refusal::Query(fault));
+    if status == status::REFUSED {
+        explain_question(image, question, fault, errors);
+    }
+    status
+}
+
+/// Says which end is no stop of the image, or which clock is before another.
+fn explain_question<E: Write>(
+    image: &Verified,
+    question: &Question<'_>,
+    fault: QueryFault,
+    errors: &mut E,
+) {
+    match fault {
+        QueryFault::UnknownStop => {
+            explain_end(image, "--from", question.from, errors);
+            explain_end(image, "--to", question.to, errors);
+        }
+        QueryFault::SameStop => explain(errors, &["csa: --from and --to are the same stop"]),
+        QueryFault::BadWindow => {
+            let reason = window_reason(question.after, question.until, question.by);
+            explain(errors, &["csa: ", reason]);
+        }
+    }
+}
+
+/// Which clock of a window is before another, or past all that an image can have.
+pub fn window_reason(after: u32, until: u32, by: u32) -> &'static str {
+    if until < after {
+        "--until is before --after"
+    } else if by < after {
+        "--by is before --after"
+    } else {
+        "a clock is past 555555:33:19, the last second that an image can have"
+    }
+}
+
+/// Says that an option's stop is no stop of the image, if it is none.
+pub fn explain_end<'a, E: Write>(image: &Verified, option: &'a str, stop: &'a str, errors: &mut E) {
+    if image.find(stop.as_bytes()).is_none() {
+        explain_unknown(option, stop, errors);
+    }
+}
+
+/// Says that what an option gives, a stop_id or a line of a file, is no stop of the image. An image doesn't know
+/// stations, so it may be one.
+pub fn explain_unknown<'a, E: Write>(option: &'a str, given: &'a str, errors: &mut E) {
+    let reason = ": no stop of the image has this stop_id \
+(stations aren't stops: give a platform's stop_id, which `csa stops IMAGE TEXT` lists)";
+    explain(errors, &["csa: ", option, " ", given, reason]);
+}

@@ -1,0 +1,88 @@
+//! Exit statuses, and what is written with them.
+
+ghost use Rattle.std.specs.Prelude.{◌≡◌, ◌≢◌, ◌⊎◌};
+ghost use Rattle.std.specs.Io.KnownBytes.{Appends};
+ghost use Rattle.command_requests.specs.declared.statuses.TheConstants.{INPUT_OUTPUT, OUT_OF_MEMORY, REFUSED};
+
+use crate::explaining::unread_reason;
+use crate::refusal::Refusal;
+pub use command_requests::statuses::{
+    ACCEPTED, COMMAND_LINE, INPUT_OUTPUT, OUT_OF_MEMORY, REFUSED,
+};
+use std::alloc::{AllocError, Global};
+use std::io::Write;
+use std::rt::Files;
+
+/// Writes the text; the status, or that of a failed write.
+pub fn write_text<W: Write>(writer: &mut W, text: &str, status: u8) -> u8
+    ensures status { (result ≡ status) ⊎ (result ≡ INPUT_OUTPUT) }
+    ensures written { result ≢ INPUT_OUTPUT → Appends (W.contents writer.old) (W.contents writer.new) text.now }
+{
+    match writer.write_all(text.as_bytes()) {
+        Ok(()) => status,
+        Err(_) => INPUT_OUTPUT,
+    }
+}
+
+/// Writes a line that may have found no memory.
+pub fn write_line<W: Write>(writer: &mut W, line: Result<String, AllocError>, status: u8) -> u8
+    ensures { (result ≡ status) ⊎ (result ≡ INPUT_OUTPUT) ⊎ (result ≡ OUT_OF_MEMORY) }
+{
+    match line {
+        Ok(line) => write_text(writer, line.as_str(), status),
+        Err(_) => OUT_OF_MEMORY,
+    }
+}
+
+/// Prints a refusal.
+pub(crate) fn print_refusal<O: Write>(alloc: Global, output: &mut O, refusal: &Refusal) -> u8
+    ensures { (result ≡ REFUSED) ⊎ (result ≡ INPUT_OUTPUT) ⊎ (result ≡ OUT_OF_MEMORY) }
+{
+    write_line(output, format!(in alloc; "{refusal}\n"), REFUSED)
+}
+
+/// Reports a file that can't be read, with the system's reason.
+pub fn report_unreadable<H: Files + AllocGlobal, E: Write>(rt: &H, errors: &mut E, path: &str) -> u8
+    ensures { (result ≡ INPUT_OUTPUT) ⊎ (result ≡ OUT_OF_MEMORY) }
+{
+    let reason = unread_reason(rt, path);
+    report_failed_file(rt.alloc(), errors, path, "read", reason)
+}
+
+/// Reports a file that can't be written, with the system's reason.
+pub(crate) fn report_unwritten<E: Write>(
+    alloc: Global,
+    errors: &mut E,
+    path: &str,
+    reason: &str,
+) -> u8
+    ensures { (result ≡ INPUT_OUTPUT) ⊎ (result ≡ OUT_OF_MEMORY) }
+{
+    report_failed_file(alloc, errors, path, "written", reason)
+}
+
+// Reports what can't be done to a file, and why.
+fn report_failed_file<E: Write>(
+    alloc: Global,
+    errors: &mut E,
+    path: &str,
+    what: &str,
+    reason: &str,
+) -> u8
+    ensures { (result ≡ INPUT_OUTPUT) ⊎ (result ≡ OUT_OF_MEMORY) }
+{
+    write_line(
+        errors,
+        format!(in alloc; "csa: {path} can't be {what}: {reason}\n"),
+        INPUT_OUTPUT,
+    )
+}
+
+/// Prints the refusal of a feed of which a file can't be read; the status is that of a file that can't be read.
+pub(crate) fn print_unreadable_feed<O: Write>(
+    alloc: Global,
+    output: &mut O,
+    refusal: &Refusal,
+) -> u8 {
+    write_line(output, format!(in alloc; "{refusal}\n"), INPUT_OUTPUT)
+}

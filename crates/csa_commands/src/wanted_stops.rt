@@ -1,0 +1,66 @@
+//! The stops of which departures are wanted: all, or those that a file names.
+
+ghost use Rattle.std.specs.Prelude.{◌≢◌, None, IfErr, IfOk, MatchResult};
+ghost use Rattle.std.specs.Str.Lines.{lines};
+ghost use Rattle.departure_lines.specs.Naming.{AreWanted};
+ghost use Rattle.csa_commands.specs.Departing.{IsListed, IsUnknown, IsWantedFrom};
+
+use departure_lines::{ListFault, Wanted};
+use image_verifier::Verified;
+use std::alloc::Global;
+use std::fs;
+use std::io::ErrorKind;
+use std::rt::Files;
+
+/// Why it isn't known of which stops departures are wanted.
+#[derive(Drop)]
+pub enum NoList {
+    /// The line of this number, from 1 on, is no stop_id of the image.
+    UnknownStop(usize),
+    Unreadable,
+    /// The file isn't UTF-8.
+    NotText,
+    OutOfMemory,
+}
+
+/// All stops, or those that the file at the path names.
+pub fn wanted_from<H: Files + AllocGlobal>(
+    rt: &H,
+    image: &Verified,
+    path: Option<&str>,
+) -> Result<Wanted, NoList>
+    ensures wanted { IfOk result (IsWantedFrom image.now.names path.entry) }
+    ensures named { IfErr result (λ _. path.entry ≢ None) }
+    ensures unknown { IfErr result (IsUnknown image.now.names) }
+{
+    match path {
+        None => Ok(Wanted::All),
+        Some(path) => read_list(rt, image, path),
+    }
+}
+
+// The stops that the file at a path names.
+fn read_list<H: Files + AllocGlobal>(rt: &H, image: &Verified, path: &str) -> Result<Wanted, NoList>
+    ensures { MatchResult result (IsListed image.now.names) (IsUnknown image.now.names) }
+{
+    match fs::read_to_string(rt, path) {
+        Ok(text) => wanted_of(rt.alloc(), image, text.as_str()),
+        Err(error) => match error.kind() {
+            ErrorKind::OutOfMemory => Err(NoList::OutOfMemory),
+            ErrorKind::InvalidData => Err(NoList::NotText),
+            _ => Err(NoList::Unreadable),
+        },
+    }
+}
+
+// The stops that a list names.
+fn wanted_of(alloc: Global, image: &Verified, list: &str) -> Result<Wanted, NoList>
+    ensures wanted { IfOk result (AreWanted image.now.names (lines list.now)) }
+    ensures unknown { IfErr result (IsUnknown image.now.names) }
+{
+    match Wanted::listed(alloc, image, list) {
+        Ok(wanted) => Ok(wanted),
+        Err(ListFault::UnknownStop(line)) => Err(NoList::UnknownStop(line)),
+        Err(ListFault::OutOfMemory) => Err(NoList::OutOfMemory),
+    }
+}
