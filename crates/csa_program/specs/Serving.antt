@@ -1,6 +1,8 @@
--- What a server counts, and in which form it replies.
-use Rattle.std.specs.Prelude.{List, ℕ, ◌++◌, Bool, true, false, codes, decimal}
-use Rattle.command_requests.specs.Ending.{sessions_in}
+-- What a server counts and prints, and in which form it replies.
+use Rattle.std.specs.Prelude.{◌≡◌, ◌≢◌, List, ℕ, ◌++◌, Bool, true, false, Option, codes, decimal}
+use Rattle.std.specs.Io.KnownBytes.{Appends}
+use Rattle.command_requests.specs.Ending.{sessions_in, status_of}
+use Rattle.command_requests.specs.declared.statuses.TheConstants.{INPUT_OUTPUT, OUT_OF_MEMORY}
 use Rattle.command_requests.specs.declared.ends.Ends.{Ends}
 use Rattle.session.specs.declared.point_form.PointForm.{PointForm}
 use Rattle.workers.specs.Ends.{Session, ended_in, failed_in, spent_in}
@@ -14,6 +16,16 @@ abbrev pub form_with : Bool → PointForm
 form_with true = PointForm.WithLegs
 form_with false = PointForm.Bare
 
+-- at which port it listens
+abbrev pub port_text : ℕ → List ℕ
+port_text port = (codes "listening " ++ decimal port) ++ codes "\n"
+
 -- how many sessions there were
 abbrev pub served_text : Ends → List ℕ
 served_text ends = (codes "served " ++ decimal (sessions_in ends)) ++ codes "\n"
+
+-- a server that neither failed at a socket, a write or a session nor ran out of memory has printed its port and then the number of its sessions, and
+-- its status is that of how they ended
+abbrev pub IsServerEnd : Option (List ℕ) → Option (List ℕ) → ℕ → Type 0
+IsServerEnd before after status = (status ≢ INPUT_OUTPUT) × (status ≢ OUT_OF_MEMORY)
+    → (port : ℕ) × (ends : Ends) × (is_deaf : Bool) × (status ≡ status_of is_deaf ends) × Appends before after (port_text port ++ served_text ends)

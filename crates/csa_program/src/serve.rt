@@ -5,14 +5,14 @@ ghost use Rattle.std.specs.Prelude.{◌≡◌, ◌≢◌, ◌≤◌, ◌⊎◌, 
 ghost use Rattle.std.specs.Prelude.{slice_get, Some, string_bytes, IfOk};
 ghost use Rattle.std.specs.Io.KnownBytes.{Appends};
 ghost use Rattle.command_requests.specs.Ending.{status_of};
-ghost use Rattle.command_requests.specs.declared.statuses.TheConstants.{INPUT_OUTPUT, OUT_OF_MEMORY};
+ghost use Rattle.command_requests.specs.declared.statuses.TheConstants.{ACCEPTED, INPUT_OUTPUT, OUT_OF_MEMORY};
 ghost use Rattle.shelf_steps.specs.Events.{known_of};
 ghost use Rattle.shelf_steps.specs.Handed.{handed};
 ghost use Rattle.shelf_steps.specs.declared.views.View.{View};
 ghost use Rattle.epochs.specs.ShelfSeats.{NoticeValue, SeatsHanded};
 ghost use Rattle.workers.specs.Carrying.{ComeOfOrders};
 ghost use Rattle.workers.specs.Sessions.{AreServedSince};
-ghost use Rattle.csa_program.specs.Serving.{counts_of, form_with, served_text};
+ghost use Rattle.csa_program.specs.Serving.{IsServerEnd, counts_of, form_with, port_text, served_text};
 ghost use Rattle.feed_plans.specs.Planning.{IsPlanNow};
 
 use crate::bases::warn_of_bases;
@@ -197,7 +197,7 @@ fn name_of(alloc: Global, feed: &NamedFolder<'_>) -> Result<String, AllocError>
     String::from_str(alloc, feed.name)
 }
 
-// Listens at the port, and serves whoever comes.
+// Listens at the port, and serves whoever comes. Whatever the server's threads report goes through one lock.
 fn listen<
     H: Disk
         + Explains
@@ -215,7 +215,9 @@ fn listen<
     folders: &Folders<'_, H>,
     output: &mut O,
     errors: &mut E,
-) -> u8 {
+) -> u8
+    ensures { IsServerEnd (O.contents output.old) (O.contents output.new) result }
+{
     let alloc = folders.alloc;
     let Ok(made) = shelves_of(alloc, image, request.workers.number) else {
         return status::OUT_OF_MEMORY;
@@ -224,50 +226,31 @@ fn listen<
         Ok(bound) => bound,
         Err(error) => return unheard(alloc, errors, request.port, error.kind()),
     };
-    let begun = status::write_line(
-        output,
-        format!(in alloc; "listening {port}\n"),
-        status::ACCEPTED,
-    );
+    let begun = tell_port(alloc, port, output);
     if begun != status::ACCEPTED {
         return begun;
     }
     let errors = Mutex::new(errors);
-    match serve_at(rt, &listener, request, made, folders, &errors) {
-        Ok((ends, is_deaf)) => tell_served(alloc, ends, is_deaf, output),
-        Err(_) => status::OUT_OF_MEMORY,
-    }
-}
-
-// Serves whoever comes, and returns how many sessions ended in each way, and whether accepting failed. Whatever the
-// server's threads report goes through one lock.
-fn serve_at<H: Disk + Explains + Clock + Threads + Wait + Sync, E: Write + Send>(
-    rt: &H,
-    listener: &TcpListener,
-    request: &ServeRequest<'_>,
-    made: (Shelves, ShelfLoader, Vec<ShelfSeat>),
-    folders: &Folders<'_, H>,
-    errors: &Mutex<E>,
-) -> Result<(Ends, bool), WorkersFault>
-    requires loader { made.1.table ≡ made.0 }
-    requires seats { All (λ seat. seat.table ≡ made.0) made.2.items }
-    requires new { SeatsHanded made.0 (length made.2.items) made.2.items }
-    requires some { 1 ≤ length made.2.items }
-    requires few { length made.2.items ≤ 16 }
-{
-    let shared = SharedErrors::of(rt, folders.alloc, errors);
+    let shared = SharedErrors::of(rt, alloc, &errors);
     let log = if request.log { Some(&shared) } else { None };
-    let door = Door::new(listener, request.sessions, log);
+    let door = Door::new(&listener, request.sessions, log);
     let loader_errors = LoaderErrors::of(shared.another());
-    let ran = serve_all(
+    match serve_all(
         rt,
         door,
         made,
         folders,
         form_of(request.legs),
         loader_errors,
-    )?;
-    Ok((ends_of(&ran.served), ran.clients.has_failed()))
+    ) {
+        Ok(ran) => tell_served(
+            alloc,
+            ends_of(&ran.served),
+            ran.clients.has_failed(),
+            output,
+        ),
+        Err(_) => status::OUT_OF_MEMORY,
+    }
 }
 
 // Serves whoever comes to the door at these shelves, until nobody is left.
@@ -369,13 +352,35 @@ fn shelves_of(
 }
 
 // Reports that the server can't listen at the port, and why.
-fn unheard<E: Write>(alloc: Global, errors: &mut E, port: u16, kind: ErrorKind) -> u8 {
+fn unheard<E: Write>(alloc: Global, errors: &mut E, port: u16, kind: ErrorKind) -> u8
+    ensures { (result ≡ INPUT_OUTPUT) ⊎ (result ≡ OUT_OF_MEMORY) }
+{
     let reason = reason_of(kind);
     status::write_line(
         errors,
         format!(in alloc; "csa: can't listen at port {port}: {reason}\n"),
         status::INPUT_OUTPUT,
     )
+}
+
+// Prints at which port the server listens.
+fn tell_port<O: Write>(alloc: Global, port: u16, output: &mut O) -> u8
+    ensures status { (result ≡ ACCEPTED) ⊎ (result ≡ INPUT_OUTPUT) ⊎ (result ≡ OUT_OF_MEMORY) }
+    ensures printed { result ≡ ACCEPTED → Appends (O.contents output.old) (O.contents output.new) (port_text port) }
+{
+    match port_line(alloc, port) {
+        Ok(line) => status::write_text(output, line.as_str(), status::ACCEPTED),
+        Err(_) => status::OUT_OF_MEMORY,
+    }
+}
+
+fn port_line(alloc: Global, port: u16) -> Result<String, AllocError>
+    ensures { IfOk result (λ line. string_bytes line ≡ port_text port) }
+{
+    let mut line = String::new(alloc);
+    put_number(&mut line, "listening ", u64::from(port))?;
+    put_text(&mut line, "\n")?;
+    Ok(line)
 }
 
 // Prints how many sessions there were. The status is that of their ends and of the door, unless the line
