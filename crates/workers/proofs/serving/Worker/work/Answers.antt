@@ -41,5 +41,5 @@ pub close-requires : goal.close-requires
 close-requires g c =
     let one = c.serve_client-streams in
     may_close c.args.self.now.desk.form g.C.Client.opens g.C.Reader.Read.remaining g.C.Writer.Write.contents
-        g.T.Versions.number g.T.Versions.value g.T.Versions.known g.C.Client.closes
-        _ _ one.result.0 one.result.1 _ _ _ _ c.requires.closes one.ensures.session
+    g.T.Versions.number g.T.Versions.value g.T.Versions.known g.C.Client.closes
+    _ _ one.result.0 one.result.1 _ _ _ _ c.requires.closes one.ensures.session
