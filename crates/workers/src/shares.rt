@@ -67,8 +67,8 @@ impl<C: Client + Drop, S, T: Versions<Seat = S>> Promise<Share<C, S>> for ShareA
         promise.seat.value share.taker.taken share.served share.seat };
 }
 
-/// That all orders of these feeds that came to the loader were carried out, from what its seat of these shelves was when
-/// it began.
+/// That all orders of these feeds that came to the loader were carried out, from what its seat of these shelves was
+/// when it began.
 #[derive(Drop)]
 pub(crate) struct LoadsAt<T: Loads, F> {
     pub shelves: Snapshot<T>,
