@@ -16,7 +16,7 @@ use Rattle.shelf_steps.specs.Loading.{Loaded, Loads, Freed, Frees, FoundBusy, Fi
 use Rattle.shelf_steps.specs.Plays.{OfLoader, gives_notice}
 use Rattle.epochs.specs.declared.collected.Collected.{Collected}
 use Rattle.epochs.specs.declared.faults.PublishFault.{PublishFault}
-use Rattle.epochs.specs.SeatHistory.{Grows, IsPublished, EndsPublish, IsTried, FindsByTries}
+use Rattle.epochs.specs.SeatHistory.{Grows, IsPublished, EndsPublish, IsTried, FindsByTries, IsFullByTries}
 use Rattle.epochs.specs.ShelfLoads.{Rests, TriedShelf, TriesBelow, shelf_of, CollectsBySteps, MakesRoomBySteps, PublishesBySteps, RefusesBySteps}
 use Rattle.epochs.proofs.GrowthLemmas.{grows_same, growths_join, happened_grows, same_grows}
 
@@ -154,6 +154,14 @@ collects_find u u' found h = record {
       subst (λ n. IsTried (known_of u) k (Reply.Busy n) (known_of u')) same
       ((tries_reported 8 u found.freed found.busy u' h k less).1 (omega arith));
 }
+
+pub full_by_tries : (u u' : View) (fault : PublishFault) → RefusesBySteps u fault u' → IsFullByTries (known_of u) fault (known_of u')
+full_by_tries u u' (PublishFault.ShelvesFull counts) h =
+    let found = h.2.0 in
+    let finds = collects_find u u' found h.2.1 in
+    λ k count less some is. finds.busy k count less some (ap (λ (xs : List ℕ). slice_get xs k) (sym h.2.2) ∙ is)
+full_by_tries u u' PublishFault.VersionsSpent h = tt
+full_by_tries u u' PublishFault.OutOfMemory h = tt
 
 room_grows : (u u' : View) → MakesRoomBySteps u u' → Grows (known_of u) (known_of u')
 room_grows u u' h = elim h [

@@ -9,6 +9,7 @@ use Rattle.version_core.specs.Steps.{Holds}
 use Rattle.shelf_steps.specs.declared.views.Known.{Known}
 use Rattle.shelf_steps.specs.Course.{Goes, leading_to, image_of, Happened}
 use Rattle.epochs.specs.declared.faults.PinFault.{PinFault}
+use Rattle.epochs.specs.declared.faults.PublishFault.{PublishFault}
 use Rattle.epochs.specs.declared.collected.Collected.{Collected}
 
 -- the history published this image as this version
@@ -77,6 +78,12 @@ IsTried before shelf reply after = (first : Known) × (tried : Known) × Grows b
 pub record FindsByTries (before : Known) (found : Collected) (after : Known) : Type 0 where
   pub freed : (k : ℕ) → k < 8 → slice_get found.freed k ≡ Some true → IsTried before k Reply.Freed after
   pub busy : (k count : ℕ) → k < 8 → 0 < count → slice_get found.busy k ≡ Some count → IsTried before k (Reply.Busy count) after
+
+-- where a publish is refused since all shelves are in use, each count above 0 that it tells was found by a try at that shelf since then
+abbrev pub IsFullByTries : Known → PublishFault → Known → Type 0
+IsFullByTries before (PublishFault.ShelvesFull counts) after =
+    (k count : ℕ) → k < 8 → 0 < count → slice_get counts k ≡ Some count → IsTried before k (Reply.Busy count) after
+IsFullByTries before _ after = Unit {0}
 
 -- a version that was published with one image is never published with another
 abbrev pub OneImageEach : Type 0

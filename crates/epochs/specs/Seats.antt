@@ -44,6 +44,12 @@ ReleaseStep a (Err PinFault.NotPinned) b = (a.held ≡ None) × (b ≡ told a (A
 ReleaseStep a (Err PinFault.SeatLost) b = (a.held ≢ None) × (b ≡ emptied a (Answer.ReleaseRefused PinFault.SeatLost))
 ReleaseStep a (Err _) b = ⊥
 
+-- refusals of shelves that know their seats and pin without memory; a lock may have to refuse for either
+abbrev pub KnowsItsSeats : PinFault → Type 0
+KnowsItsSeats PinFault.SeatLost = ⊥
+KnowsItsSeats PinFault.OutOfMemory = ⊥
+KnowsItsSeats _ = Unit {0}
+
 -- and by a notice of this version that is taken in: the seat has seen the greater of the two versions, and nothing else changes
 abbrev pub JoinStep : SeatValue → ℕ → SeatValue → Type 0
 JoinStep a version b = b ≡ record a { seen = max a.seen version }

@@ -4,9 +4,10 @@ ghost use Rattle.std.specs.Prelude.{◌≡◌, ◌+◌, ◌<◌, Some, None, IfO
 ghost use Rattle.std.specs.Arc.{arc_value};
 ghost use Rattle.shelf_steps.specs.declared.views.View.{View};
 ghost use Rattle.epochs.specs.SeatHistory.{Grows, HoldsAsKnown, EndsPin, EndsRelease, IsPublished, EndsPublish};
-ghost use Rattle.epochs.specs.SeatHistory.{FindsByTries};
+ghost use Rattle.epochs.specs.SeatHistory.{FindsByTries, IsFullByTries};
 ghost use Rattle.shelf_steps.specs.Events.{known_of};
 ghost use Rattle.epochs.specs.Seats.{PinStep, ReleaseStep, JoinStep, PublishStep, RefuseStep, CollectStep};
+ghost use Rattle.epochs.specs.Seats.{KnowsItsSeats};
 ghost use Rattle.epochs.specs.ShelfSeats.{PinsBySteps, ReleasesBySteps, JoinsByStep, ShowsWhatItKnows};
 ghost use Rattle.epochs.specs.ShelfLoads.{CollectsBySteps, MakesRoomBySteps, PublishesWithNotice, RefusesBySteps};
 ghost use Rattle.epochs.specs.ShelfLoads.{IsSpentAt};
@@ -222,6 +223,7 @@ impl<B: Named, K> Versions for NamedShelves<B, K> {
     fn pin<R: Wait>(&self, _rt: &R, seat: &mut NamedSeat<B>) -> Result<(), PinFault>
         ensures number { seat.new.number ≡ seat.old.number }
         ensures pin { PinStep seat.old.shown result seat.new.shown }
+        ensures refused { IfErr result KnowsItsSeats }
         ensures known { HoldsAsKnown (known_of seat.new.view) seat.new.number seat.new.shown.held }
         ensures grows { Grows (known_of seat.old.view) (known_of seat.new.view) }
         ensures ends { EndsPin (known_of seat.old.view) seat.old.number result seat.new.shown.held
@@ -238,6 +240,7 @@ impl<B: Named, K> Versions for NamedShelves<B, K> {
     fn release<R: Wait>(&self, _rt: &R, seat: &mut NamedSeat<B>) -> Result<(), PinFault>
         ensures number { seat.new.number ≡ seat.old.number }
         ensures release { ReleaseStep seat.old.shown result seat.new.shown }
+        ensures refused { IfErr result KnowsItsSeats }
         ensures steps { ReleasesBySteps seat.old result seat.new }
         ensures grows { Grows (known_of seat.old.view) (known_of seat.new.view) }
         ensures ends { EndsRelease (known_of seat.old.view) seat.old.number result (known_of seat.new.view) }
@@ -249,7 +252,7 @@ impl<B: Named, K> Versions for NamedShelves<B, K> {
         ensures number { seat.new.number ≡ seat.old.number }
         ensures join { JoinStep seat.old.shown notice.version seat.new.shown }
         ensures step { JoinsByStep seat.old notice.version seat.new }
-        ensures grows { Grows (known_of seat.old.view) (known_of seat.new.view) }
+        ensures same { known_of seat.new.view ≡ known_of seat.old.view }
     {
         self.shelves.join(&mut seat.inner, notice.inner);
     }
@@ -284,6 +287,7 @@ impl<B: Named, K> Loads for NamedShelves<B, K> {
             PublishStep loader.old.answers (arc_value image) r.0 loader.new.answers)
             (λ e. RefuseStep loader.old.answers e.1 loader.new.answers) }
         ensures spent { IfErr result (λ e. IsSpentAt loader.old.current e.1) }
+        ensures full { IfErr result (λ e. IsFullByTries (known_of loader.old.view) e.1 (known_of loader.new.view)) }
         ensures steps { MatchResult result (λ r. (room : View) × MakesRoomBySteps loader.old.view room
             × PublishesWithNotice room (arc_value image) r.0 loader.new.view)
             (λ e. RefusesBySteps loader.old.view e.1 loader.new.view) }

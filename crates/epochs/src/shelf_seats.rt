@@ -146,7 +146,7 @@ impl ShelfSeat {
         ensures table { (self.new.table ≡ self.old.table) × (self.new.number ≡ self.old.number) }
         ensures join { JoinStep self.old.shown notice.version self.new.shown }
         ensures step { JoinsByStep self.old notice.version self.new }
-        ensures grows { Grows (known_of self.old.view) (known_of self.new.view) }
+        ensures same { known_of self.new.view ≡ known_of self.old.view }
     {
         let _ = &self.number;
         join(shelves, &mut self.place, notice.into_place());

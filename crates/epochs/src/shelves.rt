@@ -146,7 +146,7 @@ impl Shelves {
         ensures table { (seat.new.table ≡ seat.old.table) × (seat.new.number ≡ seat.old.number) }
         ensures join { JoinStep seat.old.shown notice.version seat.new.shown }
         ensures step { JoinsByStep seat.old notice.version seat.new }
-        ensures grows { Grows (known_of seat.old.view) (known_of seat.new.view) }
+        ensures same { known_of seat.new.view ≡ known_of seat.old.view }
     {
         seat.join_at(&self.table, notice);
     }

@@ -3,8 +3,9 @@
 ghost use Rattle.std.specs.Prelude.{◌≡◌, ◌+◌, ℕ, List, None, Some, MatchOption, MatchResult, IfErr, IfOk, IfSome};
 ghost use Rattle.std.specs.Arc.{arc_value};
 ghost use Rattle.epochs.specs.Seats.{SeatValue, PinStep, ReleaseStep, JoinStep, PublishStep, RefuseStep, CollectStep};
+ghost use Rattle.epochs.specs.Seats.{KnowsItsSeats};
 ghost use Rattle.epochs.specs.SeatHistory.{Grows, HoldsAsKnown, EndsPin, EndsRelease, IsPublished, EndsPublish};
-ghost use Rattle.epochs.specs.SeatHistory.{FindsByTries};
+ghost use Rattle.epochs.specs.SeatHistory.{FindsByTries, IsFullByTries};
 ghost use Rattle.epochs.specs.ShelfLoads.{IsSpentAt};
 ghost use Rattle.shelf_steps.specs.declared.views.Known.{Known};
 ghost use Rattle.epochs.specs.declared.seats.LoaderAnswer.{LoaderAnswer};
@@ -44,6 +45,7 @@ pub trait Versions {
         ensures fits { fits self.now seat.new }
         ensures number { number seat.new ≡ number seat.old }
         ensures pin { PinStep (value seat.old) result (value seat.new) }
+        ensures refused { IfErr result KnowsItsSeats }
         ensures known { HoldsAsKnown (known seat.new) (number seat.new) (value seat.new).held }
         ensures grows { Grows (known seat.old) (known seat.new) }
         ensures ends { EndsPin (known seat.old) (number seat.old) result (value seat.new).held (known seat.new) };
@@ -60,16 +62,17 @@ pub trait Versions {
         ensures fits { fits self.now seat.new }
         ensures number { number seat.new ≡ number seat.old }
         ensures release { ReleaseStep (value seat.old) result (value seat.new) }
+        ensures refused { IfErr result KnowsItsSeats }
         ensures grows { Grows (known seat.old) (known seat.new) }
         ensures ends { EndsRelease (known seat.old) (number seat.old) result (known seat.new) };
 
-    /// The seat has seen the notice's version from now on.
+    /// The seat has seen the notice's version from now on. It does nothing else, and learns nothing of the past.
     fn join<R: Wait>(&self, rt: &R, seat: &mut Self::Seat, notice: Self::Notice)
         requires { fits self.now seat.old }
         ensures fits { fits self.now seat.new }
         ensures number { number seat.new ≡ number seat.old }
         ensures join { JoinStep (value seat.old) (noted notice) (value seat.new) }
-        ensures grows { Grows (known seat.old) (known seat.new) };
+        ensures same { known seat.new ≡ known seat.old };
 
     /// The version that the notice is of.
     fn version_of(notice: &Self::Notice) -> u64
@@ -111,6 +114,7 @@ pub trait Loads: Versions {
             PublishStep (answers loader.old) (arc_value image) r.0 (answers loader.new))
             (λ e. RefuseStep (answers loader.old) e.1 (answers loader.new)) }
         ensures spent { IfErr result (λ e. IsSpentAt (current loader.old) e.1) }
+        ensures full { IfErr result (λ e. IsFullByTries (learned loader.old) e.1 (learned loader.new)) }
         ensures notice { IfOk result (λ r. IfSome r.1 (λ n. Self.Versions.noted n ≡ r.0)) }
         ensures published { IfOk result (λ r. IsPublished (learned loader.new) r.0 (arc_value image)) }
         ensures grows { Grows (learned loader.old) (learned loader.new) }

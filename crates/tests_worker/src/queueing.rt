@@ -10,7 +10,7 @@ use std::thread;
 use std::thread::Threads;
 use timetable::Trace;
 
-/// A seat from which nothing can be pinned.
+/// A seat at which nobody pins.
 #[derive(Drop)]
 struct Listener {
     answers: Trace<Answer>,
@@ -38,11 +38,10 @@ impl Versions for Numbers {
 
     ghost noted = { λ notice. notice };
 
-    fn pin<R: Wait>(&self, _rt: &R, seat: &mut Listener) -> Result<(), PinFault> {
-        seat.answers.note(&Answer::PinRefused {
-            fault: PinFault::OutOfMemory,
-        });
-        Err(PinFault::OutOfMemory)
+    // Nobody pins here.
+    fn pin<R: Wait>(&self, rt: &R, _seat: &mut Listener) -> Result<(), PinFault> {
+        for _ in rt.forever() {}
+        unreachable!()
     }
 
     fn edition(_seat: &Listener) -> Option<&Edition> {
