@@ -283,7 +283,8 @@ fn serve_all<
         made.2.items ran.served ran.seats.items) }
     ensures loads { IfOk result (λ ran. ComeOfOrders (λ (notice : NoticeValue). notice.version)
         (⟦<Folders<'f, H> as Feeds>⟧.are_files folders.now) ⟦<FolderFiles<'f, H> as FeedFiles>⟧.holds
-        ⟦<FolderFiles<'f, H> as FeedFiles>⟧.reads
+        ⟦<FolderFiles<'f, H> as FeedFiles>⟧.reads ⟦<FolderFiles<'f, H> as FeedFiles>⟧.failures
+        ⟦<FolderFiles<'f, H> as FeedFiles>⟧.failed
         (IsPlanNow folders.now.asked.now folders.now.zone_bytes.items) (length folders.now.names.items)
         made.1.answers ran.loader.answers) }
 {

@@ -1,25 +1,33 @@
 -- Orders that are carried out.
-use Rattle.std.specs.Prelude.{◌≡◌, ◌≤◌, ◌⊎◌, ◌∷◌, ℕ, true, List, [], Option, Result}
+use Rattle.std.specs.Prelude.{◌≡◌, ◌≤◌, ◌+◌, ◌⊎◌, ◌∷◌, ℕ, true, List, [], Option, Result}
 use Rattle.epochs.specs.declared.seats.LoaderAnswer.{LoaderAnswer}
 use Rattle.feed_files.specs.Files.{FileRead}
+use Rattle.feed_loader.specs.Faults.{failed_by, failed_in}
 use Rattle.feed_loader.specs.declared.plan.Plan.{Plan}
 use Rattle.load_orders.specs.Telling.{AnsweredValue, IsToldBack, LoaderOrdersValue}
 use Rattle.load_orders.specs.declared.queue.OrderMark.{OrderMark}
 use Rattle.load_orders.specs.declared.ways.LoadAnswer.{LoadAnswer}
 use Rattle.orders.specs.Ordering.{order_fault_number}
 use Rattle.orders.specs.declared.fault.OrderFault.{OrderFault}
-use Rattle.workers.specs.Loading.{Holds, IsOutcome, load_answer}
+use Rattle.workers.specs.Loading.{Holds, IsOutcome, load_answer, reading}
 use Rattle.workers.specs.declared.loading.Loaded.{Loaded}
 use Rattle.workers.specs.declared.refusal.LoadRefusal.{LoadRefusal}
 
--- over notices of these versions, and feeds at so many places with these files, their reads, and these plans
-module _ {N D : Type 0} (noted : N → ℕ) (are_files : ℕ → D → Type 0) (holds : D → Holds) (reads : D → List FileRead) (is_plan : Plan → Type 0)
-    (places : ℕ) where
+-- of a feed's files a read failed exactly if that is told, of the file that is told
+abbrev pub FailedAsTold : {D T : Type 0} → (D → ℕ) → (D → List (List ℕ)) → D → D → Result T LoadRefusal → Type 0
+FailedAsTold failures failed files files_then outcome =
+    (failures files_then ≡ failures files + failed_in (reading outcome)) × (failed files_then ≡ failed_by (failed files) (reading outcome))
+
+-- over notices of these versions, and feeds at so many places with these files, their reads, how many reads failed and of which files, and
+-- these plans
+module _ {N D : Type 0} (noted : N → ℕ) (are_files : ℕ → D → Type 0) (holds : D → Holds) (reads : D → List FileRead) (failures : D → ℕ)
+    (failed : D → List (List ℕ)) (is_plan : Plan → Type 0) (places : ℕ) where
   -- the files of the feed at this place are loaded, and the answer is what came of that; or there is no such feed
   abbrev pub IsLoadOf : ℕ → LoadAnswer N → List LoaderAnswer → List LoaderAnswer → Type 0
   IsLoadOf feed answer before after =
       ((files : D) × (files_then : D) × (plan : Plan) × (outcome : Result (Loaded × Option N) LoadRefusal) × are_files feed files × is_plan plan
-      × IsOutcome noted (holds files) (reads files) (reads files_then) plan before outcome after × (answer ≡ load_answer outcome))
+      × IsOutcome noted (holds files) (reads files) (reads files_then) plan before outcome after × FailedAsTold failures failed files files_then outcome
+      × (answer ≡ load_answer outcome))
       ⊎ ((places ≤ feed) × (after ≡ before) × (answer ≡ LoadAnswer.Refused (order_fault_number OrderFault.UnknownFeed)))
 
   -- an order is carried out: its own feed is loaded, and by its own way back it is told what came of that very load

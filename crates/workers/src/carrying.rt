@@ -4,7 +4,7 @@ ghost use Rattle.std.specs.Prelude.{◌≡◌, ◌≤◌, ◌∷◌, ◌++◌, [
 ghost use Rattle.feed_loader.specs.declared.plan.Plan.{Plan};
 ghost use Rattle.load_orders.specs.Queue.{mark_of};
 ghost use Rattle.load_orders.specs.Telling.{AnsweredValue};
-ghost use Rattle.workers.specs.Carrying.{AllCarriedOut, IsCarriedOut, IsLoadOf};
+ghost use Rattle.workers.specs.Carrying.{AllCarriedOut, FailedAsTold, IsCarriedOut, IsLoadOf};
 ghost use Rattle.workers.specs.Loading.{IsOutcome, load_answer};
 
 use crate::feeds::Feeds;
@@ -42,6 +42,7 @@ impl<'a, R: Wait, N: Drop, T: Versions<Notice = N> + Loads, F: Feeds> Loading<'a
         requires none { (orders.taken ≡ []) × (orders.answered ≡ []) }
         ensures loads { T.Loads.loads self.now.shelves.now result.1 }
         ensures carried { AllCarriedOut T.Versions.noted (F.are_files self.now.feeds.now) F.Files.holds F.Files.reads
+            F.Files.failures F.Files.failed
             (F.is_plan self.now.feeds.now) (length (F.named self.now.feeds.now))
             result.0 (T.Loads.answers seat) (T.Loads.answers result.1) }
     {
@@ -67,6 +68,7 @@ impl<'a, R: Wait, N: Drop, T: Versions<Notice = N> + Loads, F: Feeds> Loading<'a
         ensures taken { orders.new.taken ≡ orders.old.taken }
         ensures carried { (answer : AnsweredValue N) × (orders.new.answered ≡ orders.old.answered ++ answer ∷ [])
             × IsCarriedOut T.Versions.noted (F.are_files self.now.feeds.now) F.Files.holds F.Files.reads
+            F.Files.failures F.Files.failed
             (F.is_plan self.now.feeds.now)
             (length (F.named self.now.feeds.now)) (mark_of order) answer
             (T.Loads.answers seat.old) (T.Loads.answers seat.new) }
@@ -85,6 +87,7 @@ impl<'a, R: Wait, N: Drop, T: Versions<Notice = N> + Loads, F: Feeds> Loading<'a
         requires { T.Loads.loads self.now.shelves.now seat.old }
         ensures loads { T.Loads.loads self.now.shelves.now seat.new }
         ensures load { IsLoadOf T.Versions.noted (F.are_files self.now.feeds.now) F.Files.holds F.Files.reads
+            F.Files.failures F.Files.failed
             (F.is_plan self.now.feeds.now)
             (length (F.named self.now.feeds.now)) place result (T.Loads.answers seat.old) (T.Loads.answers seat.new) }
     {
@@ -115,7 +118,8 @@ impl<'a, R: Wait, N: Drop, T: Versions<Notice = N> + Loads, F: Feeds> Loading<'a
         ensures loads { T.Loads.loads self.now.shelves.now seat.new }
         ensures outcome { (files_then : F.Files) × (plan : Plan) × F.is_plan self.now.feeds.now plan
             × IsOutcome T.Versions.noted (F.Files.holds files) (F.Files.reads files) (F.Files.reads files_then) plan
-            (T.Loads.answers seat.old) result (T.Loads.answers seat.new) }
+            (T.Loads.answers seat.old) result (T.Loads.answers seat.new)
+            × FailedAsTold F.Files.failures F.Files.failed files files_then result }
     {
         match self.feeds.plan(self.alloc) {
             Ok(plan) => load_one(self.rt, self.alloc, &mut files, &plan, self.shelves, seat),

@@ -65,7 +65,8 @@ pub fn run_shelves<
         (λ seat. seat.number) (λ seat. seat.shown) (λ seat. known_of seat.view) (K.came clients) (K.came ran.clients)
         seats.items ran.served ran.seats.items) }
     ensures loads { IfOk result (λ ran. ComeOfOrders (λ (notice : NoticeValue). notice.version)
-        (F.are_files feeds.now) F.Files.holds F.Files.reads (F.is_plan feeds.now) (length (F.named feeds.now))
+        (F.are_files feeds.now) F.Files.holds F.Files.reads
+        F.Files.failures F.Files.failed (F.is_plan feeds.now) (length (F.named feeds.now))
         loader.answers ran.loader.answers) }
 {
     let room = Vec::with_capacity(alloc, seats.len())?;

@@ -89,7 +89,7 @@ where
         T.Versions.number T.Versions.value T.Versions.known (K.came clients) (K.came ran.clients)
         seats.items ran.served ran.seats.items) }
     ensures loads { IfOk result (λ ran. AllCarriedOut T.Versions.noted (F.are_files feeds.now) F.Files.holds
-        F.Files.reads (F.is_plan feeds.now) (length (F.named feeds.now)) ran.orders
+        F.Files.reads F.Files.failures F.Files.failed (F.is_plan feeds.now) (length (F.named feeds.now)) ran.orders
         (T.Loads.answers loader) (T.Loads.answers ran.loader)) }
 {
     thread::scope(
@@ -111,6 +111,7 @@ where
                 seats.items ran.served ran.seats.items) }
             ensures loads { IfOk result (λ ran.
                 AllCarriedOut T.Versions.noted (F.are_files feeds.entry.now) F.Files.holds F.Files.reads
+                F.Files.failures F.Files.failed
                 (F.is_plan feeds.entry.now) (length (F.named feeds.entry.now)) ran.orders
                 (T.Loads.answers loader) (T.Loads.answers ran.loader)) }
         {
@@ -125,6 +126,7 @@ where
                     requires { T.Loads.loads shelves.now loader_seat × (orders.taken ≡ []) × (orders.answered ≡ []) }
                     ensures { T.Loads.loads shelves.entry.now result.1
                         × AllCarriedOut T.Versions.noted (F.are_files feeds.entry.now) F.Files.holds F.Files.reads
+                        F.Files.failures F.Files.failed
                         (F.is_plan feeds.entry.now) (length (F.named feeds.entry.now))
                         result.0 (T.Loads.answers loader_seat) (T.Loads.answers result.1) }
                 {

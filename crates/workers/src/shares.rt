@@ -99,6 +99,7 @@ impl<L, N: Drop, T: Versions<Notice = N> + Loads<Loader = L>, F: Feeds> Promise<
 
     ghost kept_by = { λ promise done. T.Loads.loads promise.shelves.value done.1
         × AllCarriedOut T.Versions.noted (F.are_files promise.feeds.value) F.Files.holds F.Files.reads
+        F.Files.failures F.Files.failed
         (F.is_plan promise.feeds.value) (length (F.named promise.feeds.value)) done.0
         (T.Loads.answers promise.seat.value) (T.Loads.answers done.1) };
 }

@@ -11,7 +11,8 @@ loop-init g c =
       next = tt;
       finite = tt;
       loads = c.requires.loads;
-      carried = carries_nothing g.T.Versions.noted (g.F.Feeds.are_files feeds) g.F.Files.FeedFiles.holds g.F.Files.FeedFiles.reads (g.F.Feeds.is_plan feeds)
+      carried = carries_nothing g.T.Versions.noted (g.F.Feeds.are_files feeds) g.F.Files.FeedFiles.holds g.F.Files.FeedFiles.reads
+          g.F.Files.FeedFiles.failures g.F.Files.FeedFiles.failed (g.F.Feeds.is_plan feeds)
           (length (g.F.Feeds.named feeds)) c.args.orders (g.T.Loads.answers c.args.seat) c.requires.none.0 c.requires.none.1;
     }
 
@@ -24,7 +25,8 @@ loop-preserved g c =
       next = tt;
       finite = tt;
       loads = one.loads;
-      carried = carries_also g.T.Versions.noted (g.F.Feeds.are_files feeds) g.F.Files.FeedFiles.holds g.F.Files.FeedFiles.reads (g.F.Feeds.is_plan feeds)
+      carried = carries_also g.T.Versions.noted (g.F.Feeds.are_files feeds) g.F.Files.FeedFiles.holds g.F.Files.FeedFiles.reads
+          g.F.Files.FeedFiles.failures g.F.Files.FeedFiles.failed (g.F.Feeds.is_plan feeds)
           (length (g.F.Feeds.named feeds)) c.loop.orders c.next-in-loop.new.self c.load_feed.new.orders (mark_of c.in-Some-next.order)
           (g.T.Loads.answers c.args.seat) (g.T.Loads.answers c.loop.seat) (g.T.Loads.answers c.load_feed.new.seat)
           c.loop.invariant.carried c.in-Some-next.ensures.taken c.in-Some-next.ensures.answered one.taken one.carried;
@@ -35,7 +37,8 @@ pub returns-in-None-next : goal.returns-in-None-next
 returns-in-None-next g c =
     let feeds = c.args.self.now.feeds.now in
     let last = c.in-None-next.ensures in
-    let carried = all_carried g.T.Versions.noted (g.F.Feeds.are_files feeds) g.F.Files.FeedFiles.holds g.F.Files.FeedFiles.reads (g.F.Feeds.is_plan feeds)
+    let carried = all_carried g.T.Versions.noted (g.F.Feeds.are_files feeds) g.F.Files.FeedFiles.holds g.F.Files.FeedFiles.reads
+    g.F.Files.FeedFiles.failures g.F.Files.FeedFiles.failed (g.F.Feeds.is_plan feeds)
     (length (g.F.Feeds.named feeds)) c.loop.orders c.next-in-loop.new.self
     (g.T.Loads.answers c.args.seat) (g.T.Loads.answers c.loop.seat)
     c.loop.invariant.carried last.taken last.answered last.over in

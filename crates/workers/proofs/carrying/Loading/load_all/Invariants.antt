@@ -8,6 +8,7 @@ invariant-loop g l = record {
   finite : (goal.iterator-loop g).is_finite l.iterator';
   loads : g.T.Loads.loads l.self.shelves.now l.seat;
   carried : AreCarriedOut g.T.Versions.noted (g.F.Feeds.are_files l.self.feeds.now) g.F.Files.FeedFiles.holds g.F.Files.FeedFiles.reads
+      g.F.Files.FeedFiles.failures g.F.Files.FeedFiles.failed
       (g.F.Feeds.is_plan l.self.feeds.now)
       (length (g.F.Feeds.named l.self.feeds.now)) l.orders.taken l.orders.answered (g.T.Loads.answers l.fn.seat) (g.T.Loads.answers l.seat);
 }

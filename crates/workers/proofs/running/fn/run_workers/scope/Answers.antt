@@ -81,12 +81,13 @@ returns-in-Ok-served g c =
     let feeds = ap (λ promise. promise.feeds.value) promised ∙ c.of-promise.ensures.feeds in
     let seat = ap (λ promise. promise.seat.value) promised ∙ c.of-promise.ensures.seat in
     let at_feeds = subst (λ feeds. AllCarriedOut g.T.Versions.noted (g.F.Feeds.are_files feeds) g.F.Files.FeedFiles.holds g.F.Files.FeedFiles.reads
+    g.F.Files.FeedFiles.failures g.F.Files.FeedFiles.failed
     (g.F.Feeds.is_plan feeds) (length (g.F.Feeds.named feeds)) done.0
     (g.T.Loads.answers c.in-Ok.loading.promise.seat.value) (g.T.Loads.answers done.1)) feeds c.join-orders.ensures.1 in
     let loader = subst (λ shelves. g.T.Loads.loads shelves done.1) (ap (λ promise. promise.shelves.value) promised ∙ c.of-promise.ensures.shelves)
     c.join-orders.ensures.0 in
     let loads = subst (λ seat. AllCarriedOut g.T.Versions.noted (g.F.Feeds.are_files c.captures.feeds.now)
-    g.F.Files.FeedFiles.holds g.F.Files.FeedFiles.reads
+    g.F.Files.FeedFiles.holds g.F.Files.FeedFiles.reads g.F.Files.FeedFiles.failures g.F.Files.FeedFiles.failed
     (g.F.Feeds.is_plan c.captures.feeds.now) (length (g.F.Feeds.named c.captures.feeds.now)) done.0
     (g.T.Loads.answers seat) (g.T.Loads.answers done.1)) seat at_feeds in
     record { none_left = ran.ensures.none_left; seats = ran.ensures.fits; loader = loader; shares = shares; loads = loads }
