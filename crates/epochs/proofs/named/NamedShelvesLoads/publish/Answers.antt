@@ -1,9 +1,10 @@
 use Rattle.std.proofs.Common.{◌≡◌, ℕ, Option, ap, sym, subst}
 use Rattle.std.specs.Arc.{arc_value}
 use Rattle.shelf_steps.specs.Events.{known_of}
-use Rattle.epochs.specs.SeatHistory.{IsPublished, EndsPublish}
+use Rattle.epochs.specs.SeatHistory.{IsPublished, EndsPublish, IsFullByTries}
 use Rattle.epochs.specs.ShelfSeats.{NoticeValue}
 use Rattle.epochs.specs.ShelfLoads.{ShelfLoaderValue, MakesRoomBySteps, PublishesWithNotice}
+use Rattle.epochs.proofs.LoaderGrowth.{full_by_tries}
 use Rattle.epochs.proofs.named.NamedShelvesLoads.publish.Goals as goal
 
 pub returns-clause-steps : goal.returns-clause-steps
@@ -25,3 +26,9 @@ returns-clause-ends g c =
     let same : c.under_name.result.0 ≡ c.in-Ok.published.0 = ap (λ (x : ℕ × Option NoticeValue). x.0) c.under_name.ensures in
     subst (λ (s : ShelfLoaderValue). EndsPublish (known_of s.view) c.under_name.result.0 (known_of c.publish.new.loader.view)) c.loader.view_is
     (subst (λ n. EndsPublish (known_of c.loader.inside.inner.view) n (known_of c.publish.new.loader.view)) (sym same) c.in-Ok.ensures.ends)
+
+-- what a publish that is refused tells of workers, its tries found
+pub returns-in-Err-clause-full : goal.returns-in-Err-clause-full
+returns-in-Err-clause-full g c =
+    subst (λ (s : ShelfLoaderValue). IsFullByTries (known_of s.view) c.in-Err.refused.1 (known_of c.publish.new.loader.view)) c.loader.view_is
+    (full_by_tries _ _ c.in-Err.refused.1 c.in-Err.ensures.steps)
