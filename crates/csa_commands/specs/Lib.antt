@@ -1,6 +1,8 @@
 pub mod Answering
 pub mod Asking
 pub mod Building
+pub mod Commands
+pub mod Counting
 pub mod Departing
 pub mod Informing
 pub mod Judging
@@ -8,3 +10,5 @@ pub mod Listing
 pub mod Newlines
 pub mod Opening
 pub mod Picturing
+pub mod Tabling
+pub mod Zoning

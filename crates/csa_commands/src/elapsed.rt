@@ -1,5 +1,7 @@
 //! How long something took.
 
+ghost use Rattle.std.specs.Prelude.{◌≡◌, None};
+
 use std::alloc::AllocError;
 use std::fmt::Write as _;
 use std::time::{Clock, Duration, Instant};
@@ -7,26 +9,35 @@ use text_pieces::put_text;
 
 /// When something began; nothing if the clock couldn't be read.
 #[derive(Clone, Copy, Drop)]
-pub struct Begun(Option<Instant>);
+pub struct Begun {
+    instant: Option<Instant>,
+}
 
 impl Begun {
     /// It begins now.
     pub fn now<C: Clock>(clock: &C) -> Begun {
-        Begun(Instant::now(clock).ok())
+        Begun {
+            instant: Instant::now(clock).ok(),
+        }
     }
 
     /// It began then, if that is known.
-    pub fn at(instant: Option<Instant>) -> Begun {
-        Begun(instant)
+    pub fn at(instant: Option<Instant>) -> Begun
+        ensures { result.instant ≡ instant }
+    {
+        Begun { instant }
     }
 
-    /// How long it has lasted by now.
-    pub fn elapsed<C: Clock>(self, clock: &C) -> Option<Duration> {
-        self.0?.elapsed(clock).ok()
+    /// How long it has lasted by now; nothing if the clock can't be read, or couldn't be when it began.
+    pub fn elapsed<C: Clock>(self, clock: &C) -> Option<Duration>
+        ensures { self.instant ≡ None → result ≡ None }
+    {
+        self.instant?.elapsed(clock).ok()
     }
 }
 
-/// Adds how many seconds something took; a hyphen if the clock couldn't be read.
+/// Adds ` seconds ` and how many seconds something took, with three digits behind the point; a hyphen if that isn't
+/// known. An error if memory runs out.
 pub fn put_seconds(line: &mut String, lasted: Option<Duration>) -> Result<(), AllocError> {
     match lasted {
         Some(lasted) => write!(

@@ -1,8 +1,9 @@
 //! What is made of feeds: the service days and the zone that a command line asks for.
 
-ghost use Rattle.std.specs.Prelude.{◌≡◌, ◌≤◌, ℕ, List, IfOk};
+ghost use Rattle.std.specs.Prelude.{◌≡◌, ◌≤◌, ℕ, List, IfErr, IfOk};
 ghost use Rattle.connections.specs.declared.days.TheConstants.{MAX_DAYS};
 ghost use Rattle.feed_plans.specs.Planning.{IsPlanNow};
+ghost use Rattle.csa_commands.specs.Zoning.{AreZoneBytes, IsUnread, IsZoneUnread};
 
 use clock_days::instant;
 use command_requests::{PlanText, ZoneText};
@@ -46,14 +47,26 @@ pub fn plan_of<'a, H: Files + AllocGlobal + Clock>(
     }
 }
 
-/// The bytes of a zone's file; none of another zone.
+/// The bytes of a zone's file; none of another zone. `Unreadable` with the file's path if it can't be read,
+/// `OutOfMemory` if there is no memory for its bytes; of another zone there is no failure.
 pub fn zone_bytes<'a, H: Files + AllocGlobal>(
     rt: &H,
     zone: &ZoneText<'a>,
-) -> Result<Vec<u8>, PlanFailure<'a>> {
-    let ZoneText::File(path) = zone else {
-        return Ok(Vec::new(rt.alloc()));
-    };
+) -> Result<Vec<u8>, PlanFailure<'a>>
+    ensures bytes { IfOk result (λ bytes. AreZoneBytes zone.now bytes.items) }
+    ensures unread { IfErr result (IsZoneUnread zone.now) }
+{
+    match zone {
+        ZoneText::Fixed(_) => Ok(Vec::new(rt.alloc())),
+        ZoneText::Posix(_) => Ok(Vec::new(rt.alloc())),
+        ZoneText::File(path) => file_bytes(rt, path),
+    }
+}
+
+// The bytes of the file at a path.
+fn file_bytes<'a, H: Files + AllocGlobal>(rt: &H, path: &'a str) -> Result<Vec<u8>, PlanFailure<'a>>
+    ensures { IfErr result (IsUnread path.now) }
+{
     match fs::read(rt, path) {
         Ok(bytes) => Ok(bytes),
         Err(error) => match error.kind() {

@@ -1,5 +1,11 @@
 //! Refusals as they are printed: a number, a name and the places, each after a space.
 
+ghost use Rattle.std.specs.Prelude.{◌≡◌, ◌⊎◌};
+ghost use Rattle.command_requests.specs.declared.statuses.TheConstants.{INPUT_OUTPUT, OUT_OF_MEMORY, REFUSED};
+ghost use Rattle.gtfs_rows.specs.declared.fault.Table.{Table};
+ghost use Rattle.feed_loader.specs.Refused.{IsWantOfMemory};
+ghost use Rattle.feed_loader.specs.declared.fault.LoadFault.TheVariants.{FileFailed};
+
 use crate::status;
 use feed_loader::LoadFault;
 use image_layout::WordsFault;
@@ -92,8 +98,14 @@ fn write_journey_fault<W: fmt::Write>(
     }
 }
 
-/// Prints why a feed isn't loaded; that memory runs out has the status alone.
-pub fn refuse_feed<O: Write>(alloc: Global, output: &mut O, fault: LoadFault) -> u8 {
+/// Prints why a feed isn't loaded. The status is that of a refusal, or of a file that can't be read, if that is why; or
+/// that of a failed write, or of memory that ran out. If it ran out while the feed was loaded, nothing is printed.
+pub fn refuse_feed<O: Write>(alloc: Global, output: &mut O, fault: LoadFault) -> u8
+    ensures status { (result ≡ REFUSED) ⊎ (result ≡ INPUT_OUTPUT) ⊎ (result ≡ OUT_OF_MEMORY) }
+    ensures failed { (table : Table) → fault ≡ FileFailed table → (result ≡ INPUT_OUTPUT) ⊎ (result ≡ OUT_OF_MEMORY) }
+    ensures memory { IsWantOfMemory fault → result ≡ OUT_OF_MEMORY }
+    ensures silent { IsWantOfMemory fault → O.contents output.new ≡ O.contents output.old }
+{
     if fault.is_want_of_memory() {
         return status::OUT_OF_MEMORY;
     }
@@ -101,6 +113,8 @@ pub fn refuse_feed<O: Write>(alloc: Global, output: &mut O, fault: LoadFault) ->
         LoadFault::FileFailed(_) => {
             status::print_unreadable_feed(alloc, output, &Refusal::Feed(fault))
         }
-        _ => status::print_refusal(alloc, output, &Refusal::Feed(fault)),
+        LoadFault::Table(_) | LoadFault::Day(_) | LoadFault::Footpaths(_) | LoadFault::Image(_) => {
+            status::print_refusal(alloc, output, &Refusal::Feed(fault))
+        }
     }
 }
