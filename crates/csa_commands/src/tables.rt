@@ -1,8 +1,10 @@
 //! `csa tables FOLDER`.
 
 ghost use Rattle.std.specs.Prelude.{◌≡◌, ◌≢◌, ◌++◌, IfOk, OnOk, string_bytes};
+ghost use Rattle.std.specs.Io.KnownBytes.{Appends};
 ghost use Rattle.command_requests.specs.declared.statuses.TheConstants.{ACCEPTED, REFUSED};
-ghost use Rattle.csa_commands.specs.Tabling.{IsCounted, IsTablesLine, services_text, tables_line, trips_text};
+ghost use Rattle.csa_commands.specs.Tabling.{AreCounted, AreOfTables, counts_of, counts_text};
+ghost use Rattle.csa_commands.specs.Tabling.{services_text, trips_text};
 
 use crate::explaining::explain_refused;
 use crate::refusal::refuse_feed;
@@ -16,6 +18,18 @@ use std::random::RandomSource;
 use std::rt::Files;
 use text_pieces::{put_number, put_text};
 
+/// How many records each table of a feed has.
+#[derive(Clone, Copy, Drop)]
+struct Counts {
+    agencies: usize,
+    stops: usize,
+    trips: usize,
+    stop_times: usize,
+    calendar: usize,
+    calendar_dates: usize,
+    transfers: usize,
+}
+
 /// Reads and joins the tables of the folder's files, and prints to `output` how many records each has, or the first
 /// thing that is wrong, which `errors` explains. The status is that of an accepted request, of a refused one, of a file
 /// or a line that can't be read or written, or of memory that ran out.
@@ -25,11 +39,11 @@ pub fn run<H: Files + RandomSource + AllocGlobal, O: Write, E: Write>(
     output: &mut O,
     errors: &mut E,
 ) -> u8
-    ensures { result ≡ ACCEPTED → IsCounted (O.contents output.old) (O.contents output.new) }
+    ensures { result ≡ ACCEPTED → AreCounted (O.contents output.old) (O.contents output.new) }
 {
     let alloc = rt.alloc();
     match count_records(rt, folder) {
-        Ok(line) => print_counts(line, output),
+        Ok(counts) => print_counts(alloc, counts, output),
         Err(fault) => {
             explain_refused(rt, folder, &fault, errors);
             refuse_feed(alloc, output, fault)
@@ -37,82 +51,72 @@ pub fn run<H: Files + RandomSource + AllocGlobal, O: Write, E: Write>(
     }
 }
 
-// Prints a line of counts that may have found no memory. It refuses nothing.
-fn print_counts<O: Write>(line: Result<String, AllocError>, output: &mut O) -> u8
-    requires { IfOk line (λ text. IsTablesLine (string_bytes text)) }
-    ensures printed { result ≡ ACCEPTED → IsCounted (O.contents output.old) (O.contents output.new) }
-    ensures refused { result ≢ REFUSED }
-{
-    match line {
-        Ok(text) => status::write_text(output, text.as_str(), status::ACCEPTED),
-        Err(AllocError) => status::OUT_OF_MEMORY,
-    }
-}
-
-// The line of counts, if the tables can be read and joined.
+// How many records there are, if the tables can be read and joined.
 fn count_records<H: Files + RandomSource + AllocGlobal>(
     rt: &H,
     folder: &str,
-) -> Result<Result<String, AllocError>, LoadFault>
-    ensures { IfOk result (λ line. IfOk line (λ text. IsTablesLine (string_bytes text))) }
+) -> Result<Counts, LoadFault>
+    ensures { IfOk result AreOfTables }
 {
     let alloc = rt.alloc();
     let mut files = FolderFiles::new(rt, folder);
     let tables = read_tables(alloc, &mut files)?;
-    let line = counts(alloc, &tables);
+    let counts = counts_of(&tables);
     let _feed = join(alloc, tables, false)?;
-    Ok(line)
+    Ok(counts)
 }
 
-fn counts(alloc: Global, tables: &Tables) -> Result<String, AllocError>
-    ensures { IfOk result (λ line. string_bytes line ≡ tables_line tables.now) }
+fn counts_of(tables: &Tables) -> Counts
+    ensures { result ≡ counts_of tables.now }
+{
+    Counts {
+        agencies: tables.agencies.len(),
+        stops: tables.stops.len(),
+        trips: tables.trips.len(),
+        stop_times: tables.stop_times.rows.len(),
+        calendar: tables.calendar.len(),
+        calendar_dates: tables.calendar_dates.len(),
+        transfers: tables.transfers.len(),
+    }
+}
+
+// Prints the line of counts. It refuses nothing.
+fn print_counts<O: Write>(alloc: Global, counts: Counts, output: &mut O) -> u8
+    ensures printed { result ≡ ACCEPTED
+        → Appends (O.contents output.old) (O.contents output.new) (counts_text counts) }
+    ensures refused { result ≢ REFUSED }
+{
+    match line_of(alloc, counts) {
+        Ok(line) => status::write_text(output, line.as_str(), status::ACCEPTED),
+        Err(_) => status::OUT_OF_MEMORY,
+    }
+}
+
+fn line_of(alloc: Global, counts: Counts) -> Result<String, AllocError>
+    ensures { IfOk result (λ line. string_bytes line ≡ counts_text counts) }
 {
     let mut line = String::new(alloc);
-    append_trips(
-        &mut line,
-        tables.agencies.len() as u64,
-        tables.stops.len() as u64,
-        tables.trips.len() as u64,
-        tables.stop_times.rows.len() as u64,
-    )?;
-    append_services(
-        &mut line,
-        tables.calendar.len() as u64,
-        tables.calendar_dates.len() as u64,
-        tables.transfers.len() as u64,
-    )?;
+    append_trips(&mut line, counts)?;
+    append_services(&mut line, counts)?;
     put_text(&mut line, "\n")?;
     Ok(line)
 }
 
-fn append_trips(
-    line: &mut String,
-    agencies: u64,
-    stops: u64,
-    trips: u64,
-    stop_times: u64,
-) -> Result<(), AllocError>
-    ensures { OnOk result (string_bytes line.new
-        ≡ string_bytes line.old ++ trips_text agencies stops trips stop_times) }
+fn append_trips(line: &mut String, counts: Counts) -> Result<(), AllocError>
+    ensures { OnOk result (string_bytes line.new ≡ string_bytes line.old ++ trips_text counts) }
 {
-    put_number(line, "tables agencies ", agencies)?;
-    put_number(line, " stops ", stops)?;
-    put_number(line, " trips ", trips)?;
-    put_number(line, " stop_times ", stop_times)?;
+    put_number(line, "tables agencies ", counts.agencies as u64)?;
+    put_number(line, " stops ", counts.stops as u64)?;
+    put_number(line, " trips ", counts.trips as u64)?;
+    put_number(line, " stop_times ", counts.stop_times as u64)?;
     Ok(())
 }
 
-fn append_services(
-    line: &mut String,
-    calendar: u64,
-    dates: u64,
-    transfers: u64,
-) -> Result<(), AllocError>
-    ensures { OnOk result (string_bytes line.new
-        ≡ string_bytes line.old ++ services_text calendar dates transfers) }
+fn append_services(line: &mut String, counts: Counts) -> Result<(), AllocError>
+    ensures { OnOk result (string_bytes line.new ≡ string_bytes line.old ++ services_text counts) }
 {
-    put_number(line, " calendar ", calendar)?;
-    put_number(line, " calendar_dates ", dates)?;
-    put_number(line, " transfers ", transfers)?;
+    put_number(line, " calendar ", counts.calendar as u64)?;
+    put_number(line, " calendar_dates ", counts.calendar_dates as u64)?;
+    put_number(line, " transfers ", counts.transfers as u64)?;
     Ok(())
 }
