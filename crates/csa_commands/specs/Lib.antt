@@ -10,5 +10,6 @@ pub mod Listing
 pub mod Newlines
 pub mod Opening
 pub mod Picturing
+pub mod StopLines
 pub mod Tabling
 pub mod Zoning
