@@ -1,6 +1,8 @@
 -- Stops whose names have a text in them, one by one.
 use Rattle.std.proofs.Common.{◌≡◌, ◌≢◌, ◌≤◌, ℕ, ◌+◌, List, [], ◌∷◌, ◌++◌, length, drop, take, arith, refl, sym, ap, ◌∙◌, subst, append_assoc}
+use Rattle.std.specs.Prelude.{Bool, true, false, None, MatchBool}
 use Rattle.std.specs.List.{AllZip, flat_map}
+use Rattle.core.specs.Str.Pattern.{FindsText, HasMatch}
 use Rattle.std.proofs.lemmas.List.{drop_at, flat_map_more, length-append, take-append-drop}
 use Rattle.std.proofs.lemmas.List.FromFn.{map-range_with_len_more}
 use Rattle.std.proofs.lemmas.Slice.Zip.{all_zipped_more}
@@ -44,3 +46,9 @@ not_in text name nowhere is =
   where
     within : (xs ys zs : List ℕ) → zs ≡ xs ++ ys → length xs ≤ length zs
     within xs ys zs e = let long : length zs ≡ length xs + length ys = ap length e ∙ length-append xs ys in omega (arith, long)
+
+-- what a search finds, or not
+pub found_or_not : (found : Bool) (text name : List ℕ) → MatchBool found (HasMatch (FindsText text) name) (FindsText text name None)
+    → MatchBool found (IsIn text name) (¬ (IsIn text name))
+found_or_not true text name has = is_in text name has.0 has.1 has.2.1.split
+found_or_not false text name nowhere = not_in text name nowhere
