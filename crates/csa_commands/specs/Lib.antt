@@ -10,6 +10,7 @@ pub mod Listing
 pub mod Newlines
 pub mod Opening
 pub mod Picturing
+pub mod Refusing
 pub mod StopLines
 pub mod Tabling
 pub mod Zoning

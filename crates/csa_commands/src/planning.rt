@@ -3,7 +3,7 @@
 ghost use Rattle.std.specs.Prelude.{◌≡◌, ◌≤◌, ℕ, List, IfErr, IfOk};
 ghost use Rattle.connections.specs.declared.days.TheConstants.{MAX_DAYS};
 ghost use Rattle.feed_plans.specs.Planning.{IsPlanNow};
-ghost use Rattle.csa_commands.specs.Zoning.{AreZoneBytes, IsUnread, IsZoneUnread};
+ghost use Rattle.csa_commands.specs.Zoning.{AreZoneBytes, IsZoneUnread};
 
 use clock_days::instant;
 use command_requests::{PlanText, ZoneText};
@@ -59,19 +59,12 @@ pub fn zone_bytes<'a, H: Files + AllocGlobal>(
     match zone {
         ZoneText::Fixed(_) => Ok(Vec::new(rt.alloc())),
         ZoneText::Posix(_) => Ok(Vec::new(rt.alloc())),
-        ZoneText::File(path) => file_bytes(rt, path),
-    }
-}
-
-// The bytes of the file at a path.
-fn file_bytes<'a, H: Files + AllocGlobal>(rt: &H, path: &'a str) -> Result<Vec<u8>, PlanFailure<'a>>
-    ensures { IfErr result (IsUnread path.now) }
-{
-    match fs::read(rt, path) {
-        Ok(bytes) => Ok(bytes),
-        Err(error) => match error.kind() {
-            ErrorKind::OutOfMemory => Err(PlanFailure::OutOfMemory),
-            _ => Err(PlanFailure::Unreadable(path)),
+        ZoneText::File(path) => match fs::read(rt, path) {
+            Ok(bytes) => Ok(bytes),
+            Err(error) => match error.kind() {
+                ErrorKind::OutOfMemory => Err(PlanFailure::OutOfMemory),
+                _ => Err(PlanFailure::Unreadable(path)),
+            },
         },
     }
 }

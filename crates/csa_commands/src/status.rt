@@ -84,14 +84,3 @@ fn report_failed_file<E: Write>(
         INPUT_OUTPUT,
     )
 }
-
-/// Prints the refusal of a feed of which a file can't be read; the status is that of a file that can't be read.
-pub(crate) fn print_unreadable_feed<O: Write>(
-    alloc: Global,
-    output: &mut O,
-    refusal: &Refusal,
-) -> u8
-    ensures { (result ≡ INPUT_OUTPUT) ⊎ (result ≡ OUT_OF_MEMORY) }
-{
-    write_line(output, format!(in alloc; "{refusal}\n"), INPUT_OUTPUT)
-}
