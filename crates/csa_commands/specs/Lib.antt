@@ -4,6 +4,7 @@ pub mod Building
 pub mod Commands
 pub mod Counting
 pub mod Departing
+pub mod Elapsed
 pub mod Informing
 pub mod Judging
 pub mod Listing

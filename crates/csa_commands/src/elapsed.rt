@@ -1,11 +1,11 @@
 //! How long something took.
 
-ghost use Rattle.std.specs.Prelude.{◌≡◌, None};
+ghost use Rattle.std.specs.Prelude.{◌≡◌, ◌++◌, None, OnOk, string_bytes};
+ghost use Rattle.csa_commands.specs.Elapsed.{parts_text, seconds_text};
 
 use std::alloc::AllocError;
-use std::fmt::Write as _;
 use std::time::{Clock, Duration, Instant};
-use text_pieces::put_text;
+use text_pieces::{put_number, put_text};
 
 /// When something began; nothing if the clock couldn't be read.
 #[derive(Clone, Copy, Drop)]
@@ -38,14 +38,22 @@ impl Begun {
 
 /// Adds ` seconds ` and how many seconds something took, with three digits behind the point; a hyphen if that isn't
 /// known. An error if memory runs out.
-pub fn put_seconds(line: &mut String, lasted: Option<Duration>) -> Result<(), AllocError> {
+pub fn put_seconds(line: &mut String, lasted: Option<Duration>) -> Result<(), AllocError>
+    ensures { OnOk result (string_bytes line.new ≡ string_bytes line.old ++ seconds_text lasted) }
+{
     match lasted {
-        Some(lasted) => write!(
-            line,
-            " seconds {}.{:03}",
-            lasted.as_secs(),
-            lasted.subsec_millis()
-        ),
+        Some(lasted) => put_parts(line, lasted.as_secs(), lasted.subsec_millis()),
         None => put_text(line, " seconds -"),
     }
+}
+
+// Adds seconds, and thousandths of one, fewer than 1000, in three digits.
+fn put_parts(line: &mut String, seconds: u64, thousandths: u32) -> Result<(), AllocError>
+    ensures { OnOk result (string_bytes line.new ≡ string_bytes line.old ++ parts_text seconds thousandths) }
+{
+    put_number(line, " seconds ", seconds)?;
+    put_number(line, ".", u64::from(thousandths / 100))?;
+    put_number(line, "", u64::from(thousandths / 10 % 10))?;
+    put_number(line, "", u64::from(thousandths % 10))?;
+    Ok(())
 }
