@@ -1,7 +1,7 @@
 -- How long something took, as it is printed.
 use Rattle.std.specs.Prelude.{ℕ, List, ◌++◌, ◌/◌, ◌%◌, Option, Some, None, codes, decimal}
-use Rattle.core.specs.Duration.{as_nanos}
-use Rattle.core.specs.declared.time.Duration.{Duration}
+use Rattle.std.specs.Duration.{as_nanos}
+use Rattle.std.specs.declared.time.Duration.{Duration}
 
 -- seconds, and thousandths of one in three digits
 unfoldable pub parts_text : ℕ → ℕ → List ℕ
