@@ -42,18 +42,18 @@ pub fn put_seconds(line: &mut String, lasted: Option<Duration>) -> Result<(), Al
     ensures { OnOk result (string_bytes line.new ≡ string_bytes line.old ++ seconds_text lasted) }
 {
     match lasted {
-        Some(lasted) => put_parts(line, lasted.as_secs(), lasted.subsec_millis()),
+        Some(lasted) => put_parts(line, lasted.as_secs(), u64::from(lasted.subsec_millis())),
         None => put_text(line, " seconds -"),
     }
 }
 
 // Adds seconds, and thousandths of one, fewer than 1000, in three digits.
-fn put_parts(line: &mut String, seconds: u64, thousandths: u32) -> Result<(), AllocError>
+fn put_parts(line: &mut String, seconds: u64, thousandths: u64) -> Result<(), AllocError>
     ensures { OnOk result (string_bytes line.new ≡ string_bytes line.old ++ parts_text seconds thousandths) }
 {
     put_number(line, " seconds ", seconds)?;
-    put_number(line, ".", u64::from(thousandths / 100))?;
-    put_number(line, "", u64::from(thousandths / 10 % 10))?;
-    put_number(line, "", u64::from(thousandths % 10))?;
+    put_number(line, ".", thousandths / 100)?;
+    put_number(line, "", thousandths / 10 % 10)?;
+    put_number(line, "", thousandths % 10)?;
     Ok(())
 }

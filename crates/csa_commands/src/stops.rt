@@ -1,6 +1,6 @@
 //! `csa stops IMAGE [TEXT]`.
 
-ghost use Rattle.std.specs.Prelude.{◌≡◌, ◌≢◌, ◌+◌, ◌++◌, ℕ, List, IfOk, MatchBool, OnOk, string_bytes};
+ghost use Rattle.std.specs.Prelude.{◌≡◌, ◌≢◌, ◌+◌, ◌++◌, ℕ, List, decimal, IfOk, MatchBool, OnOk, string_bytes};
 ghost use Rattle.command_requests.specs.declared.statuses.TheConstants.{ACCEPTED, REFUSED};
 ghost use Rattle.csa_commands.specs.StopLines.{AreStopLines, AreStopsPrinted, IsFound, IsIn, stop_line};
 
@@ -77,8 +77,14 @@ fn is_in(text: &str, name: &str) -> bool
 fn append_stop(lines: &mut String, stop: u32, name: &str) -> Result<(), AllocError>
     ensures { OnOk result (string_bytes lines.new ≡ string_bytes lines.old ++ stop_line (stop, name.now)) }
 {
-    put_number(lines, "", u64::from(stop))?;
+    append_number(lines, stop)?;
     put_word(lines, name)?;
     put_text(lines, "\n")?;
     Ok(())
+}
+
+fn append_number(lines: &mut String, stop: u32) -> Result<(), AllocError>
+    ensures { OnOk result (string_bytes lines.new ≡ string_bytes lines.old ++ decimal stop) }
+{
+    put_number(lines, "", u64::from(stop))
 }

@@ -6,5 +6,5 @@ use Rattle.csa_commands.proofs.stops.append_stop.Goals as goal
 pub returns : goal.returns
 unfolding stop_line
 returns c =
-    three (string_bytes c.args.lines.now) (string_bytes c.put_number.new.out) (string_bytes c.put_word.new.out) (string_bytes c.put_text.new.out) _ _ _
-    c.in_ok-put_number.ensures c.in_ok-put_word.ensures c.in_ok-put_text.ensures
+    three (string_bytes c.args.lines.now) (string_bytes c.append_number.new.lines) (string_bytes c.put_word.new.out) (string_bytes c.put_text.new.out) _ _ _
+    c.in_ok-append_number.ensures c.in_ok-put_word.ensures c.in_ok-put_text.ensures
