@@ -45,7 +45,10 @@ class CsaClient:
     def profile(
         self, source: str, target: str, *, after: str, until: str, by: str, criterion: Criterion = "arrival"
     ) -> Profile:
-        """Every best departure from `after` to `until` that arrives at `by` at the latest, of the pinned version, else of the current one."""
+        """Every best departure from `after` to `until` that arrives at `by` at the latest, of the pinned version, else of the current one.
+
+        Refused 31 if it hasn't got one of the stops: which one, a profile from a stop to itself shows (32 if it has that stop, else 31).
+        """
         return self._ask(_protocol.profile(source, target, after, until, by, criterion))
 
     def load(self, feed: str) -> None:

@@ -20,7 +20,7 @@ from .feed import Stop
 LONGEST_JOURNEY = timedelta(hours=12)
 STATUS_OF_REFUSAL = {31: 404, 32: 400, 33: 400, 112: 400, 113: 400}
 REASON_OF_REFUSAL = {
-    31: "The timetable hasn't got this stop.",
+    31: "The timetable hasn't got one of these stops.",
     32: "Both are the same stop.",
     33: "The timetable hasn't got this time.",
 }

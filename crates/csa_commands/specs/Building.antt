@@ -1,5 +1,6 @@
 -- The line that `csa build` prints of an image that it made.
-use Rattle.std.specs.Prelude.{List, ℕ, ◌++◌, codes, decimal}
+use Rattle.std.specs.Prelude.{List, ℕ, Option, ◌++◌, codes, decimal}
+use Rattle.std.specs.Io.KnownBytes.{Appends}
 use Rattle.connections.specs.declared.report.Report.{Report}
 
 -- how much the image has
@@ -16,3 +17,7 @@ changed_text report =
 
 unfoldable pub report_line : Report → List ℕ
 report_line report = made_text report ++ changed_text report ++ codes "\n"
+
+-- the counts of some image were added to what was printed before, and nothing else
+abbrev pub IsReported : Option (List ℕ) → Option (List ℕ) → Type 0
+IsReported before after = (report : Report) × Appends before after (report_line report)

@@ -1,10 +1,17 @@
 pub mod Answering
 pub mod Asking
 pub mod Building
+pub mod Commands
+pub mod Counting
 pub mod Departing
+pub mod Elapsed
 pub mod Informing
 pub mod Judging
 pub mod Listing
 pub mod Newlines
 pub mod Opening
 pub mod Picturing
+pub mod Refusing
+pub mod StopLines
+pub mod Tabling
+pub mod Zoning

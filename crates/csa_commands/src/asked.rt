@@ -1,30 +1,48 @@
-//! What is asked of an image, which is opened first.
+//! What is asked of an image.
 
-use crate::opening::open_image;
+ghost use Rattle.std.specs.Prelude.{◌≡◌};
+ghost use Rattle.command_requests.specs.declared.statuses.TheConstants.{ACCEPTED, REFUSED};
+ghost use Rattle.csa_commands.specs.Commands.{IsDone, IsRefusedAs};
+
 use crate::windows::{Departures, warn_of_window};
 use crate::{departures, info, journey, profile, status, stops, upgrade, verify};
 use command_requests::{
     DeparturesRequest, JourneyRequest, ProfileRequest, StopsRequest, UpgradeRequest,
 };
-use std::io::{Read, Write};
+use image_verifier::Verified;
+use std::io::Write;
 use std::rt::Files;
 
-/// A command over the image at a path.
+/// A command over the image at a path, `-` for the standard input.
 #[derive(Clone, Copy, Drop)]
 pub enum Asked<'a> {
+    /// To say that it is an image, and what it has.
     Verify(&'a str),
+    /// To print what it has.
     Info(&'a str),
+    /// To check a journey against it.
     Journey(JourneyRequest<'a>),
+    /// To answer a profile query over it.
     Profile(ProfileRequest<'a>),
+    /// To answer the queries from every stop over it.
     Departures(DeparturesRequest<'a>),
+    /// To list its stops by their names.
     Stops(StopsRequest<'a>),
+    /// To write it anew, in the layout that is written.
     Upgrade(UpgradeRequest<'a>),
 }
 
 impl<'a> Asked<'a> {
-    fn path(self) -> &'a str {
+    ghost use Rattle.std.specs.Prelude.{◌≡◌};
+    ghost use Rattle.csa_commands.specs.Commands.{path_of};
+
+    /// The path of the image.
+    pub fn path(self) -> &'a str
+        ensures { result.now ≡ path_of self.entry }
+    {
         match self {
-            Asked::Verify(image) | Asked::Info(image) => image,
+            Asked::Verify(image) => image,
+            Asked::Info(image) => image,
             Asked::Journey(request) => request.image,
             Asked::Profile(request) => request.image,
             Asked::Departures(request) => request.image,
@@ -49,34 +67,55 @@ impl<'a> Asked<'a> {
     }
 }
 
-/// Opens the image and does what is asked of it; or reports why it can't be opened, or its first fault. If `warnings`
-/// are wanted, it warns of a window that goes beyond the image's connections.
-pub fn answer<H: Files + AllocGlobal, I: Read, O: Write, E: Write>(
+/// Does what is asked of an image, the one that was opened, whatever the path: prints it to `output`, or why it is
+/// refused, which `errors` explains. The status is that of an accepted request, of a refused one, of a file or a line
+/// that can't be read or written, or of memory that ran out. If `warnings` are wanted, it warns in `errors` of a window
+/// that goes beyond the image's connections.
+pub fn answer<H: Files + AllocGlobal, O: Write, E: Write>(
     rt: &H,
+    image: &Verified,
     asked: Asked<'_>,
-    input: &mut I,
     output: &mut O,
     errors: &mut E,
     warnings: bool,
-) -> u8 {
-    let image = match open_image(rt, asked.path(), input, output, errors) {
-        Ok(image) => image,
-        Err(status) => return status,
-    };
-    let status = match asked {
-        Asked::Verify(_) => verify::run(rt.alloc(), &image, output),
-        Asked::Info(_) => info::run(rt.alloc(), &image, output),
-        Asked::Journey(request) => journey::run(rt.alloc(), &image, request, output, errors),
-        Asked::Profile(request) => profile::run(rt, &image, request, output, errors),
-        Asked::Departures(request) => departures::run(rt, &image, request, output, errors),
-        Asked::Stops(request) => stops::run(rt.alloc(), &image, request, output),
-        Asked::Upgrade(request) => upgrade::run(rt, &image, request, output, errors),
-    };
-    if status == status::ACCEPTED
-        && warnings
-        && let Some(departures) = asked.departures()
-    {
-        warn_of_window(&image, departures, errors);
+) -> u8
+    ensures printed { result ≡ ACCEPTED
+        → IsDone image.now asked.entry (O.contents output.old) (O.contents output.new) }
+    ensures refused { result ≡ REFUSED → IsRefusedAs image.now asked.entry }
+{
+    let status = do_asked(rt, image, asked, output, errors);
+    if warnings && status == status::ACCEPTED {
+        warn_of_departures(image, asked, errors);
     }
     status
+}
+
+// Does what is asked.
+fn do_asked<H: Files + AllocGlobal, O: Write, E: Write>(
+    rt: &H,
+    image: &Verified,
+    asked: Asked<'_>,
+    output: &mut O,
+    errors: &mut E,
+) -> u8
+    ensures printed { result ≡ ACCEPTED
+        → IsDone image.now asked.entry (O.contents output.old) (O.contents output.new) }
+    ensures refused { result ≡ REFUSED → IsRefusedAs image.now asked.entry }
+{
+    match asked {
+        Asked::Verify(_) => verify::run(rt.alloc(), image, output),
+        Asked::Info(_) => info::run(rt.alloc(), image, output),
+        Asked::Journey(request) => journey::run(rt.alloc(), image, request, output, errors),
+        Asked::Profile(request) => profile::run(rt, image, request, output, errors),
+        Asked::Departures(request) => departures::run(rt, image, request, output, errors),
+        Asked::Stops(request) => stops::run(rt.alloc(), image, request, output),
+        Asked::Upgrade(request) => upgrade::run(rt, image, request, output, errors),
+    }
+}
+
+// Warns of the window that is asked for, if there is one that goes beyond the image's connections.
+fn warn_of_departures<E: Write>(image: &Verified, asked: Asked<'_>, errors: &mut E) {
+    if let Some(departures) = asked.departures() {
+        warn_of_window(image, departures, errors);
+    }
 }

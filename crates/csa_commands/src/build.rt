@@ -1,8 +1,10 @@
 //! `csa build FOLDER OUT --first DAY --days N --zone ZONE [--strict] [--progress] [--no-warnings]`.
 
-ghost use Rattle.std.specs.Prelude.{◌≡◌, ◌≤◌, ◌<◌, ◌-◌, ◌^◌, ◌++◌, IfOk, OnOk, string_bytes};
+ghost use Rattle.std.specs.Prelude.{◌≡◌, ◌≢◌, ◌≤◌, ◌<◌, ◌-◌, ◌^◌, ◌++◌, IfOk, OnOk, string_bytes};
+ghost use Rattle.std.specs.Io.KnownBytes.{Appends};
 ghost use Rattle.connections.specs.declared.days.TheConstants.{MAX_DAYS};
-ghost use Rattle.csa_commands.specs.Building.{changed_text, made_text, report_line};
+ghost use Rattle.command_requests.specs.declared.statuses.TheConstants.{ACCEPTED, REFUSED};
+ghost use Rattle.csa_commands.specs.Building.{IsReported, changed_text, made_text, report_line};
 
 use crate::explaining::{explain_refused, reason_of};
 use crate::planning::{PlanFailure, plan_of};
@@ -49,9 +51,10 @@ impl<'a> From<PlanFailure<'a>> for Failure<'a> {
     }
 }
 
-/// Builds the image of the folder's feed, writes it, and prints its counts; or reports the first thing that is wrong.
-/// The file is written only where nothing was. Explanations go to `errors`, and so do warnings, if they are wanted, and
-/// progress, where it is asked for or where that is a terminal.
+/// Builds the image of the folder's feed, writes it, and prints its counts to `output`; or prints the first thing
+/// that is wrong. A file at the path is replaced once the image is whole. Explanations go to `errors`, and so do
+/// warnings, if they are wanted, and progress, if it is asked for or that is a terminal. The status is that of an
+/// accepted request, of a refused one, of a file or a line that can't be read or written, or of memory that ran out.
 pub fn run<H: Files + RandomSource + AllocGlobal + Clock, O: Write, E: Write>(
     rt: &H,
     request: BuildRequest<'_>,
@@ -59,7 +62,9 @@ pub fn run<H: Files + RandomSource + AllocGlobal + Clock, O: Write, E: Write>(
     errors: &mut E,
     is_terminal: bool,
     warnings: bool,
-) -> u8 {
+) -> u8
+    ensures { result ≡ ACCEPTED → IsReported (O.contents output.old) (O.contents output.new) }
+{
     let alloc = rt.alloc();
     let folder = request.folder;
     let log = if request.progress || is_terminal {
@@ -72,7 +77,7 @@ pub fn run<H: Files + RandomSource + AllocGlobal + Clock, O: Write, E: Write>(
             if warnings {
                 warn(rt, folder, &request.plan.zone, &built, errors);
             }
-            status::write_line(output, counts(alloc, &built.report), status::ACCEPTED)
+            print_counts(alloc, &built.report, output)
         }
         Err(Failure::Refused(fault)) => {
             explain_refused(rt, folder, &fault, errors);
@@ -129,6 +134,18 @@ fn write_failure<'a>(error: &io::Error, path: &'a str) -> Failure<'a> {
     match error.kind() {
         ErrorKind::OutOfMemory => Failure::OutOfMemory,
         kind => Failure::Unwritable(path, reason_of(kind)),
+    }
+}
+
+// Prints the line of counts. It refuses nothing.
+fn print_counts<O: Write>(alloc: Global, report: &Report, output: &mut O) -> u8
+    ensures printed { result ≡ ACCEPTED
+        → Appends (O.contents output.old) (O.contents output.new) (report_line report.now) }
+    ensures refused { result ≢ REFUSED }
+{
+    match counts(alloc, report) {
+        Ok(line) => status::write_text(output, line.as_str(), status::ACCEPTED),
+        Err(_) => status::OUT_OF_MEMORY,
     }
 }
 

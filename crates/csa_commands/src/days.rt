@@ -2,6 +2,7 @@
 
 ghost use Rattle.std.specs.Prelude.{◌≡◌, ◌≢◌};
 ghost use Rattle.command_requests.specs.declared.statuses.TheConstants.{ACCEPTED, REFUSED};
+ghost use Rattle.gtfs_tables.specs.declared.tables.Feed.{Feed};
 ghost use Rattle.csa_commands.specs.Informing.{IsInformedOfDays};
 
 use crate::explaining::explain_refused;
@@ -16,14 +17,18 @@ use std::io::Write;
 use std::random::RandomSource;
 use std::rt::Files;
 
-/// Reads and joins the tables of the folder's files, and prints which service days the feed has, or
-/// the first thing that is wrong.
+/// Reads and joins the tables of the folder's files, and prints to `output` which service days the feed has, or the
+/// first thing that is wrong, which `errors` explains. The status is that of an accepted request, of a refused one, of
+/// a file or a line that can't be read or written, or of memory that ran out.
 pub fn run<H: Files + RandomSource + AllocGlobal, O: Write, E: Write>(
     rt: &H,
     folder: &str,
     output: &mut O,
     errors: &mut E,
-) -> u8 {
+) -> u8
+    ensures { result ≡ ACCEPTED → (feed : Feed)
+        × IsInformedOfDays feed (O.contents output.old) (O.contents output.new) }
+{
     let alloc = rt.alloc();
     match read_feed(rt, folder) {
         Ok(feed) => print_days(alloc, &feed, output),

@@ -1,40 +1,59 @@
 //! How long something took.
 
+ghost use Rattle.std.specs.Prelude.{◌≡◌, ◌++◌, None, OnOk, string_bytes};
+ghost use Rattle.csa_commands.specs.Elapsed.{parts_text, seconds_text};
+
 use std::alloc::AllocError;
-use std::fmt::Write as _;
 use std::time::{Clock, Duration, Instant};
-use text_pieces::put_text;
+use text_pieces::{put_number, put_text};
 
 /// When something began; nothing if the clock couldn't be read.
 #[derive(Clone, Copy, Drop)]
-pub struct Begun(Option<Instant>);
+pub struct Begun {
+    instant: Option<Instant>,
+}
 
 impl Begun {
     /// It begins now.
     pub fn now<C: Clock>(clock: &C) -> Begun {
-        Begun(Instant::now(clock).ok())
+        Begun {
+            instant: Instant::now(clock).ok(),
+        }
     }
 
     /// It began then, if that is known.
-    pub fn at(instant: Option<Instant>) -> Begun {
-        Begun(instant)
+    pub fn at(instant: Option<Instant>) -> Begun
+        ensures { result.instant ≡ instant }
+    {
+        Begun { instant }
     }
 
-    /// How long it has lasted by now.
-    pub fn elapsed<C: Clock>(self, clock: &C) -> Option<Duration> {
-        self.0?.elapsed(clock).ok()
+    /// How long it has lasted by now; nothing if the clock can't be read, or couldn't be when it began.
+    pub fn elapsed<C: Clock>(self, clock: &C) -> Option<Duration>
+        ensures { self.instant ≡ None → result ≡ None }
+    {
+        self.instant?.elapsed(clock).ok()
     }
 }
 
-/// Adds how many seconds something took; a hyphen if the clock couldn't be read.
-pub fn put_seconds(line: &mut String, lasted: Option<Duration>) -> Result<(), AllocError> {
+/// Adds ` seconds ` and how many seconds something took, with three digits behind the point; a hyphen if that isn't
+/// known. An error if memory runs out.
+pub fn put_seconds(line: &mut String, lasted: Option<Duration>) -> Result<(), AllocError>
+    ensures { OnOk result (string_bytes line.new ≡ string_bytes line.old ++ seconds_text lasted) }
+{
     match lasted {
-        Some(lasted) => write!(
-            line,
-            " seconds {}.{:03}",
-            lasted.as_secs(),
-            lasted.subsec_millis()
-        ),
+        Some(lasted) => put_parts(line, lasted.as_secs(), u64::from(lasted.subsec_millis())),
         None => put_text(line, " seconds -"),
     }
+}
+
+// Adds seconds, and thousandths of one, fewer than 1000, in three digits.
+fn put_parts(line: &mut String, seconds: u64, thousandths: u64) -> Result<(), AllocError>
+    ensures { OnOk result (string_bytes line.new ≡ string_bytes line.old ++ parts_text seconds thousandths) }
+{
+    put_number(line, " seconds ", seconds)?;
+    put_number(line, ".", thousandths / 100)?;
+    put_number(line, "", thousandths / 10 % 10)?;
+    put_number(line, "", thousandths % 10)?;
+    Ok(())
 }

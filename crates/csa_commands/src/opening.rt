@@ -1,6 +1,7 @@
 //! What every command over an image begins with.
 
-ghost use Rattle.std.specs.Prelude.{◌≡◌, codes, IfOk, IfSome};
+ghost use Rattle.std.specs.Prelude.{◌≡◌, ◌⊎◌, codes, IfErr, IfOk, IfSome};
+ghost use Rattle.command_requests.specs.declared.statuses.TheConstants.{INPUT_OUTPUT, OUT_OF_MEMORY, REFUSED};
 ghost use Rattle.csa_commands.specs.Opening.{SpellsImage};
 
 use crate::refusal::Refusal;
@@ -11,7 +12,8 @@ use std::fmt;
 use std::io::{Read, Write};
 use std::rt::Files;
 
-/// The verified image at the path, or the status of a command that has said why there is none.
+/// The verified image at the path, of the input for `-`; or the status of a command that has said why there is none:
+/// that of a refusal, of a file that can't be read or a line that can't be written, or of memory that ran out.
 pub fn open_image<H: Files + AllocGlobal, I: Read, O: Write, E: Write>(
     rt: &H,
     path: &str,
@@ -19,7 +21,9 @@ pub fn open_image<H: Files + AllocGlobal, I: Read, O: Write, E: Write>(
     output: &mut O,
     errors: &mut E,
 ) -> Result<Verified, u8>
-    ensures { IfOk result (λ image. path.now ≡ codes "-" → IfSome (I.remaining input.old) (SpellsImage image.timetable image.names)) }
+    ensures image { IfOk result (λ image. path.now ≡ codes "-"
+        → IfSome (I.remaining input.old) (SpellsImage image.timetable image.names)) }
+    ensures status { IfErr result (λ status. (status ≡ REFUSED) ⊎ (status ≡ INPUT_OUTPUT) ⊎ (status ≡ OUT_OF_MEMORY)) }
 {
     let words = match image_words(rt, path, input) {
         Ok(words) => words,

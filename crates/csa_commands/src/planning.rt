@@ -1,8 +1,9 @@
 //! What is made of feeds: the service days and the zone that a command line asks for.
 
-ghost use Rattle.std.specs.Prelude.{◌≡◌, ◌≤◌, ℕ, List, IfOk};
+ghost use Rattle.std.specs.Prelude.{◌≡◌, ◌≤◌, ℕ, List, IfErr, IfOk};
 ghost use Rattle.connections.specs.declared.days.TheConstants.{MAX_DAYS};
 ghost use Rattle.feed_plans.specs.Planning.{IsPlanNow};
+ghost use Rattle.csa_commands.specs.Zoning.{AreZoneBytes, IsZoneUnread};
 
 use clock_days::instant;
 use command_requests::{PlanText, ZoneText};
@@ -46,19 +47,24 @@ pub fn plan_of<'a, H: Files + AllocGlobal + Clock>(
     }
 }
 
-/// The bytes of a zone's file; none of another zone.
+/// The bytes of a zone's file; none of another zone. `Unreadable` with the file's path if it can't be read,
+/// `OutOfMemory` if there is no memory for its bytes; of another zone there is no failure.
 pub fn zone_bytes<'a, H: Files + AllocGlobal>(
     rt: &H,
     zone: &ZoneText<'a>,
-) -> Result<Vec<u8>, PlanFailure<'a>> {
-    let ZoneText::File(path) = zone else {
-        return Ok(Vec::new(rt.alloc()));
-    };
-    match fs::read(rt, path) {
-        Ok(bytes) => Ok(bytes),
-        Err(error) => match error.kind() {
-            ErrorKind::OutOfMemory => Err(PlanFailure::OutOfMemory),
-            _ => Err(PlanFailure::Unreadable(path)),
+) -> Result<Vec<u8>, PlanFailure<'a>>
+    ensures bytes { IfOk result (λ bytes. AreZoneBytes zone.now bytes.items) }
+    ensures unread { IfErr result (IsZoneUnread zone.now) }
+{
+    match zone {
+        ZoneText::Fixed(_) => Ok(Vec::new(rt.alloc())),
+        ZoneText::Posix(_) => Ok(Vec::new(rt.alloc())),
+        ZoneText::File(path) => match fs::read(rt, path) {
+            Ok(bytes) => Ok(bytes),
+            Err(error) => match error.kind() {
+                ErrorKind::OutOfMemory => Err(PlanFailure::OutOfMemory),
+                _ => Err(PlanFailure::Unreadable(path)),
+            },
         },
     }
 }

@@ -1,11 +1,16 @@
 //! Refusals as they are printed: a number, a name and the places, each after a space.
 
+ghost use Rattle.std.specs.Prelude.{◌≡◌, ◌⊎◌};
+ghost use Rattle.command_requests.specs.declared.statuses.TheConstants.{INPUT_OUTPUT, OUT_OF_MEMORY, REFUSED};
+ghost use Rattle.feed_loader.specs.Refused.{IsWantOfMemory};
+ghost use Rattle.csa_commands.specs.Refusing.{refusal_status};
+
 use crate::status;
 use feed_loader::LoadFault;
 use image_layout::WordsFault;
 use image_verifier::ImageFault;
 use journeys::{JourneyFault, TextFault};
-use std::alloc::Global;
+use std::alloc::{AllocError, Global};
 use std::fmt;
 use std::io::Write;
 use timetable::QueryFault;
@@ -92,15 +97,35 @@ fn write_journey_fault<W: fmt::Write>(
     }
 }
 
-/// Prints why a feed isn't loaded; that memory runs out has the status alone.
-pub fn refuse_feed<O: Write>(alloc: Global, output: &mut O, fault: LoadFault) -> u8 {
+/// Prints why a feed isn't loaded. The status is that of a refusal, or of a file that can't be read, if that is why; or
+/// that of a failed write, or of memory that ran out. If it ran out while the feed was loaded, nothing is printed.
+pub fn refuse_feed<O: Write>(alloc: Global, output: &mut O, fault: LoadFault) -> u8
+    ensures status { (result ≡ REFUSED) ⊎ (result ≡ INPUT_OUTPUT) ⊎ (result ≡ OUT_OF_MEMORY) }
+    ensures kind { (result ≡ refusal_status fault) ⊎ (result ≡ INPUT_OUTPUT) ⊎ (result ≡ OUT_OF_MEMORY) }
+    ensures memory { IsWantOfMemory fault → result ≡ OUT_OF_MEMORY }
+    ensures silent { IsWantOfMemory fault → O.contents output.new ≡ O.contents output.old }
+{
     if fault.is_want_of_memory() {
         return status::OUT_OF_MEMORY;
     }
+    let status = status_of(fault);
+    status::write_line(output, line_of(alloc, fault), status)
+}
+
+fn line_of(alloc: Global, fault: LoadFault) -> Result<String, AllocError> {
+    let refusal = Refusal::Feed(fault);
+    format!(in alloc; "{refusal}\n")
+}
+
+// The status of a feed that isn't loaded, once that is printed.
+fn status_of(fault: LoadFault) -> u8
+    ensures kind { result ≡ refusal_status fault }
+    ensures either { (result ≡ REFUSED) ⊎ (result ≡ INPUT_OUTPUT) }
+{
     match fault {
-        LoadFault::FileFailed(_) => {
-            status::print_unreadable_feed(alloc, output, &Refusal::Feed(fault))
+        LoadFault::Table(_) | LoadFault::Day(_) | LoadFault::Footpaths(_) | LoadFault::Image(_) => {
+            status::REFUSED
         }
-        _ => status::print_refusal(alloc, output, &Refusal::Feed(fault)),
+        LoadFault::FileFailed(_) => status::INPUT_OUTPUT,
     }
 }

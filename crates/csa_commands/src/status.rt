@@ -1,6 +1,6 @@
 //! Exit statuses, and what is written with them.
 
-ghost use Rattle.std.specs.Prelude.{◌≡◌, ◌≢◌, ◌⊎◌};
+ghost use Rattle.std.specs.Prelude.{◌≡◌, ◌≢◌, ◌⊎◌, IfErr, IfOk, string_bytes};
 ghost use Rattle.std.specs.Io.KnownBytes.{Appends};
 ghost use Rattle.command_requests.specs.declared.statuses.TheConstants.{INPUT_OUTPUT, OUT_OF_MEMORY, REFUSED};
 
@@ -13,7 +13,7 @@ use std::alloc::{AllocError, Global};
 use std::io::Write;
 use std::rt::Files;
 
-/// Writes the text; the status, or that of a failed write.
+/// Writes the text; the status that is given, or that of a failed write.
 pub fn write_text<W: Write>(writer: &mut W, text: &str, status: u8) -> u8
     ensures status { (result ≡ status) ⊎ (result ≡ INPUT_OUTPUT) }
     ensures written { result ≢ INPUT_OUTPUT → Appends (W.contents writer.old) (W.contents writer.new) text.now }
@@ -24,13 +24,19 @@ pub fn write_text<W: Write>(writer: &mut W, text: &str, status: u8) -> u8
     }
 }
 
-/// Writes a line that may have found no memory.
+/// Writes a line that may have found no memory: the status that is given, or that of a failed write; or, if there is
+/// no line, that of memory that ran out, and nothing is written.
 pub fn write_line<W: Write>(writer: &mut W, line: Result<String, AllocError>, status: u8) -> u8
-    ensures { (result ≡ status) ⊎ (result ≡ INPUT_OUTPUT) ⊎ (result ≡ OUT_OF_MEMORY) }
+    ensures status { (result ≡ status) ⊎ (result ≡ INPUT_OUTPUT) ⊎ (result ≡ OUT_OF_MEMORY) }
+    ensures kept { IfOk line (λ _. (result ≡ status) ⊎ (result ≡ INPUT_OUTPUT)) }
+    ensures written { IfOk line (λ text. result ≢ INPUT_OUTPUT
+        → Appends (W.contents writer.old) (W.contents writer.new) (string_bytes text)) }
+    ensures memory { IfErr line (λ _. result ≡ OUT_OF_MEMORY) }
+    ensures unwritten { IfErr line (λ _. W.contents writer.new ≡ W.contents writer.old) }
 {
     match line {
-        Ok(line) => write_text(writer, line.as_str(), status),
-        Err(_) => OUT_OF_MEMORY,
+        Ok(text) => write_text(writer, text.as_str(), status),
+        Err(AllocError) => OUT_OF_MEMORY,
     }
 }
 
@@ -41,7 +47,8 @@ pub(crate) fn print_refusal<O: Write>(alloc: Global, output: &mut O, refusal: &R
     write_line(output, format!(in alloc; "{refusal}\n"), REFUSED)
 }
 
-/// Reports a file that can't be read, with the system's reason.
+/// Reports a file that can't be read, with the system's reason: the status of a file that can't be read, or of memory
+/// that ran out.
 pub fn report_unreadable<H: Files + AllocGlobal, E: Write>(rt: &H, errors: &mut E, path: &str) -> u8
     ensures { (result ≡ INPUT_OUTPUT) ⊎ (result ≡ OUT_OF_MEMORY) }
 {
@@ -76,13 +83,4 @@ fn report_failed_file<E: Write>(
         format!(in alloc; "csa: {path} can't be {what}: {reason}\n"),
         INPUT_OUTPUT,
     )
-}
-
-/// Prints the refusal of a feed of which a file can't be read; the status is that of a file that can't be read.
-pub(crate) fn print_unreadable_feed<O: Write>(
-    alloc: Global,
-    output: &mut O,
-    refusal: &Refusal,
-) -> u8 {
-    write_line(output, format!(in alloc; "{refusal}\n"), INPUT_OUTPUT)
 }

@@ -1,39 +1,90 @@
 //! `csa stops IMAGE [TEXT]`.
 
+ghost use Rattle.std.specs.Prelude.{◌≡◌, ◌≢◌, ◌+◌, ◌++◌, ℕ, List, decimal, IfOk, MatchBool, OnOk, string_bytes};
+ghost use Rattle.command_requests.specs.declared.statuses.TheConstants.{ACCEPTED, REFUSED};
+ghost use Rattle.csa_commands.specs.StopLines.{AreStopLines, AreStopsPrinted, IsFound, IsIn, stop_line};
+
 use crate::status;
 use answer_pictures::stop_name;
 use command_requests::StopsRequest;
 use image_verifier::Verified;
 use std::alloc::{AllocError, Global};
-use std::fmt::Write as _;
 use std::io::Write;
+use text_pieces::{put_number, put_text, put_word};
 
-/// Prints number and name of each stop whose name has the text in it, in order.
+/// Prints number and name of each stop whose name has the text in it, in order. It refuses nothing.
 pub fn run<O: Write>(
     alloc: Global,
     image: &Verified,
     request: StopsRequest<'_>,
     output: &mut O,
-) -> u8 {
-    status::write_line(
-        output,
-        lines_of(alloc, image, request.text),
-        status::ACCEPTED,
-    )
+) -> u8
+    ensures printed { result ≡ ACCEPTED
+        → AreStopsPrinted image.now request.entry.text.now (O.contents output.old) (O.contents output.new) }
+    ensures refused { result ≢ REFUSED }
+{
+    match lines_of(alloc, image, request.text) {
+        Ok(lines) => status::write_text(output, lines.as_str(), status::ACCEPTED),
+        Err(_) => status::OUT_OF_MEMORY,
+    }
 }
 
-fn lines_of(alloc: Global, image: &Verified, text: &str) -> Result<String, AllocError> {
+fn lines_of(alloc: Global, image: &Verified, text: &str) -> Result<String, AllocError>
+    ensures { IfOk result (λ lines. AreStopLines image.now.names text.now image.now.timetable.stops (string_bytes lines)) }
+{
     let mut lines = String::new(alloc);
     for stop in 0..image.stops() {
-        let name = stop_name(alloc, image, stop)?;
-        append_stop(&mut lines, stop, name.as_str(), text)?;
+        append_next(&mut lines, alloc, image, stop, text)?;
     }
     Ok(lines)
 }
 
-fn append_stop(lines: &mut String, stop: u32, name: &str, text: &str) -> Result<(), AllocError> {
-    if !name.contains(text) {
+// Adds the line of the next stop, if its name has the text in it.
+fn append_next(
+    lines: &mut String,
+    alloc: Global,
+    image: &Verified,
+    stop: u32,
+    text: &str,
+) -> Result<(), AllocError>
+    ensures { OnOk result (AreStopLines image.now.names text.now stop (string_bytes lines.old)
+        → AreStopLines image.now.names text.now (stop + 1) (string_bytes lines.new)) }
+{
+    let name = stop_name(alloc, image, stop)?;
+    append_if_found(lines, stop, name.as_str(), text)?;
+    Ok(())
+}
+
+// Adds the line of a stop, if its name has the text in it.
+fn append_if_found(lines: &mut String, stop: u32, name: &str, text: &str) -> Result<(), AllocError>
+    ensures { OnOk result ((part : List ℕ) × IsFound text.now (stop, name.now) part
+        × (string_bytes lines.new ≡ string_bytes lines.old ++ part)) }
+{
+    if !is_in(text, name) {
         return Ok(());
     }
-    write!(lines, "{stop} {name}\n")
+    append_stop(lines, stop, name)?;
+    Ok(())
+}
+
+// Whether a text is in a name.
+fn is_in(text: &str, name: &str) -> bool
+    ensures { MatchBool result (IsIn text.now name.now) (¬ (IsIn text.now name.now)) }
+{
+    name.contains(text)
+}
+
+fn append_stop(lines: &mut String, stop: u32, name: &str) -> Result<(), AllocError>
+    ensures { OnOk result (string_bytes lines.new ≡ string_bytes lines.old ++ stop_line (stop, name.now)) }
+{
+    append_number(lines, stop)?;
+    put_word(lines, name)?;
+    put_text(lines, "\n")?;
+    Ok(())
+}
+
+fn append_number(lines: &mut String, stop: u32) -> Result<(), AllocError>
+    ensures { OnOk result (string_bytes lines.new ≡ string_bytes lines.old ++ decimal stop) }
+{
+    put_number(lines, "", u64::from(stop))
 }

@@ -200,13 +200,14 @@ fn suspects_by_id(kind: FaultKind, table: Table) -> &'static [Suspect] {
     }
 }
 
-/// The columns of which no two records of a table may have the same values.
+/// The columns of which no two records of a table may have the same values; none if its records may be alike.
 pub fn key_columns(table: Table) -> &'static [&'static str] {
     match table {
         Table::Stops => &["stop_id"],
         Table::Trips => &["trip_id"],
+        Table::Calendar => &["service_id"],
         Table::CalendarDates => &["service_id", "date"],
-        _ => &["service_id"],
+        Table::Agency | Table::StopTimes | Table::Transfers | Table::Frequencies => &[],
     }
 }
 

@@ -198,13 +198,11 @@ fn earlier_line<H: Files + AllocGlobal>(
     fault: &TableFault,
     later: &Records,
 ) -> Option<u64> {
-    if fault.kind != FaultKind::IdTwice {
+    let columns = key_columns(fault.table);
+    if fault.kind != FaultKind::IdTwice || columns.is_empty() {
         return None;
     }
-    let mut same = SameKey {
-        columns: key_columns(fault.table),
-        later,
-    };
+    let mut same = SameKey { columns, later };
     let earlier = search_in(rt, folder, fault.table.file_name(), &mut same).ok()??;
     if earlier.number() < fault.row {
         Some(earlier.record.line)

@@ -1,5 +1,11 @@
 //! `csa tables FOLDER`.
 
+ghost use Rattle.std.specs.Prelude.{◌≡◌, ◌≢◌, ◌++◌, IfOk, OnOk, string_bytes};
+ghost use Rattle.std.specs.Io.KnownBytes.{Appends};
+ghost use Rattle.command_requests.specs.declared.statuses.TheConstants.{ACCEPTED, REFUSED};
+ghost use Rattle.csa_commands.specs.Tabling.{AreCounted, AreOfTables, counts_of, counts_text};
+ghost use Rattle.csa_commands.specs.Tabling.{services_text, trips_text};
+
 use crate::explaining::explain_refused;
 use crate::refusal::refuse_feed;
 use crate::status;
@@ -10,18 +16,34 @@ use std::alloc::{AllocError, Global};
 use std::io::Write;
 use std::random::RandomSource;
 use std::rt::Files;
+use text_pieces::{put_number, put_text};
 
-/// Reads and joins the tables of the folder's files, and prints how many records each has, or the
-/// first thing that is wrong.
+/// How many records each table of a feed has.
+#[derive(Clone, Copy, Drop)]
+struct Counts {
+    agencies: usize,
+    stops: usize,
+    trips: usize,
+    stop_times: usize,
+    calendar: usize,
+    calendar_dates: usize,
+    transfers: usize,
+}
+
+/// Reads and joins the tables of the folder's files, and prints to `output` how many records each has, or the first
+/// thing that is wrong, which `errors` explains. The status is that of an accepted request, of a refused one, of a file
+/// or a line that can't be read or written, or of memory that ran out.
 pub fn run<H: Files + RandomSource + AllocGlobal, O: Write, E: Write>(
     rt: &H,
     folder: &str,
     output: &mut O,
     errors: &mut E,
-) -> u8 {
+) -> u8
+    ensures { result ≡ ACCEPTED → AreCounted (O.contents output.old) (O.contents output.new) }
+{
     let alloc = rt.alloc();
     match count_records(rt, folder) {
-        Ok(line) => status::write_line(output, line, status::ACCEPTED),
+        Ok(counts) => print_counts(alloc, counts, output),
         Err(fault) => {
             explain_refused(rt, folder, &fault, errors);
             refuse_feed(alloc, output, fault)
@@ -29,28 +51,72 @@ pub fn run<H: Files + RandomSource + AllocGlobal, O: Write, E: Write>(
     }
 }
 
-// The line of counts, where the tables can be read and joined.
+// How many records there are, if the tables can be read and joined.
 fn count_records<H: Files + RandomSource + AllocGlobal>(
     rt: &H,
     folder: &str,
-) -> Result<Result<String, AllocError>, LoadFault> {
+) -> Result<Counts, LoadFault>
+    ensures { IfOk result AreOfTables }
+{
     let alloc = rt.alloc();
     let mut files = FolderFiles::new(rt, folder);
     let tables = read_tables(alloc, &mut files)?;
-    let line = counts(alloc, &tables);
+    let counts = counts_of(&tables);
     let _feed = join(alloc, tables, false)?;
+    Ok(counts)
+}
+
+fn counts_of(tables: &Tables) -> Counts
+    ensures { result ≡ counts_of tables.now }
+{
+    Counts {
+        agencies: tables.agencies.len(),
+        stops: tables.stops.len(),
+        trips: tables.trips.len(),
+        stop_times: tables.stop_times.rows.len(),
+        calendar: tables.calendar.len(),
+        calendar_dates: tables.calendar_dates.len(),
+        transfers: tables.transfers.len(),
+    }
+}
+
+// Prints the line of counts. It refuses nothing.
+fn print_counts<O: Write>(alloc: Global, counts: Counts, output: &mut O) -> u8
+    ensures printed { result ≡ ACCEPTED
+        → Appends (O.contents output.old) (O.contents output.new) (counts_text counts) }
+    ensures refused { result ≢ REFUSED }
+{
+    match line_of(alloc, counts) {
+        Ok(line) => status::write_text(output, line.as_str(), status::ACCEPTED),
+        Err(_) => status::OUT_OF_MEMORY,
+    }
+}
+
+fn line_of(alloc: Global, counts: Counts) -> Result<String, AllocError>
+    ensures { IfOk result (λ line. string_bytes line ≡ counts_text counts) }
+{
+    let mut line = String::new(alloc);
+    append_trips(&mut line, counts)?;
+    append_services(&mut line, counts)?;
+    put_text(&mut line, "\n")?;
     Ok(line)
 }
 
-fn counts(alloc: Global, tables: &Tables) -> Result<String, AllocError> {
-    format!(in alloc;
-        "tables agencies {} stops {} trips {} stop_times {} calendar {} calendar_dates {} transfers {}\n",
-        tables.agencies.len(),
-        tables.stops.len(),
-        tables.trips.len(),
-        tables.stop_times.rows.len(),
-        tables.calendar.len(),
-        tables.calendar_dates.len(),
-        tables.transfers.len()
-    )
+fn append_trips(line: &mut String, counts: Counts) -> Result<(), AllocError>
+    ensures { OnOk result (string_bytes line.new ≡ string_bytes line.old ++ trips_text counts) }
+{
+    put_number(line, "tables agencies ", counts.agencies as u64)?;
+    put_number(line, " stops ", counts.stops as u64)?;
+    put_number(line, " trips ", counts.trips as u64)?;
+    put_number(line, " stop_times ", counts.stop_times as u64)?;
+    Ok(())
+}
+
+fn append_services(line: &mut String, counts: Counts) -> Result<(), AllocError>
+    ensures { OnOk result (string_bytes line.new ≡ string_bytes line.old ++ services_text counts) }
+{
+    put_number(line, " calendar ", counts.calendar as u64)?;
+    put_number(line, " calendar_dates ", counts.calendar_dates as u64)?;
+    put_number(line, " transfers ", counts.transfers as u64)?;
+    Ok(())
 }

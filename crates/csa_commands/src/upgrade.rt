@@ -1,14 +1,16 @@
 //! `csa upgrade IMAGE OUT`.
 
-ghost use Rattle.std.specs.Prelude.{◌≡◌, IfOk};
+ghost use Rattle.std.specs.Prelude.{◌≡◌, ◌≢◌, IfOk};
+ghost use Rattle.std.specs.Io.KnownBytes.{Appends};
+ghost use Rattle.command_requests.specs.declared.statuses.TheConstants.{ACCEPTED, REFUSED};
+ghost use Rattle.csa_commands.specs.Counting.{counts_line};
 ghost use Rattle.image_layout.specs.declared.layout.TheConstants.{LAYOUT};
 ghost use Rattle.image_layout.specs.Fields.{layout_of};
 ghost use Rattle.image_layout.specs.Image.{IsImage};
 
 use crate::explaining::reason_of;
-use crate::status;
-use crate::verify::counts;
 use crate::writing::put_image;
+use crate::{status, verify};
 use command_requests::UpgradeRequest;
 use image_verifier::Verified;
 use image_writer::write;
@@ -16,19 +18,23 @@ use std::alloc::{AllocError, Global};
 use std::io::{ErrorKind, Write};
 use std::rt::Files;
 
-/// Writes the image in the layout that is written today, and prints its counts as `verify` does.
+/// Writes the image in the layout that is written today, and prints its counts as `verify` does. It refuses nothing.
 pub fn run<H: Files + AllocGlobal, O: Write, E: Write>(
     rt: &H,
     image: &Verified,
     request: UpgradeRequest<'_>,
     output: &mut O,
     errors: &mut E,
-) -> u8 {
+) -> u8
+    ensures printed { result ≡ ACCEPTED
+        → Appends (O.contents output.old) (O.contents output.new) (counts_line image.now) }
+    ensures refused { result ≢ REFUSED }
+{
     let Ok(words) = upgraded(rt.alloc(), image) else {
         return status::OUT_OF_MEMORY;
     };
     match put_image(rt, request.out, &words) {
-        Ok(()) => status::write_line(output, counts(rt.alloc(), image), status::ACCEPTED),
+        Ok(()) => verify::run(rt.alloc(), image, output),
         Err(error) => match error.kind() {
             ErrorKind::OutOfMemory => status::OUT_OF_MEMORY,
             kind => { status::report_unwritten(rt.alloc(), errors, request.out, reason_of(kind)) }

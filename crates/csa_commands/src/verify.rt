@@ -1,22 +1,57 @@
 //! `csa verify IMAGE`.
 
+ghost use Rattle.std.specs.Prelude.{◌≡◌, ◌≢◌, ◌++◌, IfOk, OnOk, string_bytes};
+ghost use Rattle.std.specs.Io.KnownBytes.{Appends};
+ghost use Rattle.command_requests.specs.declared.statuses.TheConstants.{ACCEPTED, REFUSED};
+ghost use Rattle.csa_commands.specs.Counting.{counts_line, numbers_text};
+
 use crate::status;
 use image_verifier::Verified;
 use std::alloc::{AllocError, Global};
 use std::io::Write;
+use text_pieces::{put_number, put_text};
 
-/// Prints the counts of an image, which was judged when it was opened.
-pub fn run<O: Write>(alloc: Global, image: &Verified, output: &mut O) -> u8 {
-    status::write_line(output, counts(alloc, image), status::ACCEPTED)
+/// Prints the counts of an image, which was judged when it was opened. It refuses nothing.
+pub fn run<O: Write>(alloc: Global, image: &Verified, output: &mut O) -> u8
+    ensures printed { result ≡ ACCEPTED
+        → Appends (O.contents output.old) (O.contents output.new) (counts_line image.now) }
+    ensures refused { result ≢ REFUSED }
+{
+    match counts(alloc, image) {
+        Ok(line) => status::write_text(output, line.as_str(), status::ACCEPTED),
+        Err(_) => status::OUT_OF_MEMORY,
+    }
 }
 
-/// What is printed of an accepted image.
-pub fn counts(alloc: Global, image: &Verified) -> Result<String, AllocError> {
-    format!(in alloc;
-        "ok stops {} trips {} connections {} footpaths {}\n",
-        image.stops(),
-        image.trips(),
-        image.len(),
-        image.footpath_count()
-    )
+// What is printed of an accepted image.
+fn counts(alloc: Global, image: &Verified) -> Result<String, AllocError>
+    ensures { IfOk result (λ line. string_bytes line ≡ counts_line image.now) }
+{
+    let mut line = String::new(alloc);
+    append_numbers(
+        &mut line,
+        u64::from(image.stops()),
+        u64::from(image.trips()),
+        image.len() as u64,
+        image.footpath_count() as u64,
+    )?;
+    put_text(&mut line, "\n")?;
+    Ok(line)
+}
+
+fn append_numbers(
+    line: &mut String,
+    stops: u64,
+    trips: u64,
+    connections: u64,
+    footpaths: u64,
+) -> Result<(), AllocError>
+    ensures { OnOk result (string_bytes line.new
+        ≡ string_bytes line.old ++ numbers_text stops trips connections footpaths) }
+{
+    put_number(line, "ok stops ", stops)?;
+    put_number(line, " trips ", trips)?;
+    put_number(line, " connections ", connections)?;
+    put_number(line, " footpaths ", footpaths)?;
+    Ok(())
 }

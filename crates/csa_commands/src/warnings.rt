@@ -118,17 +118,41 @@ impl Rows {
         self.count = self.count.saturating_add(1);
     }
 
-    /// Appends how many they are and where the first one is, if there are any; of the first reason behind a colon.
-    fn append(&self, text: &mut String, reason: &str) -> Result<(), AllocError> {
-        let separator = if text.ends_with("out") { ": " } else { ", " };
+    /// Appends how many they are and where the first one is, if there are any: behind a colon for the first reason of
+    /// the line, else behind a comma. Which reason of the line the next one is.
+    fn append(
+        &self,
+        text: &mut String,
+        order: ReasonOrder,
+        reason: &str,
+    ) -> Result<ReasonOrder, AllocError> {
+        let separator = order.separator();
         let first = self.first;
         match self.count {
-            0 => Ok(()),
-            1 => write!(text, "{separator}1 {reason} (line {first})"),
+            0 => return Ok(order),
+            1 => write!(text, "{separator}1 {reason} (line {first})")?,
             count => write!(
                 text,
                 "{separator}{count} {reason} (the first in line {first})"
-            ),
+            )?,
+        }
+        Ok(ReasonOrder::Further)
+    }
+}
+
+/// Whether a reason is the first that a line names.
+#[derive(Clone, Copy, Drop)]
+enum ReasonOrder {
+    First,
+    Further,
+}
+
+impl ReasonOrder {
+    /// What is between the reason and what is before it.
+    fn separator(self) -> &'static str {
+        match self {
+            ReasonOrder::First => ": ",
+            ReasonOrder::Further => ", ",
         }
     }
 }
@@ -180,10 +204,12 @@ fn warn_of_transfers<H: Files + AllocGlobal, E: Write>(rt: &H, folder: &str, err
 fn transfers_line(alloc: Global, left_out: &LeftOut) -> Result<String, AllocError> {
     let mut text = format!(in alloc; "rows of transfers.txt are left out")?;
     let other_type = "of a transfer_type that isn't one of 0, 1, 2, 3";
-    left_out
+    let order = left_out
         .between_trips
-        .append(&mut text, "between trips or routes")?;
-    left_out.of_other_types.append(&mut text, other_type)?;
+        .append(&mut text, ReasonOrder::First, "between trips or routes")?;
+    left_out
+        .of_other_types
+        .append(&mut text, order, other_type)?;
     text.push_str("; a change there may need more time than answers give it")?;
     Ok(text)
 }

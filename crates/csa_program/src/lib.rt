@@ -14,11 +14,12 @@ pub use crate::explaining::Explains;
 pub use crate::machine::Machine;
 use command_line::{Unread, read, wants_warnings};
 use command_requests::Request;
-use csa_commands::{Asked, answer, build, days, explain, explain_zone, status, tables};
+use csa_commands::{Asked, answer, build, days, explain, explain_zone, open_image, status, tables};
 pub use feed_files::Disk;
 use std::convert::AsStr;
 use std::io::{Read, Write};
 use std::net::{Net, TcpListener, TcpStream};
+use std::rt::Files;
 
 /// Runs the command that the words ask for; the first word is the program's name.
 ///
@@ -53,19 +54,19 @@ fn run_command<
     let warnings = wants_warnings(words);
     match read(rt.alloc(), words) {
         Ok(Request::Verify(image)) => {
-            answer(rt, Asked::Verify(image), input, output, errors, warnings)
+            answer_over(rt, Asked::Verify(image), input, output, errors, warnings)
         }
         Ok(Request::Info(image)) => {
-            answer(rt, Asked::Info(image), input, output, errors, warnings)
+            answer_over(rt, Asked::Info(image), input, output, errors, warnings)
         }
         Ok(Request::Journey(request)) => {
-            answer(rt, Asked::Journey(request), input, output, errors, warnings)
+            answer_over(rt, Asked::Journey(request), input, output, errors, warnings)
         }
         Ok(Request::Profile(request)) => {
-            answer(rt, Asked::Profile(request), input, output, errors, warnings)
+            answer_over(rt, Asked::Profile(request), input, output, errors, warnings)
         }
         Ok(Request::Departures(request)) => {
-            answer(
+            answer_over(
                 rt,
                 Asked::Departures(request),
                 input,
@@ -75,7 +76,7 @@ fn run_command<
             )
         }
         Ok(Request::Stops(request)) => {
-            answer(rt, Asked::Stops(request), input, output, errors, warnings)
+            answer_over(rt, Asked::Stops(request), input, output, errors, warnings)
         }
         Ok(Request::Tables(folder)) => tables::run(rt, folder, output, errors),
         Ok(Request::Days(folder)) => days::run(rt, folder, output, errors),
@@ -83,7 +84,7 @@ fn run_command<
             build::run(rt, request, output, errors, is_terminal, warnings)
         }
         Ok(Request::Upgrade(request)) => {
-            answer(rt, Asked::Upgrade(request), input, output, errors, warnings)
+            answer_over(rt, Asked::Upgrade(request), input, output, errors, warnings)
         }
         Ok(Request::Serve(request)) => serve::run(rt, request, input, output, errors),
         Err(Unread::Help(text)) => status::write_text(output, text.as_str(), status::ACCEPTED),
@@ -93,5 +94,20 @@ fn run_command<
             status
         }
         Err(Unread::OutOfMemory) => status::OUT_OF_MEMORY,
+    }
+}
+
+// Opens the image of which something is asked, and does that; or the status that says why it isn't opened.
+fn answer_over<H: Files + AllocGlobal, I: Read, O: Write, E: Write>(
+    rt: &H,
+    asked: Asked<'_>,
+    input: &mut I,
+    output: &mut O,
+    errors: &mut E,
+    warnings: bool,
+) -> u8 {
+    match open_image(rt, asked.path(), input, output, errors) {
+        Ok(image) => answer(rt, &image, asked, output, errors, warnings),
+        Err(status) => status,
     }
 }

@@ -1,0 +1,42 @@
+-- What a command over an image prints, and for what it is refused.
+use Rattle.std.specs.Prelude.{ℕ, List, Option}
+use Rattle.std.specs.Io.KnownBytes.{Appends}
+use Rattle.image_layout.specs.Image.{ImageValue}
+use Rattle.csa_commands.specs.Answering.{IsNoRequest, IsPrinted}
+use Rattle.csa_commands.specs.Counting.{counts_line}
+use Rattle.csa_commands.specs.Departing.{AreAllPrinted, IsNoneAsked}
+use Rattle.csa_commands.specs.Informing.{IsInformed}
+use Rattle.csa_commands.specs.Judging.{IsAccepted, IsFaulty}
+use Rattle.csa_commands.specs.StopLines.{AreStopsPrinted}
+use Rattle.csa_commands.specs.declared.asked.Asked.{Asked}
+use Rattle.csa_commands.specs.declared.asked.Asked.TheVariants.{Verify, Info, Journey, Profile, Departures, Stops, Upgrade}
+
+-- the path of the image
+abbrev pub path_of : Asked → List ℕ
+path_of (Verify image) = image.now
+path_of (Info image) = image.now
+path_of (Journey request) = request.image.now
+path_of (Profile request) = request.image.now
+path_of (Departures request) = request.image.now
+path_of (Stops request) = request.image.now
+path_of (Upgrade request) = request.image.now
+
+-- what was asked of the image was added to what was printed before, and nothing else
+abbrev pub IsDone : ImageValue → Asked → Option (List ℕ) → Option (List ℕ) → Type 0
+IsDone image (Verify path) before after = Appends before after (counts_line image)
+IsDone image (Info path) before after = IsInformed image before after
+IsDone image (Journey request) before after = IsAccepted image request.question request.text.now before after
+IsDone image (Profile request) before after = IsPrinted image request before after
+IsDone image (Departures request) before after = AreAllPrinted image request before after
+IsDone image (Stops request) before after = AreStopsPrinted image request.text.now before after
+IsDone image (Upgrade request) before after = Appends before after (counts_line image)
+
+-- a journey or a question is refused for its first fault, and nothing else is
+abbrev pub IsRefusedAs : ImageValue → Asked → Type 0
+IsRefusedAs image (Verify path) = ⊥
+IsRefusedAs image (Info path) = ⊥
+IsRefusedAs image (Journey request) = IsFaulty image request.question request.text.now
+IsRefusedAs image (Profile request) = IsNoRequest image request
+IsRefusedAs image (Departures request) = IsNoneAsked image request
+IsRefusedAs image (Stops request) = ⊥
+IsRefusedAs image (Upgrade request) = ⊥

@@ -1,0 +1,41 @@
+-- The line that `csa tables` prints of a feed's tables.
+use Rattle.std.specs.Prelude.{◌≡◌, ℕ, List, Option, ◌++◌, codes, decimal, length}
+use Rattle.std.specs.Io.KnownBytes.{Appends}
+use Rattle.gtfs_tables.specs.declared.tables.Tables.{Tables}
+use Rattle.csa_commands.specs.declared.tables.Counts.{Counts}
+
+-- how many records each table has
+abbrev pub counts_of : Tables → Counts
+counts_of t =
+    record {
+      agencies = length t.agencies.items;
+      stops = length t.stops.items;
+      trips = length t.trips.items;
+      stop_times = length t.stop_times.rows.items;
+      calendar = length t.calendar.items;
+      calendar_dates = length t.calendar_dates.items;
+      transfers = length t.transfers.items;
+    }
+
+-- how many agencies, stops, trips and rows of trips there are
+unfoldable pub trips_text : Counts → List ℕ
+trips_text counts =
+    (codes "tables agencies " ++ decimal counts.agencies) ++ (codes " stops " ++ decimal counts.stops) ++ (codes " trips " ++ decimal counts.trips)
+    ++ (codes " stop_times " ++ decimal counts.stop_times)
+
+-- how many records give services, and how many transfers there are
+unfoldable pub services_text : Counts → List ℕ
+services_text counts =
+    (codes " calendar " ++ decimal counts.calendar) ++ (codes " calendar_dates " ++ decimal counts.calendar_dates)
+    ++ (codes " transfers " ++ decimal counts.transfers)
+
+abbrev pub counts_text : Counts → List ℕ
+counts_text counts = trips_text counts ++ services_text counts ++ codes "\n"
+
+-- some tables have so many records
+abbrev pub AreOfTables : Counts → Type 0
+AreOfTables counts = (t : Tables) × (counts ≡ counts_of t)
+
+-- the line of some tables was added to what was printed before, and nothing else
+abbrev pub AreCounted : Option (List ℕ) → Option (List ℕ) → Type 0
+AreCounted before after = (counts : Counts) × AreOfTables counts × Appends before after (counts_text counts)
