@@ -149,7 +149,8 @@ pub marks_step : (test : ℕ → Bool) (marks : List Bool) (row : Frequency) (st
     → AreMarks (with_row test row after) (set marks start true)
 marks_step test marks row start after room was is within low next =
     let some = (row_start start row is).0 in
-    let here : IsNext (λ s. leaves_at s row) start start = record { after = omega arith; is = is; first = λ s early late. absurd (omega (arith, early, late)) } in
+    let here : IsNext (λ s. leaves_at s row) start start =
+    record { after = omega arith; is = is; first = λ s early late. absurd (omega (arith, early, late)) } in
     marks_skip test (set marks start true) row (start + 1) after (marks_more test marks row start start was here within) (omega (arith, next, some, low))
     (λ s early late. row_between row start s is (omega (arith, early)) (omega (arith, late, next)))
 
