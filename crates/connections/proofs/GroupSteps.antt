@@ -1,37 +1,72 @@
 -- The rows of frequencies.txt by trip, a row on.
-use Rattle.std.proofs.Common.{◌≡◌, ℕ, ◌+◌, ◌<◌, ◌==◌, inl, inr, if◌then◌else◌, List, [], ◌∷◌, ◌++◌, length, get_or, take, refl, sym, ap, ◌∙◌, arith}
-use Rattle.std.proofs.lemmas.Bool.{cases_eq, false≢true}
-use Rattle.std.proofs.lemmas.List.{get_or_append_left, get_or_push, length_push}
+use Rattle.std.proofs.Common.{◌≡◌, ℕ, ◌+◌, ◌<◌, ◌≤◌, ◌==◌, inl, inr, if◌then◌else◌, List, [], ◌∷◌, ◌++◌, length, get_or, set, take, Result, Ok, Err}
+use Rattle.std.proofs.Common.{refl, sym, ap, ◌∙◌, subst, arith}
+use Rattle.std.specs.Prelude.{OnOk}
+use Rattle.std.proofs.lemmas.Bool.{cases_eq, eq-eqb, ne_eqb}
+use Rattle.std.proofs.lemmas.List.{append-nil, get_or-set_other, get_or-set_same, get_or_append_left, get_or_default, get_or_push, length-set, length_push}
 use Rattle.std.proofs.lemmas.List.Elements.{filter_more}
 use Rattle.gtfs_tables.specs.declared.tables.Frequency.{Frequency}
-use Rattle.connections.specs.Grouping.{AddsRow, AreGrouped}
-use Rattle.connections.specs.Keeping.{HoldStarts}
+use Rattle.connections.specs.Grouping.{AddsRow, AreGrouped, HasRows}
+use Rattle.connections.specs.Keeping.{AreStartsOf, HoldStarts}
+use Rattle.connections.specs.Repeats.{rows_for}
 use Rattle.connections.specs.declared.trip_starts.TripStarts.{TripStarts}
+use Rattle.connections.specs.declared.trip_starts.TripStarts.TheVariants as starts
 
 pub no_groups : AreGrouped [] 0 []
-no_groups = record { same_length = refl; each = λ t d lt. absurd (omega (arith, lt)); unlisted = λ t d lt. absurd (omega (arith, lt)) }
+no_groups = record { same_length = refl; each = λ t d lt. absurd (omega (arith, lt)) }
 
 -- a trip more
-module _ (n : ℕ) (groups : List TripStarts) (v : TripStarts) (was : AreGrouped [] n groups) where
-  last_one : (t : ℕ) (d : TripStarts) → t ≡ n → get_or (groups ++ v ∷ []) t d ≡ v
-  last_one t d same = get_or_push groups v d t (was.same_length ∙ sym same)
+pub groups_more : (n : ℕ) (groups new : List TripStarts) (v : TripStarts) → AreGrouped [] n groups → HasRows [] v → new ≡ groups ++ v ∷ []
+    → AreGrouped [] (n + 1) new
+groups_more n groups new v was empty now =
+    let len : length groups ≡ n = was.same_length in
+    rw now (record {
+      same_length = length_push groups v ∙ ap (λ k. k + 1) len;
+      each = λ t d lt. elim (cases_eq t n) [
+        | inl same ↦
+            let place : length groups ≡ t = len ∙ sym same in
+            subst (λ (x : TripStarts). HasRows [] x) (sym (get_or_push groups v d t place)) empty
+        | inr other ↦
+            subst (λ (x : TripStarts). HasRows [] x) (sym (get_or_append_left groups (v ∷ []) d t (omega (arith, lt, other, len))))
+            (was.each t d (omega (arith, lt, other)))
+      ];
+    })
 
-  one_before : (t : ℕ) (d : TripStarts) → t < n + 1 → (t ≡ n → ⊥) → get_or (groups ++ v ∷ []) t d ≡ get_or groups t d
-  one_before t d lt other = let len : length groups ≡ n = was.same_length in
-      get_or_append_left groups (v ∷ []) d t (omega (arith, lt, other, len))
+-- the rows of a trip that a row doesn't name
+rows_stay : (row : Frequency) (t : ℕ) (rows : List Frequency) (here : TripStarts) → (t ≡ row.trip → ⊥) → HasRows rows here
+    → HasRows (rows ++ (if row.trip == t then row ∷ [] else [])) here
+rows_stay row t rows here other has =
+    let none : (if row.trip == t then row ∷ [] else []) ≡ [] = rw (ne_eqb row.trip t (λ same. other (sym same))) refl in
+    subst (λ (xs : List Frequency). HasRows xs here) (sym (ap (λ xs. rows ++ xs) none ∙ append-nil rows)) has
 
-  pub groups_more : (new : List TripStarts) → v.rows.items ≡ [] → v.are_listed ≡ false → new ≡ groups ++ v ∷ [] → AreGrouped [] (n + 1) new
-  groups_more new empty idle now = rw now (record {
-    same_length = length_push groups v ∙ ap (λ k. k + 1) was.same_length;
-    each = λ t d lt. elim (cases_eq t n) [
-      | inl same ↦ ap (λ (x : TripStarts). x.rows.items) (last_one t d same) ∙ empty
-      | inr other ↦ ap (λ (x : TripStarts). x.rows.items) (one_before t d lt other) ∙ was.each t d (omega (arith, lt, other))
-    ];
-    unlisted = λ t d lt. elim (cases_eq t n) [
-      | inl same ↦ ap (λ (x : TripStarts). x.are_listed) (last_one t d same) ∙ idle
-      | inr other ↦ ap (λ (x : TripStarts). x.are_listed) (one_before t d lt other) ∙ was.unlisted t d (omega (arith, lt, other))
-    ];
-  })
+-- a row is added to those of its trip
+adds_at : (old : List TripStarts) (row : Frequency) (here one : TripStarts) → row.trip < length old → here ≡ get_or old row.trip here
+    → ((rows : List Frequency) → HasRows rows here → HasRows (rows ++ row ∷ []) one) → AddsRow old row (set old row.trip one)
+adds_at old row here one lt is adds = record {
+  same_length = length-set old row.trip one;
+  each = λ t d rows within has. elim (cases_eq t row.trip) [
+    | inl same ↦
+        let after : get_or (set old row.trip one) t d ≡ one =
+        ap (λ n. get_or (set old row.trip one) n d) same ∙ get_or-set_same old row.trip one d lt in
+        let before : get_or old t d ≡ here = ap (λ n. get_or old n d) same ∙ get_or_default old row.trip d here lt ∙ sym is in
+        let added : (if row.trip == t then row ∷ [] else []) ≡ row ∷ [] = rw (eq-eqb row.trip t (sym same)) refl in
+        rw after (subst (λ (xs : List Frequency). HasRows (rows ++ xs) one) (sym added) (adds rows (subst (λ (x : TripStarts). HasRows rows x) before has)))
+    | inr other ↦ rw (get_or-set_other old row.trip t one d other) (rows_stay row t rows (get_or old t d) other has)
+  ];
+}
+
+pub adds_if_ok : {A B : Type 0} (result : Result A B) (old : List TripStarts) (row : Frequency) (here one : TripStarts) → row.trip < length old
+    → here ≡ get_or old row.trip here → ((rows : List Frequency) → HasRows rows here → OnOk result (HasRows (rows ++ row ∷ []) one))
+    → OnOk result (AddsRow old row (set old row.trip one))
+adds_if_ok (Ok done) old row here one lt is adds = adds_at old row here one lt is adds
+adds_if_ok (Err fault) old row here one lt is adds = tt
+
+-- its trip isn't there
+pub adds_nowhere : (old : List TripStarts) (row : Frequency) → length old ≤ row.trip → AddsRow old row old
+adds_nowhere old row over = record {
+  same_length = refl;
+  each = λ t d rows within has. rows_stay row t rows (get_or old t d) (λ same. omega (arith, same, within, over)) has;
+}
 
 -- a row more
 pub rows_more : (rows : List Frequency) (i n : ℕ) (d : Frequency) (old new : List TripStarts) → i < length rows → AreGrouped (take i rows) n old
@@ -41,14 +76,17 @@ rows_more rows i n d old new lt was adds =
     record {
       same_length = adds.same_length ∙ len;
       each = λ t v within.
-          adds.each t v (omega (arith, within, len)) ∙ ap (λ xs. xs ++ (if (get_or rows i d).trip == t then get_or rows i d ∷ [] else [])) (was.each t v within)
-          ∙ sym (filter_more (λ (r : Frequency). r.trip == t) rows i d lt);
-      unlisted = λ t v within. adds.unlisted t v (omega (arith, within, len)) ∙ was.unlisted t v within;
+          subst (λ (xs : List Frequency). HasRows xs (get_or new t v)) (sym (filter_more (λ (r : Frequency). r.trip == t) rows i d lt))
+          (adds.each t v (rows_for (take i rows) t) (omega (arith, within, len)) (was.each t v within));
     }
 
--- where none are listed, all that are listed are right
+-- rows stand for the starts that they give
+as_starts : (rows : List Frequency) (here : TripStarts) → HasRows rows here → AreStartsOf rows here
+as_starts rows (starts.Rows given) has = has
+as_starts rows (starts.Times times) has = absurd has
+
 pub hold_unlisted : (rows : List Frequency) (n : ℕ) (groups : List TripStarts) → AreGrouped rows n groups → HoldStarts rows n groups
 hold_unlisted rows n groups was = record {
   same_length = was.same_length;
-  each = λ t d lt. record { rows_are = was.each t d lt; times_are = λ listed. absurd (false≢true (sym (was.unlisted t d lt) ∙ listed)) };
+  each = λ t d lt. as_starts (rows_for rows t) (get_or groups t d) (was.each t d lt);
 }

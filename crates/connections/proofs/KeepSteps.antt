@@ -4,7 +4,7 @@ use Rattle.std.proofs.lemmas.Bool.{cases_eq}
 use Rattle.std.proofs.lemmas.List.{get_or-set_other, get_or-set_same, get_or_default, length-set}
 use Rattle.gtfs_tables.specs.declared.tables.Frequency.{Frequency}
 use Rattle.connections.specs.Keeping.{AreKept, AreStartsOf, HoldStarts, IsKept}
-use Rattle.connections.specs.Repeats.{rows_for, starts_of}
+use Rattle.connections.specs.Repeats.{rows_for}
 use Rattle.connections.specs.declared.trip_starts.TripStarts.{TripStarts}
 
 pub kept_same : (starts : List TripStarts) → AreKept starts starts

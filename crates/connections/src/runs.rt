@@ -211,7 +211,7 @@ fn add_repeats(
         → OnOk result (runs.new.items ≡ runs.old.items ++ repeats_from day trip 0 (starts_of rows)) }
 {
     starts.list(alloc)?;
-    add_starts(runs, day, trip, &starts.times)
+    add_starts(runs, day, trip, starts.listed())
 }
 
 // Adds the repeats of a trip on a day: one for each of the starts.

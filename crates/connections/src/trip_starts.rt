@@ -1,48 +1,55 @@
 //! The starts of each trip, by the rows of frequencies.txt that name it: listed once, when they are first asked for.
 
-ghost use Rattle.std.specs.Prelude.{◌≡◌, List, [], false, length, IfOk, OnOk};
+ghost use Rattle.std.specs.Prelude.{◌≡◌, ◌++◌, ◌∷◌, List, [], length, IfOk, OnOk};
 ghost use Rattle.gtfs_tables.specs.declared.tables.Frequency.{Frequency as Row};
-ghost use Rattle.connections.specs.Grouping.{AddsRow, AreGrouped};
+ghost use Rattle.connections.specs.Grouping.{AddsRow, AreGrouped, HasRows};
+ghost use Rattle.connections.specs.Keeping.{AreStartsOf, HoldStarts, IsKept, listed_times};
 ghost use Rattle.connections.specs.Repeats.{starts_of};
-ghost use Rattle.connections.specs.Keeping.{AreStartsOf, HoldStarts, IsKept};
 
 use crate::repeats::starts_given;
 use gtfs_tables::Frequency;
 use std::alloc::{AllocError, Global};
 
-/// The rows that give a trip's starts, and the starts once they are listed.
+/// The starts of a trip, or the rows that give them where nobody asked for the starts yet.
 #[derive(Drop)]
-pub(crate) struct TripStarts {
-    rows: Vec<Frequency>,
-    /// When the trip starts, rising, each time once. None until they are listed.
-    pub times: Vec<u32>,
-    are_listed: bool,
+pub(crate) enum TripStarts {
+    Rows(Vec<Frequency>),
+    /// Rising, each once.
+    Times(Vec<u32>),
 }
 
 impl TripStarts {
-    // Those of a trip that no row names.
-    fn new(alloc: Global) -> TripStarts
-        ensures rows { result.rows.items ≡ [] }
-        ensures unlisted { result.are_listed ≡ false }
+    // Adds a row, where no starts are listed yet.
+    fn add(&mut self, row: Frequency) -> Result<(), AllocError>
+        ensures { (rows : List Row) → HasRows rows self.old → OnOk result (HasRows (rows ++ row ∷ []) self.new) }
     {
-        TripStarts {
-            rows: Vec::new(alloc),
-            times: Vec::new(alloc),
-            are_listed: false,
+        if let TripStarts::Rows(rows) = self {
+            rows.push(row)?;
         }
+        Ok(())
     }
 
     // Lists the starts, if they aren't listed yet.
     pub(crate) fn list(&mut self, alloc: Global) -> Result<(), AllocError>
         ensures kept { OnOk result (IsKept self.old self.new) }
         ensures listed { (rows : List Row) → AreStartsOf rows self.old
-            → OnOk result (self.new.times.items ≡ starts_of rows) }
+            → OnOk result (listed_times self.new ≡ starts_of rows) }
     {
-        if !self.are_listed {
-            self.times = starts_given(alloc, &self.rows)?;
-            self.are_listed = true;
+        if let TripStarts::Rows(rows) = self {
+            let times = starts_given(alloc, rows)?;
+            *self = TripStarts::Times(times);
         }
         Ok(())
+    }
+
+    // The starts that are listed: none if they aren't yet.
+    pub(crate) fn listed(&self) -> &[u32]
+        ensures { result.now ≡ listed_times self.now }
+    {
+        match self {
+            TripStarts::Rows(_) => &[],
+            TripStarts::Times(times) => times,
+        }
     }
 
     // How many starts there are.
@@ -52,7 +59,7 @@ impl TripStarts {
             → IfOk result (λ count. count ≡ length (starts_of rows)) }
     {
         self.list(alloc)?;
-        Ok(self.times.len())
+        Ok(self.listed().len())
     }
 }
 
@@ -62,7 +69,7 @@ fn no_rows(alloc: Global, trips: usize) -> Result<Vec<TripStarts>, AllocError>
 {
     let mut groups = Vec::with_capacity(alloc, trips)?;
     for _ in 0..trips {
-        groups.push(TripStarts::new(alloc))?;
+        groups.push(TripStarts::Rows(Vec::new(alloc)))?;
     }
     Ok(groups)
 }
@@ -73,7 +80,7 @@ fn add_row(groups: &mut Vec<TripStarts>, row: Frequency) -> Result<(), AllocErro
 {
     let place = row.trip as usize;
     if place < groups.len() {
-        groups[place].rows.push(row)?;
+        return groups[place].add(row);
     }
     Ok(())
 }

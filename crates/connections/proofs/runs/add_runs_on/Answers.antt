@@ -1,4 +1,4 @@
-use Rattle.std.proofs.Common.{◌≡◌, ◌<◌, ◌∙◌, ap, ◌++◌, length, false, sym, subst, ℕ}
+use Rattle.std.proofs.Common.{◌<◌, ◌∙◌, length, false, sym, subst, ℕ}
 use Rattle.std.proofs.lemmas.List.{append-nil, length-set}
 use Rattle.connections.proofs.KeepSteps.{held_at, hold_kept, kept_same, kept_set}
 use Rattle.connections.proofs.RunSteps.{running_at, runs_step}

@@ -1,4 +1,4 @@
-use Rattle.std.proofs.Common.{◌≡◌, ◌+◌, ◌∙◌, sym, subst, length, map, take, List, get_or, pos, ℕ}
+use Rattle.std.proofs.Common.{◌+◌, ◌∙◌, sym, subst, length, map, take, List, get_or, pos}
 use Rattle.gtfs_tables.specs.declared.tables.Trip.{Trip}
 use Rattle.timetable.specs.declared.limits.TheConstants.{MAX_TRIPS}
 use Rattle.connections.specs.Counting.{IsCount}

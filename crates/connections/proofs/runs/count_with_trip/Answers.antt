@@ -1,4 +1,4 @@
-use Rattle.std.proofs.Common.{◌≡◌, ◌<◌, ◌+◌, length, arith, lit<}
+use Rattle.std.proofs.Common.{◌<◌, ◌+◌, length, arith, lit<}
 use Rattle.timetable.specs.declared.limits.TheConstants.{MAX_TRIPS}
 use Rattle.connections.specs.Runs.{runs_at}
 use Rattle.connections.proofs.RunSteps.{count_more, count_over}

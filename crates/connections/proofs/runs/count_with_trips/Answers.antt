@@ -1,6 +1,8 @@
-use Rattle.std.proofs.Common.{◌≡◌, ◌<◌, ◌+◌, ◌∙◌, length, false, sym, subst, take, ℕ}
-use Rattle.std.proofs.lemmas.List.{length-set}
+use Rattle.std.proofs.Common.{◌<◌, ◌+◌, ◌∙◌, length, false, sym, subst, take, ℕ, List}
+use Rattle.std.proofs.lemmas.List.{length-set, take_all}
+use Rattle.gtfs_tables.specs.declared.tables.Trip.{Trip}
 use Rattle.timetable.specs.declared.limits.TheConstants.{MAX_TRIPS}
+use Rattle.connections.specs.Counting.{IsCount}
 use Rattle.connections.specs.Runs.{runs_from}
 use Rattle.connections.proofs.KeepSteps.{held_at, hold_kept, kept_same, kept_set}
 use Rattle.connections.proofs.RunSteps.{count_begun, count_step, running_at}
@@ -35,3 +37,8 @@ loop-place-preserved c =
           (hold_kept feed.frequencies.items (length trips) c.args.starts.now.items starts holds was.kept) lt c.index_mut.ensures.value)
           (was.count feed day n are holds begun));
     }
+
+pub returns-clause-count : goal.returns-clause-count
+returns-clause-count c feed day n are holds was =
+    subst (λ (ts : List Trip). IsCount MAX_TRIPS c.loop-place.count (n + length (runs_from feed day 0 ts)))
+    (take_all c.loop-place.place c.args.trips.now c.loop-place-test.false) (c.loop-place.invariant.count feed day n are holds was)
