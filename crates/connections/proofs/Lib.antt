@@ -2,6 +2,7 @@ pub mod DaySteps
 pub mod FinalLemmas
 pub mod GroupSteps
 pub mod HopSteps
+pub mod KeepSteps
 pub mod LegalLemmas
 pub mod ListSteps
 pub mod MarkSteps

@@ -1,5 +1,5 @@
 -- The marked starts of a trip's rows, a row and a second on.
-use Rattle.std.proofs.Common.{◌≡◌, ℕ, zero, suc, ◌+◌, ◌-◌, ◌*◌, ◌/◌, ◌%◌, ◌<◌, ◌≤◌, inl, inr, max, set, replicate}
+use Rattle.std.proofs.Common.{◌≡◌, ℕ, zero, suc, ◌+◌, ◌-◌, ◌*◌, ◌/◌, ◌%◌, ◌<◌, ◌≤◌, inl, inr, max, min, set, replicate}
 use Rattle.std.proofs.Common.{List, [], ◌∷◌, ◌++◌, length, get_or, take, All, Bool, true, false, ◌||◌, ◌&&◌, ◌==◌}
 use Rattle.std.proofs.Common.{refl, sym, ap, ◌∙◌, arith}
 use Rattle.std.specs.Prelude.{nat_le, nat_lt}
@@ -60,6 +60,40 @@ row_covered other row some same late none s lt is =
     ap (λ n. n % row.headway) split ∙ whole_sum (row.start - other.start) (s - row.start) row.headway some_row none start.3 in
     row_start_from s other some (omega (arith, late, after)) lt (ap (λ h. (s - other.start) % h) same ∙ rest)
 
+-- no row leaves at its end time or later
+pub row_over : (row : Frequency) (s : ℕ) → row.end ≤ s → leaves_at s row ≡ false
+row_over row s late = elim (cases_Bool (leaves_at s row)) [
+  | inl is ↦ absurd (let early = (row_start s row is).2 in omega (arith, early, late))
+  | inr none ↦ none
+]
+
+-- nor in the headway that follows a start
+pub row_between : (row : Frequency) (start s : ℕ) → leaves_at start row ≡ true → start < s → s < start + row.headway → leaves_at s row ≡ false
+row_between row start s is after before = elim (cases_Bool (leaves_at s row)) [
+  | inl here ↦
+      let q : ℕ = (start - row.start) / row.headway in
+      let from = (row_start start row is).1 in
+      let whole = (row_start start row is).3 in
+      let none = (row_start s row here).3 in
+      let split = div-add-mod' (start - row.start) row.headway in
+      let place : s - row.start ≡ q * row.headway + (s - start) = omega (arith, from, after, split, whole) in
+      let rest : (s - row.start) % row.headway ≡ s - start =
+      ap (λ n. n % row.headway) place ∙ mod-mul-add q row.headway (s - start) (omega (arith, after, before)) in
+      absurd (omega (arith, rest, none, after))
+  | inr none ↦ none
+]
+
+-- it leaves again a headway after a start, before its end time
+pub row_again : (row : Frequency) (start : ℕ) → leaves_at start row ≡ true → start + row.headway < row.end → leaves_at (start + row.headway) row ≡ true
+row_again row start is lt =
+    let some = (row_start start row is).0 in
+    let from = (row_start start row is).1 in
+    let one : row.headway ≡ 1 * row.headway + 0 = omega arith in
+    let own : row.headway % row.headway ≡ 0 = ap (λ n. n % row.headway) one ∙ mod-mul-add 1 row.headway 0 some in
+    let split : start + row.headway - row.start ≡ (start - row.start) + row.headway = omega (arith, from) in
+    row_start_from (start + row.headway) row some (omega (arith, from)) lt
+    (ap (λ n. n % row.headway) split ∙ whole_sum (start - row.start) row.headway row.headway some (row_start start row is).3 own)
+
 -- ---- one row's marks
 
 -- the starts of a row before a time are added to a test
@@ -97,6 +131,35 @@ marks_more test marks row next start was is within s d lt = elim (cases_eq s sta
         ]
       ]
 ]
+
+-- the marks stay up to the next start
+pub marks_skip : (test : ℕ → Bool) (marks : List Bool) (row : Frequency) (from to : ℕ) → AreMarks (with_row test row from) marks → from ≤ to
+    → ((s : ℕ) → from ≤ s → s < to → leaves_at s row ≡ false) → AreMarks (with_row test row to) marks
+marks_skip test marks row from to was le none s d lt = was s d lt ∙ elim (cases_lt s from) [
+  | inl low ↦ rw (lt-ltb s from low, lt-ltb s to (omega (arith, low, le))) refl
+  | inr high ↦ elim (cases_lt s to) [
+    | inl early ↦ (let off : leaves_at s row ≡ false = none s high early in rw off refl)
+    | inr late ↦ rw (le-ltb s from high, le-ltb s to late) refl
+  ]
+]
+
+-- a start is marked, and the next is a headway on
+pub marks_step : (test : ℕ → Bool) (marks : List Bool) (row : Frequency) (start after room : ℕ) → AreMarks (with_row test row start) marks
+    → leaves_at start row ≡ true → start < length marks → start < room → after ≡ min (start + row.headway) room
+    → AreMarks (with_row test row after) (set marks start true)
+marks_step test marks row start after room was is within low next =
+    let some = (row_start start row is).0 in
+    let here : IsNext (λ s. leaves_at s row) start start =
+    record { after = omega arith; is = is; first = λ s early late. absurd (omega (arith, early, late)) } in
+    marks_skip test (set marks start true) row (start + 1) after (marks_more test marks row start start was here within) (omega (arith, next, some, low))
+    (λ s early late. row_between row start s is (omega (arith, early)) (omega (arith, late, next)))
+
+-- the next is a start, before the row's end time
+pub start_again : (row : Frequency) (start after room : ℕ) → leaves_at start row ≡ true → after ≡ min (start + row.headway) room → row.end ≤ room
+    → after < row.end → leaves_at after row ≡ true
+start_again row start after room is next fits lt =
+    let same : after ≡ start + row.headway = omega (arith, next, fits, lt) in
+    rw same (row_again row start is (omega (arith, same, lt)))
 
 -- there is no further start
 pub marks_end : (test : ℕ → Bool) (marks : List Bool) (row : Frequency) (next : ℕ) → AreMarks (with_row test row next) marks

@@ -1,7 +1,6 @@
 -- The runs of days, a trip and a day on.
-use Rattle.std.proofs.Common.{◌≡◌, ℕ, ◌+◌, ◌<◌, ◌≤◌, inl, inr, List, [], ◌∷◌, ◌++◌, length, get_or, map, min, take, Bool, true, false, refl, sym, ap, ◌∙◌}
-use Rattle.std.proofs.Common.{arith, length-append, append_assoc}
-use Rattle.std.proofs.lemmas.Bool.{cases_lt}
+use Rattle.std.proofs.Common.{◌≡◌, ℕ, ◌+◌, ◌<◌, ◌≤◌, List, [], ◌∷◌, ◌++◌, length, get_or, map, min, take, Bool, true, false, refl, sym, ap, ◌∙◌}
+use Rattle.std.proofs.Common.{subst, arith, length-append, append_assoc}
 use Rattle.std.proofs.lemmas.List.{append-nil, flat_map_more, get_or-map, length-take-le, map-append, take_more}
 use Rattle.gtfs_rows.specs.declared.values.Day.{Day}
 use Rattle.gtfs_tables.specs.declared.tables.Feed.{Feed}
@@ -66,20 +65,14 @@ runs_step feed day trips i trip old before new lt is was now =
     ∙ ap (λ rs. old ++ rs) (sym more)
 
 -- a count more
-pub count_more : (most count n more m new all room : ℕ) → IsCount most count n → IsCount most more m → count ≤ most → most < room
-    → new ≡ min (count + more) room → all ≡ n + m → IsCount most new all
-count_more most count n more m new all room was adds low high now total = record {
-  exact = λ (le : new ≤ most).
-      let before : count ≡ n = was.exact low in
-      let added : more ≡ m = adds.exact (omega (arith, le, now, high)) in
-      omega (arith, le, now, high, total, before, added);
-  many = λ (lt : most < new).
-      let before : count ≡ n = was.exact low in
-      elim (cases_lt most more) [
-        | inl over ↦ (let beyond : most < m = adds.many over in omega (arith, beyond, total))
-        | inr under ↦ (let added : more ≡ m = adds.exact under in omega (arith, lt, now, before, added, total))
-      ];
-}
+pub count_more : (most count n more m new room : ℕ) → IsCount most count n → more ≡ m → count ≤ most → most < room
+    → new ≡ min (count + more) room → IsCount most new (n + m)
+count_more most count n more m new room was adds low high now =
+    let before : count ≡ n = was.exact low in
+    record {
+      exact = λ (le : new ≤ most). omega (arith, le, now, high, before, adds);
+      many = λ (lt : most < new). omega (arith, lt, now, before, adds);
+    }
 
 -- nothing is counted any more
 pub count_over : (most count n all : ℕ) → IsCount most count n → most < count → n ≤ all → IsCount most count all
@@ -87,9 +80,6 @@ count_over most count n all was over le = record {
   exact = λ (under : count ≤ most). absurd (omega (arith, under, over));
   many = λ (lt : most < count). let beyond : most < n = was.many lt in omega (arith, beyond, le);
 }
-
-pub count_all : (most count n : ℕ) → count ≡ n → IsCount most count n
-count_all most count n is = record { exact = λ _. is; many = λ (lt : most < count). omega (arith, lt, is) }
 
 -- whether the trip at a place runs
 pub running_at : (feed : Feed) (day : Day) (trips : List Trip) (running : List Bool) (i : ℕ) (trip : Trip) (d : Bool)
@@ -104,22 +94,22 @@ running_more feed day trips running new i trip b was lt is told now =
     now ∙ ap (λ bs. bs ++ b ∷ []) was ∙ ap (λ x. map (runs_on feed day) (take i trips) ++ x ∷ []) (told ∙ ap (runs_on feed day) is)
     ∙ sym (ap (map (runs_on feed day)) (take_more trips i trip lt) ∙ map-append (runs_on feed day) (take i trips) (get_or trips i trip ∷ []))
 
-pub count_step : (feed : Feed) (day : Day) (trips : List Trip) (i : ℕ) (trip : Trip) (most count new n room : ℕ) → i < length trips
-    → trip ≡ get_or trips i trip → n ≡ length (runs_at feed day i trip) → IsCount most count (length (runs_from feed day 0 (take i trips)))
-    → count ≤ most → most < room → new ≡ min (count + n) room → IsCount most new (length (runs_from feed day 0 (take (i + 1) trips)))
-count_step feed day trips i trip most count new n room lt is few was low high now =
-    let more = runs_count feed day trips i trip lt in
-    let here : length (runs_at feed day i (get_or trips i trip)) ≡ n = sym (few ∙ ap (λ (t : Trip). length (runs_at feed day i t)) is) in
-    count_more most count (length (runs_from feed day 0 (take i trips))) n n new (length (runs_from feed day 0 (take (i + 1) trips))) room
-    was (count_all most n n refl) low high now (more ∙ ap (λ k. length (runs_from feed day 0 (take i trips)) + k) here)
+-- a count that goes on from others
+pub count_begun : (most count n : ℕ) → IsCount most count n → IsCount most count (n + 0)
+count_begun most count n was = (let same : n ≡ n + 0 = omega arith in subst (λ (k : ℕ). IsCount most count k) same was)
 
-pub count_skip : (feed : Feed) (day : Day) (trips : List Trip) (i : ℕ) (trip : Trip) (most count : ℕ) → i < length trips
-    → IsCount most count (length (runs_from feed day 0 (take i trips))) → most < count
-    → IsCount most count (length (runs_from feed day 0 (take (i + 1) trips)))
-count_skip feed day trips i trip most count lt was over =
-    let more = runs_count feed day trips i trip lt in
-    count_over most count (length (runs_from feed day 0 (take i trips))) (length (runs_from feed day 0 (take (i + 1) trips))) was over
-    (omega (arith, more))
+pub count_step : (feed : Feed) (day : Day) (trips : List Trip) (i : ℕ) (trip : Trip) (most before count : ℕ) → i < length trips
+    → trip ≡ get_or trips i trip
+    → IsCount most count (before + length (runs_from feed day 0 (take i trips)) + length (runs_at feed day i trip))
+    → IsCount most count (before + length (runs_from feed day 0 (take (i + 1) trips)))
+count_step feed day trips i trip most before count lt is was =
+    let here : length (runs_at feed day i (get_or trips i trip)) ≡ length (runs_at feed day i trip) =
+    sym (ap (λ (t : Trip). length (runs_at feed day i t)) is) in
+    let more : length (runs_from feed day 0 (take (i + 1) trips)) ≡ length (runs_from feed day 0 (take i trips)) + length (runs_at feed day i trip) =
+    runs_count feed day trips i trip lt ∙ ap (λ k. length (runs_from feed day 0 (take i trips)) + k) here in
+    let all : before + length (runs_from feed day 0 (take i trips)) + length (runs_at feed day i trip)
+    ≡ before + length (runs_from feed day 0 (take (i + 1) trips)) = omega (arith, more) in
+    subst (λ (k : ℕ). IsCount most count k) all was
 
 pub days_step : (feed : Feed) (days : List ServiceDay) (i : ℕ) (day : ServiceDay) (before new : List Run) → i < length days → day ≡ get_or days i day
     → before ≡ runs_of_days feed (map (λ d. d.day) (take i days)) → new ≡ before ++ runs_from feed day.day 0 feed.trips.items
@@ -129,19 +119,7 @@ days_step feed days i day before new lt is was now =
     ∙ ap (λ (d : ServiceDay). runs_of_days feed (map (λ d. d.day) (take i days)) ++ runs_from feed d.day 0 feed.trips.items) is
     ∙ sym (days_more feed days i day lt)
 
-pub days_count_step : (feed : Feed) (days : List ServiceDay) (i : ℕ) (d : ServiceDay) (most count new n room : ℕ) → i < length days
-    → IsCount most count (length (runs_of_days feed (map (λ d. d.day) (take i days))))
-    → IsCount most n (length (runs_from feed (get_or days i d).day 0 feed.trips.items)) → count ≤ most → most < room
-    → new ≡ min (count + n) room → IsCount most new (length (runs_of_days feed (map (λ d. d.day) (take (i + 1) days))))
-days_count_step feed days i d most count new n room lt was few low high now =
-    count_more most count (length (runs_of_days feed (map (λ d. d.day) (take i days)))) n
-    (length (runs_from feed (get_or days i d).day 0 feed.trips.items)) new
-    (length (runs_of_days feed (map (λ d. d.day) (take (i + 1) days)))) room was few low high now (days_count feed days i d lt)
-
-pub days_count_skip : (feed : Feed) (days : List ServiceDay) (i : ℕ) (d : ServiceDay) (most count : ℕ) → i < length days
-    → IsCount most count (length (runs_of_days feed (map (λ d. d.day) (take i days)))) → most < count
+pub days_count_step : (feed : Feed) (days : List ServiceDay) (i : ℕ) (d : ServiceDay) (most count : ℕ) → i < length days
+    → IsCount most count (length (runs_of_days feed (map (λ d. d.day) (take i days))) + length (runs_from feed (get_or days i d).day 0 feed.trips.items))
     → IsCount most count (length (runs_of_days feed (map (λ d. d.day) (take (i + 1) days))))
-days_count_skip feed days i d most count lt was over =
-    let more = days_count feed days i d lt in
-    count_over most count (length (runs_of_days feed (map (λ d. d.day) (take i days))))
-    (length (runs_of_days feed (map (λ d. d.day) (take (i + 1) days)))) was over (omega (arith, more))
+days_count_step feed days i d most count lt was = subst (λ (k : ℕ). IsCount most count k) (sym (days_count feed days i d lt)) was

@@ -4,6 +4,7 @@ pub mod Days
 pub mod Faults
 pub mod Grouping
 pub mod Hops
+pub mod Keeping
 pub mod Legal
 pub mod Listed
 pub mod Marks

@@ -79,10 +79,13 @@ fn mark_row(marks: &mut Vec<bool>, row: Frequency, from: u32)
         → ((s : ℕ) → s < from → leaves_at s row ≡ true → test s ≡ true)
         → AreMarks (λ s. test s || leaves_at s row) marks.new.items }
 {
-    let mut next = from;
-    while let Some(start) = next_of_row(row, next) {
-        marks[start as usize] = true;
-        next = start + 1;
+    let Some(first) = next_of_row(row, from) else {
+        return;
+    };
+    let mut next = first;
+    while next < row.end {
+        marks[next as usize] = true;
+        next = next.saturating_add(row.headway);
     }
 }
 

@@ -1,50 +1,12 @@
 //! The starts of the trips that repeat: each second at which a row of frequencies.txt has its trip leave.
 
-ghost use Rattle.std.specs.Prelude.{◌≡◌, ◌<◌, [], length, IfOk, IfSome, OnOk, MatchOption};
-ghost use Rattle.connections.specs.Grouping.{AddsRow, AreGrouped};
+ghost use Rattle.std.specs.Prelude.{◌≡◌, ◌<◌, IfOk, IfSome, MatchOption};
 ghost use Rattle.connections.specs.Repeats.{is_start, leaves_at, starts_of};
 ghost use Rattle.connections.specs.Starts.{IsNever, IsNext, earlier_of};
 
 use crate::marks::{are_many, marked_starts};
 use gtfs_tables::Frequency;
 use std::alloc::{AllocError, Global};
-
-// No rows for each of so many trips.
-fn no_rows(alloc: Global, trips: usize) -> Result<Vec<Vec<Frequency>>, AllocError>
-    ensures { IfOk result (λ groups. AreGrouped [] trips groups.items) }
-{
-    let mut groups = Vec::with_capacity(alloc, trips)?;
-    for _ in 0..trips {
-        groups.push(Vec::new(alloc))?;
-    }
-    Ok(groups)
-}
-
-// Adds a row to those of its trip, if the trip is there.
-fn add_row(groups: &mut Vec<Vec<Frequency>>, row: Frequency) -> Result<(), AllocError>
-    ensures { OnOk result (AddsRow groups.old.items row groups.new.items) }
-{
-    let place = row.trip as usize;
-    if place < groups.len() {
-        groups[place].push(row)?;
-    }
-    Ok(())
-}
-
-// The rows of frequencies.txt of each of so many trips.
-pub(crate) fn rows_by_trip(
-    alloc: Global,
-    rows: &[Frequency],
-    trips: usize,
-) -> Result<Vec<Vec<Frequency>>, AllocError>
-    ensures { IfOk result (λ groups. AreGrouped rows.now trips groups.items) }
-{
-    let mut groups = no_rows(alloc, trips)?;
-    for row in rows {
-        add_row(&mut groups, *row)?;
-    }
-    Ok(groups)
-}
 
 // The first start, from a time on, that a row gives.
 pub(crate) fn next_of_row(row: Frequency, from: u32) -> Option<u32>
@@ -104,12 +66,4 @@ pub(crate) fn starts_given(alloc: Global, rows: &[Frequency]) -> Result<Vec<u32>
         return marked_starts(alloc, rows);
     }
     starts_in_turn(alloc, rows)
-}
-
-// How many starts the rows give.
-pub(crate) fn count_starts(alloc: Global, rows: &[Frequency]) -> Result<usize, AllocError>
-    ensures { IfOk result (λ count. count ≡ length (starts_of rows.now)) }
-{
-    let starts = starts_given(alloc, rows)?;
-    Ok(starts.len())
 }

@@ -1,23 +1,24 @@
 //! Runs: which trips leave on which service days, how often, and with which repeats.
 
 ghost use Rattle.std.specs.Prelude.{◌≡◌, ◌≤◌, ◌<◌, ◌^◌, ◌-◌, ◌+◌, ◌++◌, min, length, map, IfOk, IfErr, OnOk, All};
-ghost use Rattle.std.specs.Prelude.{◌⊎◌, ℕ};
+ghost use Rattle.std.specs.Prelude.{◌⊎◌, ℕ, List};
 ghost use Rattle.gtfs_tables.specs.Joined.{makes_connections as makes};
 ghost use Rattle.gtfs_rows.specs.declared.values.Day.{Day as RunDay};
 ghost use Rattle.gtfs_tables.specs.declared.tables.Feed.{Feed as JoinedFeed};
+ghost use Rattle.gtfs_tables.specs.declared.tables.Frequency.{Frequency as Row};
 ghost use Rattle.service_days.specs.Asked.{AreOfDay};
 ghost use Rattle.service_days.specs.Services.{HoldsServices};
 ghost use Rattle.connections.specs.Counting.{IsCount};
 ghost use Rattle.connections.specs.Faults.{IsWantOfMemory, too_many_of};
-ghost use Rattle.connections.specs.Grouping.{AreGrouped};
+ghost use Rattle.connections.specs.Keeping.{AreKept, AreStartsOf, HoldStarts, IsKept};
 ghost use Rattle.connections.specs.Repeats.{rows_for, starts_of};
 ghost use Rattle.connections.specs.Runs.{repeats_from, runs_at, runs_from, runs_of_days, runs_of_trip};
 ghost use Rattle.connections.specs.Runs.{runs_on as runs_then};
 
 use crate::days::ServiceDay;
 use crate::fault::{RunsFault, out_of_memory, too_many};
-use crate::repeats::{count_starts, rows_by_trip, starts_given};
-use gtfs_tables::{Day, Feed, Frequency, Table, Trip};
+use crate::trip_starts::{TripStarts, starts_by_trip};
+use gtfs_tables::{Day, Feed, Table, Trip};
 use service_days::{DayServices, Services};
 use std::alloc::{AllocError, Global};
 use timetable::limits::MAX_TRIPS;
@@ -90,42 +91,88 @@ fn count_trip(
     alloc: Global,
     running: bool,
     trip: &Trip,
-    rows: &[Frequency],
+    starts: &mut TripStarts,
 ) -> Result<usize, AllocError>
-    ensures { (feed : JoinedFeed) (day : RunDay) (t : ℕ) → running ≡ runs_then feed day trip.now
-        → rows.now ≡ rows_for feed.frequencies.items t
+    ensures kept { OnOk result (IsKept starts.old starts.new) }
+    ensures count { (feed : JoinedFeed) (day : RunDay) (t : ℕ) → running ≡ runs_then feed day trip.now
+        → AreStartsOf (rows_for feed.frequencies.items t) starts.old
         → IfOk result (λ count. count ≡ length (runs_at feed day t trip.now)) }
 {
     if !running {
         return Ok(0);
     }
     if trip.repeats {
-        return count_starts(alloc, rows);
+        return starts.count(alloc);
     }
     Ok(1)
 }
 
-// How many runs a day has, counted no further than to more than there may be.
-fn count_on(
+// How many runs there are with those of a trip on a day. Where there are too many already, no more are counted.
+fn count_with_trip(
     alloc: Global,
+    before: usize,
+    running: bool,
+    trip: &Trip,
+    starts: &mut TripStarts,
+) -> Result<usize, AllocError>
+    ensures kept { OnOk result (IsKept starts.old starts.new) }
+    ensures count { (feed : JoinedFeed) (day : RunDay) (t n : ℕ) → running ≡ runs_then feed day trip.now
+        → AreStartsOf (rows_for feed.frequencies.items t) starts.old
+        → IsCount MAX_TRIPS before n
+        → IfOk result (λ count. IsCount MAX_TRIPS count (n + length (runs_at feed day t trip.now))) }
+{
+    if before > MAX_TRIPS as usize {
+        return Ok(before);
+    }
+    let more = count_trip(alloc, running, trip, starts)?;
+    Ok(before.saturating_add(more))
+}
+
+// How many runs there are with those of the trips on a day, counted no further than to more than there may be.
+fn count_with_trips(
+    alloc: Global,
+    before: usize,
     running: &[bool],
     trips: &[Trip],
-    groups: &[Vec<Frequency>],
+    starts: &mut Vec<TripStarts>,
 ) -> Result<usize, AllocError>
     requires told { length running.now ≡ length trips.now }
-    requires same { length groups.now ≡ length trips.now }
-    ensures { (feed : JoinedFeed) (day : RunDay) → running.now ≡ map (runs_then feed day) trips.now
-        → AreGrouped feed.frequencies.items (length trips.now) groups.now
-        → IfOk result (λ count. IsCount MAX_TRIPS count (length (runs_from feed day 0 trips.now))) }
+    requires same { length starts.old.items ≡ length trips.now }
+    ensures kept { OnOk result (AreKept starts.old.items starts.new.items) }
+    ensures count { (feed : JoinedFeed) (day : RunDay) (n : ℕ) → running.now ≡ map (runs_then feed day) trips.now
+        → HoldStarts feed.frequencies.items (length trips.now) starts.old.items
+        → IsCount MAX_TRIPS before n
+        → IfOk result (λ count. IsCount MAX_TRIPS count (n + length (runs_from feed day 0 trips.now))) }
 {
-    let mut count = 0usize;
+    let mut count = before;
     for (place, trip) in trips.iter().enumerate() {
-        if count <= MAX_TRIPS as usize {
-            let more = count_trip(alloc, running[place], trip, &groups[place])?;
-            count = count.saturating_add(more);
-        }
+        count = count_with_trip(alloc, count, running[place], trip, &mut starts[place])?;
     }
     Ok(count)
+}
+
+// How many runs there are with those of a day. Where there are too many already, no more are counted.
+fn count_with_day(
+    alloc: Global,
+    before: usize,
+    services: &Services,
+    day: Day,
+    trips: &[Trip],
+    starts: &mut Vec<TripStarts>,
+) -> Result<usize, AllocError>
+    requires rising { All (λ trip. trip.first ≤ trip.end) trips.now }
+    requires same { length starts.old.items ≡ length trips.now }
+    ensures kept { OnOk result (AreKept starts.old.items starts.new.items) }
+    ensures count { (feed : JoinedFeed) (n : ℕ) → HoldStarts feed.frequencies.items (length trips.now) starts.old.items
+        → HoldsServices feed.calendar.items feed.calendar_dates.items services.now
+        → IsCount MAX_TRIPS before n
+        → IfOk result (λ count. IsCount MAX_TRIPS count (n + length (runs_from feed day 0 trips.now))) }
+{
+    if before > MAX_TRIPS as usize {
+        return Ok(before);
+    }
+    let running = running_on(alloc, services, day, trips)?;
+    count_with_trips(alloc, before, &running, trips, starts)
 }
 
 // How many runs the days have, counted no further than to more than there may be.
@@ -134,38 +181,37 @@ fn count_runs(
     services: &Services,
     days: &[ServiceDay],
     trips: &[Trip],
-    groups: &[Vec<Frequency>],
+    starts: &mut Vec<TripStarts>,
 ) -> Result<usize, AllocError>
     requires rising { All (λ trip. trip.first ≤ trip.end) trips.now }
-    requires same { length groups.now ≡ length trips.now }
-    ensures { (feed : JoinedFeed) → feed.trips.items ≡ trips.now
-        → AreGrouped feed.frequencies.items (length trips.now) groups.now
+    requires same { length starts.old.items ≡ length trips.now }
+    ensures kept { OnOk result (AreKept starts.old.items starts.new.items) }
+    ensures count { (feed : JoinedFeed) → feed.trips.items ≡ trips.now
+        → HoldStarts feed.frequencies.items (length trips.now) starts.old.items
         → HoldsServices feed.calendar.items feed.calendar_dates.items services.now
         → IfOk result (λ count. IsCount MAX_TRIPS count (length (runs_of_days feed (map (λ d. d.day) days.now)))) }
 {
     let mut count = 0usize;
     for day in days {
-        if count <= MAX_TRIPS as usize {
-            let running = running_on(alloc, services, day.day, trips)?;
-            let more = count_on(alloc, &running, trips, groups)?;
-            count = count.saturating_add(more);
-        }
+        count = count_with_day(alloc, count, services, day.day, trips, starts)?;
     }
     Ok(count)
 }
 
-// Adds the repeats of a trip on a day: one for each start that its rows give.
+// Adds the repeats of a trip on a day: one for each of its starts.
 fn add_repeats(
     alloc: Global,
     runs: &mut Vec<Run>,
     day: Day,
     trip: u32,
-    rows: &[Frequency],
+    starts: &mut TripStarts,
 ) -> Result<(), AllocError>
-    ensures { OnOk result (runs.new.items ≡ runs.old.items ++ repeats_from day trip 0 (starts_of rows.now)) }
+    ensures kept { OnOk result (IsKept starts.old starts.new) }
+    ensures runs { (rows : List Row) → AreStartsOf rows starts.old
+        → OnOk result (runs.new.items ≡ runs.old.items ++ repeats_from day trip 0 (starts_of rows)) }
 {
-    let starts = starts_given(alloc, rows)?;
-    add_starts(runs, day, trip, &starts)
+    starts.list(alloc)?;
+    add_starts(runs, day, trip, starts.listed())
 }
 
 // Adds the repeats of a trip on a day: one for each of the starts.
@@ -194,10 +240,11 @@ fn add_run(
     running: bool,
     trip: &Trip,
     place: usize,
-    rows: &[Frequency],
+    starts: &mut TripStarts,
 ) -> Result<(), AllocError>
-    ensures { (feed : JoinedFeed) → running ≡ runs_then feed day trip.now
-        → rows.now ≡ rows_for feed.frequencies.items place
+    ensures kept { OnOk result (IsKept starts.old starts.new) }
+    ensures runs { (feed : JoinedFeed) → running ≡ runs_then feed day trip.now
+        → AreStartsOf (rows_for feed.frequencies.items place) starts.old
         → OnOk result (runs.new.items ≡ runs.old.items ++ runs_at feed day place trip.now) }
 {
     if running {
@@ -205,7 +252,7 @@ fn add_run(
             return Err(AllocError);
         };
         if trip.repeats {
-            return add_repeats(alloc, runs, day, number, rows);
+            return add_repeats(alloc, runs, day, number, starts);
         }
         runs.push(Run {
             day,
@@ -224,12 +271,13 @@ fn add_runs_on(
     day: Day,
     running: &[bool],
     trips: &[Trip],
-    groups: &[Vec<Frequency>],
+    starts: &mut Vec<TripStarts>,
 ) -> Result<(), AllocError>
     requires told { length running.now ≡ length trips.now }
-    requires same { length groups.now ≡ length trips.now }
-    ensures { (feed : JoinedFeed) → running.now ≡ map (runs_then feed day) trips.now
-        → AreGrouped feed.frequencies.items (length trips.now) groups.now
+    requires same { length starts.old.items ≡ length trips.now }
+    ensures kept { OnOk result (AreKept starts.old.items starts.new.items) }
+    ensures runs { (feed : JoinedFeed) → running.now ≡ map (runs_then feed day) trips.now
+        → HoldStarts feed.frequencies.items (length trips.now) starts.old.items
         → OnOk result (runs.new.items ≡ runs.old.items ++ runs_from feed day 0 trips.now) }
 {
     for (place, trip) in trips.iter().enumerate() {
@@ -240,7 +288,7 @@ fn add_runs_on(
             running[place],
             trip,
             place,
-            &groups[place],
+            &mut starts[place],
         )?;
     }
     Ok(())
@@ -252,20 +300,20 @@ fn list_runs(
     services: &Services,
     days: &[ServiceDay],
     trips: &[Trip],
-    groups: &[Vec<Frequency>],
+    starts: &mut Vec<TripStarts>,
     count: usize,
 ) -> Result<Vec<Run>, AllocError>
     requires rising { All (λ trip. trip.first ≤ trip.end) trips.now }
-    requires same { length groups.now ≡ length trips.now }
+    requires same { length starts.old.items ≡ length trips.now }
     ensures { (feed : JoinedFeed) → feed.trips.items ≡ trips.now
-        → AreGrouped feed.frequencies.items (length trips.now) groups.now
+        → HoldStarts feed.frequencies.items (length trips.now) starts.old.items
         → HoldsServices feed.calendar.items feed.calendar_dates.items services.now
         → IfOk result (λ runs. runs.items ≡ runs_of_days feed (map (λ d. d.day) days.now)) }
 {
     let mut runs = Vec::with_capacity(alloc, count)?;
     for day in days {
         let running = running_on(alloc, services, day.day, trips)?;
-        add_runs_on(alloc, &mut runs, day.day, &running, trips, groups)?;
+        add_runs_on(alloc, &mut runs, day.day, &running, trips, starts)?;
     }
     Ok(runs)
 }
@@ -287,22 +335,23 @@ pub(crate) fn runs_on(
     let Ok(services) = Services::new(alloc, feed.hash, &feed.calendar, &feed.calendar_dates) else {
         return Err(out_of_memory());
     };
-    let Ok(groups) = rows_by_trip(alloc, &feed.frequencies, feed.trips.len()) else {
+    let Ok(mut starts) = starts_by_trip(alloc, &feed.frequencies, feed.trips.len()) else {
         return Err(out_of_memory());
     };
-    runs_by(alloc, feed, &services, &groups, days)
+    runs_by(alloc, feed, &services, &mut starts, days)
 }
 
-// The runs of the days, by the feed's services and by the rows that repeat each of its trips.
+// The runs of the days, by the feed's services and by the starts of each of its trips: those of a trip are listed when
+// its runs are first counted, so starts are never kept of many more runs than there may be.
 fn runs_by(
     alloc: Global,
     feed: &Feed,
     services: &Services,
-    groups: &[Vec<Frequency>],
+    starts: &mut Vec<TripStarts>,
     days: &[ServiceDay],
 ) -> Result<Vec<Run>, RunsFault>
     requires rising { All (λ trip. trip.first ≤ trip.end) feed.now.trips.items }
-    requires grouped { AreGrouped feed.now.frequencies.items (length feed.now.trips.items) groups.now }
+    requires starts { HoldStarts feed.now.frequencies.items (length feed.now.trips.items) starts.old.items }
     requires services { HoldsServices feed.now.calendar.items feed.now.calendar_dates.items services.now }
     ensures ok { IfOk result (λ runs. runs.items ≡ runs_of_days feed.now (map (λ d. d.day) days.now)) }
     ensures few { IfOk result (λ runs. length runs.items ≤ MAX_TRIPS) }
@@ -310,13 +359,13 @@ fn runs_by(
         ⊎ ((fault ≡ too_many_of Table.Trips) × (MAX_TRIPS < length
         (runs_of_days feed.now (map (λ d. d.day) days.now))))) }
 {
-    let Ok(count) = count_runs(alloc, services, days, &feed.trips, groups) else {
+    let Ok(count) = count_runs(alloc, services, days, &feed.trips, starts) else {
         return Err(out_of_memory());
     };
     if count > MAX_TRIPS as usize {
         return Err(too_many(Table::Trips));
     }
-    match list_runs(alloc, services, days, &feed.trips, groups, count) {
+    match list_runs(alloc, services, days, &feed.trips, starts, count) {
         Ok(runs) => Ok(runs),
         Err(_) => Err(out_of_memory()),
     }

@@ -21,6 +21,14 @@ read_of content table = (file_name table, content table)
 abbrev pub AreRead : Content → List Table → List FileRead → List FileRead → Type 0
 AreRead content ts old new = new ≡ old ++ map (read_of content) ts
 
+-- the files of all tables were read so
+abbrev pub AllWereRead : List FileRead → List FileRead → Type 0
+AllWereRead old new = (content : Content) × AreRead content all_tables old new
+
+-- the first of them were, and no other
+abbrev pub SomeWereRead : List FileRead → List FileRead → Type 0
+SomeWereRead old new = (count : ℕ) × (content : Content) × AreRead content (take count all_tables) old new
+
 -- a read gave what the content has, if it was of a table's file
 abbrev pub Gave : Content → FileRead → Type 0
 Gave content read = (table : Table) → read.0 ≡ file_name table → read.1 ≡ content table

@@ -1,7 +1,7 @@
 //! The tables of a feed's files, read one after another.
 
-ghost use Rattle.std.specs.Prelude.{◌≡◌, ◌≢◌, ◌+◌, ◌-◌, ◌^◌, ◌<◌, ℕ, List, [], Option, None, Some, IfOk, IfErr};
-ghost use Rattle.std.specs.Prelude.{◌∷◌, option_map, take, IfSome, OnOk};
+ghost use Rattle.std.specs.Prelude.{◌≡◌, ◌≢◌, ◌+◌, ◌-◌, ◌^◌, ◌<◌, List, [], Option, None, Some, IfOk, IfErr};
+ghost use Rattle.std.specs.Prelude.{◌∷◌, option_map, IfSome, OnOk};
 ghost use Rattle.gtfs_rows.specs.declared.id_hash.IdHash.{IdHash as Hash};
 ghost use Rattle.gtfs_rows.specs.declared.fault.Table.{Table as TableName};
 ghost use Rattle.gtfs_rows.specs.declared.fault.Table.TheVariants as tables;
@@ -11,7 +11,7 @@ ghost use Rattle.feed_files.specs.Files.{read_also};
 ghost use Rattle.feed_files.specs.Reading.{Content, FineBefore, HoldsCalendars, HoldsRequired, HoldsTables, IsHeld};
 ghost use Rattle.feed_files.specs.Reading.{NoRows, NoTables, Optional, OptionalFault, Required, RequiredFault};
 ghost use Rattle.feed_files.specs.Reading.{Tells, earlier};
-ghost use Rattle.feed_files.specs.Reads.{AllGave, AreRead, AskedFor, all_tables};
+ghost use Rattle.feed_files.specs.Reads.{AllGave, AllWereRead, AreRead, AskedFor, SomeWereRead, all_tables};
 ghost use Rattle.feed_files.specs.Hashed.{AreHashed};
 
 use crate::files::{FeedFiles, FileFault};
@@ -249,10 +249,8 @@ pub fn read_tables<F: FeedFiles>(alloc: Global, files: &mut F) -> Result<Tables,
     ensures hash { F.hash files.new ≡ F.hash files.old }
     ensures failures { F.failures files.new ≡ F.failures files.old + failed_in result }
     ensures failed { F.failed files.new ≡ failed_by (F.failed files.old) result }
-    ensures all_read { OnOk result ((content : Content)
-        × AreRead content all_tables (F.reads files.old) (F.reads files.new)) }
-    ensures first_read { (count : ℕ) × (content : Content)
-        × AreRead content (take count all_tables) (F.reads files.old) (F.reads files.new) }
+    ensures all_read { OnOk result (AllWereRead (F.reads files.old) (F.reads files.new)) }
+    ensures first_read { SomeWereRead (F.reads files.old) (F.reads files.new) }
     ensures read_ok { (content : Content) (ts : List TableName)
         → AreRead content ts (F.reads files.old) (F.reads files.new) → IfOk result (HoldsTables content) }
     ensures read_err { (content : Content) (ts : List TableName)

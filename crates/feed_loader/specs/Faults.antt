@@ -25,6 +25,10 @@ load_fault_of_runs (runs.Day fault) = faults.Day fault
 abbrev pub too_many : Table → LoadFault
 too_many table = faults.Table (record { table = table; row = 0; kind = kinds.TooMany })
 
+-- memory ran out for what a table gives
+abbrev pub out_of_memory : Table → LoadFault
+out_of_memory table = faults.Table (record { table = table; row = 0; kind = kinds.OutOfMemory })
+
 -- how many reads failed
 abbrev pub failed_in : {T : Type 0} → Result T LoadFault → ℕ
 failed_in (Ok t) = 0

@@ -1,8 +1,7 @@
 //! Why a feed isn't loaded.
 
 ghost use Rattle.std.specs.Prelude.{◌≡◌};
-ghost use Rattle.feed_loader.specs.Faults.{too_many as too_many_of};
-ghost use Rattle.feed_loader.specs.Refused.{IsWantOfMemory};
+ghost use Rattle.feed_loader.specs.Faults.{out_of_memory as out_of_memory_of, too_many as too_many_of};
 
 use connections::RunsFault;
 use feed_files::ReadFault;
@@ -160,9 +159,9 @@ pub(crate) fn too_many(table: Table) -> LoadFault
     })
 }
 
-// Memory was wanting for what a table gives.
+// Memory ran out for what a table gives.
 pub(crate) fn out_of_memory(table: Table) -> LoadFault
-    ensures { IsWantOfMemory result }
+    ensures { result ≡ out_of_memory_of table }
 {
     LoadFault::Table(TableFault {
         table,

@@ -1,10 +1,10 @@
 //! From files to tables, from tables to a feed, from a feed to its image.
 
-ghost use Rattle.std.specs.Prelude.{◌≡◌, ◌≤◌, ◌<◌, ◌+◌, ◌-◌, ◌^◌, ℕ, List, take, IfOk, IfErr, OnOk};
+ghost use Rattle.std.specs.Prelude.{◌≡◌, ◌≤◌, ◌<◌, ◌+◌, ◌-◌, ◌^◌, List, IfOk, IfErr, OnOk};
 ghost use Rattle.image_layout.specs.declared.layout.TheConstants.{LAYOUT};
 ghost use Rattle.gtfs_rows.specs.declared.fault.Table.{Table};
 ghost use Rattle.feed_files.specs.Reading.{Content, Tells};
-ghost use Rattle.feed_files.specs.Reads.{AreRead, all_tables};
+ghost use Rattle.feed_files.specs.Reads.{AllWereRead, AreRead, SomeWereRead};
 ghost use Rattle.connections.specs.declared.days.TheConstants.{MAX_DAYS};
 ghost use Rattle.feed_loader.specs.Faults.{failed_by, failed_in};
 ghost use Rattle.feed_loader.specs.Refused.{IsLoadRefusal, IsLoaded, IsWantOfMemory};
@@ -39,10 +39,8 @@ pub fn load<F: FeedFiles>(
     ensures failures { F.failures files.new ≡ F.failures files.old + failed_in result }
     ensures failed { F.failed files.new ≡ failed_by (F.failed files.old) result }
     ensures layout { IfOk result (λ loaded. loaded.0.layout ≡ LAYOUT) }
-    ensures all_read { OnOk result ((content : Content)
-        × AreRead content all_tables (F.reads files.old) (F.reads files.new)) }
-    ensures first_read { (count : ℕ) × (content : Content)
-        × AreRead content (take count all_tables) (F.reads files.old) (F.reads files.new) }
+    ensures all_read { OnOk result (AllWereRead (F.reads files.old) (F.reads files.new)) }
+    ensures first_read { SomeWereRead (F.reads files.old) (F.reads files.new) }
     ensures read_ok { (content : Content) (ts : List Table)
         → AreRead content ts (F.reads files.old) (F.reads files.new)
         → IfOk result (λ loaded. IsLoaded content plan.now loaded.0.timetable loaded.0.names loaded.1) }

@@ -4,9 +4,9 @@ use Rattle.std.proofs.lemmas.List.{append-nil}
 use Rattle.std.specs.Prelude.{None}
 use Rattle.feed_files.specs.Files.{FileRead}
 use Rattle.feed_files.specs.Reading.{Content, Tells}
-use Rattle.feed_files.specs.Reads.{AreRead}
+use Rattle.feed_files.specs.Reads.{AreRead, SomeWereRead}
 use Rattle.gtfs_rows.specs.declared.fault.Table.{Table}
-use Rattle.workers.specs.Loading.{Holds, ShowsContent, SomeWereRead}
+use Rattle.workers.specs.Loading.{Holds, ShowsContent}
 
 -- what stands for a content that the files are known to hold and for one that the reads gave stands for one that the files show
 pub either_way : (holds : Holds) (old new : List FileRead) (Fits : Content → Type 0)

@@ -1,10 +1,10 @@
 -- What comes of an order to load a feed.
-use Rattle.std.specs.Prelude.{◌≡◌, ◌⊎◌, ℕ, List, take, Option, Some, None, Result, Ok, Err, IfSome}
+use Rattle.std.specs.Prelude.{◌≡◌, ◌⊎◌, ℕ, List, Option, Some, None, Result, Ok, Err, IfSome}
 use Rattle.image_layout.specs.Image.{ImageValue}
 use Rattle.connections.specs.declared.report.Report.{Report}
 use Rattle.feed_files.specs.Files.{FileRead}
 use Rattle.feed_files.specs.Reading.{Content, Tells}
-use Rattle.feed_files.specs.Reads.{AreRead, all_tables}
+use Rattle.feed_files.specs.Reads.{AllWereRead, AreRead, SomeWereRead}
 use Rattle.gtfs_rows.specs.declared.fault.Table.{Table}
 use Rattle.feed_loader.specs.Faults.{fault_number}
 use Rattle.feed_loader.specs.Refused.{IsLoadRefusal, IsLoaded, IsWantOfMemory}
@@ -48,13 +48,6 @@ IsNotPublished before (LoadRefusal.Publish fault) after = ((after ≡ before) ×
 -- what files are known to hold, by their names
 abbrev pub Holds : Type 0
 Holds = List ℕ → Option (Option (List ℕ))
-
--- all of a feed's files were read between two moments, each once; or the first of them were
-abbrev pub AllWereRead : List FileRead → List FileRead → Type 0
-AllWereRead old new = (content : Content) × AreRead content all_tables old new
-
-abbrev pub SomeWereRead : List FileRead → List FileRead → Type 0
-SomeWereRead old new = (count : ℕ) × (content : Content) × AreRead content (take count all_tables) old new
 
 -- the files show this content: they are known to hold it, or the reads between two moments gave it
 abbrev pub ShowsContent : Holds → List FileRead → List FileRead → Content → Type 0

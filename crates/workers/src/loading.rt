@@ -4,9 +4,10 @@ ghost use Rattle.std.specs.Prelude.{◌≡◌, ◌<◌, ◌≤◌, ◌+◌, ◌-
 ghost use Rattle.std.specs.Arc.{arc_value};
 ghost use Rattle.connections.specs.declared.days.TheConstants.{MAX_DAYS};
 ghost use Rattle.feed_files.specs.Reading.{Content};
+ghost use Rattle.feed_files.specs.Reads.{AllWereRead, SomeWereRead};
 ghost use Rattle.feed_loader.specs.Faults.{failed_by, failed_in};
 ghost use Rattle.epochs.specs.Seats.{RefuseStep};
-ghost use Rattle.workers.specs.Loading.{AllWereRead, ShowsContent, SomeWereRead, reading};
+ghost use Rattle.workers.specs.Loading.{ShowsContent, reading};
 ghost use Rattle.workers.specs.Loading.{IsEarly, IsImageOf, IsOutcome, IsPublished, MayRefuse};
 
 use crate::refusal::LoadRefusal;

@@ -91,7 +91,32 @@ frequencies.txt: T,00:20:00,00:20:01,7|T,00:00:00,00:40:00,1200
 > Connection { from: 1, to: 2, dep: 600, arr: 1800, trip: 0, board: true, alight: true }
 > Connection { from: 0, to: 1, dep: 1200, arr: 1800, trip: 1, board: true, alight: true }
 > Connection { from: 1, to: 2, dep: 1800, arr: 3000, trip: 1, board: true, alight: true }
-> Connection { from: 1, to: 2, dep: 29520, arr: 30000, trip: 2, board: true, alight: true }";
+> Connection { from: 1, to: 2, dep: 29520, arr: 30000, trip: 2, board: true, alight: true }
+= the starts of a trip are the same on each of its days: 20240115 3 fixed:0
+trips.txt: X,T|S,U
+calendar_dates.txt: X,20240115,1|X,20240117,1|S,20240116,1|S,20240117,1
+frequencies.txt: U,06:00:00,06:10:00,300|T,00:20:00,00:20:01,7|T,00:00:00,00:40:00,1200
+> Report { stops: 4, runs: 8, connections: 12, footpaths: 0, lifted: 0, flex: 0, frequencies: 2, skipped: 1 }
+> Run { day: Day { year: 2024, month: 1, day: 15 }, trip: 0, repeat: 0, start: Some(0) }
+> Run { day: Day { year: 2024, month: 1, day: 15 }, trip: 0, repeat: 1, start: Some(1200) }
+> Run { day: Day { year: 2024, month: 1, day: 16 }, trip: 1, repeat: 0, start: Some(21600) }
+> Run { day: Day { year: 2024, month: 1, day: 16 }, trip: 1, repeat: 1, start: Some(21900) }
+> Run { day: Day { year: 2024, month: 1, day: 17 }, trip: 0, repeat: 0, start: Some(0) }
+> Run { day: Day { year: 2024, month: 1, day: 17 }, trip: 0, repeat: 1, start: Some(1200) }
+> Run { day: Day { year: 2024, month: 1, day: 17 }, trip: 1, repeat: 0, start: Some(21600) }
+> Run { day: Day { year: 2024, month: 1, day: 17 }, trip: 1, repeat: 1, start: Some(21900) }
+> Connection { from: 0, to: 1, dep: 0, arr: 600, trip: 0, board: true, alight: true }
+> Connection { from: 1, to: 2, dep: 600, arr: 1800, trip: 0, board: true, alight: true }
+> Connection { from: 0, to: 1, dep: 1200, arr: 1800, trip: 1, board: true, alight: true }
+> Connection { from: 1, to: 2, dep: 1800, arr: 3000, trip: 1, board: true, alight: true }
+> Connection { from: 1, to: 2, dep: 108000, arr: 108480, trip: 2, board: true, alight: true }
+> Connection { from: 1, to: 2, dep: 108300, arr: 108780, trip: 3, board: true, alight: true }
+> Connection { from: 0, to: 1, dep: 172800, arr: 173400, trip: 4, board: true, alight: true }
+> Connection { from: 1, to: 2, dep: 173400, arr: 174600, trip: 4, board: true, alight: true }
+> Connection { from: 0, to: 1, dep: 174000, arr: 174600, trip: 5, board: true, alight: true }
+> Connection { from: 1, to: 2, dep: 174600, arr: 175800, trip: 5, board: true, alight: true }
+> Connection { from: 1, to: 2, dep: 194400, arr: 194880, trip: 6, board: true, alight: true }
+> Connection { from: 1, to: 2, dep: 194700, arr: 195180, trip: 7, board: true, alight: true }";
 
 // How many runs and connections two days of these trips have, whichever the starts are, exact or
 // not, in whichever order of the rows, also where so many rows overlap that seconds are marked.

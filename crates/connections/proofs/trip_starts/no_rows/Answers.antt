@@ -1,13 +1,14 @@
 use Rattle.std.proofs.Common.{◌≡◌, ℕ, [], arith, subst}
 use Rattle.connections.specs.Grouping.{AreGrouped}
+use Rattle.connections.specs.declared.trip_starts.TripStarts.TheVariants as starts
 use Rattle.connections.proofs.GroupSteps.{groups_more, no_groups}
-use Rattle.connections.proofs.repeats.no_rows.Goals as goal
+use Rattle.connections.proofs.trip_starts.no_rows.Goals as goal
 
 pub loop-init : goal.loop-init
 loop-init c = rw c.in_ok-groups.ensures.items no_groups
 
 pub loop-preserved : goal.loop-preserved
-loop-preserved c = groups_more c.loop.counter c.loop.groups.items c.push.new.self.items c.new.result c.loop.invariant c.new.ensures.items
+loop-preserved c = groups_more c.loop.counter c.loop.groups.items c.push.new.self.items (starts.Rows c.new.result) c.loop.invariant c.new.ensures.items
     c.in_ok-push.ensures.items
 
 pub returns : goal.returns

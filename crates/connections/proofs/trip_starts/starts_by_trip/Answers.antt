@@ -2,8 +2,8 @@ use Rattle.std.proofs.Common.{List, subst}
 use Rattle.std.proofs.lemmas.List.{take_all}
 use Rattle.gtfs_tables.specs.declared.tables.Frequency.{Frequency}
 use Rattle.connections.specs.Grouping.{AreGrouped}
-use Rattle.connections.proofs.GroupSteps.{rows_more}
-use Rattle.connections.proofs.repeats.rows_by_trip.Goals as goal
+use Rattle.connections.proofs.GroupSteps.{hold_unlisted, rows_more}
+use Rattle.connections.proofs.trip_starts.starts_by_trip.Goals as goal
 
 pub loop-row-init : goal.loop-row-init
 loop-row-init c = c.in_ok-groups.ensures
@@ -15,5 +15,7 @@ loop-row-preserved c =
     c.loop-row.invariant c.in_ok-add_row.ensures
 
 pub returns : goal.returns
-returns c = subst (λ (rows : List Frequency). AreGrouped rows c.args.trips c.loop-row.groups.items)
-    (take_all c.loop-row.row-index c.args.rows.now c.loop-row-test.false) c.loop-row.invariant
+returns c =
+    hold_unlisted c.args.rows.now c.args.trips c.loop-row.groups.items
+    (subst (λ (rows : List Frequency). AreGrouped rows c.args.trips c.loop-row.groups.items)
+    (take_all c.loop-row.row-index c.args.rows.now c.loop-row-test.false) c.loop-row.invariant)

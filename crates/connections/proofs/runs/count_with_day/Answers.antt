@@ -1,0 +1,15 @@
+use Rattle.std.proofs.Common.{◌≡◌, ◌+◌, ◌∙◌, length, map, arith}
+use Rattle.timetable.specs.declared.limits.TheConstants.{MAX_TRIPS}
+use Rattle.connections.specs.Runs.{runs_from, runs_on}
+use Rattle.connections.proofs.RunSteps.{count_over}
+use Rattle.connections.proofs.runs.count_with_day.Goals as goal
+
+pub returns-then-before-clause-count : goal.returns-then-before-clause-count
+returns-then-before-clause-count c feed n holds services was =
+    count_over MAX_TRIPS c.args.before n (n + length (runs_from feed c.args.day 0 c.args.trips.now)) was c.if-before.true (omega arith)
+
+pub returns-clause-count : goal.returns-clause-count
+returns-clause-count c feed n holds services was =
+    let told : c.deref.result.now ≡ map (runs_on feed c.args.day) c.args.trips.now =
+    c.deref.ensures.value ∙ c.in_ok-running.ensures.told feed services in
+    c.count_with_trips.ensures.count feed c.args.day n told holds was

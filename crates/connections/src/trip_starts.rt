@@ -1,0 +1,101 @@
+//! The starts of each trip, by the rows of frequencies.txt that name it: listed once, when they are first asked for.
+
+ghost use Rattle.std.specs.Prelude.{◌≡◌, ◌++◌, ◌∷◌, List, [], length, IfOk, OnOk};
+ghost use Rattle.gtfs_tables.specs.declared.tables.Frequency.{Frequency as Row};
+ghost use Rattle.connections.specs.Grouping.{AddsRow, AreGrouped, HasRows};
+ghost use Rattle.connections.specs.Keeping.{AreStartsOf, HoldStarts, IsKept, listed_times};
+ghost use Rattle.connections.specs.Repeats.{starts_of};
+
+use crate::repeats::starts_given;
+use gtfs_tables::Frequency;
+use std::alloc::{AllocError, Global};
+
+/// The starts of a trip, or the rows that give them where nobody asked for the starts yet.
+#[derive(Drop)]
+pub(crate) enum TripStarts {
+    Rows(Vec<Frequency>),
+    /// Rising, each once.
+    Times(Vec<u32>),
+}
+
+impl TripStarts {
+    // Adds a row, where no starts are listed yet.
+    fn add(&mut self, row: Frequency) -> Result<(), AllocError>
+        ensures { (rows : List Row) → HasRows rows self.old → OnOk result (HasRows (rows ++ row ∷ []) self.new) }
+    {
+        if let TripStarts::Rows(rows) = self {
+            rows.push(row)?;
+        }
+        Ok(())
+    }
+
+    // Lists the starts, if they aren't listed yet.
+    pub(crate) fn list(&mut self, alloc: Global) -> Result<(), AllocError>
+        ensures kept { OnOk result (IsKept self.old self.new) }
+        ensures listed { (rows : List Row) → AreStartsOf rows self.old
+            → OnOk result (listed_times self.new ≡ starts_of rows) }
+    {
+        if let TripStarts::Rows(rows) = self {
+            let times = starts_given(alloc, rows)?;
+            *self = TripStarts::Times(times);
+        }
+        Ok(())
+    }
+
+    // The starts that are listed: none if they aren't yet.
+    pub(crate) fn listed(&self) -> &[u32]
+        ensures { result.now ≡ listed_times self.now }
+    {
+        match self {
+            TripStarts::Rows(_) => &[],
+            TripStarts::Times(times) => times,
+        }
+    }
+
+    // How many starts there are.
+    pub(crate) fn count(&mut self, alloc: Global) -> Result<usize, AllocError>
+        ensures kept { OnOk result (IsKept self.old self.new) }
+        ensures count { (rows : List Row) → AreStartsOf rows self.old
+            → IfOk result (λ count. count ≡ length (starts_of rows)) }
+    {
+        self.list(alloc)?;
+        Ok(self.listed().len())
+    }
+}
+
+// So many trips that no row names.
+fn no_rows(alloc: Global, trips: usize) -> Result<Vec<TripStarts>, AllocError>
+    ensures { IfOk result (λ groups. AreGrouped [] trips groups.items) }
+{
+    let mut groups = Vec::with_capacity(alloc, trips)?;
+    for _ in 0..trips {
+        groups.push(TripStarts::Rows(Vec::new(alloc)))?;
+    }
+    Ok(groups)
+}
+
+// Adds a row to those of its trip, if the trip is there.
+fn add_row(groups: &mut Vec<TripStarts>, row: Frequency) -> Result<(), AllocError>
+    ensures { OnOk result (AddsRow groups.old.items row groups.new.items) }
+{
+    let place = row.trip as usize;
+    if place < groups.len() {
+        return groups[place].add(row);
+    }
+    Ok(())
+}
+
+// The starts of each of so many trips, by its rows of frequencies.txt. None are listed yet.
+pub(crate) fn starts_by_trip(
+    alloc: Global,
+    rows: &[Frequency],
+    trips: usize,
+) -> Result<Vec<TripStarts>, AllocError>
+    ensures { IfOk result (λ starts. HoldStarts rows.now trips starts.items) }
+{
+    let mut groups = no_rows(alloc, trips)?;
+    for row in rows {
+        add_row(&mut groups, *row)?;
+    }
+    Ok(groups)
+}
