@@ -1,5 +1,6 @@
 -- How a text is cut into records, and a record into fields.
-use Rattle.std.proofs.Common.{◌≡◌, ◌+◌, ◌==◌, ◌<◌, ◌∷◌, ◌++◌, ◌∙◌, ℕ, suc, List, [], length, take, drop, Option, Some, None, Bool, true, false}
+use Rattle.std.proofs.Common.{◌≡◌, ◌+◌, ◌==◌, ◌<◌, ◌∷◌, ◌++◌, ◌∙◌, ℕ, suc, List, [], length, take, drop}
+use Rattle.std.proofs.Common.{Option, Some, None, Bool, true, false}
 use Rattle.std.proofs.Common.{◌-◌, ◌≤◌, refl, sym, ap, arith, not, get_or, if◌then◌else◌}
 use Rattle.std.proofs.lemmas.Bool.{eqb-true, false≢true, true≢false}
 use Rattle.std.proofs.lemmas.List.{length-drop, take-append-drop, take_all}
@@ -54,7 +55,7 @@ inner_step c h = by (c == 44) (c == 13) (c == 10) refl refl refl
 -- ---- records
 
 -- the records of a text, from the midst of the first
-pub rows_here : (s : State) (text : List ℕ) → records_at s text ≡ rows_in s [] [] text
+rows_here : (s : State) (text : List ℕ) → records_at s text ≡ rows_in s [] [] text
 rows_here s text = by (next_record default_config s [] [] text) refl
   where
     by : (o : Option Read) → next_record default_config s [] [] text ≡ o → records_at s text ≡ records_next records_at (next_record default_config s [] [] text)
@@ -81,7 +82,7 @@ behind_line c rest h =
     ∙ sym (rows_here st.StartRecord rest)
 
 -- ends of lines before a record are skipped
-pub at_record_same : (text : List ℕ) → records_in text ≡ records_in (at_record text)
+at_record_same : (text : List ℕ) → records_in text ≡ records_in (at_record text)
 at_record_same [] = refl
 at_record_same (c ∷ rest) = by (ends_line c) refl (at_record_same rest)
   where
@@ -140,7 +141,7 @@ joined s fields field text n runs =
     ∙ ap (records_next records_at) (run-copies default_config s fields field (take n text) (drop n text) runs)
 
 -- the bytes before the first that ends a field join it
-pub inner_rows : (fields : Record) (field text : List ℕ) (n : ℕ) → n ≡ prefix_len is_inner text
+inner_rows : (fields : Record) (field text : List ℕ) (n : ℕ) → n ≡ prefix_len is_inner text
     → rows_in st.InField fields field text ≡ rows_in st.InField fields (field ++ take n text) (drop n text)
 inner_rows fields field text n e = joined st.InField fields field text n (rw e (inner_runs text))
 
@@ -156,7 +157,7 @@ inner_ends (c ∷ rest) = by (is_separator c) refl (inner_ends rest)
         rw (e, on) more
 
 -- there it ends
-pub field_ends : (text : List ℕ) (n : ℕ) → n ≡ prefix_len is_inner text → ends_before (drop n text) ≡ true
+field_ends : (text : List ℕ) (n : ℕ) → n ≡ prefix_len is_inner text → ends_before (drop n text) ≡ true
 field_ends text n e = rw e (inner_ends text)
 
 -- a field at the end of the text
@@ -178,7 +179,7 @@ separated fields field c rest h = by (c == 44) (c == 13) (c == 10) refl refl ref
     by false false false ex ey ez = absurd (false≢true (rw (ex, ey, ez) at h))
 
 -- a field behind which another begins, or the last of a line
-pub ended_field : (fields : Record) (field text : List ℕ) → 0 < length text → ends_before text ≡ true
+ended_field : (fields : Record) (field text : List ℕ) → 0 < length text → ends_before text ≡ true
     → rows_in st.InField fields field text ≡ rows_behind fields field (drop 1 text) (not (get_or text 0 0 == 44))
 ended_field fields field [] h e = absurd (omega arith)
 ended_field fields field (c ∷ rest) h e = separated fields field c rest e
@@ -201,7 +202,7 @@ quoted_runs (c ∷ rest) = by (c == 34) refl (quoted_runs rest)
         rw (e, on) (quoted_step c e, more)
 
 -- the bytes before the first quote join the field
-pub quoted_rows : (fields : Record) (field text : List ℕ) (n : ℕ) → n ≡ prefix_len is_quoted text
+quoted_rows : (fields : Record) (field text : List ℕ) (n : ℕ) → n ≡ prefix_len is_quoted text
     → rows_in st.InQuoted fields field text ≡ rows_in st.InQuoted fields (field ++ take n text) (drop n text)
 quoted_rows fields field text n e = joined st.InQuoted fields field text n (rw e (quoted_runs text))
 
@@ -218,11 +219,11 @@ quote_at (c ∷ rest) h = by (c == 34) refl (quote_at rest) h
         rw (e, on) (go (rw (e, on) at l))
 
 -- there a quote is, or the end of the text
-pub quote_here : (text : List ℕ) (n : ℕ) → n ≡ prefix_len is_quoted text → 0 < length (drop n text) → begins_quoted (drop n text) ≡ true
+quote_here : (text : List ℕ) (n : ℕ) → n ≡ prefix_len is_quoted text → 0 < length (drop n text) → begins_quoted (drop n text) ≡ true
 quote_here text n e h = rw e (quote_at text (rw e at h))
 
 -- quotes that nothing closes
-pub unclosed : (fields : Record) (field text : List ℕ) → length text < 1 → rows_in st.InQuoted fields field text ≡ rows_behind fields field text true
+unclosed : (fields : Record) (field text : List ℕ) → length text < 1 → rows_in st.InQuoted fields field text ≡ rows_behind fields field text true
 unfolding next_record
 unclosed fields field [] h = refl
 unclosed fields field (c ∷ rest) h = absurd (omega arith)
@@ -234,7 +235,7 @@ behind_quote fields field [] h = refl
 behind_quote fields field (c ∷ rest) h = alike st.AfterQuote st.InField c rest fields field (simp h)
 
 -- behind a quote that isn't followed by another a field goes on without quotes
-pub closed : (fields : Record) (field text : List ℕ) → begins_quoted text ≡ true → begins_quoted (drop 1 text) ≡ false
+closed : (fields : Record) (field text : List ℕ) → begins_quoted text ≡ true → begins_quoted (drop 1 text) ≡ false
     → rows_in st.InQuoted fields field text ≡ rows_in st.InField fields field (drop 1 text)
 closed fields field [] h e = absurd (false≢true h)
 closed fields field (c ∷ rest) h e = rw (eqb-true c 34 h) (behind_quote fields field rest e)
@@ -245,7 +246,7 @@ unfolding next_record
 doubled_here fields field rest = refl
 
 -- two quotes stand for one
-pub doubled : (fields : Record) (field text : List ℕ) → begins_quoted text ≡ true → begins_quoted (drop 1 text) ≡ true
+doubled : (fields : Record) (field text : List ℕ) → begins_quoted text ≡ true → begins_quoted (drop 1 text) ≡ true
     → rows_in st.InQuoted fields field text ≡ rows_in st.InQuoted fields (field ++ 34 ∷ []) (drop 1 (drop 1 text))
 doubled fields field [] h e = absurd (false≢true h)
 doubled fields field (b ∷ []) h e = absurd (false≢true e)
@@ -260,11 +261,6 @@ no_quote (c ∷ rest) h = by (c == 34) refl
     by true e = absurd (let is : c ≡ 34 = eqb-true c 34 e in false≢true (rw is at h))
     by false e = e
 
--- a quote is a byte
-pub quote_there : (text : List ℕ) → begins_quoted text ≡ true → 0 < length text
-quote_there [] h = absurd (false≢true h)
-quote_there (c ∷ rest) h = omega arith
-
 -- ---- the start of a field
 
 opened_here : (fields : Record) (rest : List ℕ) → rows_in st.StartField fields [] (34 ∷ rest) ≡ rows_in st.InQuoted fields [] rest
@@ -272,7 +268,7 @@ unfolding next_record
 opened_here fields rest = refl
 
 -- a quote at the start of a field
-pub opened : (fields : Record) (text : List ℕ) → begins_quoted text ≡ true → rows_in st.StartField fields [] text ≡ rows_in st.InQuoted fields [] (drop 1 text)
+opened : (fields : Record) (text : List ℕ) → begins_quoted text ≡ true → rows_in st.StartField fields [] text ≡ rows_in st.InQuoted fields [] (drop 1 text)
 opened fields [] h = absurd (false≢true h)
 opened fields (c ∷ rest) h = rw (eqb-true c 34 h) (opened_here fields rest)
 
