@@ -58,7 +58,8 @@ inner_step c h = by (c == 44) (c == 13) (c == 10) refl refl refl
 rows_here : (s : State) (text : List ℕ) → records_at s text ≡ rows_in s [] [] text
 rows_here s text = by (next_record default_config s [] [] text) refl
   where
-    by : (o : Option Read) → next_record default_config s [] [] text ≡ o → records_at s text ≡ records_next records_at (next_record default_config s [] [] text)
+    by : (o : Option Read) → next_record default_config s [] [] text ≡ o
+        → records_at s text ≡ records_next records_at (next_record default_config s [] [] text)
     by None h = rw h (rows-none s text h)
     by (Some p) h = rw h (rows-next s text p h)
 
@@ -333,7 +334,8 @@ doubled_tail fields start held text new more n before e grown longer some h =
     ∙ ap (rows_in st.InQuoted fields ((held ++ take n text) ++ 34 ∷ [])) (sym (tail_is 1 (tail 1 (tail n text)))))
 
 -- a quote at the start of a field
-pub opened_tail : (fields : Record) (text : List ℕ) → begins_quoted text ≡ true → rows_in st.StartField fields [] text ≡ rows_in st.InQuoted fields [] (tail 1 text)
+pub opened_tail : (fields : Record) (text : List ℕ) → begins_quoted text ≡ true
+    → rows_in st.StartField fields [] text ≡ rows_in st.InQuoted fields [] (tail 1 text)
 opened_tail fields text h = rw (tail_is 1 text) (opened fields text h)
 
 shorter : (n : ℕ) (xs : List ℕ) → length (tail n xs) ≤ length xs

@@ -1,5 +1,5 @@
 -- The records of a file's bytes, and those that are left of them.
-use Rattle.std.specs.Prelude.{◌==◌, ◌+◌, if◌then◌else◌, ℕ, List, [], ◌∷◌, length, Bool, ⊤}
+use Rattle.std.specs.Prelude.{◌+◌, if◌then◌else◌, ℕ, List, [], ◌∷◌, length, Bool, ⊤}
 use Rattle.csv.specs.Machine.{ends_with, next_record}
 use Rattle.csv.specs.Reading.{default_config, records, records_from, records_next, strip_bom}
 use Rattle.csv.specs.Records.{AllText}
