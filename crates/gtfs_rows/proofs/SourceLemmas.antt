@@ -1,14 +1,12 @@
 -- The records of a text, read one at a time, are the records of the text.
 use Rattle.std.proofs.Common.{◌≡◌, ◌≤◌, ◌+◌, ◌∷◌, ◌++◌, ℕ, zero, suc, List, [], length, Option, Some, None, Bool, true}
-use Rattle.std.proofs.Common.{false, refl, sym, ap, ◌∙◌, arith, add-one, Bor, IsSome}
-use Rattle.std.proofs.lemmas.Bool.{false≢true}
+use Rattle.std.proofs.Common.{false, refl, sym, ap, ◌∙◌, arith, add-one}
 use Rattle.csv.specs.Machine.{Read, ends_at_end, field_after, fields_after, is_end, next_record, step}
-use Rattle.csv.specs.Reading.{NextIs, ReadRecord, ReadsNext, default_config, pending_of, reader_config, reader_state, records_from, records_next, source_of}
+use Rattle.csv.specs.Reading.{default_config, records_from, records_next}
 use Rattle.csv.specs.declared.parser.Config.{Config}
 use Rattle.csv.specs.declared.parser.State.{State}
 use Rattle.csv.specs.declared.parser.State.TheVariants as st
-use Rattle.csv.specs.declared.reader.Reader.{Reader}
-use Rattle.gtfs_rows.specs.Source.{bytes_left, left_of, records_at, records_of_left}
+use Rattle.gtfs_rows.specs.Source.{records_at}
 
 -- after the end of the text there is no record
 pub ended : (cfg : Config) (s : State) (fields : List (List ℕ)) (field : List ℕ) (p : Read)
@@ -50,7 +48,7 @@ shrinks cfg s fields field c (x ∷ xs) p e =
     by false h go = let less : length p.2 ≤ length xs = go (rw h at e) in omega arith
 
 -- where the text has ended, there are no records
-no_more : (cfg : Config) (n : ℕ) → records_from cfg n st.StartRecord [] ≡ []
+pub no_more : (cfg : Config) (n : ℕ) → records_from cfg n st.StartRecord [] ≡ []
 unfolding records_from next_record
 no_more cfg zero = refl
 no_more cfg (suc n) = refl
@@ -95,41 +93,3 @@ rows-next s (c ∷ rest) p h =
 pub rows-none : (s : State) (xs : List ℕ) → next_record default_config s [] [] xs ≡ None → records_at s xs ≡ []
 unfolding records_from
 rows-none s xs h = rw (add-one, h) refl
-
--- a read that found a record took the first that the reader had left
-next_found : (s b : State) (xs : List ℕ) (k : Option (List ℕ)) (fields : List (List ℕ))
-    → ReadsNext default_config s (Some xs) k true fields b
-    → (records_at s xs ≡ fields ∷ records_of_left b k) × IsSome k
-next_found s b xs None fields r = absurd r
-next_found s b xs (Some ys) fields r = by (next_record default_config s [] [] xs) refl r
-  where
-    by : (o : Option Read) → next_record default_config s [] [] xs ≡ o → NextIs o true fields b ys
-        → (records_at s xs ≡ fields ∷ records_of_left b (Some ys)) × IsSome (Some ys)
-    by None h n = absurd (false≢true (sym n))
-    by (Some p) h n = (rw (n.1, n.2, n.3) (rows-next s xs p h), refl)
-
-next_missed : (s b : State) (xs : List ℕ) (k : Option (List ℕ)) (fields : List (List ℕ))
-    → ReadsNext default_config s (Some xs) k false fields b → records_at s xs ≡ []
-next_missed s b xs None fields r = absurd r
-next_missed s b xs (Some ys) fields r = by (next_record default_config s [] [] xs) refl r
-  where
-    by : (o : Option Read) → next_record default_config s [] [] xs ≡ o → NextIs o false fields b ys → records_at s xs ≡ []
-    by None h n = rows-none s xs h
-    by (Some p) h n = absurd (false≢true n.0)
-
--- the same, at two readers
-pub read_found : (a b : Reader (Bor (List ℕ))) (fields : List (List ℕ)) → reader_config a ≡ default_config → IsSome (source_of bytes_left a)
-    → ReadRecord bytes_left a b true fields → left_of a ≡ fields ∷ left_of b
-read_found a b fields e known r = by (source_of bytes_left a) refl known
-  where
-    by : (o : Option (List ℕ)) → source_of bytes_left a ≡ o → IsSome o → records_of_left (reader_state a) (source_of bytes_left a) ≡ fields ∷ left_of b
-    by None h k = absurd (false≢true k)
-    by (Some xs) h k = rw h (rw r.1 (next_found (reader_state a) (reader_state b) xs (pending_of (bytes_left b.rdr) b) fields (rw (e, h) at r.0)).0)
-
-pub read_missed : (a b : Reader (Bor (List ℕ))) (fields : List (List ℕ)) → reader_config a ≡ default_config → IsSome (source_of bytes_left a)
-    → ReadRecord bytes_left a b false fields → left_of a ≡ []
-read_missed a b fields e known r = by (source_of bytes_left a) refl known
-  where
-    by : (o : Option (List ℕ)) → source_of bytes_left a ≡ o → IsSome o → records_of_left (reader_state a) (source_of bytes_left a) ≡ []
-    by None h k = absurd (false≢true k)
-    by (Some xs) h k = rw h (next_missed (reader_state a) (reader_state b) xs (pending_of (bytes_left b.rdr) b) fields (rw (e, h) at r.0))

@@ -1,5 +1,7 @@
 pub mod Cells
+pub mod Cut
 pub mod Faults
+pub mod Fields
 pub mod Ids
 pub mod Rows
 pub mod Source

@@ -1,45 +1,44 @@
--- The records of a file's bytes, and those that a reader of it has left.
-use Rattle.std.specs.Prelude.{◌≡◌, ◌+◌, ℕ, List, [], ◌∷◌, length, Option, Some, None, IsSome, true, ⊤}
-use Rattle.csv.specs.Reading.{Ready, default_config, is_flexible, reader_config, reader_state, reader_trim, records, records_from, source_of, strip_bom}
+-- The records of a file's bytes, and those that are left of them.
+use Rattle.std.specs.Prelude.{◌+◌, if◌then◌else◌, ℕ, List, [], ◌∷◌, length, Bool, ⊤}
+use Rattle.csv.specs.Machine.{ends_with, next_record}
+use Rattle.csv.specs.Reading.{default_config, records, records_from, records_next, strip_bom}
 use Rattle.csv.specs.Records.{AllText}
 use Rattle.csv.specs.declared.parser.State.{State}
-use Rattle.csv.specs.declared.reader.Reader.{Reader}
-use Rattle.csv.specs.declared.reader.Trim.TheVariants as trim
-use Rattle.std.specs.Borrow.{Bor}
+use Rattle.csv.specs.declared.parser.Terminator.TheVariants as term
+use Rattle.gtfs_rows.specs.declared.source.Records.{Records}
 
 -- a record is its fields, each a list of bytes
 abbrev pub Record : Type 0
 Record = List (List ℕ)
 
--- the records of a file's bytes, the header first: fields between commas, in double quotes or not, and a
--- record on each line that isn't empty
-abbrev pub table_records : List ℕ → List Record
-table_records bytes = records default_config (strip_bom bytes)
+-- the records of a text: fields between commas, in double quotes or not, and a record on each line that isn't empty
+abbrev pub records_in : List ℕ → List Record
+records_in text = records default_config text
 
--- the bytes that a reader over memory has left
-abbrev pub bytes_left : Bor (List ℕ) → Option (List ℕ)
-bytes_left s = Some s.now
+-- the records of a file's bytes, the header first
+abbrev pub table_records : List ℕ → List Record
+table_records bytes = records_in (strip_bom bytes)
+
+-- the records that are still to be taken
+abbrev pub left_of : Records → List Record
+left_of r = records_in r.rest.now
 
 -- the records of a text from a state on
 abbrev pub records_at : State → List ℕ → List Record
-records_at s xs = records_from default_config (length xs + 1) s xs
+records_at s text = records_from default_config (length text + 1) s text
 
--- the records of what is left, none where nothing is known
-abbrev pub records_of_left : State → Option (List ℕ) → List Record
-records_of_left s None = []
-records_of_left s (Some xs) = records_at s xs
+-- the records from the midst of one on, of which these fields are read, and these bytes of the field at hand
+abbrev pub rows_in : State → Record → List ℕ → List ℕ → List Record
+rows_in s fields field text = records_next records_at (next_record default_config s fields field text)
 
--- the records that a reader has left
-abbrev pub left_of : Reader (Bor (List ℕ)) → List Record
-left_of r = records_of_left (reader_state r) (source_of bytes_left r)
+-- LF (10) or CR (13)
+abbrev pub ends_line : ℕ → Bool
+ends_line byte = ends_with term.CRLF byte
 
--- a reader of a feed's file: commas, double quotes, any line end, records of any length, nothing trimmed
-pub record IsTableReader (r : Reader (Bor (List ℕ))) : Type 0 where
-  pub config : reader_config r ≡ default_config
-  pub trim : reader_trim r ≡ trim.None
-  pub flexible : is_flexible r ≡ true
-  pub ready : Ready r
-  pub known : IsSome (source_of bytes_left r)
+-- a text from its first byte on that ends no line
+abbrev pub at_record : List ℕ → List ℕ
+at_record [] = []
+at_record (b ∷ rest) = if ends_line b then at_record rest else b ∷ rest
 
 -- each field of each record is text
 abbrev pub AllRecordsText : List Record → Type 0

@@ -2,7 +2,8 @@
 
 ghost use Rattle.std.specs.Prelude.{◌≡◌, ◌≤◌, length, map, IfErr, IfOk, IsUtf8, None, Some, true, false};
 ghost use Rattle.std.specs.String.{string_bytes};
-ghost use Rattle.csv.specs.Records.{AllText, fields_of};
+ghost use Rattle.csv.specs.Records.{AllText};
+ghost use Rattle.gtfs_rows.specs.Fields.{fields_of};
 ghost use Rattle.gtfs_rows.specs.Cells.{cell as cell_of, column as column_of, has_required as are_there, places_of};
 ghost use Rattle.gtfs_rows.specs.Cells.{trim_front, trim_spaces};
 ghost use Rattle.gtfs_rows.specs.Faults.{fault_unless};
@@ -10,8 +11,8 @@ ghost use Rattle.gtfs_rows.specs.Rows.{value};
 ghost use Rattle.gtfs_rows.specs.Values.{time_of};
 
 use crate::fault::FaultKind;
+use crate::fields::Fields;
 use crate::values::Time;
-use csv::ByteRecord;
 use std::alloc::{AllocError, Global};
 
 /// Where a header has a column, if it has it.
@@ -41,7 +42,7 @@ fn trim_start(text: &[u8]) -> &[u8]
 }
 
 // What a record has in a column, blank where the column is absent.
-fn cell<'a>(fields: &'a ByteRecord, place: Place) -> &'a [u8]
+fn cell<'a>(fields: &'a Fields<'_>, place: Place) -> &'a [u8]
     ensures { result.now ≡ cell_of place (fields_of fields.entry.now) }
 {
     let Some(place) = place else {
@@ -54,7 +55,7 @@ fn cell<'a>(fields: &'a ByteRecord, place: Place) -> &'a [u8]
 }
 
 // The first column of a name.
-fn column(header: &ByteRecord, name: &[u8]) -> Place
+fn column(header: &Fields<'_>, name: &[u8]) -> Place
     ensures { result ≡ column_of name.now (fields_of header.now) }
 {
     for place in 0..header.len() {
@@ -68,7 +69,7 @@ fn column(header: &ByteRecord, name: &[u8]) -> Place
 // Where the header has each column.
 pub(crate) fn places(
     alloc: Global,
-    header: &ByteRecord,
+    header: &Fields<'_>,
     names: &[&str],
 ) -> Result<Vec<Place>, AllocError>
     ensures { IfOk result (λ v. v.items ≡ places_of (map (λ name. name.now) names.now) (fields_of header.now)) }
@@ -111,12 +112,12 @@ fn text_of(alloc: Global, bytes: &[u8]) -> Result<String, AllocError>
 
 /// The fields of a record, and where its header has each of the table's columns.
 #[derive(Clone, Copy)]
-pub struct Cells<'a> {
+pub struct Cells<'a, 'f> {
     pub(crate) places: &'a [Place],
-    pub(crate) fields: &'a ByteRecord,
+    pub(crate) fields: &'a Fields<'f>,
 }
 
-impl<'a> Cells<'a> {
+impl<'a, 'f> Cells<'a, 'f> {
     // What the record has in a column, blank where the column is absent.
     pub(crate) fn get(&self, column: usize) -> &'a [u8]
         ensures { result.now ≡ value self.entry.now.places.now column (fields_of self.entry.now.fields.now) }

@@ -2,7 +2,8 @@
 
 ghost use Rattle.std.specs.Prelude.{◌≡◌, ◌≢◌, ◌++◌, ◌∷◌, ℕ, List, [], None, Some, IfOk, IfErr, OnOk, ⊤};
 ghost use Rattle.std.specs.List.{AllZip};
-ghost use Rattle.csv.specs.Records.{AllText, fields_of};
+ghost use Rattle.csv.specs.Records.{AllText};
+ghost use Rattle.gtfs_rows.specs.Fields.{fields_of};
 ghost use Rattle.indexmap.specs.IndexSet.{hasher_of};
 ghost use Rattle.gtfs_rows.specs.Source.{Record};
 ghost use Rattle.gtfs_rows.specs.Cells.{Places};

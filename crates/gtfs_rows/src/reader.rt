@@ -1,8 +1,9 @@
 //! The reading of any table: its header, then record by record until the first fault.
 
 ghost use Rattle.std.specs.Prelude.{◌≡◌, ◌≢◌, ◌+◌, ◌++◌, ◌∷◌, [], ℕ, List, Some, None, IfOk, IfErr, OnOk};
-ghost use Rattle.csv.specs.Records.{AllText, fields_of};
-ghost use Rattle.gtfs_rows.specs.Source.{AllRecordsText, IsTableReader, Record, left_of};
+ghost use Rattle.csv.specs.Records.{AllText};
+ghost use Rattle.gtfs_rows.specs.Fields.{fields_of};
+ghost use Rattle.gtfs_rows.specs.Source.{AllRecordsText, Record, left_of};
 ghost use Rattle.gtfs_rows.specs.Cells.{Places};
 ghost use Rattle.gtfs_rows.specs.Faults.{HoldsFile, HoldsUnder, IsFaultOf, IsFaultUnder, IsFaultless, IsFirstFault};
 ghost use Rattle.gtfs_rows.specs.Faults.{length_first};
@@ -12,8 +13,8 @@ ghost use Rattle.gtfs_rows.specs.declared.id_hash.IdHash.{IdHash as Hash};
 
 use crate::cells::{Cells, Place, has_required, is_text, places};
 use crate::fault::{FaultKind, Table, TableFault};
-use crate::source::{open_table, take_record};
-use csv::{ByteRecord, Reader};
+use crate::fields::Fields;
+use crate::source::{Records, open_table, take_record};
 use std::alloc::Global;
 
 // What a table holds of its records.
@@ -78,11 +79,10 @@ fn add_record<T: TableRows>(
 fn add_records<T: TableRows>(
     mut rows: T,
     alloc: Global,
-    reader: &mut Reader<&[u8]>,
+    reader: &mut Records<'_>,
     places: &[Place],
     width: usize,
 ) -> Result<T, TableFault>
-    requires sound { IsTableReader reader.old }
     requires text { AllRecordsText (left_of reader.old) }
     requires starts { T.holds places.now [] rows }
     ensures ok { IfOk result (λ t. IsFaultless (length_first width (judge_of T.TABLE places.now))
@@ -93,9 +93,9 @@ fn add_records<T: TableRows>(
         (left_of reader.old) k fault.kind) }
     ensures hashes { IfOk result (λ t. T.hashes t ≡ T.hashes rows) }
 {
-    let mut fields = ByteRecord::new(alloc);
+    let mut fields = Fields::new(alloc);
     for taken in 0..u64::MAX {
-        match take_record(reader, &mut fields) {
+        match take_record(alloc, reader, &mut fields) {
             Err(_) => return Err(T::TABLE.out_of_memory()),
             Ok(false) => return Ok(rows),
             Ok(true) => {}
@@ -128,9 +128,9 @@ pub(crate) fn read_table<T: TableRows>(
     if !is_text(bytes) {
         return Err(T::TABLE.fault(0, FaultKind::BadUtf8));
     }
-    let mut reader = open_table(alloc, bytes);
-    let mut header = ByteRecord::new(alloc);
-    match take_record(&mut reader, &mut header) {
+    let mut reader = open_table(bytes);
+    let mut header = Fields::new(alloc);
+    match take_record(alloc, &mut reader, &mut header) {
         Err(_) => Err(T::TABLE.out_of_memory()),
         Ok(false) => Err(T::TABLE.fault(0, FaultKind::MissingColumn)),
         Ok(true) => read_under(rows, alloc, &mut reader, &header),
@@ -141,11 +141,10 @@ pub(crate) fn read_table<T: TableRows>(
 fn read_under<T: TableRows>(
     rows: T,
     alloc: Global,
-    reader: &mut Reader<&[u8]>,
-    header: &ByteRecord,
+    reader: &mut Records<'_>,
+    header: &Fields<'_>,
 ) -> Result<T, TableFault>
     requires starts { (places : Places) → T.holds places [] rows }
-    requires sound { IsTableReader reader.old }
     requires text { AllRecordsText (left_of reader.old) }
     ensures ok { IfOk result (λ t. HoldsUnder (shape_of T.TABLE) T.holds (fields_of header.now) (left_of reader.old)
         t) }

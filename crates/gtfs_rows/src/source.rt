@@ -1,40 +1,101 @@
 //! The records of a file's bytes, one at a time.
 
-ghost use Rattle.std.specs.Prelude.{◌≡◌, ◌∷◌, [], IfOk, OnOk};
+ghost use Rattle.std.specs.Prelude.{◌≡◌, ◌∷◌, [], IfOk};
 ghost use Rattle.std.specs.Bool.{MatchBool};
-ghost use Rattle.csv.specs.Records.{fields_of};
-ghost use Rattle.gtfs_rows.specs.Source.{IsTableReader, left_of, table_records};
+ghost use Rattle.csv.specs.Reading.{is_bom, strip_bom};
+ghost use Rattle.csv.specs.declared.parser.State.TheVariants as st;
+ghost use Rattle.gtfs_rows.specs.Fields.{fields_of};
+ghost use Rattle.gtfs_rows.specs.Source.{at_record as text_at_record, left_of, records_in, rows_in};
+ghost use Rattle.gtfs_rows.specs.Source.{table_records};
 
-use csv::{ByteRecord, ErrorKind, Reader, ReaderBuilder};
+use crate::cut::cut_field;
+use crate::fields::Fields;
 use std::alloc::{AllocError, Global};
 
-// A reader of a table: no header row of its own, records of any length.
-pub(crate) fn open_table<'a>(alloc: Global, bytes: &'a [u8]) -> Reader<&'a [u8]>
-    ensures sound { IsTableReader result }
-    ensures left { left_of result ≡ table_records bytes.entry.now }
-{
-    ReaderBuilder::new()
-        .has_headers(false)
-        .flexible(true)
-        .from_reader(alloc, bytes)
+/// The bytes of a file from which records are still to be taken.
+#[derive(Clone, Copy)]
+pub struct Records<'a> {
+    pub(crate) rest: &'a [u8],
 }
 
-// The next record, if there is one.
-pub(crate) fn take_record(
-    reader: &mut Reader<&[u8]>,
-    fields: &mut ByteRecord,
+// The records of a file's bytes.
+pub(crate) fn open_table(bytes: &[u8]) -> Records<'_>
+    ensures { left_of result ≡ table_records bytes.entry.now }
+{
+    Records {
+        rest: without_mark(bytes),
+    }
+}
+
+// Whether three bytes are a byte order mark, U+FEFF in UTF-8.
+fn is_mark(first: u8, second: u8, third: u8) -> bool
+    ensures { result ≡ is_bom first second third }
+{
+    first == 0xEF && second == 0xBB && third == 0xBF
+}
+
+// The bytes without a byte order mark at their start.
+fn without_mark(bytes: &[u8]) -> &[u8]
+    ensures { result.now ≡ strip_bom bytes.entry.now }
+{
+    match bytes {
+        [first, second, third, rest @ ..] => {
+            if is_mark(*first, *second, *third) {
+                rest
+            } else {
+                bytes
+            }
+        }
+        _ => bytes,
+    }
+}
+
+// The text from its first byte on that ends no line.
+fn at_record(text: &[u8]) -> &[u8]
+    ensures { result.now ≡ text_at_record text.entry.now }
+{
+    let mut rest = text;
+    while let [b'\r' | b'\n', more @ ..] = rest {
+        rest = more;
+    }
+    rest
+}
+
+// Takes the next record, if there is one.
+pub(crate) fn take_record<'a>(
+    alloc: Global,
+    reader: &mut Records<'a>,
+    fields: &mut Fields<'a>,
 ) -> Result<bool, AllocError>
-    requires { IsTableReader reader.old }
-    ensures sound { OnOk result (IsTableReader reader.new) }
     ensures reads { IfOk result (λ found. MatchBool found
         (left_of reader.old ≡ fields_of fields.new ∷ left_of reader.new) (left_of reader.old ≡ [])) }
 {
-    match reader.read_byte_record(fields) {
-        Ok(found) => Ok(found),
-        Err(error) => match error.into_kind() {
-            // a reader over memory gives none of the kind `Io`, which no contract rules out
-            ErrorKind::Io(_) | ErrorKind::OutOfMemory => Err(AllocError),
-            _ => unreachable!(),
-        },
+    fields.clear();
+    let text = at_record(reader.rest);
+    if text.is_empty() {
+        return Ok(false);
+    }
+    reader.rest = take_fields(alloc, text, fields)?;
+    Ok(true)
+}
+
+// Takes the fields of the record at which a text begins, behind those that were taken of it, and returns what is
+// behind the record.
+fn take_fields<'a>(
+    alloc: Global,
+    text: &'a [u8],
+    fields: &mut Fields<'a>,
+) -> Result<&'a [u8], AllocError>
+    ensures { IfOk result (λ rest. rows_in st.StartField (fields_of fields.old) [] text.entry.now
+        ≡ fields_of fields.new ∷ records_in rest.now) }
+{
+    let mut rest = text;
+    'fields: loop {
+        let cut = cut_field(alloc, rest)?;
+        fields.push(cut.field)?;
+        if cut.is_last {
+            return Ok(cut.rest);
+        }
+        rest = cut.rest;
     }
 }

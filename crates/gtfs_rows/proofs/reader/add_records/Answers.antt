@@ -1,5 +1,5 @@
 use Rattle.std.proofs.Common.{◌≡◌, ◌∷◌, ◌∙◌, [], take, arith}
-use Rattle.csv.specs.Records.{fields_of}
+use Rattle.gtfs_rows.specs.Fields.{fields_of}
 use Rattle.gtfs_rows.specs.Source.{left_of}
 use Rattle.gtfs_rows.specs.Faults.{length_first}
 use Rattle.gtfs_rows.specs.Tables.{judge_of}
@@ -36,7 +36,6 @@ loop-taken-preserved g c =
     (left_of c.take_record.new.reader) (fields_of c.take_record.new.fields) here in
     let good = c.in_default.ensures.ok (take c.loop-taken.taken (left_of c.args.reader.now)) c.loop-taken.invariant.held in
     record {
-      sound = c.in-Ok-true.ensures.sound;
       text = text_rest (left_of c.loop-taken.reader) (left_of c.take_record.new.reader) (fields_of c.take_record.new.fields) next c.loop-taken.invariant.text;
       left = after;
       good = faultless_more (length_first c.args.width (judge_of g.T.TableRows.TABLE c.args.places.now))

@@ -1,6 +1,6 @@
 use Rattle.std.proofs.Common.{◌∙◌, sym}
 use Rattle.std.proofs.lemmas.Result.{IfErr-weaker, IfOk-weaker}
-use Rattle.csv.specs.Records.{fields_of}
+use Rattle.gtfs_rows.specs.Fields.{fields_of}
 use Rattle.gtfs_rows.specs.Source.{left_of}
 use Rattle.gtfs_rows.specs.Tables.{shape_of}
 use Rattle.gtfs_rows.proofs.FaultLemmas.{fault_under, held_under}

@@ -1,0 +1,37 @@
+-- A field that is cut off a text.
+use Rattle.std.specs.Prelude.{◌≡◌, ◌==◌, ◌||◌, not, ℕ, List, [], ◌∷◌, ◌++◌, Bool, true, false}
+use Rattle.csv.specs.declared.parser.State.{State}
+use Rattle.csv.specs.declared.parser.State.TheVariants as st
+use Rattle.gtfs_rows.specs.Fields.{bytes_of}
+use Rattle.gtfs_rows.specs.Source.{Record, ends_line, records_in, rows_in}
+use Rattle.gtfs_rows.specs.declared.cut.Cut.{Cut}
+
+-- a byte that isn't in quotes ends a field: a comma (44), or the end of a line
+abbrev pub is_separator : ℕ → Bool
+is_separator byte = (byte == 44) || ends_line byte
+
+abbrev pub is_inner : ℕ → Bool
+is_inner byte = not (is_separator byte)
+
+-- a byte in quotes isn't a double quote (34)
+abbrev pub is_quoted : ℕ → Bool
+is_quoted byte = not (byte == 34)
+
+-- a field that isn't in quotes ends before this text
+abbrev pub ends_before : List ℕ → Bool
+ends_before [] = true
+ends_before (b ∷ rest) = is_separator b
+
+-- a text begins with a double quote
+abbrev pub begins_quoted : List ℕ → Bool
+begins_quoted [] = false
+begins_quoted (b ∷ rest) = b == 34
+
+-- the records behind fields of a record and one field more, which may be its last
+abbrev pub rows_behind : Record → List ℕ → List ℕ → Bool → List Record
+rows_behind fields field rest true = (fields ++ field ∷ []) ∷ records_in rest
+rows_behind fields field rest false = rows_in st.StartField (fields ++ field ∷ []) [] rest
+
+-- the field at hand, of which these bytes are read, is cut off the text, whichever fields are before it
+abbrev pub IsCut : State → List ℕ → List ℕ → Cut → Type 0
+IsCut s held text cut = (fields : Record) → rows_in s fields held text ≡ rows_behind fields (bytes_of cut.field) cut.rest.now cut.is_last

@@ -1,0 +1,137 @@
+//! Tables drawn at random: their records are those that the crate `csv` reads of the same bytes.
+
+use super::texts::fault_text;
+use csv::{ByteRecord, Reader, ReaderBuilder};
+use gtfs_rows::{TableFault, TransferRow, read_transfers};
+use std::alloc::{AllocError, Global};
+use std::fmt::Write;
+use std::test::Fail;
+
+// How many tables are drawn.
+const TABLES: u32 = 300;
+
+// What a table is made of behind its header.
+const PIECES: [&str; 16] = [
+    "A",
+    "B",
+    "two words",
+    " ",
+    ",",
+    ",",
+    ",",
+    "\n",
+    "\r",
+    "\r\n",
+    "\"",
+    "\"",
+    "\"\"",
+    "é",
+    "\u{FEFF}",
+    "12:00:00",
+];
+
+// The headers, each of which has both columns that are required.
+const HEADERS: [&str; 8] = [
+    "from_stop_id,to_stop_id\n",
+    "from_stop_id,to_stop_id,x\r\n",
+    "\r\n\nfrom_stop_id,to_stop_id\r",
+    "\u{FEFF}from_stop_id,to_stop_id\n",
+    "\u{FEFF}\"from_stop_id\",\"to_stop_id\"\n",
+    "\"from_stop_id\" ,to_stop_id,\"x\"\"\n,y\"\n",
+    "\"from_\"stop_id,to_stop_id\r\r\n",
+    " from_stop_id , to_stop_id ,,\n",
+];
+
+// Numbers drawn one after another.
+#[derive(Drop)]
+struct Draws(u64);
+
+impl Draws {
+    // The next number, of 31 bits.
+    fn next(&mut self) -> usize {
+        self.0 = self.0.wrapping_mul(6_364_136_223_846_793_005);
+        self.0 = self.0.wrapping_add(1_442_695_040_888_963_407);
+        (self.0 >> 33) as usize
+    }
+
+    // A table of up to 40 pieces.
+    fn table(&mut self, alloc: Global) -> Result<String, AllocError> {
+        let mut text = String::from_str(alloc, HEADERS[self.next() % 8])?;
+        for _ in 0..self.next() % 40 {
+            text.push_str(PIECES[self.next() % 16])?;
+        }
+        Ok(text)
+    }
+}
+
+// Adds a field without the spaces at its ends, in brackets.
+fn add_field(text: &mut String, field: &str) -> Result<(), AllocError> {
+    write!(text, "[{}]", field.trim_matches(' '))
+}
+
+// A field of a record of text, blank if there is none.
+fn field(record: &ByteRecord, place: usize) -> &str {
+    match record.get(place) {
+        Some(bytes) => str::from_utf8(bytes).unwrap_or("no text"),
+        None => "",
+    }
+}
+
+// Takes a record, if there is one.
+fn take(reader: &mut Reader<&[u8]>, record: &mut ByteRecord) -> Result<bool, Fail> {
+    match reader.read_byte_record(record) {
+        Ok(found) => Ok(found),
+        Err(_) => Err(Fail::new("a record that can't be read")),
+    }
+}
+
+// The first two fields of each record behind the header, by `csv`, or the first record of another length.
+fn told_by_csv(alloc: Global, bytes: &[u8]) -> Result<String, Fail> {
+    let mut reader = ReaderBuilder::new()
+        .has_headers(false)
+        .flexible(true)
+        .from_reader(alloc, bytes);
+    let mut record = ByteRecord::new(alloc);
+    take(&mut reader, &mut record)?;
+    let width = record.len();
+    let mut text = String::new(alloc);
+    for row in 1..1_000 {
+        if !take(&mut reader, &mut record)? {
+            break;
+        }
+        if record.len() != width {
+            return Ok(format!(in alloc; "4 RowLength transfers.txt {row}")?);
+        }
+        add_field(&mut text, field(&record, 0))?;
+        add_field(&mut text, field(&record, 1))?;
+    }
+    Ok(text)
+}
+
+// The same by the rows that are read.
+fn told(alloc: Global, answer: Result<Vec<TransferRow>, TableFault>) -> Result<String, AllocError> {
+    let mut text = String::new(alloc);
+    match answer {
+        Ok(rows) => {
+            for row in &rows {
+                add_field(&mut text, &row.from)?;
+                add_field(&mut text, &row.to)?;
+            }
+            Ok(text)
+        }
+        Err(fault) => fault_text(alloc, fault),
+    }
+}
+
+#[test]
+fn tables_are_read_as_csv_reads_them(rt: HostRuntime) -> Result<(), Fail> {
+    let alloc = rt.alloc();
+    let mut draws = Draws(7);
+    for number in 0..TABLES {
+        let table = draws.table(alloc)?;
+        let wanted = told_by_csv(alloc, table.as_bytes())?;
+        let given = told(alloc, read_transfers(alloc, table.as_bytes()))?;
+        assert_eq!(rt; given.as_str(), wanted.as_str(), "table {number}: {table}");
+    }
+    Ok(())
+}
