@@ -102,7 +102,8 @@ learns_unreleased k l a b fault step grows = learns_by_release k l a b (Err faul
 
 pub learns_by_notice : (k l : Known) (a b : SeatValue) (version : ℕ) → JoinStep a version b → l ≡ k → Learns k a l b
 learns_by_notice k l a b version step same =
-    record { grows = subst (λ (x : Known). Grows k x) (sym same) (grows_same k); answers = []; answers_are = ap answers_of step ∙ sym (append-nil a.answers); published = tt }
+    let grows : Grows k l = subst (λ (x : Known). Grows k x) (sym same) (grows_same k) in
+    record { grows = grows; answers = []; answers_are = ap answers_of step ∙ sym (append-nil a.answers); published = tt }
 
 -- a pin and what gives it back
 pub learns_once : (k l n : Known) (number : ℕ) (a m b : SeatValue) (back : Result (Unit {0}) PinFault) → PinStep a (Ok tt) m → Grows k l
