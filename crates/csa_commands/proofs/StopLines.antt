@@ -1,7 +1,7 @@
 -- Stops whose names have a text in them, one by one.
 use Rattle.std.proofs.Common.{◌≡◌, ◌≢◌, ◌≤◌, ℕ, ◌+◌, List, [], ◌∷◌, ◌++◌, length, drop, take, arith, refl, sym, ap, ◌∙◌, subst, append_assoc}
 use Rattle.std.specs.Prelude.{Bool, true, false, None, MatchBool}
-use Rattle.std.specs.List.{AllZip, flat_map}
+use Rattle.std.specs.List.{AllZip}
 use Rattle.std.specs.Str.Pattern.{FindsText, HasMatch}
 use Rattle.std.proofs.lemmas.List.{drop_at, flat_map_more, length-append, take-append-drop}
 use Rattle.std.proofs.lemmas.List.FromFn.{map-range_with_len_more}

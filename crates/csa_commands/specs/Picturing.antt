@@ -1,5 +1,5 @@
 -- The picture of an answer.
-use Rattle.std.specs.Prelude.{◌≡◌, ◌-◌, ℕ, List, Option, length, take}
+use Rattle.std.specs.Prelude.{◌-◌, ℕ, List, Option, length, take}
 use Rattle.std.specs.List.{All, AllZip}
 use Rattle.criteria.specs.declared.name.CriterionName.{CriterionName}
 use Rattle.criteria.specs.declared.told.ToldValue.{ToldValue}

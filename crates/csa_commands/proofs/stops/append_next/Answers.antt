@@ -7,4 +7,4 @@ pub returns : goal.returns
 returns c =
     let added = c.in_ok-append_if_found.ensures in
     one_stop_more c.args.image.now.names c.args.text.now c.args.stop (string_bytes c.args.lines.now) (string_bytes c.append_if_found.new.lines) added.0
-    (subst (λ (name : List ℕ). IsFound c.args.text.now (c.args.stop, name) added.0) (c.as_str.ensures ∙ c.in_ok-name.ensures) added.1) added.2
+    (subst (λ (name : List ℕ). IsFound c.args.text.now (c.args.stop, name) added.0) (c.as_str.ensures.value ∙ c.in_ok-name.ensures) added.1) added.2

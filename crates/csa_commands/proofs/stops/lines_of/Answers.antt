@@ -1,4 +1,3 @@
-use Rattle.std.proofs.Common.{string_bytes}
 use Rattle.csa_commands.proofs.StopLines.{no_lines}
 use Rattle.csa_commands.proofs.stops.lines_of.Goals as goal
 

@@ -1,4 +1,3 @@
-use Rattle.image_writer.specs.Writable.{IsWritable}
 use Rattle.csa_commands.proofs.upgrade.upgraded.Goals as goal
 
 pub write-requires : goal.write-requires
