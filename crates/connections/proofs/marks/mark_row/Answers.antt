@@ -23,7 +23,8 @@ loop-next-preserved c =
       len = length-set c.loop-next.marks.items c.loop-next.next true ∙ len;
       start = λ early. start_again c.args.row c.loop-next.next c.saturating_add-next.result 4294967295 is c.saturating_add-next.ensures fits early;
       marks = λ test are covered.
-          marks_step test c.loop-next.marks.items c.args.row c.loop-next.next c.saturating_add-next.result 4294967295 (c.loop-next.invariant.marks test are covered) is
+          marks_step test c.loop-next.marks.items c.args.row c.loop-next.next c.saturating_add-next.result 4294967295
+          (c.loop-next.invariant.marks test are covered) is
           (omega (arith, lt, within, len)) (omega (arith, lt, fits)) c.saturating_add-next.ensures;
     }
 
