@@ -1,2 +1,3 @@
 mod FeedNames
 mod NewSeats
+mod ServerEnds
