@@ -9,8 +9,8 @@ invariant-loop-worker g l = record {
   next : (goal.iterator-loop-worker g).can_next l.worker-iterator;
   finite : (goal.iterator-loop-worker g).is_finite l.worker-iterator;
   len : into_iter_len l.worker-iterator ≡ length (into_iter_items l.worker-iterator);
-  at : All (λ worker. worker.promise.shelves.value ≡ l.fn.shelves.now) (into_iter_items l.worker-iterator);
-  fit : All (g.T.Versions.fits l.fn.shelves.now) l.seats.items;
+  at : All (λ worker. worker.promise.shelves.value ≡ l.fn.shelves) (into_iter_items l.worker-iterator);
+  fit : All (g.T.Versions.fits l.fn.shelves) l.seats.items;
   forms : All (λ worker. worker.promise.form ≡ l.fn.form) (into_iter_items l.worker-iterator);
   queues : All (λ worker. worker.promise.taker.value.queue ≡ l.fn.dealer.queue) (into_iter_items l.worker-iterator);
   queue : l.dealer.queue ≡ l.fn.dealer.queue;

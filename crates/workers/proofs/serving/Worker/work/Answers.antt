@@ -37,9 +37,9 @@ loop-preserved g c =
     }
 
 -- what was served may be closed
-pub close-requires : goal.close-requires
-close-requires g c =
+pub close-requires-clause-closes : goal.close-requires-clause-closes
+close-requires-clause-closes g c =
     let one = c.serve_client-streams in
-    may_close c.args.self.now.desk.form g.C.Client.opens g.C.Reader.Read.remaining g.C.Writer.Write.contents
+    λ lifetimes outlive. may_close c.args.self.now.desk.form g.C.Client.opens g.C.Reader.Read.remaining g.C.Writer.Write.contents
     g.T.Versions.number g.T.Versions.value g.T.Versions.known g.C.Client.closes
     _ _ one.result.0 one.result.1 _ _ _ _ c.requires.closes one.ensures.session
