@@ -197,7 +197,7 @@ fn name_of(alloc: Global, feed: &NamedFolder<'_>) -> Result<String, AllocError>
     String::from_str(alloc, feed.name)
 }
 
-// Listens at the port, and serves whoever comes. Whatever the server's threads report goes through one lock.
+// Listens at the port, and serves whoever comes.
 fn listen<
     H: Disk
         + Explains
@@ -231,26 +231,41 @@ fn listen<
         return begun;
     }
     let errors = Mutex::new(errors);
-    let shared = SharedErrors::of(rt, alloc, &errors);
+    match serve_at(rt, &listener, request, made, folders, &errors) {
+        Ok((ends, is_deaf)) => tell_served(alloc, ends, is_deaf, output),
+        Err(_) => status::OUT_OF_MEMORY,
+    }
+}
+
+// Serves whoever comes, and returns how many sessions ended in each way, and whether accepting failed. Whatever the
+// server's threads report goes through one lock.
+fn serve_at<H: Disk + Explains + Clock + Threads + Wait + Sync, E: Write + Send>(
+    rt: &H,
+    listener: &TcpListener,
+    request: &ServeRequest<'_>,
+    made: (Shelves, ShelfLoader, Vec<ShelfSeat>),
+    folders: &Folders<'_, H>,
+    errors: &Mutex<E>,
+) -> Result<(Ends, bool), WorkersFault>
+    requires loader { made.1.table ≡ made.0 }
+    requires seats { All (λ seat. seat.table ≡ made.0) made.2.items }
+    requires new { SeatsHanded made.0 (length made.2.items) made.2.items }
+    requires some { 1 ≤ length made.2.items }
+    requires few { length made.2.items ≤ 16 }
+{
+    let shared = SharedErrors::of(rt, folders.alloc, errors);
     let log = if request.log { Some(&shared) } else { None };
-    let door = Door::new(&listener, request.sessions, log);
+    let door = Door::new(listener, request.sessions, log);
     let loader_errors = LoaderErrors::of(shared.another());
-    match serve_all(
+    let ran = serve_all(
         rt,
         door,
         made,
         folders,
         form_of(request.legs),
         loader_errors,
-    ) {
-        Ok(ran) => tell_served(
-            alloc,
-            ends_of(&ran.served),
-            ran.clients.has_failed(),
-            output,
-        ),
-        Err(_) => status::OUT_OF_MEMORY,
-    }
+    )?;
+    Ok((ends_of(&ran.served), ran.clients.has_failed()))
 }
 
 // Serves whoever comes to the door at these shelves, until nobody is left.
