@@ -41,7 +41,7 @@ impl<C: Criterion> StateOfAll<C> {
         ensures labels { IfOk result (λ state. (trip : ℕ) → trip_points state.trips.labels trip ≡ []) }
         ensures found { IfOk result (λ state. (stop : ℕ) → found_from state.origins stop ≡ []) }
     {
-        let trips = Trips::new(alloc, trips)?;
+        let trips = Trips::new(alloc, criterion, trips)?;
         let origins = Origins::new(alloc, *criterion, stops)?;
         let stops = Stops::new(alloc, criterion, stops)?;
         Ok(StateOfAll {

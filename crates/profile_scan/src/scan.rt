@@ -24,7 +24,6 @@ pub struct State<C: Criterion> {
 impl<C: Criterion> State<C> {
     ghost use Rattle.std.specs.Prelude.{◌≡◌, ◌<◌, [], ℕ, IfOk, OnOk, true, length, vec_len};
     ghost use Rattle.bags.specs.Bag.{points_of};
-    ghost use Rattle.fronts.specs.Labels.{runs_of};
     ghost use Rattle.profile_scan.specs.Steps.{IsIdle};
     ghost use Rattle.profile_scan.specs.Kept.{HasStop, IsState, kept_by};
     ghost use Rattle.profile_scan.specs.Hops.{IsHopOf};
@@ -37,7 +36,7 @@ impl<C: Criterion> State<C> {
         ensures labels { IfOk result (λ state. (trip : ℕ) → (kept_by state).labels trip ≡ []) }
         ensures found { IfOk result (λ state. points_of state.origin.found ≡ []) }
     {
-        let trips = Trips::new(alloc, trips)?;
+        let trips = Trips::new(alloc, criterion, trips)?;
         let stops = Stops::new(alloc, criterion, stops)?;
         let origin = Origin::new(alloc, *criterion);
         Ok(State {

@@ -4,7 +4,6 @@ use Rattle.bags.specs.declared.point.Point.{Point}
 use Rattle.timetable.specs.declared.network.Connection.{Connection}
 use Rattle.timetable.specs.Journeys.{connection_at}
 use Rattle.fronts.specs.declared.labels.Label.{Label}
-use Rattle.fronts.specs.Labels.{runs_of}
 use Rattle.fronts.specs.Lists.{steps_of}
 use Rattle.profile_scan.specs.Steps.{leavings, boardings, settings_out, TakesIn}
 use Rattle.profile_scan.specs.Adding.{label_points, trip_points}
