@@ -15,7 +15,7 @@ use Rattle.journeys.specs.Answer.{point_of}
 use Rattle.journeys.specs.Extracted.{Attains}
 use Rattle.journeys.specs.Questions.{Asks, IsRefused}
 use Rattle.journeys.specs.declared.answering.Departure.{Departure}
-use Rattle.session.specs.Valuing.{arrival_told, by_arrival, by_trips, by_walking, trips_told, walking_told}
+use Rattle.answer_replies.specs.Valuing.{arrival_told, by_arrival, by_trips, by_walking, trips_told, walking_told}
 use Rattle.command_requests.specs.declared.requests.AnswerForm.{AnswerForm}
 use Rattle.command_requests.specs.declared.requests.ProfileRequest.{ProfileRequest}
 use Rattle.csa_commands.specs.Asking.{window_of}

@@ -9,7 +9,7 @@ use Rattle.image_layout.specs.Image.{ImageValue}
 use Rattle.profile_scan.specs.declared.destination.Destination.{Destination}
 use Rattle.journeys.specs.Questions.{AsksAll, IsRefusedOfAll}
 use Rattle.journeys.specs.declared.question.Window.{Window}
-use Rattle.session.specs.Valuing.{arrival_told, by_arrival, by_trips, by_walking, trips_told, walking_told}
+use Rattle.answer_replies.specs.Valuing.{arrival_told, by_arrival, by_trips, by_walking, trips_told, walking_told}
 use Rattle.command_requests.specs.declared.requests.DeparturesForm.{DeparturesForm}
 use Rattle.command_requests.specs.declared.requests.DeparturesRequest.{DeparturesRequest}
 use Rattle.departure_lines.specs.Naming.{AreWanted, IsUnknownLine}

@@ -12,8 +12,8 @@ use Rattle.image_layout.specs.Image.{ImageValue}
 use Rattle.answer_pictures.specs.Naming.{stop_bytes, trip_bytes}
 use Rattle.journeys.specs.Texts.{number_text}
 use Rattle.journeys.specs.declared.answering.Departure.{Departure}
-use Rattle.session.specs.Profiles.{departures_data}
-use Rattle.session.specs.declared.point_form.PointForm.{PointForm}
+use Rattle.answer_replies.specs.Replying.{departures_data}
+use Rattle.answer_replies.specs.declared.point_form.PointForm.{PointForm}
 use Rattle.session_texts.specs.Replies.{line_of, profile_data}
 use Rattle.command_requests.specs.declared.requests.AnswerForm.{AnswerForm}
 

@@ -1,13 +1,13 @@
 //! An answer as a session replies it.
 
 ghost use Rattle.std.specs.Prelude.{◌≡◌, IfOk, string_bytes};
-ghost use Rattle.session.specs.Profiles.{departures_data};
+ghost use Rattle.answer_replies.specs.Replying.{departures_data};
 ghost use Rattle.session_texts.specs.Replies.{line_of, profile_data};
 
+use answer_replies::{PointForm, profile_reply};
 use criteria::Told;
 use image_verifier::Verified;
 use journeys::Answer;
-use session::{PointForm, profile_reply};
 use std::alloc::{AllocError, Global};
 
 /// The version that an image is which a server has just opened.

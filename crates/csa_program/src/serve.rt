@@ -265,7 +265,15 @@ fn serve_at<H: Disk + Explains + Clock + Threads + Wait + Sync, E: Write + Send>
         form_of(request.legs),
         loader_errors,
     )?;
-    Ok((ends_of(&ran.served), ran.clients.has_failed()))
+    Ok(end_of(&ran))
+}
+
+// How many sessions ended in each way, and whether accepting failed.
+fn end_of<'d, L: SessionLog + Sync>(ran: &ShelvesRan<Visitor<'d, L>, Door<'d, L>>) -> (Ends, bool)
+    ensures ends { result.0 ≡ counts_of ran.now.served }
+    ensures deaf { result.1 ≡ ran.now.clients.failed }
+{
+    (ends_of(&ran.served), ran.clients.has_failed())
 }
 
 // Serves whoever comes to the door at these shelves, until nobody is left.

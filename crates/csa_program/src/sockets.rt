@@ -1,6 +1,7 @@
 //! Sessions over TCP.
 
-ghost use Rattle.std.specs.Prelude.{◌≡◌, ◌⊎◌, ◌↔◌, ◌+◌, ◌++◌, ◌∷◌, [], true, false, IfSome, IsTrue, MatchOption, ⊤};
+ghost use Rattle.std.specs.Prelude.{◌≡◌, ◌⊎◌, ◌↔◌, ◌+◌, ◌++◌, ◌∷◌, [], true};
+ghost use Rattle.std.specs.Prelude.{false, IfOk, IfSome, IsTrue, MatchOption, ⊤};
 
 use crate::logging::SessionLog;
 use crate::requests::Requests;
@@ -50,7 +51,8 @@ impl<'a, L: SessionLog + Sync> Client for Visitor<'a, L> {
 
     type Writer = TcpStream;
 
-    ghost opens = { λ _ _. Unit {0} };
+    // What is written goes to the client's own socket.
+    ghost opens = { λ visitor result. IfOk result (λ opened. opened.1 ≡ visitor.stream) };
 
     /// Each reply is sent at once.
     fn open(self) -> Result<(Requests<TcpStream, Option<Visit<'a, L>>>, TcpStream), ConnFault> {

@@ -1,22 +1,25 @@
 -- What the loader knows only grows; and what its calls did in it.
 use Rattle.std.proofs.Common.{◌≡◌, ℕ, zero, suc, ◌+◌, ◌<◌, Bool, true, false, List, [], ◌∷◌, ◌++◌, length, get_or, Option, None, Some}
-use Rattle.std.proofs.Common.{slice_get, refl, sym, ap, ◌∙◌, subst, arith, inl, inr}
+use Rattle.std.proofs.Common.{slice_get, refl, sym, ap, ◌∙◌, subst, arith, inl, inr, append_assoc, append-nil}
 use mathlib.Core.Logic.{dite}
 use native.Mathlib.Decide.{ℕ_discrete}
 use Rattle.reasoning.proofs.ListLemmas.{slice_get-last}
 use Rattle.image_layout.specs.Image.{ImageValue}
+use Rattle.version_core.specs.Actors.{NoneOf}
+use Rattle.version_core.specs.declared.event.Event.{Event}
 use Rattle.version_core.specs.declared.event.Reply.{Reply}
 use Rattle.version_core.specs.declared.state.Shelf.{Shelf}
 use Rattle.shelf_steps.specs.declared.views.Known.{Known}
 use Rattle.shelf_steps.specs.declared.views.LoaderView.{LoaderView}
 use Rattle.shelf_steps.specs.declared.views.View.{View}
-use Rattle.shelf_steps.specs.Course.{image_of}
+use Rattle.shelf_steps.specs.Course.{image_of, Happened}
 use Rattle.shelf_steps.specs.Events.{known_of}
 use Rattle.shelf_steps.specs.Loading.{Loaded, Loads, Freed, Frees, FoundBusy, FindsBusy}
-use Rattle.shelf_steps.specs.Plays.{OfLoader, gives_notice}
+use Rattle.shelf_steps.specs.Plays.{OfLoader, gives_notice, newest_of}
 use Rattle.epochs.specs.declared.collected.Collected.{Collected}
 use Rattle.epochs.specs.declared.faults.PublishFault.{PublishFault}
 use Rattle.epochs.specs.SeatHistory.{Grows, IsPublished, EndsPublish, IsTried, FindsByTries, IsFullByTries}
+use Rattle.epochs.specs.SeatHistory.{AreTries, IsReported, OnlyTries}
 use Rattle.epochs.specs.ShelfLoads.{Rests, TriedShelf, TriesBelow, shelf_of, CollectsBySteps, MakesRoomBySteps, PublishesBySteps, RefusesBySteps}
 use Rattle.epochs.proofs.GrowthLemmas.{grows_same, growths_join, happened_grows, same_grows}
 
@@ -31,24 +34,105 @@ both_load P Q (View.Working v) u' each h = absurd h
 both_load P Q (View.Noting v) u' each h = absurd h
 both_load P Q View.Spent u' each h = absurd h
 
-loaded_ends : (a b : LoaderView) (image : ImageValue) (version shelf before : ℕ) → Loaded a image version shelf before b → EndsPublish a.known version b.known
-loaded_ends a b image version shelf before h = (
-  before,
-  h.opened,
-  h.published,
-  growths_join a.known h.gathered h.opened (happened_grows a.known h.gathered _ _ h.gather) (happened_grows h.gathered h.opened _ _ h.opening),
-  h.publish,
-  h.close,
+-- a reported value is no default
+was_freed : (xs : List Bool) (k : ℕ) → get_or xs k false ≡ true → slice_get xs k ≡ Some true
+was_freed [] k is = absurd (cc)
+was_freed (z ∷ xs) zero is = ap (λ (x : Bool). Some x) is
+was_freed (z ∷ xs) (suc k) is = was_freed xs k is
+
+was_busy : (xs : List ℕ) (k : ℕ) → 0 < get_or xs k 0 → slice_get xs k ≡ Some (get_or xs k 0)
+was_busy [] k some = absurd (omega arith)
+was_busy (z ∷ xs) zero some = refl
+was_busy (z ∷ xs) (suc k) some = was_busy xs k some
+
+-- the loader's events in two parts
+tries_append : (P : ℕ → Type 0) (first second : List Event) → AreTries P first → AreTries P second → AreTries P (first ++ second)
+tries_append P [] second a b = b
+tries_append P (e ∷ es) second a b = (a.0, tries_append P es second a.1 b)
+
+others_try : (P : ℕ → Type 0) (es : List Event) → NoneOf None es → AreTries P es
+others_try P [] none = tt
+others_try P (e ∷ es) none = (inl none.0, others_try P es none.1)
+
+more_shelves : (P Q : ℕ → Type 0) (es : List Event) → ((k : ℕ) → P k → Q k) → AreTries P es → AreTries Q es
+more_shelves P Q [] each a = tt
+more_shelves P Q (e ∷ es) each a = (
+  elim (a.0) [
+    | inl x ↦ inl x
+    | inr y ↦ inr (y.0, y.1, each y.0 y.2)
+  ],
+  more_shelves P Q es each a.1,
 )
+
+-- nothing but tries, and no image more
+abbrev OnlyThose : (ℕ → Type 0) → Known → Known → Type 0
+OnlyThose P before after = OnlyTries P before after × (after.images ≡ before.images)
+
+only_none : (P : ℕ → Type 0) (known : Known) → OnlyTries P known known
+only_none P known = ([], sym (append-nil known.events), tt)
+
+only_join : (P : ℕ → Type 0) (first second third : Known) → OnlyTries P first second → OnlyTries P second third → OnlyTries P first third
+only_join P first second third a b = (
+  a.0 ++ b.0,
+  b.1 ∙ (ap (λ (l : List Event). l ++ b.0) a.1 ∙ append_assoc first.events a.0 b.0),
+  tries_append P a.0 b.0 a.2 b.2,
+)
+
+those_none : (P : ℕ → Type 0) (u u' : View) → u' ≡ u → OnlyThose P (known_of u) (known_of u')
+those_none P u u' is = subst (λ (v : View). OnlyThose P (known_of u) (known_of v)) (sym is) (only_none P (known_of u), refl)
+
+those_join : (P : ℕ → Type 0) (first second third : Known) → OnlyThose P first second → OnlyThose P second third → OnlyThose P first third
+those_join P first second third a b = (only_join P first second third a.0 b.0, b.1 ∙ a.1)
+
+one_try : (P : ℕ → Type 0) (k : ℕ) (before : Known) (reply : Reply) (after : Known) → P k
+    → Happened before (Event.Collect k) reply after → OnlyTries P before after
+one_try P k before reply after is h =
+    let rest = h.events.0 in (
+      rest ++ Event.Collect k ∷ [],
+      h.events.1 ∙ append_assoc before.events rest (Event.Collect k ∷ []),
+      tries_append P rest (Event.Collect k ∷ []) (others_try P rest h.events.2) ((inr (k, refl, is), tt)),
+    )
+
+loaded_ends : (a b : LoaderView) (image : ImageValue) (version shelf before : ℕ) → Loaded a image version shelf before b → EndsPublish a.known version b.known
+loaded_ends a b image version shelf before h = record {
+  ready = h.gathered;
+  opened = h.opened;
+  current = h.published;
+  edition = newest_of a;
+  shelf = shelf;
+  closed = before;
+  since = happened_grows a.known h.gathered _ _ h.gather;
+  only = one_try (λ k. Unit {0}) shelf a.known Reply.NotNow h.gathered tt h.gather;
+  opening = h.opening;
+  publish = h.publish;
+  close = h.close;
+  image = (image, h.images);
+}
 
 -- what ends so has grown
 ended_grows : (before after : Known) (version : ℕ) → EndsPublish before version after → Grows before after
 ended_grows before after version h =
-    growths_join before h.2 after (growths_join before h.1 h.2 h.3 (happened_grows h.1 h.2 _ _ h.4)) (happened_grows h.2 after _ _ h.5)
+    growths_join before h.opened after
+    (growths_join before h.ready h.opened h.since (happened_grows h.ready h.opened _ _ h.opening))
+    (growths_join h.opened h.current after (happened_grows h.opened h.current _ _ h.publish) (happened_grows h.current after _ _ h.close))
 
--- and what began earlier has ended so too
-ended_since : (first before after : Known) (version : ℕ) → Grows first before → EndsPublish before version after → EndsPublish first version after
-ended_since first before after version grows h = (h.0, h.1, h.2, growths_join first before h.1 grows h.3, h.4, h.5)
+-- and what began earlier, with tries alone, has ended so too
+ended_since : (first before after : Known) (version : ℕ) → Grows first before → OnlyThose (λ k. Unit {0}) first before
+    → EndsPublish before version after → EndsPublish first version after
+ended_since first before after version grows tried h = record {
+  ready = h.ready;
+  opened = h.opened;
+  current = h.current;
+  edition = h.edition;
+  shelf = h.shelf;
+  closed = h.closed;
+  since = growths_join first before h.ready grows h.since;
+  only = only_join (λ k. Unit {0}) first before h.ready tried.0 h.only;
+  opening = h.opening;
+  publish = h.publish;
+  close = h.close;
+  image = (h.image.0, h.image.1 ∙ ap (λ (l : List ImageValue). l ++ h.image.0 ∷ []) tried.1);
+}
 
 loads_end : (u u' : View) (image : ImageValue) (version shelf before : ℕ) → Loads shelf version before image u u'
     → EndsPublish (known_of u) version (known_of u')
@@ -146,6 +230,37 @@ got_count (z ∷ xs) (suc k) x y is = got_count xs k x y is
 pub collects_grow : (u u' : View) (found : Collected) → CollectsBySteps u found u' → Grows (known_of u) (known_of u')
 collects_grow u u' found h = tries_grow 8 u found.freed found.busy u' h
 
+frees_only : (P : ℕ → Type 0) (k : ℕ) (u u' : View) → P k → Frees k u u' → OnlyThose P (known_of u) (known_of u')
+frees_only P k u u' is h = both_load (λ a b. Freed a k b) (λ x y. OnlyThose P x y) u u'
+    (λ a b f. (
+      only_join P a.known f.freed b.known (one_try P k a.known Reply.Freed f.freed is f.collect)
+          (one_try P k f.freed Reply.NotNow b.known is f.put_back),
+      f.images,
+    )) h
+
+busy_only : (P : ℕ → Type 0) (k count : ℕ) (u u' : View) → P k → FindsBusy k count u u' → OnlyThose P (known_of u) (known_of u')
+busy_only P k count u u' is h = both_load (λ a b. FoundBusy a k count b) (λ x y. OnlyThose P x y) u u'
+    (λ a b f. (one_try P k a.known (Reply.Busy count) b.known is f.collect, f.images)) h
+
+found_some : (k count : ℕ) (u u' : View) → FindsBusy k count u u' → 0 < count
+found_some k count u u' h = both_load (λ a b. FoundBusy a k count b) (λ x y. 0 < count) u u' (λ a b f. f.some_one) h
+
+one_only : (P : ℕ → Type 0) (k : ℕ) (s : Option Shelf) (u : View) (f : Bool) (b : ℕ) (u' : View)
+    → (f ≡ true → P k) → (0 < b → P k) → TriedShelf k s u f b u' → OnlyThose P (known_of u) (known_of u')
+one_only P k (Some (Shelf.Closing v)) u true b u' freed busy t = frees_only P k u u' (freed refl) t.1
+one_only P k (Some (Shelf.Closing v)) u false b u' freed busy t = busy_only P k b u u' (busy (found_some k b u u' t)) t
+one_only P k (Some (Shelf.Open v)) u f b u' freed busy t = those_none P u u' t.2
+one_only P k (Some Shelf.Free) u f b u' freed busy t = those_none P u u' t.2
+one_only P k None u f b u' freed busy t = those_none P u u' t.2
+
+tries_only : (n : ℕ) (u : View) (found : Collected) (u' : View) → TriesBelow n u found.freed found.busy u'
+    → OnlyThose (IsReported found) (known_of u) (known_of u')
+tries_only zero u found u' t = those_none (IsReported found) u u' t
+tries_only (suc n) u found u' t =
+    those_join (IsReported found) (known_of u) (known_of t.0) (known_of u') (tries_only n u found t.0 t.1)
+    (one_only (IsReported found) n (shelf_of t.0 n) t.0 (get_or found.freed n false) (get_or found.busy n 0) u'
+    (λ is. inl (was_freed found.freed n is)) (λ some. inr (get_or found.busy n 0, some, was_busy found.busy n some)) t.2)
+
 pub collects_find : (u u' : View) (found : Collected) → CollectsBySteps u found u' → FindsByTries (known_of u) found (known_of u')
 collects_find u u' found h = record {
   freed = λ k less is. (tries_reported 8 u found.freed found.busy u' h k less).0 (got_bool found.freed k true false is);
@@ -153,6 +268,8 @@ collects_find u u' found h = record {
       let same : get_or found.busy k 0 ≡ count = got_count found.busy k count 0 is in
       subst (λ n. IsTried (known_of u) k (Reply.Busy n) (known_of u')) same
       ((tries_reported 8 u found.freed found.busy u' h k less).1 (omega arith));
+  only = (tries_only 8 u found u' h).0;
+  images = (tries_only 8 u found u' h).1;
 }
 
 pub full_by_tries : (u u' : View) (fault : PublishFault) → RefusesBySteps u fault u' → IsFullByTries (known_of u) fault (known_of u')
@@ -169,6 +286,16 @@ room_grows u u' h = elim h [
   | inr y ↦ collects_grow u u' y.1.0 y.1.1
 ]
 
+-- room is made by tries alone
+any_shelf : (before after : Known) (found : Collected) → FindsByTries before found after → OnlyThose (λ k. Unit {0}) before after
+any_shelf before after found h = ((h.only.0, h.only.1, more_shelves (IsReported found) (λ k. Unit {0}) h.only.0 (λ k is. tt) h.only.2), h.images)
+
+room_only : (u u' : View) → MakesRoomBySteps u u' → OnlyThose (λ k. Unit {0}) (known_of u) (known_of u')
+room_only u u' h = elim h [
+  | inl x ↦ those_none (λ k. Unit {0}) u u' x.1
+  | inr y ↦ any_shelf (known_of u) (known_of u') y.1.0 (collects_find u u' y.1.0 y.1.1)
+]
+
 -- room was made, and then the image published
 abbrev Published : View → ImageValue → ℕ → View → Type 0
 Published u image version u' = (room : View) × MakesRoomBySteps u room × PublishesBySteps room image version u'
@@ -176,7 +303,7 @@ Published u image version u' = (room : View) × MakesRoomBySteps u room × Publi
 pub publishes_end : (u u' : View) (image : ImageValue) (version : ℕ) → Published u image version u' → EndsPublish (known_of u) version (known_of u')
 publishes_end u u' image version h =
     let p = h.2 in
-    ended_since (known_of u) (known_of h.0) (known_of u') version (room_grows u h.0 h.1) (loads_end h.0 u' image version p.0 p.1 p.3)
+    ended_since (known_of u) (known_of h.0) (known_of u') version (room_grows u h.0 h.1) (room_only u h.0 h.1) (loads_end h.0 u' image version p.0 p.1 p.3)
 
 pub publishes_grow : (u u' : View) (image : ImageValue) (version : ℕ) → Published u image version u' → Grows (known_of u) (known_of u')
 publishes_grow u u' image version h = ended_grows (known_of u) (known_of u') version (publishes_end u u' image version h)

@@ -1,9 +1,10 @@
 -- What a seat knows of the one history of its shelves: the events so far with their replies, and the image of each version.
-use Rattle.std.specs.Prelude.{◌≡◌, ℕ, ◌<◌, true, slice_get, Option, Some, IfSome, Result, Ok, Err}
+use Rattle.std.specs.Prelude.{◌≡◌, ◌≢◌, ℕ, ◌<◌, ◌⊎◌, List, [], ◌∷◌, ◌++◌, true, slice_get, Option, Some, None, IfSome, Result, Ok, Err}
 use mathlib.Core.List.{IsPrefix}
 use Rattle.image_layout.specs.Image.{ImageValue}
 use Rattle.version_core.specs.declared.event.Event.{Event}
 use Rattle.version_core.specs.declared.event.Reply.{Reply}
+use Rattle.version_core.specs.Actors.{actor}
 use Rattle.version_core.specs.State.{State}
 use Rattle.version_core.specs.Steps.{Holds}
 use Rattle.shelf_steps.specs.declared.views.Known.{Known}
@@ -61,23 +62,47 @@ abbrev pub EndsRelease : Known → ℕ → Result (Unit {0}) PinFault → Known 
 EndsRelease before number (Ok u) after = Happened before (Event.Drop number) Reply.Dropped after
 EndsRelease before number (Err _) after = after ≡ before
 
--- what a publish did last in the history that the loader knows, from what was known before it to what is known after it: the version became
--- the current one, and then a shelf was closed
-abbrev pub EndsPublish : Known → ℕ → Known → Type 0
-EndsPublish before version after = (shelf : ℕ) × (opened : Known) × (current : Known) × Grows before opened
-    × Happened opened Event.Publish (Reply.Published version) current
-    × Happened current (Event.Close shelf) Reply.Closing after
+-- of these events each of the loader's is a try at one of these shelves
+abbrev pub AreTries : (ℕ → Type 0) → List Event → Type 0
+AreTries shelves [] = Unit {0}
+AreTries shelves (e ∷ es) = ((actor e ≢ None) ⊎ ((k : ℕ) × (e ≡ Event.Collect k) × shelves k)) × AreTries shelves es
+
+-- between what was known before and what is known after, the loader did nothing but tries at these shelves
+abbrev pub OnlyTries : (ℕ → Type 0) → Known → Known → Type 0
+OnlyTries shelves before after = (since : List Event) × (after.events ≡ before.events ++ since) × AreTries shelves since
+
+-- what a publish did in the history that the loader knows, from what was known before it to what is known after it: tries at shelves, if any;
+-- then the version was opened with its image, the only one that is new; it became the current one; and then a shelf was closed
+pub record EndsPublish (before : Known) (version : ℕ) (after : Known) : Type 0 where
+  pub ready : Known
+  pub opened : Known
+  pub current : Known
+  pub edition : ℕ
+  pub shelf : ℕ
+  pub closed : ℕ
+  pub since : Grows before ready
+  pub only : OnlyTries (λ k. Unit {0}) before ready
+  pub opening : Happened ready (Event.Open edition) (Reply.Opened version shelf) opened
+  pub publish : Happened opened Event.Publish (Reply.Published version) current
+  pub close : Happened current (Event.Close closed) Reply.Closing after
+  pub image : (one : ImageValue) × (after.images ≡ before.images ++ one ∷ [])
 
 -- between what was known before and what is known after, a try at the shelf was answered so
 abbrev pub IsTried : Known → ℕ → Reply → Known → Type 0
 IsTried before shelf reply after = (first : Known) × (tried : Known) × Grows before first
     × Happened first (Event.Collect shelf) reply tried × Grows tried after
 
+-- the shelf is reported as freed, or as in use
+abbrev pub IsReported : Collected → ℕ → Type 0
+IsReported found k = (slice_get found.freed k ≡ Some true) ⊎ ((count : ℕ) × (0 < count) × (slice_get found.busy k ≡ Some count))
+
 -- what a collection reports was found by tries in the history since then: of each shelf that it reports as freed, a try freed it; and each
--- count above 0 that it reports, a try found at that shelf
+-- count above 0 that it reports, a try found at that shelf. The loader did nothing else, and published no image
 pub record FindsByTries (before : Known) (found : Collected) (after : Known) : Type 0 where
   pub freed : (k : ℕ) → k < 8 → slice_get found.freed k ≡ Some true → IsTried before k Reply.Freed after
   pub busy : (k count : ℕ) → k < 8 → 0 < count → slice_get found.busy k ≡ Some count → IsTried before k (Reply.Busy count) after
+  pub only : OnlyTries (IsReported found) before after
+  pub images : after.images ≡ before.images
 
 -- where a publish is refused since all shelves are in use, each count above 0 that it tells was found by a try at that shelf since then
 abbrev pub IsFullByTries : Known → PublishFault → Known → Type 0

@@ -24,7 +24,7 @@ use image_verifier::Verified;
 use shelf_steps::Edition;
 use std::alloc::Global;
 use std::marker::{Brand, Model, PhantomData};
-use std::sync::{Arc, Wait};
+use std::sync::Arc;
 
 /// A name of shelves: a type that stands for one table, so that a seat, a notice or a loader of it
 /// is known by its type. `Brand` gives a fresh one for each call.
@@ -220,7 +220,7 @@ impl<B: Named, K> Versions for NamedShelves<B, K> {
 
     ghost noted = { λ notice. notice.version };
 
-    fn pin<R: Wait>(&self, _rt: &R, seat: &mut NamedSeat<B>) -> Result<(), PinFault>
+    fn pin(&self, seat: &mut NamedSeat<B>) -> Result<(), PinFault>
         ensures number { seat.new.number ≡ seat.old.number }
         ensures pin { PinStep seat.old.shown result seat.new.shown }
         ensures refused { IfErr result KnowsItsSeats }
@@ -237,7 +237,7 @@ impl<B: Named, K> Versions for NamedShelves<B, K> {
         seat.inner.edition()
     }
 
-    fn release<R: Wait>(&self, _rt: &R, seat: &mut NamedSeat<B>) -> Result<(), PinFault>
+    fn release(&self, seat: &mut NamedSeat<B>) -> Result<(), PinFault>
         ensures number { seat.new.number ≡ seat.old.number }
         ensures release { ReleaseStep seat.old.shown result seat.new.shown }
         ensures refused { IfErr result KnowsItsSeats }
@@ -248,7 +248,7 @@ impl<B: Named, K> Versions for NamedShelves<B, K> {
         self.shelves.release(&mut seat.inner)
     }
 
-    fn join<R: Wait>(&self, _rt: &R, seat: &mut NamedSeat<B>, notice: NamedNotice<B>)
+    fn join(&self, seat: &mut NamedSeat<B>, notice: NamedNotice<B>)
         ensures number { seat.new.number ≡ seat.old.number }
         ensures join { JoinStep seat.old.shown notice.version seat.new.shown }
         ensures step { JoinsByStep seat.old notice.version seat.new }
@@ -273,9 +273,8 @@ impl<B: Named, K> Loads for NamedShelves<B, K> {
 
     ghost learned = { λ loader. known_of loader.view };
 
-    fn publish<R: Wait>(
+    fn publish(
         &self,
-        _rt: &R,
         loader: &mut NamedLoader<B>,
         image: Arc<Verified, Global>,
     ) -> Result<(u64, Option<NamedNotice<B>>), (Arc<Verified, Global>, PublishFault)>
@@ -303,7 +302,7 @@ impl<B: Named, K> Loads for NamedShelves<B, K> {
         Ok(under_name(published))
     }
 
-    fn collect<R: Wait>(&self, _rt: &R, loader: &mut NamedLoader<B>) -> Collected
+    fn collect(&self, loader: &mut NamedLoader<B>) -> Collected
         ensures current { loader.new.current ≡ loader.old.current }
         ensures loader { CollectStep loader.old.answers result loader.new.answers }
         ensures steps { CollectsBySteps loader.old.view result loader.new.view }

@@ -15,7 +15,7 @@ use crate::faults::{PinFault, PublishFault};
 use image_verifier::Verified;
 use shelf_steps::Edition;
 use std::alloc::Global;
-use std::sync::{Arc, Wait};
+use std::sync::Arc;
 
 /// Shelves from which workers' seats pin versions.
 pub trait Versions {
@@ -40,7 +40,7 @@ pub trait Versions {
     ghost noted: { Self.Notice → ℕ };
 
     /// Pins the current version, as a look of this call finds it. Where it moved, the last look found `newest`.
-    fn pin<R: Wait>(&self, rt: &R, seat: &mut Self::Seat) -> Result<(), PinFault>
+    fn pin(&self, seat: &mut Self::Seat) -> Result<(), PinFault>
         requires { fits self.now seat.old }
         ensures fits { fits self.now seat.new }
         ensures number { number seat.new ≡ number seat.old }
@@ -57,7 +57,7 @@ pub trait Versions {
             ≡ Some (e.now.version, arc_value e.now.image)) };
 
     /// Gives back what the seat holds.
-    fn release<R: Wait>(&self, rt: &R, seat: &mut Self::Seat) -> Result<(), PinFault>
+    fn release(&self, seat: &mut Self::Seat) -> Result<(), PinFault>
         requires { fits self.now seat.old }
         ensures fits { fits self.now seat.new }
         ensures number { number seat.new ≡ number seat.old }
@@ -67,7 +67,7 @@ pub trait Versions {
         ensures ends { EndsRelease (known seat.old) (number seat.old) result (known seat.new) };
 
     /// The seat has seen the notice's version from now on. It does nothing else, and learns nothing of the past.
-    fn join<R: Wait>(&self, rt: &R, seat: &mut Self::Seat, notice: Self::Notice)
+    fn join(&self, seat: &mut Self::Seat, notice: Self::Notice)
         requires { fits self.now seat.old }
         ensures fits { fits self.now seat.new }
         ensures number { number seat.new ≡ number seat.old }
@@ -98,9 +98,8 @@ pub trait Loads: Versions {
     /// Publishes the image as the next version, and gives a notice of it. A refusal gives the image
     /// back; versions are spent only at the last one. No notice comes only where there was no memory
     /// for one.
-    fn publish<R: Wait>(
+    fn publish(
         &self,
-        rt: &R,
         loader: &mut Self::Loader,
         image: Arc<Verified, Global>,
     ) -> Result<(u64, Option<Self::Notice>), (Arc<Verified, Global>, PublishFault)>
@@ -121,7 +120,7 @@ pub trait Loads: Versions {
         ensures ends { IfOk result (λ r. EndsPublish (learned loader.old) r.0 (learned loader.new)) };
 
     /// Tries each closing shelf: it is freed, if no worker is there.
-    fn collect<R: Wait>(&self, rt: &R, loader: &mut Self::Loader) -> Collected
+    fn collect(&self, loader: &mut Self::Loader) -> Collected
         requires { loads self.now loader.old }
         ensures loads { loads self.now loader.new }
         ensures current { current loader.new ≡ current loader.old }

@@ -1,3 +1,4 @@
 pub mod FolderLemmas
+pub mod FolderReads
 pub mod ReadLemmas
 pub mod ReadingLemmas

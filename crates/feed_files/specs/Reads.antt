@@ -3,7 +3,7 @@ use Rattle.std.specs.Prelude.{◌≡◌, ◌++◌, ◌∷◌, ℕ, List, [], Opt
 use Rattle.gtfs_rows.specs.Told.{file_name}
 use Rattle.gtfs_rows.specs.declared.fault.Table.{Table}
 use Rattle.gtfs_rows.specs.declared.fault.Table.TheVariants as tables
-use Rattle.feed_files.specs.Files.{FileRead}
+use Rattle.feed_files.specs.Files.{FileRead, MayBeRead, MayGive}
 use Rattle.feed_files.specs.Reading.{Content}
 use Rattle.feed_files.specs.declared.reading.ReadFault.{ReadFault}
 
@@ -20,6 +20,10 @@ read_of content table = (file_name table, content table)
 -- the files of these tables were read, each once, in this order, and no other; they held this
 abbrev pub AreRead : Content → List Table → List FileRead → List FileRead → Type 0
 AreRead content ts old new = new ≡ old ++ map (read_of content) ts
+
+-- the files of these tables may hold this: each is what a read of it may give
+abbrev pub MayHold : MayGive → Content → List Table → Type 0
+MayHold may_give content ts = ∥ All (MayBeRead may_give) (map (read_of content) ts) ∥₁
 
 -- the files of all tables were read so
 abbrev pub AllWereRead : List FileRead → List FileRead → Type 0

@@ -29,7 +29,7 @@ pub trait FeedFiles {
     ghost failed: { Self → List (List ℕ) };
 
     // What its reads gave, in order: of each the name of the file, and its bytes, or none where there is no such file.
-    // A read that ended with a fault gave nothing.
+    // A read that ended with a fault gave nothing. Ahead of the first one may stand what the files are of.
     ghost reads: { Self → List FileRead };
 
     // What a file of a name holds, where that is told: none where there is no such file.

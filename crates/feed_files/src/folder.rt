@@ -1,9 +1,9 @@
 //! The files of a folder.
 
-ghost use Rattle.std.specs.Prelude.{◌≡◌, ◌≤◌, ◌↔◌, ◌⊎◌, [], length, None, Some, IfErr, IfOk, IfSome, IsNone, IsOk};
-ghost use Rattle.std.specs.Prelude.{IsTrue, List, ℕ};
+ghost use Rattle.std.specs.Prelude.{◌≡◌, ◌≤◌, ◌↔◌, ◌⊎◌, ◌∷◌, [], length, None, Some, All, IfErr, IfOk, IfSome, IsNone};
+ghost use Rattle.std.specs.Prelude.{IsOk, IsTrue, List, ℕ};
 ghost use Rattle.std_io.specs.declared.io.kind.ErrorKind.TheVariants.{NotADirectory, NotFound, OutOfMemory};
-ghost use Rattle.feed_files.specs.Files.{FileAnswer, one_more};
+ghost use Rattle.feed_files.specs.Files.{FileAnswer, MayBeRead, MayFail, one_more, opened};
 ghost use Rattle.feed_files.specs.declared.files.FileFault.TheVariants.{OutOfMemory as WasOutOfMemory};
 ghost use Rattle.feed_files.specs.declared.files.TheConstants.{LONGEST_FILE};
 
@@ -61,13 +61,16 @@ impl<H: Files + RandomSource> Disk for H {
 
 /// The files of a folder. No contract says what a disk holds: of their bytes those are known that were read.
 #[derive(Drop)]
-pub struct FolderFiles<'a, H> {
+pub struct FolderFiles<'a, H: Disk> {
     disk: &'a H,
     folder: &'a str,
     hash: IdHash,
     failures: u64,
     failed: FailedNames,
     reads: FileReads,
+    // Asked for that file of this folder, the disk may give what is noted of each read, and fail where a failure is.
+    ghost given: { ∥ All (MayBeRead (H.gives disk.now folder.now)) reads ∥₁ },
+    ghost unread: { ∥ All (MayFail (H.gives disk.now folder.now)) failed ∥₁ },
 }
 
 impl<'a, H: Disk> FolderFiles<'a, H> {
@@ -179,7 +182,8 @@ impl<'a, H: Disk> FeedFiles for FolderFiles<'a, H> {
 
     ghost failed = { λ files. files.failed };
 
-    ghost reads = { λ files. files.reads };
+    // behind the path of the folder, so that no two folders' reads agree
+    ghost reads = { λ files. opened files.folder.now ∷ files.reads };
 
     ghost holds = { λ files name. None };
 

@@ -1,7 +1,27 @@
 //! Laws of files, each a function without code whose contract is the law.
 
-ghost use Rattle.std.specs.Prelude.{◌≡◌};
+ghost use Rattle.std.specs.Prelude.{◌≡◌, All, List};
+ghost use Rattle.gtfs_rows.specs.declared.fault.Table.{Table};
+ghost use Rattle.feed_files.specs.Files.{MayFail};
+ghost use Rattle.feed_files.specs.Reading.{Content};
+ghost use Rattle.feed_files.specs.Reads.{AreRead, MayHold};
 ghost use Rattle.feed_files.specs.declared.files.TheConstants.{LONGEST_FILE};
+
+use crate::files::FeedFiles;
+use crate::folder::{Disk, FolderFiles};
+
+/// What was read of a folder between two moments is what its disk may give for files of that folder, and each read
+/// that failed may fail there.
+pub fn reads_are_of_one_folder<'a, H: Disk>(before: &FolderFiles<'a, H>, then: &FolderFiles<'a, H>)
+    ensures folder { (content : Content) (ts : List Table)
+        → AreRead content ts (⟦<FolderFiles<'a, H> as FeedFiles>⟧.reads before.now)
+        (⟦<FolderFiles<'a, H> as FeedFiles>⟧.reads then.now) → then.now.folder.now ≡ before.now.folder.now }
+    ensures read { (content : Content) (ts : List Table)
+        → AreRead content ts (⟦<FolderFiles<'a, H> as FeedFiles>⟧.reads before.now)
+        (⟦<FolderFiles<'a, H> as FeedFiles>⟧.reads then.now)
+        → MayHold (H.gives then.now.disk.now before.now.folder.now) content ts }
+    ensures failed { ∥ All (MayFail (H.gives then.now.disk.now then.now.folder.now)) then.now.failed ∥₁ }
+{}
 
 /// The longest file that is read, in bytes: two thousand million.
 pub fn limits()

@@ -1,5 +1,5 @@
 -- One value taken in before a list that begins no earlier.
-use Rattle.std.proofs.Common.{◌≡◌, ◌⊎◌, ℕ, zero, suc, ◌<◌, ◌≤◌, Bool, true, List, [], ◌∷◌, ◌++◌, length, get_or}
+use Rattle.std.proofs.Common.{◌≡◌, ◌⊎◌, ℕ, zero, suc, ◌<◌, ◌≤◌, Bool, true, List, [], ◌∷◌, ◌++◌, length}
 use Rattle.std.proofs.Common.{Contains, inl, inr, refl, sym, ◌∙◌, ap, subst, arith}
 use Rattle.std.proofs.lemmas.List.Elements.{Contains-push, Contains-push_cases}
 use Rattle.reasoning.proofs.ListLemmas.{not_in_nil}
@@ -16,12 +16,6 @@ use Rattle.fronts.proofs.Walks.{boardings_none, boardings_more}
 use Rattle.fronts.proofs.OnePut.{betters_some}
 use Rattle.fronts.proofs.Inserted.{AreWalked, takes_none, takes_may, takes_put}
 
--- a list of one element
-pub one_alone : {X : Type 0} (xs : List X) (x : X) → length xs ≡ 1 → x ≡ get_or xs 0 x → xs ≡ x ∷ []
-one_alone [] x long is = absurd (omega arith)
-one_alone (y ∷ []) x long is = ap (λ z. z ∷ []) (sym is)
-one_alone (y ∷ z ∷ zs) x long is = absurd (omega arith)
-
 -- a front that was read betters a value
 pub read_low : {V : Type 0} (rules : Rules V) (entries met : List (Entry V)) (items met_items : List (Item V)) (m : ℕ) (v w : V) (test : Bool)
     → met ≡ entries → met_items ≡ items → v ≡ w → test ≡ betters rules (front met met_items m) v → test ≡ true
@@ -31,6 +25,36 @@ read_low rules entries met items met_items m v w test met_is items_are worth is 
     subst (λ es. Betters rules (front es items m) w) met_is (subst (λ ps. Betters rules (front met ps m) w) items_are
     (subst (λ z. Betters rules (front met met_items m) z) worth read))
 
+module _ {V : Type 0} (rules : Rules V) (ride : Ridden V) where
+  fair_one : Admits rules ride.value → (r : Ridden V) → Contains (ride ∷ []) r → Admits rules r.value
+  fair_one fair r h = elim (Contains-push_cases [] ride r h) [
+    | inl n ↦ absurd (not_in_nil r n)
+    | inr e ↦ subst (λ (z : Ridden V). Admits rules z.value) e fair
+  ]
+
+  one_walked : (secs : ℕ) (points kept : List (Item V))
+      → Betters rules kept (rules.walk secs ride.value) ⊎ Betters rules points (rules.walk secs ride.value)
+      → AllWalked rules points secs (ride ∷ []) (length (ride ∷ [])) kept
+  one_walked secs points kept low zero d lt = low
+  one_walked secs points kept low (suc k) d lt = absurd (omega arith)
+
+  -- the value is bettered by a front of what departs at a time or later
+  pub late_none : (laws : Laws rules) (entries : List (Entry V)) (items : List (Item V)) → AreEntries rules entries items
+      → (head departure first walk secs after : ℕ) → IsLate entries items head departure after → IsSecs secs
+      → Admits rules ride.value → (steps : List Step)
+      → Betters rules (front entries items after) (rules.walk secs ride.value)
+      → TakesBoardings rules steps departure first walk secs (ride ∷ []) (points_from entries items head) (points_from entries items head)
+  late_none laws entries items are head departure first walk secs after late short fair steps low =
+      let known : AreWalked rules entries items head departure first walk secs after (ride ∷ []) steps [] = record {
+        short = short;
+        fair = fair_one fair;
+        are = are;
+        late = late;
+        boarded = boardings_none rules departure first walk secs (ride ∷ []) steps [] refl;
+        all = one_walked secs (front entries items after) [] (inr low);
+      } in
+      takes_none rules laws entries items head departure first walk secs after (ride ∷ []) steps [] known refl
+
 module _ {V : Type 0} (rules : Rules V) (laws : Laws rules) (entries : List (Entry V)) (items : List (Item V))
     (are : AreEntries rules entries items) (head departure first walk secs : ℕ) (ride : Ridden V)
     (within : head < length entries) (ahead : departure ≤ departure_of entries head) (short : IsSecs secs)
@@ -39,30 +63,10 @@ module _ {V : Type 0} (rules : Rules V) (laws : Laws rules) (entries : List (Ent
   late_here : IsLate entries items head departure head
   late_here = record { within = within; late = ahead; only = λ p h. h; all = λ p h late. h }
 
-  fair_one : (r : Ridden V) → Contains (ride ∷ []) r → Admits rules r.value
-  fair_one r h = elim (Contains-push_cases [] ride r h) [
-    | inl n ↦ absurd (not_in_nil r n)
-    | inr e ↦ subst (λ (z : Ridden V). Admits rules z.value) e fair
-  ]
-
-  one_walked : (kept : List (Item V)) → Betters rules kept (rules.walk secs ride.value) ⊎ Betters rules (front entries items head) (rules.walk secs ride.value)
-      → AllWalked rules (front entries items head) secs (ride ∷ []) (length (ride ∷ [])) kept
-  one_walked kept low zero d lt = low
-  one_walked kept low (suc k) d lt = absurd (omega arith)
-
   -- the value is bettered
   pub ahead_none : (steps : List Step) → Betters rules (front entries items head) (rules.walk secs ride.value)
       → TakesBoardings rules steps departure first walk secs (ride ∷ []) (points_from entries items head) (points_from entries items head)
-  ahead_none steps low =
-      let known : AreWalked rules entries items head departure first walk secs head (ride ∷ []) steps [] = record {
-        short = short;
-        fair = fair_one;
-        are = are;
-        late = late_here;
-        boarded = boardings_none rules departure first walk secs (ride ∷ []) steps [] refl;
-        all = one_walked [] (inr low);
-      } in
-      takes_none rules laws entries items head departure first walk secs head (ride ∷ []) steps [] known refl
+  ahead_none steps low = late_none rules ride laws entries items are head departure first walk secs head late_here short fair steps low
 
   module _ (steps new : List Step) (tag : ℕ) (v : V) (worth : v ≡ rules.walk secs ride.value)
       (pushed : new ≡ steps ++ record { first = first; label = ride.label; walk = walk } ∷ []) (numbered : tag ≡ length steps) where
@@ -79,11 +83,12 @@ module _ {V : Type 0} (rules : Rules V) (laws : Laws rules) (entries : List (Ent
         (record { steps_more = pushed; kept_more = refl }) in
         record {
           short = short;
-          fair = fair_one;
+          fair = fair_one rules ride fair;
           are = are;
           late = late_here;
           boarded = m.0;
-          all = one_walked (value_kept (length steps)) (inl (subst (Betters rules (value_kept (length steps))) worth m.2));
+          all = one_walked rules ride secs (front entries items head) (value_kept (length steps))
+              (inl (subst (Betters rules (value_kept (length steps))) worth m.2));
         }
 
     known_one : AreWalked rules entries items head departure first walk secs head (ride ∷ []) new

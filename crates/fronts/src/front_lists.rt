@@ -20,6 +20,8 @@ pub struct FrontLists<C: Criterion> {
     // room for an insertion
     passed: Vec<u32>,
     kept: Vec<Item<C::V>>,
+    // room for one ridden value that is taken in as several are
+    alone: Vec<Ridden<C::V>>,
 }
 
 impl<C: Criterion> FrontLists<C> {
@@ -56,6 +58,7 @@ impl<C: Criterion> FrontLists<C> {
             steps: Vec::new(alloc),
             passed: Vec::new(alloc),
             kept: Vec::new(alloc),
+            alone: Vec::new(alloc),
         })
     }
 
@@ -140,43 +143,138 @@ impl<C: Criterion> FrontLists<C> {
         ensures takes { IfOk result (λ new. TakesRidden (C.rules (lists_criterion self.old)) (steps_of self.new)
             departure first walk secs ridden.now (list_points self.old head) (list_points self.new new)) }
     {
+        if ridden.len() == 1 {
+            return self.insert_one(head, departure, first, walk, secs, ridden[0]);
+        }
         let boarding = Boarding {
             departure,
             first,
             walk,
             secs,
         };
-        match self.lone_ahead(head, departure, ridden) {
-            Some(ride) => self.insert_ahead(head, boarding, ride),
-            None => insert(
-                &self.criterion,
-                &mut self.entries,
-                &mut self.items,
-                &mut self.steps,
-                &mut self.passed,
-                &mut self.kept,
-                head,
-                boarding,
-                ridden,
-            ),
-        }
+        insert(
+            &self.criterion,
+            &mut self.entries,
+            &mut self.items,
+            &mut self.steps,
+            &mut self.passed,
+            &mut self.kept,
+            head,
+            boarding,
+            ridden,
+        )
     }
 
-    // The value, where there is one alone and the first entry of a list departs no earlier. That is so at most
-    // insertions.
+    /// Takes one ridden value in after a footpath, as [`FrontLists::insert`] takes several.
     #[inline(always)]
-    fn lone_ahead(&self, head: u32, departure: u32, ridden: &[Ridden<C::V>]) -> Option<Ridden<C::V>>
-        requires { head < length (entries_of self.now) }
-        ensures { IfSome result (λ ride. (ridden.now ≡ ride ∷ [])
-            × (departure ≤ departure_of (entries_of self.now) head)) }
+    pub fn insert_one(
+        &mut self,
+        head: u32,
+        departure: u32,
+        first: u32,
+        walk: u32,
+        secs: u32,
+        ride: Ridden<C::V>,
+    ) -> Result<u32, AllocError>
+        requires sound { IsSound C.rules self.old }
+        requires head { head < length (entries_of self.old) }
+        requires secs { IsSecs secs }
+        requires ride { Admits (C.rules (lists_criterion self.old)) ride.value }
+        ensures sound { IsSound C.rules self.new }
+        ensures criterion { lists_criterion self.new ≡ lists_criterion self.old }
+        ensures more_entries { Extends (entries_of self.old) (entries_of self.new) }
+        ensures grows { length (entries_of self.old) ≤ length (entries_of self.new) }
+        ensures more_steps { Extends (steps_of self.old) (steps_of self.new) }
+        ensures same { (place : ℕ) → place < length (entries_of self.old)
+            → list_points self.new place ≡ list_points self.old place }
+        ensures within { IfOk result (λ new. new < length (entries_of self.new)) }
+        ensures takes { IfOk result (λ new. TakesRidden (C.rules (lists_criterion self.old)) (steps_of self.new)
+            departure first walk secs (ride ∷ []) (list_points self.old head) (list_points self.new new)) }
     {
-        if ridden.len() != 1 {
-            return None;
+        let boarding = Boarding {
+            departure,
+            first,
+            walk,
+            secs,
+        };
+        self.take_one(head, boarding, ride)
+    }
+
+    // Takes one ridden value in. At most insertions the list begins no earlier, so that is asked first. Where it begins
+    // earlier, the front from the departure on is mostly no worse than the value: then no entry has to be passed.
+    #[inline(always)]
+    fn take_one(
+        &mut self,
+        head: u32,
+        boarding: Boarding,
+        ride: Ridden<C::V>,
+    ) -> Result<u32, AllocError>
+        requires sound { IsSound C.rules self.old }
+        requires head { head < length (entries_of self.old) }
+        requires secs { IsSecs boarding.secs }
+        requires ride { Admits (C.rules (lists_criterion self.old)) ride.value }
+        ensures sound { IsSound C.rules self.new }
+        ensures criterion { lists_criterion self.new ≡ lists_criterion self.old }
+        ensures more_entries { Extends (entries_of self.old) (entries_of self.new) }
+        ensures more_items { Extends (items_of self.old) (items_of self.new) }
+        ensures more_steps { Extends (steps_of self.old) (steps_of self.new) }
+        ensures within { IfOk result (λ new. new < length (entries_of self.new)) }
+        ensures takes { IfOk result (λ new. TakesBoardings (C.rules (lists_criterion self.old)) (steps_of self.new)
+            boarding.departure boarding.first boarding.walk boarding.secs (ride ∷ [])
+            (points_from (entries_of self.old) (items_of self.old) head)
+            (points_from (entries_of self.new) (items_of self.new) new)) }
+    {
+        if self.entries[head as usize].departure >= boarding.departure {
+            return self.insert_ahead(head, boarding, ride);
         }
-        if self.entries[head as usize].departure < departure {
-            return None;
+        let value = self.criterion.walk(boarding.secs, &ride.value);
+        let arena = Arena {
+            entries: &self.entries,
+            items: &self.items,
+        };
+        let place = late(&self.criterion, arena, head, boarding.departure);
+        if front_betters(&self.criterion, arena, place, &value) {
+            return Ok(head);
         }
-        Some(ridden[0])
+        self.insert_behind(head, boarding, ride)
+    }
+
+    // Takes one ridden value in as several are, wherever the list begins. Few insertions come here, so it is a call.
+    #[inline(never)]
+    fn insert_behind(
+        &mut self,
+        head: u32,
+        boarding: Boarding,
+        ride: Ridden<C::V>,
+    ) -> Result<u32, AllocError>
+        requires sound { IsSound C.rules self.old }
+        requires head { head < length (entries_of self.old) }
+        requires secs { IsSecs boarding.secs }
+        requires ride { Admits (C.rules (lists_criterion self.old)) ride.value }
+        ensures sound { IsSound C.rules self.new }
+        ensures criterion { lists_criterion self.new ≡ lists_criterion self.old }
+        ensures more_entries { Extends (entries_of self.old) (entries_of self.new) }
+        ensures more_items { Extends (items_of self.old) (items_of self.new) }
+        ensures more_steps { Extends (steps_of self.old) (steps_of self.new) }
+        ensures within { IfOk result (λ new. new < length (entries_of self.new)) }
+        ensures takes { IfOk result (λ new. TakesBoardings (C.rules (lists_criterion self.old)) (steps_of self.new)
+            boarding.departure boarding.first boarding.walk boarding.secs (ride ∷ [])
+            (points_from (entries_of self.old) (items_of self.old) head)
+            (points_from (entries_of self.new) (items_of self.new) new)) }
+    {
+        self.alone.clear();
+        self.alone.push(ride)?;
+        insert(
+            &self.criterion,
+            &mut self.entries,
+            &mut self.items,
+            &mut self.steps,
+            &mut self.passed,
+            &mut self.kept,
+            head,
+            boarding,
+            &self.alone,
+        )
     }
 
     // Takes one ridden value in before a list whose first entry departs no earlier: no entry is passed, and what is

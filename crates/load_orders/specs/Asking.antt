@@ -1,11 +1,11 @@
 -- What a worker's end of the queue shows, and why it refuses an order.
 use Rattle.std.specs.Prelude.{◌≡◌, ◌<◌, ◌⊎◌, ◌++◌, ◌∷◌, ℕ, List, [], slice_get, Option, Some, None, ⊤}
-use Rattle.crossbeam_channel.specs.Fifo.{Held}
 use Rattle.orders.specs.Ordering.{OrderValue}
 use Rattle.orders.specs.declared.fault.OrderFault.{OrderFault}
-use Rattle.load_orders.specs.Queue.{AtMostFour, EndValue}
+use Rattle.load_orders.specs.Queue.{EndValue, Held}
 use Rattle.load_orders.specs.Ways.{WayId, WayValue, heard_at}
 use Rattle.load_orders.specs.declared.queue.Order.{Order}
+use Rattle.load_orders.specs.declared.queue.Known.{Known}
 use Rattle.load_orders.specs.declared.queue.OrderMark.{OrderMark}
 use Rattle.load_orders.specs.declared.ways.LoadAnswer.{LoadAnswer}
 
@@ -22,24 +22,6 @@ pub record IsFirst (names : List (List ℕ)) (name : List ℕ) (place : ℕ) : T
 
 abbrev pub IsNoName : List (List ℕ) → List ℕ → Type 0
 IsNoName names name = (place : ℕ) → ¬ (slice_get names place ≡ Some name)
-
--- why the queue takes no order: it can hold four orders, and did
-abbrev pub IsTurnedAway : Type 0 → OrderFault → Type 0
-IsTurnedAway N OrderFault.OrdersFull = Held {T = Order N} 4 AtMostFour
-IsTurnedAway N OrderFault.LoaderGone = ⊤
-IsTurnedAway N _ = ⊥
-
--- why no order is put that would be waited for
-abbrev pub IsNotAwaited : Type 0 → OrderFault → Type 0
-IsNotAwaited N OrderFault.OutOfMemory = ⊤
-IsNotAwaited N fault = IsTurnedAway N fault
-
--- why an order of a feed of this name is refused
-abbrev pub RefusesOrder : Type 0 → List (List ℕ) → List ℕ → OrderFault → Type 0
-RefusesOrder N names name OrderFault.UnknownFeed = IsNoName names name
-RefusesOrder N names name OrderFault.OrdersFull = ((place : ℕ) × IsFirst names name place) × IsTurnedAway N OrderFault.OrdersFull
-RefusesOrder N names name OrderFault.LoaderGone = (place : ℕ) × IsFirst names name place
-RefusesOrder N names name _ = ⊥
 
 -- what is told where no notice came
 abbrev pub fault_told : {N : Type 0} → Option (LoadAnswer N) → Option OrderFault
@@ -69,10 +51,30 @@ Hears name answer before after =
 abbrev pub IsNotPut : {N : Type 0} → List ℕ → WorkerOrdersValue N → WorkerOrdersValue N → Type 0
 IsNotPut name before after = ((place : ℕ) × IsFirst before.names name place) × (after.end ≡ before.end) × (after.heard ≡ before.heard)
 
--- why no version came of an order that was waited for
-abbrev pub RefusesVersion : {N : Type 0} → List ℕ → OrderFault → WorkerOrdersValue N → WorkerOrdersValue N → Type 0
-RefusesVersion name OrderFault.UnknownFeed before after = IsNoName before.names name × (after.end ≡ before.end) × (after.heard ≡ before.heard)
-RefusesVersion {N} name OrderFault.OrdersFull before after = IsNotPut name before after × IsTurnedAway N OrderFault.OrdersFull
-RefusesVersion name (OrderFault.LoadRefused refusal) before after = Hears name (Some (LoadAnswer.Refused refusal)) before after
-RefusesVersion name OrderFault.OutOfMemory before after = Hears name (Some LoadAnswer.Unnoticed) before after ⊎ IsNotPut name before after
-RefusesVersion name OrderFault.LoaderGone before after = Hears name None before after ⊎ IsNotPut name before after
+-- over the rule of the queue: what it holds, and what its ends know
+module _ {N : Type 0} (holds : List (Order N) → List Known → Type 0) where
+  -- why the queue takes no order: it held four at one moment
+  abbrev pub IsTurnedAway : EndValue → OrderFault → Type 0
+  IsTurnedAway end OrderFault.OrdersFull = Held holds 4 end.orders
+  IsTurnedAway end OrderFault.LoaderGone = ⊤
+  IsTurnedAway end _ = ⊥
+
+  -- why no order is put that would be waited for
+  abbrev pub IsNotAwaited : EndValue → OrderFault → Type 0
+  IsNotAwaited end OrderFault.OutOfMemory = ⊤
+  IsNotAwaited end fault = IsTurnedAway end fault
+
+  -- why an order of a feed of this name is refused
+  abbrev pub RefusesOrder : WorkerOrdersValue N → List ℕ → OrderFault → Type 0
+  RefusesOrder before name OrderFault.UnknownFeed = IsNoName before.names name
+  RefusesOrder before name OrderFault.OrdersFull = ((place : ℕ) × IsFirst before.names name place) × IsTurnedAway before.end OrderFault.OrdersFull
+  RefusesOrder before name OrderFault.LoaderGone = (place : ℕ) × IsFirst before.names name place
+  RefusesOrder before name _ = ⊥
+
+  -- why no version came of an order that was waited for
+  abbrev pub RefusesVersion : List ℕ → OrderFault → WorkerOrdersValue N → WorkerOrdersValue N → Type 0
+  RefusesVersion name OrderFault.UnknownFeed before after = IsNoName before.names name × (after.end ≡ before.end) × (after.heard ≡ before.heard)
+  RefusesVersion name OrderFault.OrdersFull before after = IsNotPut name before after × IsTurnedAway before.end OrderFault.OrdersFull
+  RefusesVersion name (OrderFault.LoadRefused refusal) before after = Hears name (Some (LoadAnswer.Refused refusal)) before after
+  RefusesVersion name OrderFault.OutOfMemory before after = Hears name (Some LoadAnswer.Unnoticed) before after ⊎ IsNotPut name before after
+  RefusesVersion name OrderFault.LoaderGone before after = Hears name None before after ⊎ IsNotPut name before after

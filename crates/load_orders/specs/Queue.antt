@@ -1,5 +1,8 @@
 -- The queue of orders.
-use Rattle.std.specs.Prelude.{◌≡◌, ◌≤◌, ◌++◌, ◌∷◌, List, [], length}
+use Rattle.std.specs.Prelude.{◌≡◌, ◌≤◌, ◌++◌, ◌∷◌, ℕ, List, [], length}
+use mathlib.Core.Option.{some}
+use lib.ListN.{get_elem?}
+use Rattle.crossbeam_channel.specs.Fifo.{Forks, Pops, Pushes}
 use Rattle.atomic_table.specs.Seated.{TableId}
 use Rattle.load_orders.specs.declared.queue.Order.{Order}
 use Rattle.load_orders.specs.declared.queue.OrderMark.{OrderMark}
@@ -8,6 +11,10 @@ use Rattle.load_orders.specs.declared.queue.Known.{Known}
 -- it holds at most four orders
 abbrev pub AtMostFour : {N : Type 0} → List (Order N) → Type 0
 AtMostFour items = length items ≤ 4
+
+-- and that is all that is asked of a queue
+abbrev pub waiting : {N : Type 0} → List (Order N) → List Known → Type 0
+waiting items views = AtMostFour items
 
 -- an end that has put and taken nothing
 abbrev pub nothing : Known
@@ -20,6 +27,19 @@ mark_of order = record { feed = order.feed; way = order.way_back }
 -- an end puts an order, or takes one
 abbrev pub IsOneMore : {N : Type 0} → Known → Order N → Known → Type 0
 IsOneMore before order after = after ≡ record { orders = before.orders ++ mark_of order ∷ [] }
+
+-- over a rule of what a queue holds, oldest first, and of what each of its ends knows
+module _ {N : Type 0} (holds : List (Order N) → List Known → Type 0) where
+  -- each step at a queue for four orders keeps the rule: an order is put where fewer wait, or is taken, or there is one end more
+  pub record IsKept : Type 0 where
+    pub puts : (pass : ℕ) (v : Known) (order : Order N) → Pushes holds 4 pass v order (IsOneMore v order)
+    pub takes : (pass : ℕ) (v : Known) → Pops holds pass v (IsOneMore v)
+    pub splits : (pass : ℕ) (v : Known) → Forks holds pass v v nothing
+
+  -- at one moment the queue held so many orders, and one of its ends knew of these: the rule held then
+  abbrev pub Held : ℕ → List OrderMark → Type 0
+  Held count orders = (items : List (Order N)) × (views : List Known) × (pass : ℕ) × (length items ≡ count) × holds items views
+      × (get_elem? views pass ≡ some (record { orders = orders }))
 
 -- which queue, of all that there are
 abbrev pub QueueId : Type 0

@@ -8,7 +8,7 @@ use crossbeam_channel::protocol::{Lesson, Outcome, Protocol, Split};
 use crossbeam_channel::{RuledReceiver, RuledSender};
 use std::alloc::Global;
 use std::collections::LinkedList;
-use std::marker::Model;
+use std::marker::{Model, PhantomData};
 
 /// How many orders may wait.
 pub const MOST_WAITING: usize = 4;
@@ -39,30 +39,50 @@ pub struct Known {
     pub orders: LinkedList<OrderMark>,
 }
 
+/// A rule of queues of orders, which each step at a queue keeps. Of how it begins nothing is said here: so that it held
+/// of some orders at some moment, only the queue itself can say.
+pub trait OrderRule<N: Drop>: Protocol<Order<N>, Known> {
+    ghost use Rattle.load_orders.specs.Queue.{IsKept};
+
+    ghost kept: { IsKept Self.holds };
+}
+
 /// The rule: the queue holds at most four orders.
 pub struct Waiting;
 
 impl<N: Drop> Protocol<Order<N>, Known> for Waiting {
-    ghost use Rattle.load_orders.specs.Queue.{AtMostFour, nothing};
+    ghost use Rattle.load_orders.specs.Queue.{nothing, waiting};
 
-    ghost holds = { λ items views. AtMostFour items };
+    ghost holds = { waiting };
 
     ghost first = { nothing };
 }
 
-/// An order joins the queue, or leaves it.
-pub struct Moves;
+impl<N: Drop> OrderRule<N> for Waiting {
+    ghost use Rattle.load_orders.specs.Rules.{four_at_most};
 
-impl<N: Drop> Outcome<Order<N>, Known> for Moves {
+    ghost kept = { four_at_most };
+}
+
+/// An order joins the queue, or leaves it. No value of it is made.
+pub struct Moves<P> {
+    rule: PhantomData<P>,
+}
+
+impl<N: Drop, P> Outcome<Order<N>, Known> for Moves<P> {
     ghost use Rattle.load_orders.specs.Queue.{IsOneMore};
 
     ghost then = { IsOneMore };
 }
 
-impl<N: Drop> Lesson<Order<N>, Known> for Moves {
-    ghost use Rattle.load_orders.specs.Queue.{AtMostFour};
+impl<N: Drop, P: OrderRule<N>> Lesson<Order<N>, Known> for Moves<P> {
+    ghost use Rattle.std.specs.Prelude.{◌≡◌, ℕ, List};
+    ghost use mathlib.Core.Option.{some};
+    ghost use lib.ListN.{get_elem?};
+    ghost use Rattle.load_orders.specs.declared.queue.Known.{Known};
 
-    ghost fact = { λ view items. AtMostFour items };
+    ghost fact = { λ view items. (views : List Known) × (pass : ℕ) × P.Protocol.holds items views
+        × (get_elem? views pass ≡ some view) };
 }
 
 /// One end more, which has put and taken nothing.
@@ -77,7 +97,7 @@ impl Split<Known> for Another {
 }
 
 /// A worker's end of the queue, which puts orders.
-pub type OrderSender<N> = RuledSender<Order<N>, Known, Waiting, Global>;
+pub type OrderSender<N, P> = RuledSender<Order<N>, Known, P, Global>;
 
 /// The loader's end of the queue, which takes orders.
-pub type OrderReceiver<N> = RuledReceiver<Order<N>, Known, Waiting, Global>;
+pub type OrderReceiver<N, P> = RuledReceiver<Order<N>, Known, P, Global>;

@@ -1,18 +1,20 @@
 //! The workers' ends of the queue, and the loader's.
 
 ghost use Rattle.std.specs.Prelude.{◌≡◌, ◌++◌, ◌∷◌, [], map, string_bytes, Some, IfOk, IfErr, OnOk, MatchOption};
-ghost use Rattle.std.specs.Prelude.{Option, false, is_none};
+ghost use Rattle.std.specs.Prelude.{IfNone, Option, false, is_none};
 ghost use Rattle.orders.specs.Ordering.{IsNotTaken, order_value, version_told, waited_value};
 ghost use Rattle.load_orders.specs.Asking.{Hears, IsNotAwaited, IsPut, IsTurnedAway, RefusesOrder, RefusesVersion};
 ghost use Rattle.load_orders.specs.Asking.{awaited_order, fault_told};
-ghost use Rattle.load_orders.specs.Queue.{mark_of};
+ghost use Rattle.load_orders.specs.Queue.{Held, mark_of};
 ghost use Rattle.load_orders.specs.Telling.{IsToldBack};
 ghost use Rattle.load_orders.specs.Ways.{WayId, WayValue, heard_at};
 ghost use Rattle.load_orders.specs.declared.ways.LoadAnswer.{LoadAnswer};
 
 use crate::names::place_of;
 use crate::notes::Notes;
-use crate::queue::{Another, Known, MOST_WAITING, Moves, Order, OrderReceiver, OrderSender};
+use crate::queue::{
+    Another, Known, MOST_WAITING, Moves, Order, OrderReceiver, OrderRule, OrderSender, Waiting,
+};
 use crate::ways::{LoadAnswer, UsedWay, WayBack, way_back};
 use crossbeam_channel::{Pass, TrySendError, bounded_with};
 use epochs::Versions;
@@ -24,12 +26,12 @@ use timetable::{Kept, Trace};
 
 /// An end of the queue at which orders are put. Contracts see which queue, and the orders that were put here, in order.
 #[derive(Drop)]
-pub struct OrderEnd<N: Drop> {
-    sender: OrderSender<N>,
+pub struct OrderEnd<N: Drop, P: OrderRule<N> = Waiting> {
+    sender: OrderSender<N, P>,
     pass: Pass<Order<N>, Known>,
 }
 
-impl<N: Drop> Model for OrderEnd<N> {
+impl<N: Drop, P: OrderRule<N>> Model for OrderEnd<N, P> {
     ghost use Rattle.std.specs.Prelude.{◌≡◌};
     ghost use Rattle.crossbeam_channel.specs.Claims.{IsSeatAt, view as view_of};
     ghost use Rattle.crossbeam_channel.specs.Ends.{sends_on, ruled_capacity};
@@ -44,16 +46,18 @@ impl<N: Drop> Model for OrderEnd<N> {
 
 /// A worker's end of the queue: it takes orders of feeds by their names, whose versions are published at the shelves.
 #[derive(Drop)]
-pub struct WorkerOrders<'a, N: Drop, T: Versions<Notice = N>> {
+pub struct WorkerOrders<'a, R: Wait, N: Drop, T: Versions<Notice = N>, P: OrderRule<N> = Waiting> {
+    rt: &'a R,
     alloc: Global,
     names: &'a [String],
     shelves: &'a T,
-    end: OrderEnd<N>,
+    end: OrderEnd<N, P>,
     asked: Trace<Ordered>,
     heard: Trace<UsedWay<N>>,
 }
 
-impl<'a, N: Drop, T: Versions<Notice = N>> Model for WorkerOrders<'a, N, T> {
+impl<'a, R: Wait, N: Drop, T: Versions<Notice = N>, P: OrderRule<N>> Model
+    for WorkerOrders<'a, R, N, T, P> {
     ghost use Rattle.std.specs.Prelude.{map, string_bytes};
     ghost use Rattle.load_orders.specs.Asking.{WorkerOrdersValue};
 
@@ -86,14 +90,14 @@ impl<N: Drop> Model for Answered<N> {
 /// The loader's end of the queue. Contracts see which queue, the orders that it took, and what it
 /// answered, in order, and whether it asked for another and none came.
 #[derive(Drop)]
-pub struct LoaderOrders<N: Drop> {
-    receiver: OrderReceiver<N>,
+pub struct LoaderOrders<N: Drop, P: OrderRule<N> = Waiting> {
+    receiver: OrderReceiver<N, P>,
     pass: Pass<Order<N>, Known>,
     answered: Notes<Answered<N>>,
     over: bool,
 }
 
-impl<N: Drop> Model for LoaderOrders<N> {
+impl<N: Drop, P: OrderRule<N>> Model for LoaderOrders<N, P> {
     ghost use Rattle.crossbeam_channel.specs.Claims.{IsSeatAt, view as view_of};
     ghost use Rattle.crossbeam_channel.specs.Ends.{receives_on};
     ghost use Rattle.load_orders.specs.Telling.{LoaderOrdersValue};
@@ -130,9 +134,9 @@ pub fn order_queue<N: Drop>(alloc: Global) -> Result<(OrderEnd<N>, LoaderOrders<
     Ok((OrderEnd { sender, pass }, loader))
 }
 
-impl<N: Drop> OrderEnd<N> {
+impl<N: Drop, P: OrderRule<N>> OrderEnd<N, P> {
     /// Another end of this queue, at which nothing was put yet.
-    pub fn another(&mut self) -> Result<OrderEnd<N>, AllocError>
+    pub fn another(&mut self) -> Result<OrderEnd<N, P>, AllocError>
         ensures same { self.new ≡ self.old }
         ensures queue { IfOk result (λ end. end.queue ≡ self.old.queue) }
         ensures another { IfOk result (λ end. end.orders ≡ []) }
@@ -146,11 +150,12 @@ impl<N: Drop> OrderEnd<N> {
     fn put<R: Wait>(&mut self, rt: &R, order: Order<N>) -> Result<(), OrderFault>
         ensures queue { self.new.queue ≡ self.old.queue }
         ensures put { OnOk result (self.new.orders ≡ self.old.orders ++ mark_of order ∷ []) }
-        ensures refused { IfErr result (λ fault. IsTurnedAway N fault × (self.new ≡ self.old)) }
+        ensures refused { IfErr result (λ fault. IsTurnedAway P.Protocol.holds self.old fault
+            × (self.new ≡ self.old)) }
     {
         match self
             .sender
-            .try_send_as::<Moves, R>(rt, &mut self.pass, order)
+            .try_send_as::<Moves<P>, R>(rt, &mut self.pass, order)
         {
             Ok(()) => Ok(()),
             Err(TrySendError::Full(_)) => Err(OrderFault::OrdersFull),
@@ -160,17 +165,19 @@ impl<N: Drop> OrderEnd<N> {
     }
 }
 
-impl<'a, N: Drop, T: Versions<Notice = N>> WorkerOrders<'a, N, T> {
+impl<'a, R: Wait, N: Drop, T: Versions<Notice = N>, P: OrderRule<N>> WorkerOrders<'a, R, N, T, P> {
     /// Orders of feeds of these names, by this end, to be published at these shelves. Nothing was asked for yet.
     pub fn new(
+        rt: &'a R,
         alloc: Global,
         names: &'a [String],
         shelves: &'a T,
-        end: OrderEnd<N>,
-    ) -> WorkerOrders<'a, N, T>
+        end: OrderEnd<N, P>,
+    ) -> WorkerOrders<'a, R, N, T, P>
         ensures { result ≡ record { names = map string_bytes names.now; end = end; asked = []; heard = [] } }
     {
         WorkerOrders {
+            rt,
             alloc,
             names,
             shelves,
@@ -181,18 +188,18 @@ impl<'a, N: Drop, T: Versions<Notice = N>> WorkerOrders<'a, N, T> {
     }
 
     // Puts an order, and waits for what comes of it.
-    fn wait_for<R: Wait>(&mut self, rt: &R, feed: &str) -> Result<(u64, N), OrderFault>
+    fn wait_for(&mut self, feed: &str) -> Result<(u64, N), OrderFault>
         ensures asked { self.new.asked ≡ self.old.asked }
         ensures names { self.new.names ≡ self.old.names }
         ensures queue { self.new.end.queue ≡ self.old.end.queue }
         ensures notice { IfOk result (λ r. T.noted r.1 ≡ r.0) }
         ensures heard { IfOk result (λ r. Hears feed.now (Some (LoadAnswer.Published r.1)) self.old self.new) }
-        ensures refused { IfErr result (λ fault. RefusesVersion feed.now fault self.old self.new) }
+        ensures refused { IfErr result (λ fault. RefusesVersion P.Protocol.holds feed.now fault self.old self.new) }
     {
         let Some(place) = place_of(self.names, feed) else {
             return Err(OrderFault::UnknownFeed);
         };
-        match put_awaited(rt, self.alloc, place, &mut self.end, &mut self.heard) {
+        match put_awaited(self.rt, self.alloc, place, &mut self.end, &mut self.heard) {
             Ok(answer) => told::<N, T>(answer),
             Err(fault) => Err(fault),
         }
@@ -200,18 +207,19 @@ impl<'a, N: Drop, T: Versions<Notice = N>> WorkerOrders<'a, N, T> {
 }
 
 // Puts an order with a way back, and waits for what comes of it, which is noted.
-fn put_awaited<R: Wait, N: Drop>(
+fn put_awaited<R: Wait, N: Drop, P: OrderRule<N>>(
     rt: &R,
     alloc: Global,
     place: usize,
-    end: &mut OrderEnd<N>,
+    end: &mut OrderEnd<N, P>,
     heard: &mut Trace<UsedWay<N>>,
 ) -> Result<Option<LoadAnswer<N>>, OrderFault>
     ensures queue { end.new.queue ≡ end.old.queue }
     ensures heard { IfOk result (λ answer. (way : WayId)
         × (end.new.orders ≡ end.old.orders ++ awaited_order place way ∷ [])
         × (heard.new ≡ heard.old ++ heard_at way answer ∷ [])) }
-    ensures refused { IfErr result (λ fault. IsNotAwaited N fault × (end.new ≡ end.old) × (heard.new ≡ heard.old)) }
+    ensures refused { IfErr result (λ fault. IsNotAwaited P.Protocol.holds end.old fault
+        × (end.new ≡ end.old) × (heard.new ≡ heard.old)) }
 {
     let Ok((way_back, awaited)) = way_back(alloc) else {
         return Err(OrderFault::OutOfMemory);
@@ -245,7 +253,8 @@ fn told<N: Drop, T: Versions<Notice = N>>(
     }
 }
 
-impl<'a, N: Drop, T: Versions<Notice = N>> Orders for WorkerOrders<'a, N, T> {
+impl<'a, R: Wait, N: Drop, T: Versions<Notice = N>, P: OrderRule<N>> Orders
+    for WorkerOrders<'a, R, N, T, P> {
     type Notice = N;
 
     ghost asked = { λ orders. orders.asked };
@@ -253,21 +262,20 @@ impl<'a, N: Drop, T: Versions<Notice = N>> Orders for WorkerOrders<'a, N, T> {
     ghost told = { T.noted };
 
     /// Puts an order of the first feed of that name: `UnknownFeed` exactly where there is none,
-    /// `OrdersFull` where four orders stand in the queue already. Of a queue that others use, no
-    /// contract says when it was full.
-    fn order<R: Wait>(&mut self, rt: &R, feed: &str) -> Result<(), OrderFault>
+    /// `OrdersFull` where four orders waited in the queue at one moment of the call.
+    fn order(&mut self, feed: &str) -> Result<(), OrderFault>
         ensures asked { self.new.asked ≡ self.old.asked ++ order_value feed.now result ∷ [] }
         ensures plain { IfErr result IsNotTaken }
         ensures names { self.new.names ≡ self.old.names }
         ensures queue { self.new.end.queue ≡ self.old.end.queue }
         ensures heard { self.new.heard ≡ self.old.heard }
         ensures put { OnOk result (IsPut feed.now self.old self.new) }
-        ensures refused { IfErr result (λ fault. RefusesOrder N self.old.names feed.now fault
+        ensures refused { IfErr result (λ fault. RefusesOrder P.Protocol.holds self.old feed.now fault
             × (self.new.end ≡ self.old.end)) }
     {
         let outcome = match place_of(self.names, feed) {
             Some(place) => self.end.put(
-                rt,
+                self.rt,
                 Order {
                     feed: place,
                     way_back: None,
@@ -282,31 +290,33 @@ impl<'a, N: Drop, T: Versions<Notice = N>> Orders for WorkerOrders<'a, N, T> {
     /// Puts an order as `order` does, and waits for its version. `LoadRefused` tells what the
     /// loader answered; `LoaderGone` also that it didn't; `OutOfMemory` that there was no room to
     /// wait, or, of a version that stands, to give notice.
-    fn order_wait<R: Wait>(&mut self, rt: &R, feed: &str) -> Result<(u64, N), OrderFault>
+    fn order_wait(&mut self, feed: &str) -> Result<(u64, N), OrderFault>
         ensures asked { self.new.asked ≡ self.old.asked ++ waited_value feed.now (version_told result) ∷ [] }
         ensures notice { IfOk result (λ r. T.noted r.1 ≡ r.0) }
         ensures names { self.new.names ≡ self.old.names }
         ensures queue { self.new.end.queue ≡ self.old.end.queue }
         ensures heard { IfOk result (λ r. Hears feed.now (Some (LoadAnswer.Published r.1)) self.old self.new) }
-        ensures refused { IfErr result (λ fault. RefusesVersion feed.now fault self.old self.new) }
+        ensures refused { IfErr result (λ fault. RefusesVersion P.Protocol.holds feed.now fault self.old self.new) }
     {
-        let outcome = self.wait_for(rt, feed);
+        let outcome = self.wait_for(feed);
         self.asked.note(&Ordered::waited(feed, &outcome));
         outcome
     }
 }
 
-impl<N: Drop> LoaderOrders<N> {
-    /// Takes the order that waits longest, or waits for one. None comes where the queue is empty
-    /// and the workers' ends are gone; tests show that, and no contract.
+impl<N: Drop, P: OrderRule<N>> LoaderOrders<N, P> {
+    /// Takes the order that waits longest, or waits for one. None comes where the queue was empty at one
+    /// moment, and the workers' ends are gone; this tests show, and no contract.
     pub fn next<R: Wait>(&mut self, rt: &R) -> Option<Order<N>>
         ensures queue { self.new.queue ≡ self.old.queue }
         ensures taken { MatchOption result (self.new.taken ≡ self.old.taken) (λ order. self.new.taken
             ≡ self.old.taken ++ mark_of order ∷ []) }
         ensures answered { self.new.answered ≡ self.old.answered }
         ensures over { self.new.over ≡ is_none result }
+        ensures none { IfNone result (Held P.Protocol.holds 0 self.old.taken) }
     {
-        let order = self.receiver.recv_as::<Moves, R>(rt, &mut self.pass).ok();
+        let came = self.receiver.recv_as::<Moves<P>, R>(rt, &mut self.pass);
+        let order = came.ok();
         self.over = order.is_none();
         order
     }

@@ -4,7 +4,6 @@ ghost use Rattle.std.specs.Prelude.{◌≡◌, ℕ, List, [], ◌∷◌, ◌++�
 ghost use Rattle.orders.specs.Ordering.{IsNotTaken, OrderValue, order_value, version_told, waited_value};
 
 use crate::fault::OrderFault;
-use std::sync::Wait;
 
 /// Who takes orders to load a feed by its name.
 pub trait Orders {
@@ -18,14 +17,14 @@ pub trait Orders {
     ghost told: { Self.Notice → ℕ };
 
     /// Orders a load of the feed. An order that is taken promises no load: what came of it, nobody is told here.
-    fn order<R: Wait>(&mut self, rt: &R, feed: &str) -> Result<(), OrderFault>
+    fn order(&mut self, feed: &str) -> Result<(), OrderFault>
         ensures asked { asked self.new ≡ asked self.old ++ order_value feed.now result ∷ [] }
         ensures refused { IfErr result IsNotTaken };
 
     /// Orders a load of the feed, and waits for what comes of it: the version as which the feed was
     /// published, and a notice of that version. Where memory is wanting, a version may have been
     /// published that nobody here is told of.
-    fn order_wait<R: Wait>(&mut self, rt: &R, feed: &str) -> Result<(u64, Self::Notice), OrderFault>
+    fn order_wait(&mut self, feed: &str) -> Result<(u64, Self::Notice), OrderFault>
         ensures asked { asked self.new ≡ asked self.old ++ waited_value feed.now (version_told result) ∷ [] }
         ensures notice { IfOk result (λ r. told r.1 ≡ r.0) };
 }

@@ -1,6 +1,6 @@
 -- Labels after the ride, and what comes of boarding by them.
 use Rattle.std.proofs.Common.{◌≡◌, true, false, ℕ, ◌+◌, ◌-◌, ◌<◌, ◌≤◌, List, [], ◌∷◌, ◌++◌, length, set, Contains}
-use Rattle.std.proofs.Common.{slice_get, slice_index, Some, get_or-set_same, get_or-set_other, sym, ◌∙◌, ap, subst, inl}
+use Rattle.std.proofs.Common.{slice_get, slice_index, Some, get_or, get_or-set_same, get_or-set_other, refl, sym, ◌∙◌, ap, subst, inl}
 use Rattle.std.proofs.Common.{inr, arith}
 use Rattle.std.proofs.lemmas.Bool.{cases_eq, true≢false}
 use Rattle.std.proofs.lemmas.List.Elements.{Contains-push, Contains-push_cases, Contains-append_left}
@@ -82,6 +82,34 @@ module _ {V : Type 0} (rules : Rules V) (values : List V) (labels : List (Point 
     of_label = is.of_label;
     each = λ l h. let in_labels = from_carried rules values labels l h in is.each l (all_stand labels n l long in_labels.0) in_labels.1;
   }
+
+-- a list of one element
+pub one_alone : {X : Type 0} (xs : List X) (x : X) → length xs ≡ 1 → x ≡ get_or xs 0 x → xs ≡ x ∷ []
+one_alone [] x long is = absurd (omega arith)
+one_alone (y ∷ []) x long is = ap (λ z. z ∷ []) (sym is)
+one_alone (y ∷ z ∷ zs) x long is = absurd (omega arith)
+
+-- one label alone
+module _ {V : Type 0} (rules : Rules V) (values : List V) (x : Point V) where
+  pub alone_ridden : (r : Ridden V) → is_bettered rules values r.value ≡ false → r.value ≡ rules.ride x.value
+      → r.label ≡ x.tag → AreRidden rules (carried rules values (x ∷ [])) (r ∷ [])
+  alone_ridden r free worth label =
+      ridden_all rules values (x ∷ []) (0 + 1) (r ∷ []) (omega arith)
+      (ridden_more rules values (x ∷ []) 0 x [] (r ∷ []) refl (rides_one rules values x r [] (r ∷ []) free worth label refl)
+      (ridden_none rules values (x ∷ []) [] refl))
+
+  pub alone_bettered : (v : V) → v ≡ rules.ride x.value → is_bettered rules values v ≡ true
+      → AreRidden rules (carried rules values (x ∷ [])) []
+  alone_bettered v worth bettered =
+      ridden_all rules values (x ∷ []) (0 + 1) [] (omega arith)
+      (ridden_more rules values (x ∷ []) 0 x [] [] refl (rides_none rules values x v [] worth bettered)
+      (ridden_none rules values (x ∷ []) [] refl))
+
+  pub alone_admitted : Admits rules x.value → (p : Point V) → Contains (carried rules values (x ∷ [])) p → Admits rules p.value
+  alone_admitted fair p h = elim (Contains-push_cases [] x p (from_carried rules values (x ∷ []) p h).0) [
+    | inl n ↦ absurd (not_in_nil p n)
+    | inr e ↦ subst (λ (z : Point V). Admits rules z.value) e fair
+  ]
 
 module _ {V : Type 0} (rules : Rules V) (labels : List (Point V)) where
   -- each of them is admitted

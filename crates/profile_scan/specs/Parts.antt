@@ -92,20 +92,21 @@ StopTakes rules walks stop offer old new =
     → Takes rules walks (story exits (steps_of old.lists) set_outs) (story exits (steps_of new.lists) set_outs)
     offer (points_at old stop) (points_at new stop)
 
--- the points of each stop take in what a footpath offers them that stands at a place; the ridden values are those of
+-- the points of each stop take in what a footpath offers them that stands at a place, ridden values being those of
 -- the labels
-abbrev pub BoardsAfter : {K V : Type 0} → Rules V → Hop V → ℕ → Footpath → Stops K V → Stops K V → Type 0
-BoardsAfter {K} {V} rules hop place walk old new =
-    (labels : List (Point V)) → AreRidden rules labels old.ridden.items
+abbrev pub BoardsAfter : {K V : Type 0}
+    → Rules V → Hop V → ℕ → Footpath → List (Ridden V) → Stops K V → Stops K V → Type 0
+BoardsAfter {K} {V} rules hop place walk ridden old new =
+    (labels : List (Point V)) → AreRidden rules labels ridden
     → (walks : List Footpath) → slice_get walks place ≡ Some walk
     → (stop : ℕ)
     → StopTakes rules walks stop (λ tags. boardings_by rules tags hop.place hop.connection stop labels walk) old new
 
 -- the same of the footpaths from a place up to before another
 abbrev pub BoardsAfterEach : {K V : Type 0}
-    → Rules V → List Footpath → ℕ → ℕ → Hop V → Stops K V → Stops K V → Type 0
-BoardsAfterEach {K} {V} rules walks begin end hop old new =
-    (labels : List (Point V)) → AreRidden rules labels old.ridden.items
+    → Rules V → List Footpath → ℕ → ℕ → Hop V → List (Ridden V) → Stops K V → Stops K V → Type 0
+BoardsAfterEach {K} {V} rules walks begin end hop ridden old new =
+    (labels : List (Point V)) → AreRidden rules labels ridden
     → ((l : Point V) → Contains labels l → Admits rules l.value)
     → (stop : ℕ)
     → StopTakes rules walks stop

@@ -16,11 +16,11 @@ use std::ops::Range;
 #[derive(Drop)]
 pub struct Bound<C: Criterion> {
     pub values: Vec<C::V>,
-    // how many points were found when some were read last
+    // how many points had ever been found when some were last read: the list of the points found may grow shorter
     count: usize,
-    // the place of the first that may have to be read: those before it depart later than any that is still to be found
+    // the index of the first point that may still have to be read: no point will be found that belongs before it
     place: usize,
-    // the departure of the first that wasn't late enough
+    // the departure of the first point that wasn't late enough, or 0 if all were read
     next: u32,
 }
 
@@ -56,9 +56,9 @@ impl<C: Criterion> Bound<C> {
         Ok(until)
     }
 
-    /// Reads values of points that come to be late enough: those that were found since, and those that departed too
-    /// early. `count` tells whether points were found. What was read isn't read again, but for points that depart at
-    /// that time: others may still come among them. What the values bettered they still better.
+    /// Adds the values of points found that depart at `time` or later and weren't read yet. `count` is how many points
+    /// were ever found, by which it is known whether there are new ones. Points that depart exactly at `time` are read
+    /// again, since others may still come among them. What the values bettered they still better.
     pub fn renew(
         &mut self,
         criterion: &C,

@@ -51,7 +51,7 @@ impl<C: Criterion> StateOfAll<C> {
         })
     }
 
-    // Whether nothing is offered at a connection. That is so at many of them.
+    // Whether nothing is offered at a connection. This holds for many of them.
     fn is_idle(&self, asked: &Asked<C>, connection: &Connection, way: Option<u32>) -> bool
         requires trip { HasTrip (C.rules asked.now.criterion) connection.now.trip self.now.trips }
         requires stop { HasStop C.rules asked.now.criterion connection.now.to self.now.stops }
@@ -95,7 +95,7 @@ impl<C: Criterion> StateOfAll<C> {
         Ok(())
     }
 
-    // Goes one place down: takes the connection there in, unless nothing is offered at it. `none` is no bound.
+    // Visits the connection at an index, unless nothing is offered at it. `none` is an empty bound.
     fn step<S: ConnSource>(
         &mut self,
         asked: &Asked<C>,

@@ -14,9 +14,9 @@ pub struct Asked<C> {
     pub ways: Ways,
 }
 
-/// One connection, as a scan comes to it: its place, whether a footpath leads from the source to where it begins, the
-/// seconds of the footpath from where it ends to the target, if there is one, and values that points found already
-/// better.
+/// One connection, as a scan comes to it: `place` is its index; `led`, whether a footpath leads from the source to the
+/// stop where it begins; `way`, the seconds of the footpath from the stop where it ends to the target, if there is one;
+/// `bound`, values of points found, which better what they dominate.
 #[derive(Clone, Copy)]
 pub struct Hop<'a, V> {
     pub connection: Connection,

@@ -3,8 +3,10 @@
 //! A profile query asks for all best departures of a window: the points (departure, value) of all journeys that no
 //! other of these points dominates. The scan goes once over the connections, from the last to the first, as the profile
 //! variant of the Connection Scan Algorithm does (Dibbelt, Pajor, Strasser, Wagner, ACM Journal of Experimental
-//! Algorithmics, 2018). `profile` is that scan, over any source and any criterion. What it keeps at each connection,
-//! and why that is enough, is said in `specs/` and proved by the functions of `laws`.
+//! Algorithmics, 2018). `profile` is that scan, over any source and any criterion. Its loop is `scan::scan_window`, and
+//! a connection goes in at `State::take`: its trip's labels first (`trips`), then the points of the source (`origin`),
+//! then those of the stops (`stops`). What it keeps at each connection, and why that is enough, is said in `specs/`
+//! (Points, Continuations, Matching, Steps, then Parts) and proved by the functions of `laws`.
 #![tactic(auto)]
 
 mod answering;

@@ -16,7 +16,7 @@ use sources::ConnSource;
 use std::alloc::{AllocError, Global};
 use timetable::{Connection, Footpath, Query};
 
-/// The points found. A point's tag is the number of what tells how one sets out.
+/// The points found. A point's tag is its index in `set_outs`.
 #[derive(Drop)]
 pub struct Origin<C: Criterion> {
     pub found: Bag<C>,
@@ -47,7 +47,7 @@ impl<C: Criterion> Origin<C> {
         }
     }
 
-    // Offers the points found one point, with how one sets out, which is kept where the point stands.
+    // Offers the points found one point, with how one sets out, which is kept only if the point was accepted.
     fn offer(
         &mut self,
         criterion: &C,
@@ -167,8 +167,8 @@ pub struct Departure {
     pub time: u32,
 }
 
-/// How one sets out from the source by a start to board a connection, if that departs in the window. Hardly a start is
-/// from the source, so that is asked first.
+/// How one sets out from the source by a start to board a connection, if that departs in the window. Few starts
+/// are from the source, so that is tested first.
 #[inline(always)]
 pub fn departure_by(
     query: &Query,

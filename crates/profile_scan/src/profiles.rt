@@ -144,6 +144,7 @@ pub fn profiles_to<S: ConnSource, C: Criterion>(
 {
     let start = source.first_at(destination.from);
     let end = source.first_at(destination.by);
+    // The target stands in for a source: no step of this scan asks for the footpaths from there.
     let starts = starts_from(alloc, source, destination.target)?;
     let ways = ways_to(alloc, source, destination.target)?;
     let asked = Asked {

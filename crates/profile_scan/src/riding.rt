@@ -12,7 +12,7 @@ use criteria::Criterion;
 use fronts::{Label, Ridden};
 use std::alloc::AllocError;
 
-/// A tag as a number of 32 bits. Past 2^32 - 1 there is no room.
+/// A tag or an index as a number of 32 bits. One past 2^32 - 1 counts as out of memory.
 pub fn number_of(tag: usize) -> Result<u32, AllocError>
     ensures { IfOk result (λ number. number ≡ tag) }
 {

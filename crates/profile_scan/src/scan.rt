@@ -46,7 +46,7 @@ impl<C: Criterion> State<C> {
         })
     }
 
-    // Whether nothing is offered at a connection. That is so at most of them.
+    // Whether nothing is offered at a connection. This holds for the majority of connections.
     fn is_idle(&self, asked: &Asked<C>, connection: &Connection, way: Option<u32>) -> bool
         requires trip { HasTrip (C.rules asked.now.criterion) connection.now.trip self.now.trips }
         requires stop { HasStop C.rules asked.now.criterion connection.now.to self.now.stops }
@@ -87,8 +87,8 @@ impl<C: Criterion> State<C> {
     }
 }
 
-/// Whether nobody who gets off where a connection ends may be at the target or go on: neither there nor on foot, and by
-/// no point of that stop, whose list has this head.
+/// Whether a connection leads nowhere: nobody may get off at its end, or that stop isn't the target, no footpath leads
+/// from there to it, and the stop has no points, by which one would go on (its list has this head).
 pub fn ends_nothing(connection: &Connection, target: u32, way: Option<u32>, head: u32) -> bool
     ensures { (result ≡ true)
         ↔ (connection.now.alight ≡ true → (connection.now.to ≢ target) × (way ≡ None) × (head ≡ 0)) }
@@ -120,7 +120,7 @@ impl<C: Criterion> Scan<C> {
     ghost use Rattle.profile_scan.specs.Kept.{IsScan, kept_by, story_of};
     ghost use Rattle.profile_scan.specs.Hops.{IsAsked, StandsAt};
 
-    // Goes one place down: takes the connection there in, unless nothing is offered at it.
+    // Visits the connection at an index, unless nothing is offered at it.
     fn step<S: ConnSource>(
         &mut self,
         asked: &Asked<C>,

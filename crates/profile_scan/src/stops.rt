@@ -2,6 +2,7 @@
 
 ghost use Rattle.std.specs.Prelude.{◌≡◌, ℕ, IfOk, replicate};
 
+use crate::bound::is_bettered;
 use crate::hop::{Asked, Hop};
 use crate::riding::{number_of, ride_labels};
 use criteria::Criterion;
@@ -16,14 +17,15 @@ use timetable::Footpath;
 pub struct Stops<C: Criterion> {
     pub lists: FrontLists<C>,
     pub heads: Vec<u32>,
-    // room for the labels of one trip, after the ride
+    // scratch memory: the values of a trip's labels after the ride, if it has several, overwritten by each boarding
     pub ridden: Vec<Ridden<C::V>>,
 }
 
 impl<C: Criterion> Stops<C> {
-    ghost use Rattle.std.specs.Prelude.{◌≡◌, ◌<◌, [], ℕ, List, IfOk, OnOk, Contains, vec_len, slice_index};
+    ghost use Rattle.std.specs.Prelude.{◌≡◌, ◌<◌, [], ◌∷◌, ℕ, List, true, IfOk, OnOk, Contains, vec_len, slice_index};
     ghost use Rattle.criteria.specs.Laws.{Admits, IsSecs};
     ghost use Rattle.bags.specs.declared.point.Point.{Point};
+    ghost use Rattle.fronts.specs.Lists.{lists_criterion};
     ghost use Rattle.profile_scan.specs.Adding.{label_points, AreWalksInto};
     ghost use Rattle.profile_scan.specs.Bound.{carried};
     ghost use Rattle.profile_scan.specs.Steps.{boardings};
@@ -55,8 +57,8 @@ impl<C: Criterion> Stops<C> {
         self.heads[stop as usize]
     }
 
-    // Offers the list of the stop where a footpath begins each ridden value, boarded after it. `place` is the
-    // footpath's.
+    // Offers the list of the stop where a footpath begins each ridden value, boarded after it. `place` is the index of
+    // the footpath.
     #[inline(always)]
     fn board_after(
         &mut self,
@@ -71,7 +73,7 @@ impl<C: Criterion> Stops<C> {
         ensures stops { OnOk result
             (ChangesLists C.rules asked.now.criterion (vec_len self.old.heads) self.old self.new) }
         ensures takes { OnOk result
-            (BoardsAfter (C.rules asked.now.criterion) hop.now place walk self.old self.new) }
+            (BoardsAfter (C.rules asked.now.criterion) hop.now place walk self.old.ridden.items self.old self.new) }
     {
         let dep = hop.connection.dep;
         if walk.secs > dep {
@@ -105,12 +107,103 @@ impl<C: Criterion> Stops<C> {
         ensures stops { OnOk result
             (ChangesLists C.rules asked.now.criterion (S.timetable source.now).stops self.old self.new) }
         ensures takes { OnOk result (BoardsAfterEach (C.rules asked.now.criterion)
-            (S.timetable source.now).footpaths walks.start walks.end hop.now self.old self.new) }
+            (S.timetable source.now).footpaths walks.start walks.end hop.now self.old.ridden.items
+            self.old self.new) }
     {
         for place in walks.start..walks.end {
             let walk = source.footpath_into(hop.connection.from as usize, place);
             self.board_after(asked, hop, place, walk)?;
         }
+        Ok(())
+    }
+
+    // Offers the list of the stop where a footpath begins one ridden value, boarded after it. `place` is the index of
+    // the footpath.
+    #[inline(always)]
+    fn board_one_after(
+        &mut self,
+        hop: &Hop<C::V>,
+        place: usize,
+        walk: Footpath,
+        ride: Ridden<C::V>,
+    ) -> Result<(), AllocError>
+        requires secs { IsSecs walk.secs }
+        requires stop { walk.from < vec_len self.old.heads }
+        requires stops { AreStops C.rules (lists_criterion self.old.lists) (vec_len self.old.heads) self.old }
+        requires ride { Admits (C.rules (lists_criterion self.old.lists)) ride.value }
+        ensures stops { OnOk result
+            (ChangesLists C.rules (lists_criterion self.old.lists) (vec_len self.old.heads) self.old self.new) }
+        ensures takes { OnOk result
+            (BoardsAfter (C.rules (lists_criterion self.old.lists)) hop.now place walk (ride ∷ []) self.old self.new) }
+    {
+        let dep = hop.connection.dep;
+        if walk.secs > dep {
+            return Ok(());
+        }
+        let number = number_of(place)?;
+        let head = self.head(walk.from);
+        let new = self
+            .lists
+            .insert_one(head, dep - walk.secs, hop.place, number, walk.secs, ride)?;
+        self.heads[walk.from as usize] = new;
+        Ok(())
+    }
+
+    // Goes over footpaths into where a connection begins, by their indices, and boards by one ridden value after each.
+    #[inline(always)]
+    fn board_one<S: ConnSource>(
+        &mut self,
+        source: &S,
+        hop: &Hop<C::V>,
+        walks: Range<usize>,
+        ride: Ridden<C::V>,
+    ) -> Result<(), AllocError>
+        requires walks { AreWalksInto (S.timetable source.now) hop.now.connection.from walks.start walks.end }
+        requires stops { AreStops C.rules (lists_criterion self.old.lists) (S.timetable source.now).stops self.old }
+        requires ride { Admits (C.rules (lists_criterion self.old.lists)) ride.value }
+        ensures stops { OnOk result (ChangesLists C.rules (lists_criterion self.old.lists)
+            (S.timetable source.now).stops self.old self.new) }
+        ensures takes { OnOk result (BoardsAfterEach (C.rules (lists_criterion self.old.lists))
+            (S.timetable source.now).footpaths walks.start walks.end hop.now (ride ∷ []) self.old self.new) }
+    {
+        for place in walks.start..walks.end {
+            let walk = source.footpath_into(hop.connection.from as usize, place);
+            self.board_one_after(hop, place, walk, ride)?;
+        }
+        Ok(())
+    }
+
+    // Boards a connection by the only label of its trip, unless that is bettered after the ride.
+    #[inline(always)]
+    fn board_alone<S: ConnSource>(
+        &mut self,
+        asked: &Asked<C>,
+        source: &S,
+        hop: &Hop<C::V>,
+        label: &Label<C::V>,
+    ) -> Result<(), AllocError>
+        requires hop { IsHopOf (C.rules asked.now.criterion) (S.timetable source.now) asked.now.query hop.now }
+        requires boards { hop.now.connection.board ≡ true }
+        requires stops { AreStops C.rules asked.now.criterion (S.timetable source.now).stops self.old }
+        requires label { Admits (C.rules asked.now.criterion) label.now.value }
+        ensures stops { OnOk result
+            (ChangesStops C.rules asked.now.criterion (S.timetable source.now).stops self.old self.new) }
+        ensures takes { OnOk result ((stop : ℕ)
+            → StopTakes (C.rules asked.now.criterion) (S.timetable source.now).footpaths stop
+            (λ tags. boardings (C.rules asked.now.criterion) (S.timetable source.now) tags hop.now.place stop
+            (carried (C.rules asked.now.criterion) hop.now.bound.now (label_points (label.now ∷ []))))
+            self.old self.new) }
+    {
+        let value = asked.criterion.ride(&label.value);
+        if is_bettered(&asked.criterion, hop.bound, &value) {
+            return Ok(());
+        }
+        let ride = Ridden {
+            value,
+            label: label.tag,
+        };
+        let (begin, end) = source.walks_into(hop.connection.from as usize);
+        self.board_one(source, hop, begin..end, ride)?;
         Ok(())
     }
 
@@ -137,6 +230,9 @@ impl<C: Criterion> Stops<C> {
     {
         if !hop.connection.board {
             return Ok(());
+        }
+        if labels.len() == 1 {
+            return self.board_alone(asked, source, hop, &labels[0]);
         }
         ride_labels(&asked.criterion, hop.bound, labels, &mut self.ridden)?;
         if self.ridden.len() == 0 {

@@ -2,16 +2,16 @@
 
 use timetable::Footpath;
 
-/// How one leaves the trip of a label. `last` is the place of the connection where.
+/// How one leaves the trip of a label. `last` is the index of the connection at whose end one gets off.
 #[derive(Clone, Copy, Drop)]
 pub enum Exit {
     /// At the target, or one footpath before it.
     Ends { last: u32, walk: Option<Footpath> },
-    /// To go on from that stop, by the step of a number.
+    /// To change there: `step` is the number of the boarding by which one goes on, in the lists of the stops.
     Changes { last: u32, step: usize },
 }
 
-/// How one sets out from the source: a start, the place of the connection that is boarded, and the number of the label
+/// How one sets out from the source: a start, the index of the connection that is boarded, and the number of the label
 /// by which one rides on.
 #[derive(Clone, Copy, Drop)]
 pub struct SetOut {

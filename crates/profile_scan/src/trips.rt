@@ -23,7 +23,7 @@ use fronts::{Labels, no_labels, offer_label};
 use std::alloc::{AllocError, Global};
 use timetable::{Connection, Footpath, Query};
 
-/// The labels of each trip. A label's tag is the number of its exit.
+/// The labels of each trip. A label's tag is its index in `exits`.
 #[derive(Drop)]
 pub struct Trips<C: Criterion> {
     pub labels: Labels<C::V>,
@@ -56,7 +56,8 @@ impl<C: Criterion> Trips<C> {
         })
     }
 
-    // Offers the labels of a trip one value, with how one goes on from it, which is kept where the label stands.
+    // Offers the labels of a trip one value, with how one goes on from it, which is kept only if the label was
+    // accepted.
     fn offer(&mut self, criterion: &C, trip: u32, value: C::V, exit: Exit) -> Result<(), AllocError>
         requires trip { HasTrip (C.rules criterion.now) trip self.old }
         requires admitted { Admits (C.rules criterion.now) value }

@@ -12,7 +12,7 @@ use Rattle.epochs.specs.Seats.{SeatValue, PinStep, ReleaseStep, JoinStep}
 use Rattle.epochs.proofs.GrowthLemmas.{grows_same, growths_join, published_stay}
 use Rattle.orders.specs.Ordering.{OrderValue}
 use Rattle.session_texts.specs.Requests.{AskValue, pin, release, profile, load}
-use Rattle.session.specs.declared.point_form.PointForm.{PointForm}
+use Rattle.answer_replies.specs.declared.point_form.PointForm.{PointForm}
 use Rattle.session.specs.Lines.{Asked, too_long, no_json, no_request, asks, IsAsked, memory_line}
 use Rattle.session.specs.SeatSteps.{Follows, SeatMove, answered, joined, answers_in}
 use Rattle.session.specs.Sessions.{AreTurns, LastRelease, moves_of}

@@ -4,6 +4,5 @@ mod MetLemmas
 mod AskedLemmas
 pub mod TurnLemmas
 mod LineLemmas
-mod AnswerLemmas
 mod LoadLemmas
 mod FeedLemmas

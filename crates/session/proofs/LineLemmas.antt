@@ -12,7 +12,7 @@ use Rattle.lines.specs.declared.reader.LineReader.{LineReader}
 use Rattle.lines.proofs.CutLemmas.{IsCut-lines, IsCut-rest, IsCut-whole, lines_of-some}
 use Rattle.lines.proofs.GivenLemmas.{HasGiven-start, HasGiven-read, HasGiven-ended, HasGiven-rest, HasGiven-nothing}
 use Rattle.orders.specs.Ordering.{OrderValue}
-use Rattle.session.specs.declared.point_form.PointForm.{PointForm}
+use Rattle.answer_replies.specs.declared.point_form.PointForm.{PointForm}
 use Rattle.session.specs.declared.fault.Ended.{Ended}
 use Rattle.session.specs.declared.fault.SessionFault.{SessionFault}
 use Rattle.session.specs.Sessions.{AnswerLines, AreShort, AreTurns, EndsSo, IsCutShort, Serves, lines_in, text_of}
@@ -269,11 +269,23 @@ too_many {form} number to_read known later unread bytes contents wrote a b asked
     read_failed write_failed (omega (arith, million)) so_far more
     (no_read, no_write, so_far.many ∙ million, long, first ∙ ap (λ (n : ℕ). take n (lines_of more.read)) full, refl)
 
--- why a read fails
-pub why_failed : (first before now long : ℕ) → first < 2 ^ 64 - 1 → before ≡ first
-    → (now ≡ one_more before) ⊎ ((now ≡ before) × (long ≡ 16_777_217)) → (first < now) ⊎ (long ≡ 16_777_217)
-why_failed first before now long below same (inl more) = inl (rose first before now below same more)
-why_failed first before now long below same (inr too_long) = inr too_long.1
+-- why a read fails; what else is known of a call that failed
+pub why_failed : (first before now long : ℕ) (Left : Type 0) → first < 2 ^ 64 - 1 → before ≡ first
+    → ((now ≡ one_more before) × Left) ⊎ ((now ≡ before) × (long ≡ 16_777_217)) → (first < now) ⊎ (long ≡ 16_777_217)
+why_failed first before now long Left below same (inl more) = inl (rose first before now below same more.0)
+why_failed first before now long Left below same (inr too_long) = inr too_long.1
+
+-- no call failed; or one, and it was the last
+pub none_failed : (first now : ℕ) (Left : Type 0) → now ≡ first → first < now → (now ≡ one_more first) × Left
+none_failed first now Left same up = absurd (omega (arith, same, up))
+
+pub one_failed : (first before now : ℕ) (Left : Type 0) → before ≡ first → (now ≡ one_more before) × Left → first < now → (now ≡ one_more first) × Left
+one_failed first before now Left same failed up = (failed.0 ∙ ap one_more same, failed.1)
+
+pub read_stops : (first before now long : ℕ) (Left : Type 0) → before ≡ first
+    → ((now ≡ one_more before) × Left) ⊎ ((now ≡ before) × (long ≡ 16_777_217)) → first < now → (now ≡ one_more first) × Left
+read_stops first before now long Left same (inl failed) = one_failed first before now Left same failed
+read_stops first before now long Left same (inr too_long) = none_failed first now Left (too_long.0 ∙ same)
 
 -- the seat's number stays
 pub TurnsTo-number : {form : PointForm} (n number : ℕ) (b after : SeatValue) (between asked_then : List OrderValue) (t : Turn) → n ≡ number

@@ -7,7 +7,7 @@ use Rattle.session.specs.SeatSteps.{HoldsInSome}
 use Rattle.epochs.specs.Seats.{SeatValue, PinStep, ReleaseStep}
 use Rattle.session_texts.specs.Replies.{pin_text, release_text}
 use Rattle.session_texts.specs.Requests.{AskValue, pin, release, profile}
-use Rattle.session.specs.declared.point_form.PointForm.{PointForm}
+use Rattle.answer_replies.specs.declared.point_form.PointForm.{PointForm}
 use Rattle.session.specs.Lines.{Asked, asks, memory_line, pin_fault_line}
 use Rattle.session.specs.Profiles.{IsProfileReply}
 use Rattle.session.specs.SeatSteps.{answered}

@@ -10,7 +10,7 @@ use Rattle.session_texts.specs.Judging.{IsJson, IsNoJson}
 use Rattle.session_texts.specs.Requests.{Asks, RequestValue, load, request_value}
 use Rattle.session_texts.specs.declared.requests.Request.{Request}
 use Rattle.session_texts.specs.declared.refusals.Refusal.{Refusal}
-use Rattle.session.specs.declared.point_form.PointForm.{PointForm}
+use Rattle.answer_replies.specs.declared.point_form.PointForm.{PointForm}
 use Rattle.session.specs.Lines.{Asked, too_long, no_json, no_request, asks, IsAsked, memory_line, refusal_line}
 use Rattle.session.specs.SeatSteps.{Follows, SeatMove}
 use Rattle.session.specs.Sessions.{AreTurns, moves_of, lines_in, orders_of, text_of}

@@ -1,8 +1,6 @@
 pub mod FaultNumber
 pub mod SeatSteps
-pub mod Legs
 pub mod Lines
-pub mod Valuing
 pub mod Profiles
 pub mod Turns
 pub mod Sessions

@@ -17,8 +17,7 @@ pub data SeatMove : Type 0 where
 abbrev pub HoldsInSome : ℕ → Option (ℕ × ImageValue) → Type 0
 HoldsInSome number held = (known : Known) × HoldsAsKnown known number held
 
--- from one value of a worker's seat to the next, by one answer. What is pinned is the image that was published as that version, in a
--- history of versions in which this worker holds it
+-- from one value of a worker's seat to the next, by one answer. Some history has what is pinned; that the seat's own has it, `Learns` says
 abbrev pub AnswerStep : ℕ → SeatValue → Answer → SeatValue → Type 0
 AnswerStep number a (Answer.Pinned version image) b =
     (a.held ≡ None) × (a.seen ≤ version) × (b ≡ pinned a version image) × HoldsInSome number (Some (version, image.value))

@@ -5,7 +5,7 @@ use Rattle.epochs.specs.declared.seats.Answer.{Answer}
 use Rattle.epochs.specs.Seats.{SeatValue}
 use Rattle.orders.specs.Ordering.{OrderValue}
 use Rattle.lines.specs.Cutting.{lines_of, rest_of, whole_lines}
-use Rattle.session.specs.declared.point_form.PointForm.{PointForm}
+use Rattle.answer_replies.specs.declared.point_form.PointForm.{PointForm}
 use Rattle.session.specs.declared.fault.Ended.{Ended}
 use Rattle.session.specs.declared.fault.SessionFault.{SessionFault}
 use Rattle.session.specs.SeatSteps.{AnswerStep, IsGivenBack, SeatMove}
@@ -63,7 +63,7 @@ EndsSo (Ok ended) read written turns at_end read_failed write_failed =
 -- the lines before are answered; of a line that goes on for longer than one may, one byte more is read
 EndsSo (Err SessionFault.ReadFailed) read written turns at_end read_failed write_failed =
     (read_failed ⊎ (length (rest_of read) ≡ 16_777_217)) × (¬ write_failed) × (lines_in turns ≡ whole_lines read) × (written ≡ text_of turns)
--- the last line that was read isn't answered, or not wholly
+-- lines that were read are answered, the last one perhaps not wholly; further ones may have been read
 EndsSo (Err SessionFault.WriteFailed) read written turns at_end read_failed write_failed =
     write_failed × (¬ read_failed) × AnswerLines turns read at_end × IsCutShort written turns
 -- the first million lines are answered, and a byte behind them was read

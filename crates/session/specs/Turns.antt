@@ -10,7 +10,7 @@ use Rattle.orders.specs.Ordering.{IsNotTaken, OrderValue, order_value, waited_va
 use Rattle.session_texts.specs.Replies.{line_of, load_data, loaded_data, pin_text, release_text}
 use Rattle.session_texts.specs.Requests.{AskValue, pin, release, profile, load}
 use Rattle.session_texts.specs.declared.refusals.Refusal.{Refusal}
-use Rattle.session.specs.declared.point_form.PointForm.{PointForm}
+use Rattle.answer_replies.specs.declared.point_form.PointForm.{PointForm}
 use Rattle.session.specs.Lines.{Asked, too_long, no_json, no_request, asks, IsAsked, memory_line, order_fault_line, pin_fault_line, refusal_line}
 use Rattle.session.specs.Profiles.{IsProfileReply}
 use Rattle.session.specs.SeatSteps.{Follows, PinsOnce, SeatMove, answered, joined}

@@ -2,31 +2,29 @@
 
 ghost use Rattle.std.specs.Prelude.{◌≡◌};
 ghost use Rattle.lines.specs.Counting.{failures_of, inner_of};
-ghost use Rattle.session.specs.declared.point_form.PointForm.TheVariants.{Bare};
+ghost use Rattle.answer_replies.specs.declared.point_form.PointForm.TheVariants.{Bare};
 
-use crate::point_form::PointForm;
+use answer_replies::PointForm;
 use lines::Counted;
 use std::alloc::Global;
 
-/// What sessions are answered from: the runtime and its memory, the shelves with the versions, the gate that hears of
+/// What sessions are answered from: memory, the shelves with the versions, the gate that hears of
 /// scans, and the form in which profiles are replied.
 #[derive(Drop)]
-pub struct Desk<'a, R, T, G> {
-    pub rt: &'a R,
+pub struct Desk<'a, T, G> {
     pub alloc: Global,
     pub shelves: &'a T,
     pub gate: &'a G,
     pub form: PointForm,
 }
 
-impl<'a, R, T, G> Desk<'a, R, T, G> {
+impl<'a, T, G> Desk<'a, T, G> {
     /// With these shelves and this gate; its replies are bare.
-    pub fn new(rt: &'a R, alloc: Global, shelves: &'a T, gate: &'a G) -> Desk<'a, R, T, G>
+    pub fn new(alloc: Global, shelves: &'a T, gate: &'a G) -> Desk<'a, T, G>
         ensures shelves { result.shelves.now ≡ shelves.now }
         ensures form { result.form ≡ Bare }
     {
         Desk {
-            rt,
             alloc,
             shelves,
             gate,

@@ -5,7 +5,7 @@ ghost use Rattle.epochs.specs.Seats.{SeatValue};
 ghost use Rattle.orders.specs.Ordering.{OrderValue};
 ghost use Rattle.session.specs.Learning.{LearningTells};
 ghost use Rattle.session.specs.Lines.{Asked, IsAsked};
-ghost use Rattle.session.specs.declared.point_form.PointForm.{PointForm};
+ghost use Rattle.answer_replies.specs.declared.point_form.PointForm.{PointForm};
 ghost use Rattle.session.specs.SeatSteps.{Follows, NeverFalls, SeatMove, answers_in};
 ghost use Rattle.session.specs.Sessions.{AreTurns, moves_of, orders_of};
 ghost use Rattle.session.specs.Turns.{Turn};

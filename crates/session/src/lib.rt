@@ -5,21 +5,18 @@
 mod desk;
 mod fault;
 pub mod laws;
-mod legs;
 mod ordering;
 mod pinning;
-mod point_form;
 mod profiles;
 mod reply;
 mod serving;
 mod solo_orders;
 mod turns;
 
+pub use answer_replies::PointForm;
 pub use desk::{Desk, Streams};
 pub use fault::{Ended, SessionFault};
 pub use lines::Counted;
 pub use orders::{Gate, OpenGate, OrderFault, Orders};
-pub use point_form::PointForm;
-pub use profiles::profile_reply;
 pub use serving::{MOST_REQUESTS, serve};
 pub use solo_orders::{FeedImage, SoloOrders};

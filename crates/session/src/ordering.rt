@@ -12,9 +12,8 @@ use crate::reply::Reply;
 use epochs::Versions;
 use orders::Orders;
 use session_texts::{Refusal, load_line, loaded_line};
-use std::sync::Wait;
 
-impl<'a, R: Wait, N: Drop, T: Versions<Notice = N>, G> Desk<'a, R, T, G> {
+impl<'a, N: Drop, T: Versions<Notice = N>, G> Desk<'a, T, G> {
     /// Orders the feed. The reply is made first, so that no order is put that can't be told.
     pub(crate) fn order_feed<O: Orders>(&self, orders: &mut O, feed: &str) -> Reply
         ensures { (put : List OrderValue) × (O.asked orders.new ≡ O.asked orders.old ++ put)
@@ -24,7 +23,7 @@ impl<'a, R: Wait, N: Drop, T: Versions<Notice = N>, G> Desk<'a, R, T, G> {
         let Ok(line) = load_line(self.alloc, feed) else {
             return Reply::refusal(Refusal::OutOfMemory);
         };
-        match orders.order(self.rt, feed) {
+        match orders.order(feed) {
             Ok(()) => Reply::made(line),
             Err(fault) => Reply::order_fault(fault),
         }
@@ -46,7 +45,7 @@ impl<'a, R: Wait, N: Drop, T: Versions<Notice = N>, G> Desk<'a, R, T, G> {
         ensures met { (put : List OrderValue) × (O.asked orders.new ≡ O.asked orders.old ++ put)
             × IsLoaded (T.number seat.old) (T.value seat.old) feed.now put (text_of_reply result) (T.value seat.new) }
     {
-        match orders.order_wait(self.rt, feed) {
+        match orders.order_wait(feed) {
             Ok((version, notice)) => {
                 self.take_notice(seat, notice);
                 match loaded_line(self.alloc, feed, version) {
@@ -66,6 +65,6 @@ impl<'a, R: Wait, N: Drop, T: Versions<Notice = N>, G> Desk<'a, R, T, G> {
         ensures learns { Learns (T.known seat.old) (T.value seat.old) (T.known seat.new) (T.value seat.new) }
         ensures joined { JoinStep (T.value seat.old) (T.noted notice) (T.value seat.new) }
     {
-        self.shelves.join(self.rt, seat, notice);
+        self.shelves.join(seat, notice);
     }
 }

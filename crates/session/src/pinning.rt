@@ -10,9 +10,8 @@ use crate::desk::Desk;
 use crate::reply::Reply;
 use epochs::Versions;
 use session_texts::{Refusal, pin_line, release_line};
-use std::sync::Wait;
 
-impl<'a, R: Wait, T: Versions, G> Desk<'a, R, T, G> {
+impl<'a, T: Versions, G> Desk<'a, T, G> {
     /// Pins the current version and tells it. A version that can't be told is given back.
     pub(crate) fn pin(&self, seat: &mut T::Seat) -> Reply
         requires { T.fits self.now.shelves.now seat.old }
@@ -22,7 +21,7 @@ impl<'a, R: Wait, T: Versions, G> Desk<'a, R, T, G> {
         ensures met { IsMet self.now.form (T.number seat.old) (T.value seat.old) (asks pin) (text_of_reply result)
             (T.value seat.new) }
     {
-        if let Err(fault) = self.shelves.pin(self.rt, seat) {
+        if let Err(fault) = self.shelves.pin(seat) {
             return Reply::pin_fault(fault);
         }
         let told = match T::edition(seat) {
@@ -32,7 +31,7 @@ impl<'a, R: Wait, T: Versions, G> Desk<'a, R, T, G> {
         match told {
             Ok(line) => Reply::made(line),
             Err(_) => {
-                let _ = self.shelves.release(self.rt, seat);
+                let _ = self.shelves.release(seat);
                 Reply::refusal(Refusal::OutOfMemory)
             }
         }
@@ -47,7 +46,7 @@ impl<'a, R: Wait, T: Versions, G> Desk<'a, R, T, G> {
         ensures met { IsMet self.now.form (T.number seat.old) (T.value seat.old) (asks release)
             (text_of_reply result) (T.value seat.new) }
     {
-        match self.shelves.release(self.rt, seat) {
+        match self.shelves.release(seat) {
             Ok(()) => Reply::fixed(release_line()),
             Err(fault) => Reply::pin_fault(fault),
         }

@@ -2,13 +2,13 @@
 
 ghost use Rattle.std.specs.Prelude.{◌≡◌, ◌<◌, ◌-◌, ◌^◌, ℕ, List, None, MatchResult, take};
 ghost use Rattle.std.specs.Io.KnownBytes.{Appends};
-ghost use Rattle.lines.specs.Counting.{failures_of, inner_of, one_more};
+ghost use Rattle.lines.specs.Counting.{HasFailed, StopsAtFailure, failures_of, inner_of};
 ghost use Rattle.lines.specs.Showing.{ShowsLine};
 ghost use Rattle.epochs.specs.Seats.{SeatValue};
 ghost use Rattle.session.specs.Learning.{Learns, TellPublished};
 ghost use Rattle.session.specs.Sessions.{LastRelease, Serves};
 ghost use Rattle.session.specs.Turns.{AgreeOnNotices, Turn, TurnsTo};
-ghost use Rattle.session.specs.declared.point_form.PointForm.TheVariants.{Bare};
+ghost use Rattle.answer_replies.specs.declared.point_form.PointForm.TheVariants.{Bare};
 
 use crate::desk::{Desk, Streams};
 use crate::fault::{Ended, SessionFault};
@@ -17,14 +17,12 @@ use lines::{Counted, Given, Line, LineReader, WriteFailed};
 use orders::{Gate, Orders};
 use std::alloc::Global;
 use std::io::{Read, Write};
-use std::sync::Wait;
 
 /// How many requests of a session are answered.
 pub const MOST_REQUESTS: u32 = 1_000_000;
 
 /// Serves a session, as [`Desk::serve`] does, with what a desk and its streams have as it is; its replies are bare.
 pub fn serve<
-    R: Wait,
     In: Read,
     Out: Write,
     N: Drop,
@@ -32,7 +30,6 @@ pub fn serve<
     O: Orders<Notice = N>,
     G: Gate,
 >(
-    rt: &R,
     alloc: Global,
     reader: &mut Counted<In>,
     writer: &mut Counted<Out>,
@@ -55,14 +52,15 @@ pub fn serve<
         (In.remaining (inner_of reader.new)) (Out.contents (inner_of writer.old))
         (Out.contents (inner_of writer.new))
         (failures_of reader.old < failures_of reader.new) (failures_of writer.old < failures_of writer.new) (T.value seat.old) (O.asked orders.old) last (O.asked orders.new) }
+    ensures stops { StopsAtFailure reader.old reader.new × StopsAtFailure writer.old writer.new }
 {
-    let desk = Desk::new(rt, alloc, shelves, gate);
+    let desk = Desk::new(alloc, shelves, gate);
     let outcome = desk.answer_lines(reader, writer, seat, orders);
     desk.release_last(seat);
     outcome
 }
 
-impl<'a, R: Wait, N: Drop, T: Versions<Notice = N>, G: Gate> Desk<'a, R, T, G> {
+impl<'a, N: Drop, T: Versions<Notice = N>, G: Gate> Desk<'a, T, G> {
     /// Serves a session.
     pub fn serve<In: Read, Out: Write, O: Orders<Notice = N>>(
         &self,
@@ -84,6 +82,8 @@ impl<'a, R: Wait, N: Drop, T: Versions<Notice = N>, G: Gate> Desk<'a, R, T, G> {
             (In.remaining (inner_of streams.new.reader)) (Out.contents (inner_of streams.old.writer))
             (Out.contents (inner_of streams.new.writer))
             (failures_of streams.old.reader < failures_of streams.new.reader) (failures_of streams.old.writer < failures_of streams.new.writer) (T.value seat.old) (O.asked orders.old) last (O.asked orders.new) }
+        ensures stops { StopsAtFailure streams.old.reader streams.new.reader
+            × StopsAtFailure streams.old.writer streams.new.writer }
     {
         let outcome = self.answer_lines(&mut streams.reader, &mut streams.writer, seat, orders);
         self.release_last(seat);
@@ -100,7 +100,7 @@ impl<'a, R: Wait, N: Drop, T: Versions<Notice = N>, G: Gate> Desk<'a, R, T, G> {
         ensures last { LastRelease (T.number seat.old) (T.value seat.old) (T.value seat.new) }
     {
         if T::edition(seat).is_some() {
-            let _ = self.shelves.release(self.rt, seat);
+            let _ = self.shelves.release(seat);
         }
     }
 
@@ -122,6 +122,7 @@ impl<'a, R: Wait, N: Drop, T: Versions<Notice = N>, G: Gate> Desk<'a, R, T, G> {
             (In.remaining (inner_of reader.new)) (Out.contents (inner_of writer.old))
             (Out.contents (inner_of writer.new))
             (failures_of reader.old < failures_of reader.new) (failures_of writer.old < failures_of writer.new) (T.value seat.old) (O.asked orders.old) (T.value seat.new) (O.asked orders.new) }
+        ensures stops { StopsAtFailure reader.old reader.new × StopsAtFailure writer.old writer.new }
     {
         let mut lines = LineReader::new(self.alloc);
         for _ in 0..MOST_REQUESTS {
@@ -166,7 +167,7 @@ impl<'a, R: Wait, N: Drop, T: Versions<Notice = N>, G: Gate> Desk<'a, R, T, G> {
         ensures learns { Learns (T.known seat.old) (T.value seat.old) (T.known seat.new) (T.value seat.new) }
         ensures failures { MatchResult result
             (λ _. failures_of writer.new ≡ failures_of writer.old)
-            (λ _. failures_of writer.new ≡ one_more (failures_of writer.old)) }
+            (λ _. HasFailed writer.old writer.new) }
         ensures turn { (l : List ℕ) → ShowsLine line.entry l
             → (t : Turn) × (t.line ≡ l) × TurnsTo self.now.form (T.number seat.old) (T.value seat.old)
             (O.asked orders.old) t (T.value seat.new) (O.asked orders.new) × MatchResult result

@@ -9,7 +9,7 @@ use image_verifier::Verified;
 use orders::{OrderFault, Ordered, Orders};
 use std::alloc::Global;
 use std::marker::Model;
-use std::sync::{Arc, Wait};
+use std::sync::Arc;
 use timetable::Trace;
 
 /// A feed's name, and the image that is published where the feed is ordered.
@@ -65,18 +65,17 @@ impl<'a, N: Drop, L: Drop, T: Versions<Notice = N> + Loads<Loader = L>> SoloOrde
         }
     }
 
-    fn load<R: Wait>(&mut self, rt: &R, feed: &str) -> Result<(u64, Option<N>), NotLoaded>
+    fn load(&mut self, feed: &str) -> Result<(u64, Option<N>), NotLoaded>
         ensures asked { self.new.asked ≡ self.old.asked }
         ensures step { LoadStep feed.now self.old.feeds self.old.answers result self.new.feeds self.new.answers }
         ensures notice { IfOk result (λ loaded. IfSome loaded.1 (λ notice. T.Versions.noted notice ≡ loaded.0)) }
     {
-        publish_first(rt, self.shelves, &mut self.loader, &mut self.feeds, feed)
+        publish_first(self.shelves, &mut self.loader, &mut self.feeds, feed)
     }
 }
 
 // Publishes the first image of the name, and collects the shelves.
-fn publish_first<R: Wait, N: Drop, T: Versions<Notice = N> + Loads>(
-    rt: &R,
+fn publish_first<N: Drop, T: Versions<Notice = N> + Loads>(
     shelves: &T,
     loader: &mut T::Loader,
     feeds: &mut Vec<FeedImage>,
@@ -92,9 +91,9 @@ fn publish_first<R: Wait, N: Drop, T: Versions<Notice = N> + Loads>(
         return Err(NotLoaded::UnknownFeed);
     };
     let found = feeds.remove(place);
-    match shelves.publish(rt, loader, found.image) {
+    match shelves.publish(loader, found.image) {
         Ok(loaded) => {
-            let _collected = shelves.collect(rt, loader);
+            let _collected = shelves.collect(loader);
             Ok(loaded)
         }
         Err((_, fault)) => Err(NotLoaded::Refused(fault)),
@@ -141,23 +140,23 @@ impl<'a, N: Drop, L: Drop, T: Versions<Notice = N> + Loads<Loader = L>> Orders
 
     ghost told = { T.Versions.noted };
 
-    fn order<R: Wait>(&mut self, rt: &R, feed: &str) -> Result<(), OrderFault>
+    fn order(&mut self, feed: &str) -> Result<(), OrderFault>
         ensures asked { self.new.asked ≡ self.old.asked ++ order_value feed.now result ∷ [] }
         ensures refused { IfErr result IsNotTaken }
         ensures step { OrderStep feed.now self.old.feeds self.old.answers result self.new.feeds self.new.answers }
     {
-        let loaded = self.load(rt, feed);
+        let loaded = self.load(feed);
         let outcome = told_of_order(loaded);
         self.asked.note(&Ordered::put(feed, outcome));
         outcome
     }
 
-    fn order_wait<R: Wait>(&mut self, rt: &R, feed: &str) -> Result<(u64, N), OrderFault>
+    fn order_wait(&mut self, feed: &str) -> Result<(u64, N), OrderFault>
         ensures asked { self.new.asked ≡ self.old.asked ++ waited_value feed.now (version_told result) ∷ [] }
         ensures notice { IfOk result (λ told. T.Versions.noted told.1 ≡ told.0) }
         ensures step { WaitStep feed.now self.old.feeds self.old.answers result self.new.feeds self.new.answers }
     {
-        let loaded = self.load(rt, feed);
+        let loaded = self.load(feed);
         let outcome = told_of_wait(loaded);
         self.asked.note(&Ordered::waited(feed, &outcome));
         outcome

@@ -12,9 +12,8 @@ use epochs::Versions;
 use lines::Line;
 use orders::{Gate, Orders};
 use session_texts::{LineFault, Refusal, Request, read_line, request_of};
-use std::sync::Wait;
 
-impl<'a, R: Wait, N: Drop, T: Versions<Notice = N>, G: Gate> Desk<'a, R, T, G> {
+impl<'a, N: Drop, T: Versions<Notice = N>, G: Gate> Desk<'a, T, G> {
     /// Does what a line asks, and makes the reply.
     pub(crate) fn turn<O: Orders<Notice = N>>(
         &self,

@@ -12,7 +12,7 @@ use session::{Desk, OpenGate, PointForm, SoloOrders, Streams};
 use session_texts::{JourneyLegs, Points, RideTold, WalkTold};
 use std::alloc::{AllocError, Global};
 use std::marker::Brand;
-use std::sync::{Arc, Wait};
+use std::sync::Arc;
 use std::test::Fail;
 
 const PIN: &str = "{\"do\":\"pin\"}";
@@ -24,20 +24,13 @@ const BY_ARRIVAL: &str =
     "{\"do\":\"profile\",\"from\":\"A\",\"to\":\"C\",\"after\":\"07:00:00\",\"until\":\"09:00:00\",\"by\":\"10:00:00\",\"criterion\":\"arrival\"}";
 
 // Serves a session whose profiles are replied in this form: what was written.
-fn replied_at<B: Named, R: Wait>(
-    rt: &R,
-    alloc: Global,
-    solo: Solo,
-    form: PointForm,
-    requests: &[u8],
-) -> Vec<u8>
+fn replied_at<B: Named>(alloc: Global, solo: Solo, form: PointForm, requests: &[u8]) -> Vec<u8>
     requires { (solo.shelves ≡ B.table) × (solo.loader.table ≡ B.table) × (solo.seat.table ≡ B.table) }
 {
     let (shelves, loader, mut seat) = SoloShelves::<B>::of(solo.shelves, solo.loader, solo.seat);
     let mut orders = SoloOrders::new(&shelves, loader, Vec::new(alloc));
     let mut streams = Streams::new(whole(requests), taker_of(alloc, 10_000, true));
     let desk = Desk {
-        rt,
         alloc,
         shelves: &shelves,
         gate: &OpenGate,
@@ -47,8 +40,7 @@ fn replied_at<B: Named, R: Wait>(
     streams.writer.into_inner().taken
 }
 
-fn replied<R: Wait>(
-    rt: &R,
+fn replied(
     alloc: Global,
     first: Arc<Verified, Global>,
     form: PointForm,
@@ -56,7 +48,7 @@ fn replied<R: Wait>(
 ) -> Result<Vec<u8>, Fail> {
     let requests = lines_of(alloc, &[PIN, profile])?;
     let solo = solo_of(alloc, first)?;
-    Ok(replied_at::<Brand, _>(rt, alloc, solo, form, &requests))
+    Ok(replied_at::<Brand>(alloc, solo, form, &requests))
 }
 
 const BARE_REPLIES: &str =
@@ -69,15 +61,9 @@ const LEGGED_REPLIES: &str =
 #[test]
 fn legs_are_replied_where_they_are_wanted(rt: HostRuntime) -> Result<(), Fail> {
     let alloc: Global = rt.alloc();
-    let bare = replied(&rt, alloc, image(alloc, 0)?, PointForm::Bare, BY_WALKING)?;
+    let bare = replied(alloc, image(alloc, 0)?, PointForm::Bare, BY_WALKING)?;
     assert_eq!(&rt; str::from_utf8(&bare).unwrap_or("?"), BARE_REPLIES);
-    let legged = replied(
-        &rt,
-        alloc,
-        image(alloc, 0)?,
-        PointForm::WithLegs,
-        BY_WALKING,
-    )?;
+    let legged = replied(alloc, image(alloc, 0)?, PointForm::WithLegs, BY_WALKING)?;
     assert_eq!(&rt; str::from_utf8(&legged).unwrap_or("?"), LEGGED_REPLIES);
     Ok(())
 }
@@ -106,7 +92,7 @@ const QUOTED_REPLIES: &str =
 fn a_walk_a_quote_and_a_repeat(rt: HostRuntime) -> Result<(), Fail> {
     let alloc: Global = rt.alloc();
     let first = image_of_a_quote(alloc)?;
-    let replies = replied(&rt, alloc, first, PointForm::WithLegs, BY_ARRIVAL)?;
+    let replies = replied(alloc, first, PointForm::WithLegs, BY_ARRIVAL)?;
     assert_eq!(&rt; str::from_utf8(&replies).unwrap_or("?"), QUOTED_REPLIES);
     Ok(())
 }

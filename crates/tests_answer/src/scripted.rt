@@ -12,7 +12,6 @@ use std::io;
 use std::io::{Read, Write};
 use std::marker::Brand;
 use std::process::Abort;
-use std::sync::Wait;
 use std::sync::atomic::{AtomicU64, Ordering};
 use std::test::Fail;
 use timetable::Trace;
@@ -235,14 +234,12 @@ fn feeds(alloc: Global) -> Result<Vec<FeedImage>, Fail> {
 }
 
 // What comes of a session over new shelves, and what is written.
-fn told<R: Wait, In: Read + Drop>(
-    rt: &R,
+fn told<In: Read + Drop>(
     alloc: Global,
     reader: In,
 ) -> Result<(Result<Ended, SessionFault>, Taker), Fail> {
     let taker = taker_of(alloc, 100_000, true);
     talked(
-        rt,
         alloc,
         image(alloc, 0)?,
         feeds(alloc)?,
@@ -283,7 +280,7 @@ fn drawn_sessions_are_answered(rt: HostRuntime) -> Result<(), Fail> {
             most: 100,
             is_failing: false,
         };
-        let (ended, taker) = told(&rt, rt.alloc(), reader)?;
+        let (ended, taker) = told(rt.alloc(), reader)?;
         assert!(&rt; ended == Ok(Ended));
         assert!(&rt; taker.taken.as_slice() == script.replies.as_bytes());
     }
@@ -292,9 +289,9 @@ fn drawn_sessions_are_answered(rt: HostRuntime) -> Result<(), Fail> {
 
 // A reader that gives its bytes in two reads.
 #[derive(Drop)]
-struct Halves<'a> {
-    front: &'a [u8],
-    back: &'a [u8],
+pub(crate) struct Halves<'a> {
+    pub(crate) front: &'a [u8],
+    pub(crate) back: &'a [u8],
 }
 
 impl Read for Halves<'_> {
@@ -317,7 +314,7 @@ fn lines_may_be_cut_anywhere(rt: HostRuntime) -> Result<(), Fail> {
     let bytes = script.requests.as_bytes();
     for place in 0..bytes.len() {
         let (front, back) = bytes.split_at(place);
-        let (ended, taker) = told(&rt, rt.alloc(), Halves { front, back })?;
+        let (ended, taker) = told(rt.alloc(), Halves { front, back })?;
         assert!(&rt; ended == Ok(Ended));
         assert!(&rt; taker.taken.as_slice() == script.replies.as_bytes());
     }
@@ -331,7 +328,7 @@ fn a_long_line_may_be_cut(rt: HostRuntime) -> Result<(), Fail> {
     let bytes = script.requests.as_bytes();
     for place in [13, 14, 65_548, 65_549, 65_550, 65_551] {
         let (front, back) = bytes.split_at(bytes.len().min(place));
-        let (ended, taker) = told(&rt, rt.alloc(), Halves { front, back })?;
+        let (ended, taker) = told(rt.alloc(), Halves { front, back })?;
         assert!(&rt; ended == Ok(Ended));
         assert!(&rt; taker.taken.as_slice() == script.replies.as_bytes());
     }
@@ -344,12 +341,7 @@ fn whole_lines(text: &[u8]) -> usize {
 }
 
 /// The reader of a session fails after so many bytes: each line that was whole is answered, and the session fails.
-fn fails_at<R: Abort + Wait>(
-    rt: &R,
-    alloc: Global,
-    script: &Script,
-    place: usize,
-) -> Result<(), Fail> {
+fn fails_at<R: Abort>(rt: &R, alloc: Global, script: &Script, place: usize) -> Result<(), Fail> {
     let bytes = script.requests.as_bytes();
     let (front, _) = bytes.split_at(bytes.len().min(place));
     let reader = Pieces {
@@ -357,7 +349,7 @@ fn fails_at<R: Abort + Wait>(
         most: 7,
         is_failing: true,
     };
-    let (ended, taker) = told(rt, alloc, reader)?;
+    let (ended, taker) = told(alloc, reader)?;
     assert!(rt; ended == Err(SessionFault::ReadFailed));
     assert!(rt; script.replies.as_bytes().starts_with(&taker.taken));
     assert_eq!(rt; whole_lines(&taker.taken), whole_lines(front));
@@ -439,7 +431,6 @@ fn scans_are_left_behind_their_replies(rt: HostRuntime) -> Result<(), Fail> {
         is_failing: false,
     };
     let (ended, notes) = talked(
-        &rt,
         alloc,
         image(alloc, 0)?,
         feeds(alloc)?,
@@ -500,17 +491,13 @@ impl<B: Named> Orders for OrderCount<B> {
 
     ghost told = { λ notice. notice.version };
 
-    fn order<R: Wait>(&mut self, _rt: &R, feed: &str) -> Result<(), OrderFault> {
+    fn order(&mut self, feed: &str) -> Result<(), OrderFault> {
         self.count = self.count.saturating_add(1);
         self.asked.note(&Ordered::put(feed, Ok(())));
         Ok(())
     }
 
-    fn order_wait<R: Wait>(
-        &mut self,
-        _rt: &R,
-        feed: &str,
-    ) -> Result<(u64, NamedNotice<B>), OrderFault> {
+    fn order_wait(&mut self, feed: &str) -> Result<(u64, NamedNotice<B>), OrderFault> {
         let told = match self.notice.take() {
             Some(notice) => Ok((notice.version(), notice)),
             None => Err(OrderFault::UnknownFeed),
@@ -522,8 +509,7 @@ impl<B: Named> Orders for OrderCount<B> {
 
 // Publishes a second version at these shelves and serves the requests: what came of it, what was
 // written, and how many orders nobody waited for.
-fn counting_at<B: Named, R: Wait>(
-    rt: &R,
+fn counting_at<B: Named>(
     alloc: Global,
     solo: Solo,
     requests: &[u8],
@@ -536,7 +522,7 @@ fn counting_at<B: Named, R: Wait>(
         solo.loader,
         solo.seat,
     );
-    let Ok((_, Some(notice))) = shelves.publish(rt, &mut loader, image(alloc, 121)?) else {
+    let Ok((_, Some(notice))) = shelves.publish(&mut loader, image(alloc, 121)?) else {
         return Err(AllocError.into());
     };
     let mut orders = OrderCount {
@@ -545,21 +531,20 @@ fn counting_at<B: Named, R: Wait>(
         asked: Trace::new(),
     };
     let mut streams = Streams::new(requests, taker);
-    let desk = Desk::new(rt, alloc, &shelves, &OpenGate);
+    let desk = Desk::new(alloc, &shelves, &OpenGate);
     let ended = desk.serve(&mut streams, &mut seat, &mut orders);
     Ok((ended, streams.writer.into_inner(), orders.count))
 }
 
 // The same at new shelves.
-fn counting<R: Wait>(
-    rt: &R,
+fn counting(
     alloc: Global,
     requests: &[u8],
 ) -> Result<(Result<Ended, SessionFault>, Taker, usize), Fail> {
     let mut taker = taker_of(alloc, 10_000, true);
     taker.taken.reserve(10_000)?;
     let solo = solo_of(alloc, image(alloc, 0)?)?;
-    counting_at::<Brand, _>(rt, alloc, solo, requests, taker)
+    counting_at::<Brand>(alloc, solo, requests, taker)
 }
 
 // How many loads are told of which nobody waits for a version.
@@ -582,7 +567,7 @@ fn refused_growth_is_told_by_a_reply(rt: HostRuntime) -> Result<(), Fail> {
     for line in 0..GROWING.len() {
         wanting.push(wanting_at(alloc, line)?)?;
     }
-    let (ended, taker, ordered) = counting(&rt, alloc, whole.requests.as_bytes())?;
+    let (ended, taker, ordered) = counting(alloc, whole.requests.as_bytes())?;
     assert!(&rt; ended == Ok(Ended));
     assert_eq!(&rt; ordered, loads_told(&taker.taken));
     if is_told_by_one(&wanting, &taker.taken) {

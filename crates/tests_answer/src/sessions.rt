@@ -1,5 +1,7 @@
 //! Sessions as clients see them.
 
+mod cuts;
+
 ghost use Rattle.std.specs.Prelude.{◌≡◌, IfOk, Ok};
 
 use crate::streams::{Answers, Asker, Endless, Pieces, Taker, failing_at, taker_of, whole};
@@ -15,7 +17,7 @@ use std::cell::Cell;
 use std::io;
 use std::io::{Read, Write};
 use std::marker::Brand;
-use std::sync::{Arc, Wait};
+use std::sync::Arc;
 use std::test::Fail;
 use timetable::Trace;
 
@@ -133,20 +135,18 @@ const REPLIES: &str =
     "{\"base\":1705276800,\"ok\":\"pin\",\"version\":1}\n{\"feed\":\"slow\",\"ok\":\"load\"}\n{\"ok\":\"profile\",\"points\":[{\"arr\":\"08:20:00\",\"dep\":\"08:00:00\",\"journey\":\"ride 0 0 walk 1 1 0 ride 2 2\"}],\"version\":1,\"walk\":null}\n{\"ok\":\"release\"}\n{\"ok\":\"profile\",\"points\":[{\"arr\":\"08:30:00\",\"dep\":\"08:00:00\",\"journey\":\"ride 0 1\"}],\"version\":2,\"walk\":null}\n{\"error\":111,\"name\":\"BadJson\"}\n{\"base\":1705276800,\"ok\":\"pin\",\"version\":2}\n{\"error\":92,\"name\":\"AlreadyPinned\"}\n{\"error\":113,\"name\":\"LineTooLong\"}\n{\"error\":114,\"name\":\"UnknownFeed\"}\n{\"ok\":\"release\"}\n{\"error\":93,\"name\":\"NotPinned\"}\n";
 
 // Serves these bytes on new shelves: what came of it, and what was written.
-fn served<R: Wait>(
-    rt: &R,
+fn served(
     alloc: Global,
     reader: Pieces<'_>,
     room: usize,
     is_failing: bool,
 ) -> Result<(Result<Ended, SessionFault>, Vec<u8>), Fail> {
     let (first, slow) = (image(alloc, 0)?, image(alloc, 121)?);
-    served_from(rt, alloc, first, slow, reader, room, is_failing)
+    served_from(alloc, first, slow, reader, room, is_failing)
 }
 
 // The same on shelves with a first image, beside the one of a feed.
-fn served_from<R: Wait>(
-    rt: &R,
+fn served_from(
     alloc: Global,
     first: Arc<Verified, Global>,
     slow: Arc<Verified, Global>,
@@ -157,7 +157,7 @@ fn served_from<R: Wait>(
     let mut feeds = Vec::new(alloc);
     feeds.push(feed_of(alloc, "slow", slow)?)?;
     let taker = taker_of(alloc, room, is_failing);
-    let (ended, taker) = talked(rt, alloc, first, feeds, reader, taker, &OpenGate)?;
+    let (ended, taker) = talked(alloc, first, feeds, reader, taker, &OpenGate)?;
     Ok((ended, taker.taken))
 }
 
@@ -196,8 +196,7 @@ pub(crate) fn solo_of(alloc: Global, first: Arc<Verified, Global>) -> Result<Sol
 }
 
 /// Serves a reader and a writer on new shelves: what came of it, and the writer.
-pub(crate) fn talked<R: Wait, In: Read + Drop, Out: Write + Drop, G: Gate>(
-    rt: &R,
+pub(crate) fn talked<In: Read + Drop, Out: Write + Drop, G: Gate>(
     alloc: Global,
     first: Arc<Verified, Global>,
     feeds: Vec<FeedImage>,
@@ -206,12 +205,11 @@ pub(crate) fn talked<R: Wait, In: Read + Drop, Out: Write + Drop, G: Gate>(
     gate: &G,
 ) -> Result<(Result<Ended, SessionFault>, Out), Fail> {
     let solo = solo_of(alloc, first)?;
-    Ok(talked_at::<Brand, _, _, _, _>(rt, alloc, solo, feeds, reader, writer, gate))
+    Ok(talked_at::<Brand, _, _, _>(alloc, solo, feeds, reader, writer, gate))
 }
 
 // The same at these shelves.
-fn talked_at<B: Named, R: Wait, In: Read + Drop, Out: Write + Drop, G: Gate>(
-    rt: &R,
+fn talked_at<B: Named, In: Read + Drop, Out: Write + Drop, G: Gate>(
     alloc: Global,
     solo: Solo,
     feeds: Vec<FeedImage>,
@@ -224,7 +222,7 @@ fn talked_at<B: Named, R: Wait, In: Read + Drop, Out: Write + Drop, G: Gate>(
     let (shelves, loader, mut seat) = SoloShelves::<B>::of(solo.shelves, solo.loader, solo.seat);
     let mut orders = SoloOrders::new(&shelves, loader, feeds);
     let mut streams = Streams::new(reader, writer);
-    let desk = Desk::new(rt, alloc, &shelves, gate);
+    let desk = Desk::new(alloc, &shelves, gate);
     let ended = desk.serve(&mut streams, &mut seat, &mut orders);
     (ended, streams.writer.into_inner())
 }
@@ -238,7 +236,7 @@ fn any_reads_give_the_same_replies(rt: HostRuntime) -> Result<(), Fail> {
             most,
             is_failing: false,
         };
-        let (ended, written) = served(&rt, rt.alloc(), reader, 100_000, true)?;
+        let (ended, written) = served(rt.alloc(), reader, 100_000, true)?;
         assert!(&rt; ended == Ok(Ended));
         assert_eq!(&rt; str::from_utf8(&written).unwrap_or("?"), REPLIES);
     }
@@ -251,7 +249,7 @@ fn a_writer_that_fails_ends_the_session(rt: HostRuntime) -> Result<(), Fail> {
     let bytes = requests(rt.alloc())?;
     for number in 0..2 * REPLIES.len() {
         let room = number / 2;
-        let (ended, written) = served(&rt, rt.alloc(), whole(&bytes), room, number % 2 == 1)?;
+        let (ended, written) = served(rt.alloc(), whole(&bytes), room, number % 2 == 1)?;
         assert!(&rt; ended == Err(SessionFault::WriteFailed));
         assert!(&rt; REPLIES.as_bytes().starts_with(&written));
         assert_eq!(&rt; written.len(), room);
@@ -267,7 +265,7 @@ fn requests_have_limits(rt: HostRuntime) -> Result<(), Fail> {
         (b'x', SessionFault::ReadFailed, 0),
     ];
     for (byte, fault, answered) in limits {
-        let (ended, replies) = tallied(&rt, rt.alloc(), byte)?;
+        let (ended, replies) = tallied(rt.alloc(), byte)?;
         assert!(&rt; ended == Err(fault));
         assert_eq!(&rt; replies, answered);
     }
@@ -275,13 +273,8 @@ fn requests_have_limits(rt: HostRuntime) -> Result<(), Fail> {
 }
 
 // Serves this byte over and over: what came of it, and how many lines were told to be no JSON.
-fn tallied<R: Wait>(
-    rt: &R,
-    alloc: Global,
-    byte: u8,
-) -> Result<(Result<Ended, SessionFault>, u64), Fail> {
+fn tallied(alloc: Global, byte: u8) -> Result<(Result<Ended, SessionFault>, u64), Fail> {
     let (ended, tally) = talked(
-        rt,
         alloc,
         image(alloc, 0)?,
         Vec::new(alloc),
@@ -298,7 +291,6 @@ fn tallied<R: Wait>(
 fn one_failure_ends_the_session(rt: HostRuntime) -> Result<(), Fail> {
     let alloc: Global = rt.alloc();
     let (ended, tally) = talked(
-        &rt,
         alloc,
         image(alloc, 0)?,
         Vec::new(alloc),
@@ -309,7 +301,6 @@ fn one_failure_ends_the_session(rt: HostRuntime) -> Result<(), Fail> {
     assert!(&rt; ended == Err(SessionFault::ReadFailed));
     assert_eq!(&rt; tally.replies, 0);
     let (ended, writer) = talked(
-        &rt,
         alloc,
         image(alloc, 0)?,
         Vec::new(alloc),
@@ -333,7 +324,6 @@ fn each_line_is_answered_at_once(rt: HostRuntime) -> Result<(), Fail> {
         most: 3,
     };
     let (ended, _) = talked(
-        &rt,
         alloc,
         image(alloc, 0)?,
         Vec::new(alloc),
@@ -360,7 +350,7 @@ fn walked_seconds_are_told(rt: HostRuntime) -> Result<(), Fail> {
     let alloc: Global = rt.alloc();
     let bytes = lines_of(alloc, &[BY_WALKING, LOAD, BY_WALKING])?;
     let (first, slow) = (image_with_a_footpath(alloc)?, image(alloc, 60)?);
-    let (ended, written) = served_from(&rt, alloc, first, slow, whole(&bytes), 10_000, true)?;
+    let (ended, written) = served_from(alloc, first, slow, whole(&bytes), 10_000, true)?;
     assert!(&rt; ended == Ok(Ended));
     assert_eq!(&rt; str::from_utf8(&written).unwrap_or("?"), WALKED_REPLIES);
     Ok(())
@@ -377,7 +367,7 @@ fn a_load_is_waited_for(rt: HostRuntime) -> Result<(), Fail> {
     let alloc: Global = rt.alloc();
     let odd = "{\"do\":\"load\",\"feed\":\"slow\",\"wait\":\"yes\"}";
     let bytes = lines_of(alloc, &[PIN, WAIT, PIN, RELEASE, PIN, WAIT, odd])?;
-    let (ended, written) = served(&rt, alloc, whole(&bytes), 10_000, true)?;
+    let (ended, written) = served(alloc, whole(&bytes), 10_000, true)?;
     assert!(&rt; ended == Ok(Ended));
     assert_eq!(&rt; str::from_utf8(&written).unwrap_or("?"), WAITED_REPLIES);
     Ok(())
@@ -399,16 +389,16 @@ impl<N: Drop, O: Orders<Notice = N>> Orders for Overtaken<O> {
 
     ghost told = { O.told };
 
-    fn order<R: Wait>(&mut self, rt: &R, feed: &str) -> Result<(), OrderFault> {
-        let taken = self.orders.order(rt, feed);
+    fn order(&mut self, feed: &str) -> Result<(), OrderFault> {
+        let taken = self.orders.order(feed);
         self.asked.note(&Ordered::put(feed, taken));
         taken
     }
 
-    fn order_wait<R: Wait>(&mut self, rt: &R, feed: &str) -> Result<(u64, N), OrderFault> {
-        let told = self.orders.order_wait(rt, feed);
-        let _ = self.orders.order(rt, feed);
-        let _ = self.orders.order(rt, feed);
+    fn order_wait(&mut self, feed: &str) -> Result<(u64, N), OrderFault> {
+        let told = self.orders.order_wait(feed);
+        let _ = self.orders.order(feed);
+        let _ = self.orders.order(feed);
         let told = kept_back(told, self.fault);
         self.asked.note(&Ordered::waited(feed, &told));
         told
@@ -428,8 +418,7 @@ fn kept_back<N: Drop>(
     }
 }
 
-fn overtaken_at<B: Named, R: Wait>(
-    rt: &R,
+fn overtaken_at<B: Named>(
     alloc: Global,
     solo: Solo,
     feeds: Vec<FeedImage>,
@@ -447,7 +436,6 @@ fn overtaken_at<B: Named, R: Wait>(
     let mut reader = Counted::new(requests);
     let mut writer = Counted::new(taker_of(alloc, 10_000, true));
     let _ = serve(
-        rt,
         alloc,
         &mut reader,
         &mut writer,
@@ -460,8 +448,7 @@ fn overtaken_at<B: Named, R: Wait>(
 }
 
 // Waits for a load of the feed, of which there are so many, and pins: what is replied.
-fn waited_and_pinned<R: Wait>(
-    rt: &R,
+fn waited_and_pinned(
     alloc: Global,
     count: usize,
     fault: Option<OrderFault>,
@@ -472,14 +459,14 @@ fn waited_and_pinned<R: Wait>(
     }
     let bytes = lines_of(alloc, &[WAIT, PIN])?;
     let solo = solo_of(alloc, image(alloc, 0)?)?;
-    let taker = overtaken_at::<Brand, _>(rt, alloc, solo, feeds, fault, &bytes);
+    let taker = overtaken_at::<Brand>(alloc, solo, feeds, fault, &bytes);
     Ok(taker.taken)
 }
 
 /// A notice that two versions overtook is told all the same, and the newest version is pinned.
 #[test]
 fn an_overtaken_notice_is_joined(rt: HostRuntime) -> Result<(), Fail> {
-    let replies = waited_and_pinned(&rt, rt.alloc(), 3, None)?;
+    let replies = waited_and_pinned(rt.alloc(), 3, None)?;
     assert_eq!(&rt;
         str::from_utf8(&replies).unwrap_or("?"),
         "{\"feed\":\"slow\",\"ok\":\"load\",\"version\":2}\n{\"base\":1705276800,\"ok\":\"pin\",\"version\":4}\n"
@@ -513,7 +500,7 @@ fn faults_are_told_to_who_waits(rt: HostRuntime) -> Result<(), Fail> {
         ),
     ];
     for (fault, line) in faults {
-        let replies = waited_and_pinned(&rt, rt.alloc(), 1, Some(fault))?;
+        let replies = waited_and_pinned(rt.alloc(), 1, Some(fault))?;
         let told = str::from_utf8(&replies).unwrap_or("?");
         assert!(&rt; told.starts_with(line));
         assert!(&rt; told.ends_with("}\n{\"base\":1705276800,\"ok\":\"pin\",\"version\":2}\n"));

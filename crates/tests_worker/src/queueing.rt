@@ -19,9 +19,11 @@ struct Listener {
 
 /// Shelves whose notices are the versions' numbers.
 #[derive(Drop)]
-struct Numbers;
+struct Numbers<'a, R> {
+    rt: &'a R,
+}
 
-impl Versions for Numbers {
+impl<'a, R: Wait> Versions for Numbers<'a, R> {
     type Seat = Listener;
 
     type Notice = u64;
@@ -39,8 +41,8 @@ impl Versions for Numbers {
     ghost noted = { λ notice. notice };
 
     // Nobody pins here.
-    fn pin<R: Wait>(&self, rt: &R, _seat: &mut Listener) -> Result<(), PinFault> {
-        for _ in rt.forever() {}
+    fn pin(&self, _seat: &mut Listener) -> Result<(), PinFault> {
+        for _ in self.rt.forever() {}
         unreachable!()
     }
 
@@ -48,14 +50,14 @@ impl Versions for Numbers {
         None
     }
 
-    fn release<R: Wait>(&self, _rt: &R, seat: &mut Listener) -> Result<(), PinFault> {
+    fn release(&self, seat: &mut Listener) -> Result<(), PinFault> {
         seat.answers.note(&Answer::ReleaseRefused {
             fault: PinFault::NotPinned,
         });
         Err(PinFault::NotPinned)
     }
 
-    fn join<R: Wait>(&self, _rt: &R, seat: &mut Listener, notice: u64) {
+    fn join(&self, seat: &mut Listener, notice: u64) {
         if seat.seen < notice {
             seat.seen = notice;
         }
@@ -73,21 +75,26 @@ fn two_names(alloc: Global) -> Result<Vec<String>, AllocError> {
     Ok(names)
 }
 
-type Worker<'a> = WorkerOrders<'a, u64, Numbers>;
+type Worker<'a, R> = WorkerOrders<'a, R, u64, Numbers<'a, R>>;
 
 /// Two workers' ends of a queue and the loader's, while they are there.
 #[derive(Drop)]
-struct Ends<'a> {
-    workers: Vec<Worker<'a>>,
+struct Ends<'a, R: Wait> {
+    workers: Vec<Worker<'a, R>>,
     loader: Option<LoaderOrders<u64>>,
 }
 
 /// The ends of a new queue.
-fn new_ends(alloc: Global, names: &[String]) -> Result<Ends<'_>, AllocError> {
+fn new_ends<'a, R: Wait>(
+    alloc: Global,
+    names: &'a [String],
+    shelves: &'a Numbers<'a, R>,
+) -> Result<Ends<'a, R>, AllocError> {
+    let rt = shelves.rt;
     let (mut end, loader) = order_queue(alloc)?;
     let mut workers = Vec::with_capacity(alloc, 2)?;
-    workers.push(WorkerOrders::new(alloc, names, &Numbers, end.another()?))?;
-    workers.push(WorkerOrders::new(alloc, names, &Numbers, end))?;
+    workers.push(WorkerOrders::new(rt, alloc, names, shelves, end.another()?))?;
+    workers.push(WorkerOrders::new(rt, alloc, names, shelves, end))?;
     Ok(Ends {
         workers,
         loader: Some(loader),
@@ -95,11 +102,11 @@ fn new_ends(alloc: Global, names: &[String]) -> Result<Ends<'_>, AllocError> {
 }
 
 /// What an order is answered.
-fn order_words<R: Wait>(rt: &R, worker: &mut Worker<'_>, order: &str) -> &'static str {
+fn order_words<R: Wait>(worker: &mut Worker<'_, R>, order: &str) -> &'static str {
     let (word, feed) = order.split_once(' ').unwrap_or((order, ""));
     let answer = match word {
-        "awaits" => awaits(rt, worker, feed),
-        _ => worker.order(rt, feed),
+        "awaits" => awaits(worker, feed),
+        _ => worker.order(feed),
     };
     match answer {
         Ok(()) => "ok",
@@ -107,8 +114,8 @@ fn order_words<R: Wait>(rt: &R, worker: &mut Worker<'_>, order: &str) -> &'stati
     }
 }
 
-fn awaits<R: Wait>(rt: &R, worker: &mut Worker<'_>, feed: &str) -> Result<(), OrderFault> {
-    match worker.order_wait(rt, feed) {
+fn awaits<R: Wait>(worker: &mut Worker<'_, R>, feed: &str) -> Result<(), OrderFault> {
+    match worker.order_wait(feed) {
         Ok(_) => Ok(()),
         Err(fault) => Err(fault),
     }
@@ -124,7 +131,7 @@ fn next_words<R: Wait>(rt: &R, loader: &mut LoaderOrders<u64>) -> &'static str {
     }
 }
 
-impl<'a> Ends<'a> {
+impl<'a, R: Wait> Ends<'a, R> {
     /// Does what a line of a script says, and tells what is answered.
     ///
     /// | line | what is done |
@@ -133,7 +140,7 @@ impl<'a> Ends<'a> {
     /// | `one awaits FEED`, `other awaits FEED` | the worker orders it and waits |
     /// | `loader takes` | the loader takes an order: its feed |
     /// | `loader goes`, `workers go` | their ends are let go |
-    fn answer<R: Wait>(&mut self, rt: &R, deed: &str) -> &'static str {
+    fn answer(&mut self, rt: &R, deed: &str) -> &'static str {
         match deed {
             "loader goes" => {
                 self.loader = None;
@@ -144,36 +151,36 @@ impl<'a> Ends<'a> {
                 "gone"
             }
             "loader takes" => self.take(rt),
-            _ => self.order(rt, deed),
+            _ => self.order(deed),
         }
     }
 
-    fn take<R: Wait>(&mut self, rt: &R) -> &'static str {
+    fn take(&mut self, rt: &R) -> &'static str {
         match &mut self.loader {
             Some(loader) => next_words(rt, loader),
             None => "no loader",
         }
     }
 
-    fn order<R: Wait>(&mut self, rt: &R, deed: &str) -> &'static str {
+    fn order(&mut self, deed: &str) -> &'static str {
         let (who, order) = deed.split_once(' ').unwrap_or((deed, ""));
         let place = match who {
             "one" => 0,
             _ => 1,
         };
         match self.workers.get_mut(place) {
-            Some(worker) => order_words(rt, worker, order),
+            Some(worker) => order_words(worker, order),
             None => "no worker",
         }
     }
 }
 
-fn play_line<R: Wait + Abort>(rt: &R, ends: &mut Ends<'_>, line: &str) {
+fn play_line<R: Wait + Abort>(rt: &R, ends: &mut Ends<'_, R>, line: &str) {
     let (deed, expected) = line.split_once(": ").unwrap_or((line, ""));
     assert_eq!(rt; ends.answer(rt, deed), expected, "{line}");
 }
 
-fn play<R: Wait + Abort>(rt: &R, ends: &mut Ends<'_>, script: &str) {
+fn play<R: Wait + Abort>(rt: &R, ends: &mut Ends<'_, R>, script: &str) {
     for line in script.split('\n') {
         play_line(rt, ends, line);
     }
@@ -220,7 +227,8 @@ fn play_at_new_ends<R: Wait + Abort>(
     names: &[String],
     script: &str,
 ) -> Result<(), Fail> {
-    let mut ends = new_ends(alloc, names)?;
+    let shelves = Numbers { rt };
+    let mut ends = new_ends(alloc, names, &shelves)?;
     play(rt, &mut ends, script);
     Ok(())
 }
@@ -242,27 +250,28 @@ fn answer_next<R: Wait>(
 /// What whoever waits for the feed `fast` is told, where the loader answers so; and which feed the loader was told.
 fn told<R: Threads + Wait + Sync>(
     rt: &R,
-    worker: &mut Worker<'_>,
+    worker: &mut Worker<'_, R>,
     loader: LoaderOrders<u64>,
     answer: Option<LoadAnswer<u64>>,
 ) -> (Result<(u64, u64), OrderFault>, Option<usize>) {
     thread::join(
         rt,
-        || worker.order_wait(rt, "fast"),
+        || worker.order_wait("fast"),
         move || -> Option<usize> { answer_next(rt, loader, answer) },
     )
 }
 
 /// Asserts what is told of the load where the loader answers so, and that the loader was told of the feed `fast`.
-fn tells<R: Threads + Wait + Sync + Abort>(
-    rt: &R,
+fn tells<'a, R: Threads + Wait + Sync + Abort>(
     alloc: Global,
-    names: &[String],
+    names: &'a [String],
+    shelves: &'a Numbers<'a, R>,
     answer: Option<LoadAnswer<u64>>,
     expected: Result<(u64, u64), OrderFault>,
 ) -> Result<(), Fail> {
+    let rt = shelves.rt;
     let (end, loader) = order_queue(alloc)?;
-    let mut worker = WorkerOrders::new(alloc, names, &Numbers, end);
+    let mut worker = WorkerOrders::new(rt, alloc, names, shelves, end);
     let (version, feed) = told(rt, &mut worker, loader, answer);
     assert_eq!(rt; version, expected);
     assert_eq!(rt; feed, Some(1));
@@ -274,14 +283,21 @@ fn each_answer<R: Threads + Wait + Sync + Abort>(
     alloc: Global,
     names: &[String],
 ) -> Result<(), Fail> {
+    let shelves = Numbers { rt };
     let published = LoadAnswer::Published { notice: 7 };
-    tells(rt, alloc, names, Some(published), Ok((7, 7)))?;
+    tells(alloc, names, &shelves, Some(published), Ok((7, 7)))?;
     let unnoticed = Err(OrderFault::OutOfMemory);
-    tells(rt, alloc, names, Some(LoadAnswer::Unnoticed), unnoticed)?;
+    tells(
+        alloc,
+        names,
+        &shelves,
+        Some(LoadAnswer::Unnoticed),
+        unnoticed,
+    )?;
     let refused = LoadAnswer::Refused { refusal: 101 };
     let fault = OrderFault::LoadRefused { refusal: 101 };
-    tells(rt, alloc, names, Some(refused), Err(fault))?;
-    tells(rt, alloc, names, None, Err(OrderFault::LoaderGone))
+    tells(alloc, names, &shelves, Some(refused), Err(fault))?;
+    tells(alloc, names, &shelves, None, Err(OrderFault::LoaderGone))
 }
 
 /// Each answer of the loader reaches whoever waits for it; where none came, the loader is gone.
@@ -313,7 +329,7 @@ loader takes: nothing";
 
 /// An order for which its worker would wait isn't put: the queue is full, or there was no memory
 /// for a way back. Neither changes the queue.
-fn awaits_at_a_full_queue<R: Wait + Abort>(rt: &R, ends: &mut Ends<'_>) -> Result<(), Fail> {
+fn awaits_at_a_full_queue<R: Wait + Abort>(rt: &R, ends: &mut Ends<'_, R>) -> Result<(), Fail> {
     play(rt, ends, FILLED);
     let answer = ends.answer(rt, "other awaits slow");
     play(rt, ends, STILL_FILLED);
@@ -329,6 +345,7 @@ fn awaits_at_a_full_queue<R: Wait + Abort>(rt: &R, ends: &mut Ends<'_>) -> Resul
 #[test]
 fn refused_growth_makes_no_queue(rt: HostRuntime) -> Result<(), Fail> {
     let names = two_names(rt.alloc())?;
-    let mut ends = new_ends(rt.alloc(), &names)?;
+    let shelves = Numbers { rt: &rt };
+    let mut ends = new_ends(rt.alloc(), &names, &shelves)?;
     awaits_at_a_full_queue(&rt, &mut ends)
 }

@@ -1,5 +1,8 @@
 //! Clients over memory, served by threads.
 
+mod holding;
+mod spending;
+
 ghost use Rattle.std.specs.Prelude.{◌≡◌, ◌≤◌, [], All, length, IfOk};
 
 use epochs::{PublishFault, ShelfLoader, ShelfSeat, Shelves};
@@ -464,7 +467,7 @@ fn scans_meet<R: Threads + Wait + Sync + Clock + Abort>(
 fn two_scans_at_once(rt: HostRuntime) -> Result<(), Fail> {
     let alloc: Global = rt.alloc();
     assert!(&rt; scans_meet(&rt, alloc, true, 10_000)?);
-    assert!(&rt; !scans_meet(&rt, alloc, false, 200)?);
+    assert!(&rt; !scans_meet(&rt, alloc, false, 10_000)?);
     Ok(())
 }
 

@@ -3,7 +3,7 @@ use Rattle.std.proofs.Common.{◌≡◌, ◌∙◌, ◌+◌, ◌++◌, ◌∷◌
 use Rattle.std.proofs.lemmas.List.{append_assoc, append-nil, length-append, map-append}
 use Rattle.epochs.specs.Seats.{SeatValue}
 use Rattle.shelf_steps.specs.declared.views.Known.{Known}
-use Rattle.session.specs.declared.point_form.PointForm.{PointForm}
+use Rattle.answer_replies.specs.declared.point_form.PointForm.{PointForm}
 use Rattle.workers.specs.Ends.{Session}
 use Rattle.workers.specs.Sessions.{AreAllServed, AreShares, IsShare}
 use Rattle.std.specs.Prelude.{IsPermutation, flat_map}

@@ -122,7 +122,7 @@ impl<'a, R: Wait, N: Drop, T: Versions<Notice = N> + Loads, F: Feeds> Loading<'a
             × FailedAsTold F.Files.failures F.Files.failed files files_then result }
     {
         match self.feeds.plan(self.alloc) {
-            Ok(plan) => load_one(self.rt, self.alloc, &mut files, &plan, self.shelves, seat),
+            Ok(plan) => load_one(self.alloc, &mut files, &plan, self.shelves, seat),
             Err(AllocError) => Err(LoadRefusal::Load(LoadFault::Day(DayFault::OutOfMemory))),
         }
     }

@@ -15,7 +15,7 @@ use epochs::{Loads, PublishFault, Versions};
 use feed_loader::{FeedFiles, Plan, Report, load};
 use image_verifier::Verified;
 use std::alloc::Global;
-use std::sync::{Arc, Wait};
+use std::sync::Arc;
 
 /// The version that a load published, and the counts of its image.
 #[derive(Clone, Copy, Debug, PartialEq, Eq)]
@@ -26,8 +26,7 @@ pub struct Loaded {
 
 /// Loads a feed and publishes its image as the next version, which is told with a notice of it,
 /// where there was memory for one; then shelves that nobody needs are freed.
-pub fn load_one<R: Wait, F: FeedFiles, N, T: Versions<Notice = N> + Loads>(
-    rt: &R,
+pub fn load_one<F: FeedFiles, N, T: Versions<Notice = N> + Loads>(
     alloc: Global,
     files: &mut F,
     plan: &Plan,
@@ -46,7 +45,7 @@ pub fn load_one<R: Wait, F: FeedFiles, N, T: Versions<Notice = N> + Loads>(
         (T.Loads.answers loader.old) result (T.Loads.answers loader.new) }
 {
     match shared_image(alloc, files, plan) {
-        Ok((image, report)) => match publish_image(rt, shelves, loader, image) {
+        Ok((image, report)) => match publish_image(shelves, loader, image) {
             Ok((version, notice)) => Ok((Loaded { version, report }, notice)),
             Err(fault) => Err(LoadRefusal::Publish(fault)),
         },
@@ -85,8 +84,7 @@ fn shared_image<F: FeedFiles>(
 }
 
 // Publishes the image, and then frees the shelves that nobody needs.
-fn publish_image<R: Wait, N, T: Versions<Notice = N> + Loads>(
-    rt: &R,
+fn publish_image<N, T: Versions<Notice = N> + Loads>(
     shelves: &T,
     loader: &mut T::Loader,
     image: Arc<Verified, Global>,
@@ -98,9 +96,9 @@ fn publish_image<R: Wait, N, T: Versions<Notice = N> + Loads>(
         (λ fault. RefuseStep (T.Loads.answers loader.old) fault (T.Loads.answers loader.new)) }
     ensures notice { IfOk result (λ loaded. IfSome loaded.1 (λ notice. T.Versions.noted notice ≡ loaded.0)) }
 {
-    match shelves.publish(rt, loader, image) {
+    match shelves.publish(loader, image) {
         Ok(loaded) => {
-            shelves.collect(rt, loader);
+            shelves.collect(loader);
             Ok(loaded)
         }
         Err((_, fault)) => Err(fault),

@@ -161,14 +161,13 @@ where
                             result.taker.taken result.served result.seat }
                     {
                         let desk = Desk {
-                            rt,
                             alloc,
                             shelves,
                             gate,
                             form,
                         };
-                        let orders = WorkerOrders::new(alloc, feeds.names(), shelves, end);
-                        Worker { desk }.work(taker, seat, orders, nobody_yet).0
+                        let orders = WorkerOrders::new(rt, alloc, feeds.names(), shelves, end);
+                        Worker { rt, desk }.work(taker, seat, orders, nobody_yet).0
                     },
                 );
                 let Ok(worker) = begun else {

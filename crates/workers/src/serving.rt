@@ -19,7 +19,8 @@ use std::sync::Wait;
 /// A worker, who serves clients from a desk.
 #[derive(Drop)]
 pub struct Worker<'a, R, T, G> {
-    pub desk: Desk<'a, R, T, G>,
+    pub rt: &'a R,
+    pub desk: Desk<'a, T, G>,
 }
 
 impl<'a, R: Wait, N: Drop, T: Versions<Notice = N>, G: Gate> Worker<'a, R, T, G> {
@@ -81,8 +82,8 @@ impl<'a, R: Wait, N: Drop, T: Versions<Notice = N>, G: Gate> Worker<'a, R, T, G>
             T.known
             result.0.taker.taken result.0.served seat (O.asked orders) result.0.seat (O.asked result.1) }
     {
-        for _ in self.desk.rt.forever() {
-            match taker.next(self.desk.rt) {
+        for _ in self.rt.forever() {
+            match taker.next(self.rt) {
                 Some(client) => {
                     let (streams, end) = self.serve_client(
                         client,

@@ -6,9 +6,10 @@ ghost use Rattle.image_layout.specs.Shown.{name_of};
 
 use image_layout::layout::{FIRST_LAYOUT, LAYOUT, MAGIC, is_layout};
 use image_layout::*;
-use std::alloc::AllocError;
+use std::alloc::{AllocError, Global};
+use std::process::Abort;
 use std::test::*;
-use timetable::Connection;
+use timetable::{Connection, Names, Timetable};
 
 // The words of a small image in a layout, with what it has of repeats before the text.
 macro_rules! words_in {
@@ -221,64 +222,76 @@ fn sections_stand_in_their_order(rt: HostRuntime) {
     assert!(rt; sections(&header) == [27, 30, 38, 43, 45, 47, 50]);
 }
 
-/// Bytes of the sample's front give its words; others, and want of memory, are told.
+/// What bytes give: the number of words, if they begin the sample; or the number of the fault.
+fn given(alloc: Global, bytes: &[u8]) -> Result<usize, u8> {
+    match Words::from_bytes(alloc, bytes) {
+        Ok(words) => {
+            if sample_words().starts_with(&words) {
+                Ok(words.len())
+            } else {
+                Err(0)
+            }
+        }
+        Err(fault) => Err(fault.number()),
+    }
+}
+
+/// Bytes of the sample's front give its words, and others are refused.
+fn assert_given(rt: &impl Abort, alloc: Global, bytes: &[u8]) {
+    assert!(rt; bytes.len() == 188);
+    assert!(rt; bytes.starts_with(b"CSAP\x01\x00\x00\x00"));
+    for (size, wanted) in [(0, Ok(0)), (184, Ok(46)), (187, Err(51)), (188, Ok(47))] {
+        assert_eq!(rt; given(alloc, &bytes[..size]), wanted, "{size} bytes");
+    }
+}
+
 #[test]
 fn bytes_and_back(rt: HostRuntime) -> Result<(), Fail> {
-    let sample = sample_words();
-    let bytes = Words::to_bytes(rt.alloc(), &sample)?;
-    assert_eq!(rt; bytes.len(), 188);
-    assert_eq!(rt; &bytes[..8], b"CSAP\x01\x00\x00\x00".as_slice());
-    for (size, wanted) in [(0, Some(0)), (184, Some(46)), (187, None), (188, Some(47))] {
-        match (Words::from_bytes(rt.alloc(), &bytes[..size]), wanted) {
-            (Ok(words), Some(count)) => assert_eq!(rt; words.as_slice(), &sample[..count]),
-            (Err(WordsFault::OddLength), None) => {}
-            (Err(WordsFault::OutOfMemory), Some(_)) => return Err("out of memory".into()),
-            (_, _) => return Err("another answer".into()),
-        }
-    }
+    let bytes = Words::to_bytes(rt.alloc(), &sample_words())?;
+    assert_given(&rt, rt.alloc(), &bytes);
     Ok(())
 }
 
+/// How many connections, footpaths, stops and trips a timetable has, and how many stops and trips have names.
+fn counts(timetable: &Timetable, names: &Names) -> [usize; 6] {
+    [
+        timetable.connections.len(),
+        timetable.footpaths.len(),
+        timetable.stops as usize,
+        timetable.trips as usize,
+        names.stops.len(),
+        names.trips.len(),
+    ]
+}
+
 #[test]
-fn sample_is_given(rt: HostRuntime) -> Result<(), Fail> {
+fn sample_is_given(rt: HostRuntime) -> Result<(), AllocError> {
     let timetable = sample_timetable(rt.alloc())?;
     let names = sample_names(rt.alloc())?;
-    assert_eq!(rt; timetable.connections.len(), 3);
-    assert_eq!(rt; timetable.footpaths.len(), 3);
-    assert_eq!(rt; names.stops.len(), timetable.stops as usize);
-    assert_eq!(rt; names.trips.len(), timetable.trips as usize);
+    assert!(rt; counts(&timetable, &names) == [3, 3, 3, 2, 3, 2]);
     Ok(())
 }
 
 #[test]
-fn faults_have_numbers_names_and_messages(rt: HostRuntime) -> Result<(), Fail> {
-    for (fault, number, name) in [
-        (WordsFault::OddLength, 51, "OddLength"),
-        (WordsFault::OutOfMemory, 52, "OutOfMemory"),
-    ] {
-        assert_eq!(rt; fault.number(), number);
-        assert_eq!(rt; fault.name(), name);
-    }
-    let message = format!(in rt.alloc(); "{}", WordsFault::OddLength)?;
-    assert_eq!(rt;
-        message.as_str(),
-        "the number of bytes is not a multiple of four"
-    );
+fn faults_have_numbers_names_and_messages(rt: HostRuntime) -> Result<(), AllocError> {
+    let odd = WordsFault::OddLength;
+    assert!(rt; odd.number() == 51 && odd.name() == "OddLength");
+    let wanting = WordsFault::OutOfMemory;
+    assert!(rt; wanting.number() == 52 && wanting.name() == "OutOfMemory");
+    let message = format!(in rt.alloc(); "{odd}")?;
+    assert!(rt; message.as_str() == "the number of bytes is not a multiple of four");
     Ok(())
 }
 
 /// Whichever growth is refused, want of memory is told, and else the words come back. A refused
 /// growth ends the test with `AllocError`.
 #[test]
-fn refused_growth_is_told(rt: HostRuntime) -> Result<(), Fail> {
-    let sample = sample_words();
-    let bytes = Words::to_bytes(rt.alloc(), &sample)?;
-    match Words::from_bytes(rt.alloc(), &bytes) {
-        Ok(words) => assert_eq!(rt; words.as_slice(), sample.as_slice()),
-        Err(fault) => {
-            assert_eq!(rt; fault, WordsFault::OutOfMemory);
-            return Err(AllocError.into());
-        }
+fn refused_growth_is_told(rt: HostRuntime) -> Result<(), AllocError> {
+    let bytes = Words::to_bytes(rt.alloc(), &sample_words())?;
+    let told = given(rt.alloc(), &bytes);
+    if told == Err(WordsFault::OutOfMemory.number()) {
+        return Err(AllocError);
     }
+    assert_eq!(rt; told, Ok(47));
     Ok(())
 }

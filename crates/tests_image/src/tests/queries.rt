@@ -13,26 +13,30 @@ fn query(words: [u32; 5]) -> Query {
     }
 }
 
+/// The greatest time of a query.
+const LAST: u32 = 1_999_999_999;
+
+/// Queries, and what is found of each over three stops.
+const QUERIES: [([u32; 5], Result<(), QueryFault>); 13] = [
+    ([0, 2, 28_800, 32_400, 36_000], Ok(())),
+    ([0, 2, 28_800, 28_800, 28_800], Ok(())),
+    ([0, 2, LAST, LAST, LAST], Ok(())),
+    ([3, 2, 28_800, 32_400, 36_000], Err(QueryFault::UnknownStop)),
+    ([0, 3, 28_800, 32_400, 36_000], Err(QueryFault::UnknownStop)),
+    ([3, 3, 28_800, 32_400, 36_000], Err(QueryFault::UnknownStop)),
+    ([3, 2, 28_800, 0, 36_000], Err(QueryFault::UnknownStop)),
+    ([2, 2, 28_800, 32_400, 36_000], Err(QueryFault::SameStop)),
+    ([2, 2, 28_800, 0, 36_000], Err(QueryFault::SameStop)),
+    ([0, 2, 28_800, 28_799, 36_000], Err(QueryFault::BadWindow)),
+    ([0, 2, 28_800, 32_400, 28_799], Err(QueryFault::BadWindow)),
+    ([0, 2, 28_800, LAST + 1, 36_000], Err(QueryFault::BadWindow)),
+    ([0, 2, 28_800, 32_400, LAST + 1], Err(QueryFault::BadWindow)),
+];
+
 #[test]
 fn queries_are_checked(rt: HostRuntime) {
-    let last = 1_999_999_999;
-    let queries = [
-        ([0, 2, 28_800, 32_400, 36_000], Ok(())),
-        ([0, 2, 28_800, 28_800, 28_800], Ok(())),
-        ([0, 2, last, last, last], Ok(())),
-        ([3, 2, 28_800, 32_400, 36_000], Err(QueryFault::UnknownStop)),
-        ([0, 3, 28_800, 32_400, 36_000], Err(QueryFault::UnknownStop)),
-        ([3, 3, 28_800, 32_400, 36_000], Err(QueryFault::UnknownStop)),
-        ([3, 2, 28_800, 0, 36_000], Err(QueryFault::UnknownStop)),
-        ([2, 2, 28_800, 32_400, 36_000], Err(QueryFault::SameStop)),
-        ([2, 2, 28_800, 0, 36_000], Err(QueryFault::SameStop)),
-        ([0, 2, 28_800, 28_799, 36_000], Err(QueryFault::BadWindow)),
-        ([0, 2, 28_800, 32_400, 28_799], Err(QueryFault::BadWindow)),
-        ([0, 2, 28_800, last + 1, 36_000], Err(QueryFault::BadWindow)),
-        ([0, 2, 28_800, 32_400, last + 1], Err(QueryFault::BadWindow)),
-    ];
-    for (words, answer) in queries {
-        assert_eq!(rt; query(words).check(3), answer);
+    for (words, answer) in QUERIES.iter() {
+        assert_eq!(rt; query(*words).check(3), *answer);
     }
 }
 
@@ -43,7 +47,6 @@ fn faults_have_numbers_and_names(rt: HostRuntime) {
         (QueryFault::SameStop, 32, "SameStop"),
         (QueryFault::BadWindow, 33, "BadWindow"),
     ] {
-        assert_eq!(rt; fault.number(), number);
-        assert_eq!(rt; fault.name(), name);
+        assert!(rt; fault.number() == number && fault.name() == name, "{name}");
     }
 }

@@ -1,11 +1,12 @@
 //! Words that are images, and the first fault of others.
 
+ghost use Rattle.std.specs.Prelude.{◌<◌, ◌+◌};
+
 use image_layout::{sample_words, second_sample_words};
 use image_verifier::*;
 use std::alloc::{AllocError, Global};
 use std::process::Abort;
-use std::test::*;
-use timetable::{Connection, Footpath, Timetable, TripName};
+use timetable::{Connection, Footpath, Names, Timetable, TripName};
 
 /// Four stops, three trips and four connections, flagged 1, 2, 3 and 0, an hour before 1970. Stops
 /// 0 and 2 are both called Ham, stop 1 and trip 1 have empty names.
@@ -42,27 +43,27 @@ fn connection(
     }
 }
 
-fn image(alloc: Global, words: &[u32]) -> Result<Verified, Fail> {
-    let image = verify(alloc, words.to_vec(alloc)?)
-        .ok()
-        .ok_or("the words are an image")?;
-    Ok(image)
+/// The image that the words are: a refusal is told as want of memory, for no other can come.
+fn image(alloc: Global, words: &[u32]) -> Result<Verified, AllocError> {
+    match verify(alloc, words.to_vec(alloc)?) {
+        Ok(image) => Ok(image),
+        Err(_) => Err(AllocError),
+    }
+}
+
+fn assert_sample<R: Abort>(rt: &R, image: &Verified) {
+    assert!(rt; image.stops() == 3 && image.trips() == 2);
+    assert!(rt; image.len() == 3);
+    assert!(rt; image.footpath_count() == 3 && image.base() == 1705276800);
+    let last = connection((1, 2), (29520, 30000), 1, true, true);
+    assert!(rt; image.connection(2) == last);
+    assert!(rt; image.find(b"C") == Some(2));
+    assert!(rt; image.words() == sample_words().as_slice());
 }
 
 #[test]
-fn sample_is_an_image(rt: HostRuntime) -> Result<(), Fail> {
-    let image = image(rt.alloc(), &sample_words())?;
-    assert_eq!(rt; image.stops(), 3);
-    assert_eq!(rt; image.trips(), 2);
-    assert_eq!(rt; image.len(), 3);
-    assert_eq!(rt; image.footpath_count(), 3);
-    assert_eq!(rt; image.base(), 1705276800);
-    assert_eq!(rt;
-        image.connection(2),
-        connection((1, 2), (29520, 30000), 1, true, true)
-    );
-    assert_eq!(rt; image.find(b"C"), Some(2));
-    assert_eq!(rt; image.words(), sample_words().as_slice());
+fn sample_is_an_image(rt: HostRuntime) -> Result<(), AllocError> {
+    assert_sample(&rt, &image(rt.alloc(), &sample_words())?);
     Ok(())
 }
 
@@ -84,20 +85,26 @@ fn assert_counts<R: Abort>(rt: &R, image: &Verified) {
     assert!(rt; image.words() == EARLY.as_slice());
 }
 
-#[test]
-fn first_departures_are_found(rt: HostRuntime) -> Result<(), Fail> {
-    let image = image(rt.alloc(), &EARLY)?;
-    for (time, first) in [
-        (0, 0),
-        (100, 0),
-        (101, 2),
-        (160, 2),
-        (161, 3),
-        (300, 3),
-        (301, 4),
-    ] {
-        assert_eq!(rt; image.first_at(time), first, "at {time}");
+/// Times, and the first connection that departs then or later.
+const DEPARTURES: [(u32, usize); 7] = [
+    (0, 0),
+    (100, 0),
+    (101, 2),
+    (160, 2),
+    (161, 3),
+    (300, 3),
+    (301, 4),
+];
+
+fn assert_departures<R: Abort>(rt: &R, image: &Verified) {
+    for (time, first) in DEPARTURES.iter() {
+        assert!(rt; image.first_at(*time) == *first, "at {time}");
     }
+}
+
+#[test]
+fn first_departures_are_found(rt: HostRuntime) -> Result<(), AllocError> {
+    assert_departures(&rt, &image(rt.alloc(), &EARLY)?);
     Ok(())
 }
 
@@ -125,7 +132,7 @@ fn assert_walks<R: Abort>(rt: &R, image: &Verified) {
 }
 
 #[test]
-fn a_timetable_is_read_back(rt: HostRuntime) -> Result<(), Fail> {
+fn a_timetable_is_read_back(rt: HostRuntime) -> Result<(), AllocError> {
     let image = image(rt.alloc(), &EARLY)?;
     assert_counts(&rt, &image);
     assert_connections(&rt, &image);
@@ -134,88 +141,126 @@ fn a_timetable_is_read_back(rt: HostRuntime) -> Result<(), Fail> {
     Ok(())
 }
 
-#[test]
-fn footpaths_of_a_stop_are_those_at_their_places(rt: HostRuntime) -> Result<(), Fail> {
-    let image = image(rt.alloc(), &EARLY)?;
-    let stops = image.stops() as usize;
-    for stop in 0..stops {
+fn assert_footpaths_into<R: Abort>(rt: &R, image: &Verified) {
+    for stop in 0..image.stops() as usize {
         let (start, end) = image.walks_into(stop);
         for place in start..end {
-            assert_eq!(rt; image.footpath_into(stop, place), image.footpath(place));
+            assert!(rt;
+                image.footpath_into(stop, place) == image.footpath(place),
+                "into {stop}"
+            );
         }
     }
-    Ok(())
 }
 
 #[test]
-fn names_are_read_back(rt: HostRuntime) -> Result<(), Fail> {
-    let image = image(rt.alloc(), &EARLY)?;
-    assert_eq!(rt; image.stops(), 4);
-    assert_eq!(rt; image.trips(), 3);
-    for (name, len) in [3, 0, 3, 10, 2, 0, 3].iter().enumerate() {
-        assert_eq!(rt; image.name_len(name), *len, "name {name}");
+fn footpaths_of_a_stop_are_those_at_their_places(rt: HostRuntime) -> Result<(), AllocError> {
+    assert_footpaths_into(&rt, &image(rt.alloc(), &EARLY)?);
+    Ok(())
+}
+
+/// Whether a name has these bytes.
+fn is_named(image: &Verified, name: usize, text: &str) -> bool
+    requires { name < image.now.timetable.stops + image.now.timetable.trips }
+{
+    if image.name_len(name) != text.len() {
+        return false;
     }
-    for (byte, expected) in b"Zug am See".iter().enumerate() {
-        assert!(rt; byte < image.name_len(3));
-        assert_eq!(rt; image.name_byte(3, byte), *expected, "byte {byte}");
+    for (byte, expected) in text.as_bytes().iter().enumerate() {
+        if byte >= image.name_len(name) || image.name_byte(name, byte) != *expected {
+            return false;
+        }
     }
-    assert!(rt; 2 < image.name_len(6));
-    assert_eq!(rt; image.name_byte(6, 2), b'2');
+    true
+}
+
+/// The names of four stops, then those of three trips.
+const NAMES: [&str; 7] = ["Ham", "", "Ham", "Zug am See", "R1", "", "R22"];
+
+fn assert_names<R: Abort>(rt: &R, image: &Verified) {
+    assert!(rt; image.stops() == 4);
+    assert!(rt; image.trips() == 3);
+    for (name, text) in NAMES.iter().enumerate() {
+        assert!(rt; is_named(image, name, text), "name {name}");
+    }
+}
+
+#[test]
+fn names_are_read_back(rt: HostRuntime) -> Result<(), AllocError> {
+    assert_names(&rt, &image(rt.alloc(), &EARLY)?);
+    Ok(())
+}
+
+/// Names, and the least stop of each. A trip is no stop.
+const FOUND: [(&str, Option<u32>); 6] = [
+    ("Ham", Some(0)),
+    ("", Some(1)),
+    ("Zug am See", Some(3)),
+    ("Zug", None),
+    ("Zug am Bee", None),
+    ("R1", None),
+];
+
+fn assert_found<R: Abort>(rt: &R, image: &Verified) {
+    for (name, stop) in FOUND.iter() {
+        assert!(rt; image.find(name.as_bytes()) == *stop, "{name}");
+    }
+}
+
+#[test]
+fn least_stop_of_a_name_is_found(rt: HostRuntime) -> Result<(), AllocError> {
+    assert_found(&rt, &image(rt.alloc(), &EARLY)?);
+    Ok(())
+}
+
+/// Three stops, their loops, and nothing that runs.
+const NO_TRIPS: [u32; 24] = [
+    0x50415343, 1, 3, 0, 0, 3, 3, 1705276800, 0, 0, 1, 2, 3, 0, 0, 1, 0, 2, 0, 0, 1, 2, 3,
+    0x00434241,
+];
+
+fn is_without_trips(image: &Verified) -> bool {
+    image.trips() == 0 && image.len() == 0 && image.first_at(0) == 0 && image.find(b"B") == Some(1)
+}
+
+#[test]
+fn image_without_trips(rt: HostRuntime) -> Result<(), AllocError> {
+    assert!(rt; is_without_trips(&image(rt.alloc(), &NO_TRIPS)?));
     Ok(())
 }
 
 #[test]
-fn least_stop_of_a_name_is_found(rt: HostRuntime) -> Result<(), Fail> {
-    let image = image(rt.alloc(), &EARLY)?;
-    assert_eq!(rt; image.find(b"Ham"), Some(0));
-    assert_eq!(rt; image.find(b""), Some(1));
-    assert_eq!(rt; image.find(b"Zug am See"), Some(3));
-    assert_eq!(rt; image.find(b"Zug"), None);
-    assert_eq!(rt; image.find(b"Zug am Bee"), None);
-    assert_eq!(rt; image.find(b"R1"), None, "a trip is no stop");
-    Ok(())
-}
-
-#[test]
-fn image_without_trips(rt: HostRuntime) -> Result<(), Fail> {
-    let words = [
-        0x50415343, 1, 3, 0, 0, 3, 3, 1705276800, 0, 0, 1, 2, 3, 0, 0, 1, 0, 2, 0, 0, 1, 2, 3,
-        0x00434241,
-    ];
-    let image = image(rt.alloc(), &words)?;
-    assert_eq!(rt; image.trips(), 0);
-    assert_eq!(rt; image.len(), 0);
-    assert_eq!(rt; image.first_at(0), 0);
-    assert_eq!(rt; image.find(b"B"), Some(1));
-    Ok(())
-}
-
-#[test]
-fn a_fault_has_a_number_a_name_and_a_message(rt: HostRuntime) -> Result<(), Fail> {
-    assert_eq!(rt; ImageFault::TimeRange(0).number(), 69);
-    assert_eq!(rt; ImageFault::TimeRange(0).name(), "TimeRange");
+fn a_fault_has_a_number_a_name_and_a_message(rt: HostRuntime) -> Result<(), AllocError> {
+    let fault = ImageFault::TimeRange(0);
+    assert!(rt; fault.number() == 69 && fault.name() == "TimeRange");
     let message = format!(in rt.alloc(); "{}", ImageFault::NotClosed(0, 1, 2))?;
-    assert_eq!(rt;
-        message.as_str(),
-        "no footpath from stop 0 to stop 2 is as short as those by way of stop 1"
+    assert!(rt;
+        message.as_str()
+            == "no footpath from stop 0 to stop 2 is as short as those by way of stop 1"
     );
     Ok(())
+}
+
+/// Whether an image has the sample's words, or they came back; and with which fault.
+fn judged(answer: Result<Verified, (Vec<u32>, ImageFault)>) -> (bool, Option<ImageFault>) {
+    match answer {
+        Ok(image) => (image.words() == sample_words().as_slice(), None),
+        Err((words, fault)) => (words.as_slice() == sample_words().as_slice(), Some(fault)),
+    }
 }
 
 /// Whichever growth is refused, want of memory is told and nothing else, and the very same words
 /// come back. A refused growth ends the test with `AllocError`.
 #[test]
-fn refused_growth_gives_the_words_back(rt: HostRuntime) -> Result<(), Fail> {
+fn refused_growth_gives_the_words_back(rt: HostRuntime) -> Result<(), AllocError> {
     let words = sample_words().to_vec(rt.alloc())?;
-    match verify(rt.alloc(), words) {
-        Ok(image) => assert_eq!(rt; image.words(), sample_words().as_slice()),
-        Err((words, fault)) => {
-            assert_eq!(rt; words.as_slice(), sample_words().as_slice());
-            assert_eq!(rt; fault, ImageFault::OutOfMemory);
-            return Err(AllocError.into());
-        }
-    }
-    Ok(())
+    let (are_same, fault) = judged(verify(rt.alloc(), words));
+    assert!(rt; are_same);
+    let Some(fault) = fault else {
+        return Ok(());
+    };
+    assert!(rt; fault == ImageFault::OutOfMemory);
+    Err(AllocError)
 }
 
 /// What is asked of each of three trips: its day and its repeat.
@@ -229,18 +274,16 @@ fn assert_trips<R: Abort>(rt: &R, image: &Verified, trips: [(u32, u32); 3]) {
     }
 }
 
+fn assert_repeated<R: Abort>(rt: &R, image: &Verified) {
+    assert_trips(rt, image, [(20240115, 7), (0, 0), (4294967295, 4294967295)]);
+    assert!(rt; image.find(b"Ham") == Some(0) && image.words() == REPEATED.as_slice());
+}
+
 #[test]
-fn days_and_repeats_are_read_back(rt: HostRuntime) -> Result<(), Fail> {
-    let first = image(rt.alloc(), &EARLY)?;
-    assert_trips(&rt, &first, [(20240115, 0), (0, 0), (4294967295, 0)]);
-    let second = image(rt.alloc(), &REPEATED)?;
-    assert_trips(
-        &rt,
-        &second,
-        [(20240115, 7), (0, 0), (4294967295, 4294967295)],
-    );
-    assert_eq!(rt; second.find(b"Ham"), Some(0));
-    assert_eq!(rt; second.words(), REPEATED.as_slice());
+fn days_and_repeats_are_read_back(rt: HostRuntime) -> Result<(), AllocError> {
+    let first = [(20240115, 0), (0, 0), (4294967295, 0)];
+    assert_trips(&rt, &image(rt.alloc(), &EARLY)?, first);
+    assert_repeated(&rt, &image(rt.alloc(), &REPEATED)?);
     Ok(())
 }
 
@@ -274,29 +317,34 @@ fn assert_trip_names<R: Abort>(rt: &R, trips: &[TripName]) {
     }
 }
 
+fn assert_values<R: Abort>(rt: &R, image: &Verified, timetable: &Timetable, names: &Names) {
+    assert_timetable(rt, image, timetable);
+    assert!(rt; names.base == -3600);
+    assert_stop_names(rt, &names.stops);
+    assert_trip_names(rt, &names.trips);
+}
+
 /// An image comes out as values of their own.
 #[test]
-fn images_are_unpacked(rt: HostRuntime) -> Result<(), Fail> {
+fn images_are_unpacked(rt: HostRuntime) -> Result<(), AllocError> {
     let image = image(rt.alloc(), &REPEATED)?;
     let (timetable, names) = image.to_timetable(rt.alloc())?;
-    assert_timetable(&rt, &image, &timetable);
-    assert!(&rt; names.base == -3600);
-    assert_stop_names(&rt, &names.stops);
-    assert_trip_names(&rt, &names.trips);
+    assert_values(&rt, &image, &timetable, &names);
     Ok(())
+}
+
+/// How many connections come out of an image, and how many trips have names.
+fn unpacked(alloc: Global, image: &Verified) -> Result<(usize, usize), AllocError> {
+    let (timetable, names) = image.to_timetable(alloc)?;
+    Ok((timetable.connections.len(), names.trips.len()))
 }
 
 /// Whichever growth of the unpacking is refused, want of memory is told, and the image is as it was.
 #[test]
-fn refused_growth_of_unpacking_is_told(rt: HostRuntime) -> Result<(), Fail> {
-    let words = second_sample_words().to_vec(rt.alloc())?;
-    let Ok(image) = verify(rt.alloc(), words) else {
-        return Err(AllocError.into());
-    };
-    let unpacked = image.to_timetable(rt.alloc());
-    assert_eq!(rt; image.words(), second_sample_words().as_slice());
-    let (timetable, names) = unpacked?;
-    assert_eq!(rt; timetable.connections.len(), 3);
-    assert_eq!(rt; names.trips.len(), 2);
+fn refused_growth_of_unpacking_is_told(rt: HostRuntime) -> Result<(), AllocError> {
+    let image = image(rt.alloc(), &second_sample_words())?;
+    let counts = unpacked(rt.alloc(), &image);
+    assert!(rt; image.words() == second_sample_words().as_slice());
+    assert!(rt; counts? == (3, 2));
     Ok(())
 }

@@ -8,7 +8,6 @@ ghost use Rattle.image_layout.specs.Spelling.{text};
 use image_layout::{sample_names, sample_timetable, second_sample_words};
 use image_writer::*;
 use std::alloc::{AllocError, Global};
-use std::test::*;
 use timetable::{Footpath, Names, Timetable};
 
 /// The change time at a stop.
@@ -22,12 +21,16 @@ fn change(stop: u32, secs: u32) -> Footpath
     }
 }
 
+/// The words of the sample, written.
+fn written_sample(alloc: Global) -> Result<Vec<u32>, AllocError> {
+    let timetable = sample_timetable(alloc)?;
+    write(alloc, &timetable, &sample_names(alloc)?)
+}
+
 #[test]
-fn sample_is_written(rt: HostRuntime) -> Result<(), Fail> {
-    let timetable = sample_timetable(rt.alloc())?;
-    let names = sample_names(rt.alloc())?;
-    let words = write(rt.alloc(), &timetable, &names)?;
-    assert_eq!(rt; words.as_slice(), second_sample_words().as_slice());
+fn sample_is_written(rt: HostRuntime) -> Result<(), AllocError> {
+    let words = written_sample(rt.alloc())?;
+    assert!(rt; words.as_slice() == second_sample_words().as_slice());
     Ok(())
 }
 
@@ -45,16 +48,21 @@ fn empty(alloc: Global) -> Timetable
     }
 }
 
-#[test]
-fn empty_timetable_is_written(rt: HostRuntime) -> Result<(), Fail> {
-    let names = Names {
+/// Names of no stop and no trip.
+fn no_names(alloc: Global) -> Names
+    ensures { (length result.stops ≡ 0) × (length result.trips ≡ 0) × (length (text result) ≡ 0) }
+{
+    Names {
         base: 0,
-        stops: Vec::new(rt.alloc()),
-        trips: Vec::new(rt.alloc()),
-    };
-    let words = write(rt.alloc(), &empty(rt.alloc()), &names)?;
-    let wanted = [0x50415343, 2, 0, 0, 0, 0, 0, 0, 0, 0, 0];
-    assert_eq!(rt; words.as_slice(), wanted.as_slice());
+        stops: Vec::new(alloc),
+        trips: Vec::new(alloc),
+    }
+}
+
+#[test]
+fn empty_timetable_is_written(rt: HostRuntime) -> Result<(), AllocError> {
+    let words = write(rt.alloc(), &empty(rt.alloc()), &no_names(rt.alloc()))?;
+    assert!(rt; words.as_slice() == [0x50415343, 2, 0, 0, 0, 0, 0, 0, 0, 0, 0].as_slice());
     Ok(())
 }
 
@@ -87,30 +95,43 @@ fn one_name(alloc: Global, name: &str) -> Result<Names, AllocError>
     })
 }
 
-#[test]
-fn names_fill_words(rt: HostRuntime) -> Result<(), Fail> {
-    let timetable = one_stop(rt.alloc())?;
-    let table = [
-        ("", [].as_slice()),
-        ("A", [0x41].as_slice()),
-        ("AB", [0x4241].as_slice()),
-        ("ABC", [0x434241].as_slice()),
-        ("ABCD", [0x44434241].as_slice()),
-        ("ABCDE", [0x44434241, 0x45].as_slice()),
+/// The image of one stop under a name.
+fn written(alloc: Global, name: &str) -> Result<Vec<u32>, AllocError>
+    requires { length name.now ≤ 5 }
+{
+    let timetable = one_stop(alloc)?;
+    write(alloc, &timetable, &one_name(alloc, name)?)
+}
+
+/// Such an image with a name of so many bytes, which are these words.
+fn wanted(alloc: Global, bytes: u32, text: &[u32]) -> Result<Vec<u32>, AllocError> {
+    let front = [
+        0x50415343, 2, 1, 0, 0, 1, bytes, 4294880896, 4294967295, 0, 1, 0, 60, 0, bytes,
     ];
-    for (name, text) in table {
-        let bytes = name.len();
-        if bytes > 5 {
-            return Err("a longer name".into());
-        }
-        let bytes = bytes as u32;
-        let front = [
-            0x50415343, 2, 1, 0, 0, 1, bytes, 4294880896, 4294967295, 0, 1, 0, 60, 0, bytes,
-        ];
-        let mut wanted = front.to_vec(rt.alloc())?;
-        wanted.extend_from_slice(text)?;
-        let names = one_name(rt.alloc(), name)?;
-        assert_eq!(rt; write(rt.alloc(), &timetable, &names)?, wanted);
+    let mut words = front.to_vec(alloc)?;
+    words.extend_from_slice(text)?;
+    Ok(words)
+}
+
+/// Names of none to five bytes, and their words.
+const NAMES: [(&str, &[u32]); 6] = [
+    ("", &[]),
+    ("A", &[0x41]),
+    ("AB", &[0x4241]),
+    ("ABC", &[0x434241]),
+    ("ABCD", &[0x44434241]),
+    ("ABCDE", &[0x44434241, 0x45]),
+];
+
+#[test]
+fn names_fill_words(rt: HostRuntime) -> Result<(), AllocError> {
+    for (name, text) in NAMES.iter() {
+        assert!(rt; name.len() <= 5, "a longer name");
+        let words = written(rt.alloc(), name)?;
+        assert!(rt;
+            words == wanted(rt.alloc(), name.len() as u32, text)?,
+            "{name}"
+        );
     }
     Ok(())
 }
@@ -118,10 +139,7 @@ fn names_fill_words(rt: HostRuntime) -> Result<(), Fail> {
 /// Whichever growth is refused, want of memory is told, and else all words are there. A refused
 /// growth ends the test with `AllocError`.
 #[test]
-fn refused_growth_is_told(rt: HostRuntime) -> Result<(), Fail> {
-    let timetable = one_stop(rt.alloc())?;
-    let names = one_name(rt.alloc(), "Wels")?;
-    let words = write(rt.alloc(), &timetable, &names)?;
-    assert_eq!(rt; words.len(), 16);
+fn refused_growth_is_told(rt: HostRuntime) -> Result<(), AllocError> {
+    assert!(rt; written(rt.alloc(), "Wels")?.len() == 16);
     Ok(())
 }

@@ -1,6 +1,8 @@
 //! Worked queries from stop 0 to stop 2, over images read in place and decoded: points and journeys
 //! were worked out by hand, and each journey is judged again.
 
+mod rows;
+
 ghost use Rattle.std.specs.Prelude.{◌<◌, length};
 ghost use Rattle.profile_scan.specs.Found.{listed};
 

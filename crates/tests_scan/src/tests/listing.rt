@@ -31,6 +31,35 @@ fn take(
     lists.insert(head, departure, 7, 0, 0, &ridden)
 }
 
+// Takes two values in at once, after no walk.
+fn take_two(
+    lists: &mut FrontLists<ArrivalTrips>,
+    head: u32,
+    departure: u32,
+    first: TimeTrips,
+    second: TimeTrips,
+) -> Result<u32, AllocError>
+    requires sound { IsSound ⟦<ArrivalTrips as Criterion>⟧.rules lists.old }
+    requires head { head < length (entries_of lists.old) }
+    requires first { IsTime first.time }
+    requires second { IsTime second.time }
+    ensures sound { IsSound ⟦<ArrivalTrips as Criterion>⟧.rules lists.new }
+    ensures grows { length (entries_of lists.old) ≤ length (entries_of lists.new) }
+    ensures within { IfOk result (λ new. new < length (entries_of lists.new)) }
+{
+    let ridden = [
+        Ridden {
+            value: first,
+            label: 1,
+        },
+        Ridden {
+            value: second,
+            label: 2,
+        },
+    ];
+    lists.insert(head, departure, 7, 0, 0, &ridden)
+}
+
 // How many points the front from a time on has.
 fn count(lists: &FrontLists<ArrivalTrips>, head: u32, time: u32) -> usize
     requires sound { IsSound ⟦<ArrivalTrips as Criterion>⟧.rules lists.now }
@@ -54,6 +83,53 @@ fn a_list_stays_when_another_is_made_of_it(rt: HostRuntime) -> Result<(), AllocE
     assert_eq!(rt; count(&lists, all, 36_000), 2);
     assert_eq!(rt; count(&lists, all, 35_000), 3);
     assert_eq!(rt; count(&lists, all, 34_000), 3);
+    Ok(())
+}
+
+#[test]
+fn a_value_behind_earlier_points_is_compared_with_later_ones_alone(
+    rt: HostRuntime,
+) -> Result<(), AllocError> {
+    let mut lists = FrontLists::new(rt.alloc(), ArrivalTrips)?;
+    let late = take(&mut lists, 0, 36_000, 1, 40_000, 1)?;
+    let both = take(&mut lists, late, 34_000, 2, 39_000, 1)?;
+    let same = take(&mut lists, both, 35_000, 3, 40_000, 1)?;
+    assert_eq!(rt; same, both);
+    let more = take(&mut lists, both, 35_000, 4, 39_500, 1)?;
+    assert!(rt; more != both);
+    let front = lists.front_from(more, 35_000);
+    assert!(rt; lists.front_len(front) == 1);
+    assert_eq!(rt; lists.front_point(front, 0).value.time, 39_500);
+    assert_eq!(rt; count(&lists, more, 36_000), 1);
+    assert_eq!(rt; count(&lists, more, 34_000), 1);
+    Ok(())
+}
+
+#[test]
+fn two_values_come_at_once(rt: HostRuntime) -> Result<(), AllocError> {
+    let mut lists = FrontLists::new(rt.alloc(), ArrivalTrips)?;
+    let one = take(&mut lists, 0, 36_000, 5, 40_000, 1)?;
+    let early = TimeTrips {
+        time: 39_000,
+        trips: 2,
+    };
+    let direct = TimeTrips {
+        time: 41_000,
+        trips: 0,
+    };
+    let before = take_two(&mut lists, one, 35_000, early, direct)?;
+    assert_eq!(rt; count(&lists, before, 35_000), 3);
+    let earliest = TimeTrips {
+        time: 38_000,
+        trips: 3,
+    };
+    let worse = TimeTrips {
+        time: 42_000,
+        trips: 1,
+    };
+    let behind = take_two(&mut lists, before, 35_500, earliest, worse)?;
+    assert_eq!(rt; count(&lists, behind, 35_500), 2);
+    assert_eq!(rt; count(&lists, behind, 35_000), 4);
     Ok(())
 }
 

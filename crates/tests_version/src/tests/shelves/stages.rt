@@ -203,14 +203,13 @@ pub(crate) fn named_stage<B: Named>(
 }
 
 /// Publishes, and keeps the notice.
-fn publish_noted<B: Named, K, R: Wait>(
-    rt: &R,
+fn publish_noted<B: Named, K>(
     shelves: &NamedShelves<B, K>,
     loader: &mut NamedLoader<B>,
     image: Arc<Verified, Global>,
     notices: &mut Vec<NamedNotice<B>>,
 ) -> Result<Result<u64, (Arc<Verified, Global>, PublishFault)>, AllocError> {
-    match shelves.publish(rt, loader, image) {
+    match shelves.publish(loader, image) {
         Ok((version, notice)) => {
             if let Some(notice) = notice {
                 notices.push(notice)?;
@@ -226,42 +225,36 @@ impl<B: Named, K> Stage for NamedStage<B, K> {
         self.alloc
     }
 
-    fn call<R: Wait>(&mut self, rt: &R, deed: Deed, seat: usize) -> Result<String, AllocError> {
+    fn call<R: Wait>(&mut self, _rt: &R, deed: Deed, seat: usize) -> Result<String, AllocError> {
         let answer = match (self.seats.get_mut(seat), deed) {
-            (Some(seat), Deed::Pin) => self.shelves.pin(rt, seat),
-            (Some(seat), Deed::Release) => self.shelves.release(rt, seat),
+            (Some(seat), Deed::Pin) => self.shelves.pin(seat),
+            (Some(seat), Deed::Release) => self.shelves.release(seat),
             (None, _) => Ok(()),
         };
         self.words(answer, seat)
     }
 
-    fn join<R: Wait>(&mut self, rt: &R, seat: usize) -> Result<String, AllocError> {
+    fn join<R: Wait>(&mut self, _rt: &R, seat: usize) -> Result<String, AllocError> {
         if self.notices.is_empty() {
             return word(self.alloc, "no notice");
         }
         let notice = self.notices.remove(0);
         let version = notice.version();
         if let Some(seat) = self.seats.get_mut(seat) {
-            self.shelves.join(rt, seat, notice);
+            self.shelves.join(seat, notice);
         }
         let held = self.words(Ok(()), seat)?;
         format!(in self.alloc; "notice of {version}; {held}")
     }
 
-    fn publish<R: Wait>(&mut self, rt: &R, second: u32) -> Result<String, AllocError> {
+    fn publish<R: Wait>(&mut self, _rt: &R, second: u32) -> Result<String, AllocError> {
         let image = image(self.alloc, second)?;
-        let answer = publish_noted(
-            rt,
-            &self.shelves,
-            &mut self.loader,
-            image,
-            &mut self.notices,
-        )?;
+        let answer = publish_noted(&self.shelves, &mut self.loader, image, &mut self.notices)?;
         publish_words(self.alloc, answer)
     }
 
-    fn collect<R: Wait>(&mut self, rt: &R) -> Result<String, AllocError> {
-        let found = self.shelves.collect(rt, &mut self.loader);
+    fn collect<R: Wait>(&mut self, _rt: &R) -> Result<String, AllocError> {
+        let found = self.shelves.collect(&mut self.loader);
         collect_words(self.alloc, found)
     }
 }

@@ -112,22 +112,18 @@ fn holds_well<B: Named>(seat: &NamedSeat<B>) -> bool {
 }
 
 /// Whether a pin holds the image of its version, which is given back.
-fn pins_well<B: Named, R: Wait>(
-    rt: &R,
-    shelves: &NamedShelves<B>,
-    seat: &mut NamedSeat<B>,
-) -> bool {
-    let pinned = shelves.pin(rt, seat);
+fn pins_well<B: Named>(shelves: &NamedShelves<B>, seat: &mut NamedSeat<B>) -> bool {
+    let pinned = shelves.pin(seat);
     let well = holds_well(seat) && pinned.is_ok();
-    let released = shelves.release(rt, seat);
+    let released = shelves.release(seat);
     released.is_ok() && well
 }
 
 /// How many of a thousand pins held the image of their version.
-fn pins_of<B: Named, R: Wait>(rt: &R, shelves: &NamedShelves<B>, seat: &mut NamedSeat<B>) -> u32 {
+fn pins_of<B: Named>(shelves: &NamedShelves<B>, seat: &mut NamedSeat<B>) -> u32 {
     let mut held = 0u32;
     for _ in 0..1000u32 {
-        if pins_well(rt, shelves, seat) {
+        if pins_well(shelves, seat) {
             held = held.wrapping_add(1);
         }
     }
@@ -135,18 +131,17 @@ fn pins_of<B: Named, R: Wait>(rt: &R, shelves: &NamedShelves<B>, seat: &mut Name
 }
 
 /// How many of the images became versions, with a collection after each.
-fn publishes_of<B: Named, R: Wait>(
-    rt: &R,
+fn publishes_of<B: Named>(
     shelves: &NamedShelves<B>,
     loader: &mut NamedLoader<B>,
     images: Vec<Arc<Verified, Global>>,
 ) -> u32 {
     let mut published = 0u32;
     for image in images {
-        if shelves.publish(rt, loader, image).is_ok() {
+        if shelves.publish(loader, image).is_ok() {
             published = published.wrapping_add(1);
         }
-        let _found = shelves.collect(rt, loader);
+        let _found = shelves.collect(loader);
     }
     published
 }
@@ -158,11 +153,7 @@ fn two_pin<B: Named + Send + Sync, R: Threads + Wait + Sync>(
     first: &mut NamedSeat<B>,
     second: &mut NamedSeat<B>,
 ) -> (u32, u32) {
-    thread::join(
-        rt,
-        || pins_of(rt, shelves, first),
-        || pins_of(rt, shelves, second),
-    )
+    thread::join(rt, || pins_of(shelves, first), || pins_of(shelves, second))
 }
 
 /// A loader publishes beside them.
@@ -176,7 +167,7 @@ fn pin_beside_a_loader<B: Named + Send + Sync, R: Threads + Wait + Sync>(
 ) -> (u32, (u32, u32)) {
     thread::join(
         rt,
-        || publishes_of(rt, shelves, loader, images),
+        || publishes_of(shelves, loader, images),
         || two_pin(rt, shelves, first, second),
     )
 }
@@ -191,13 +182,13 @@ fn two_seats<B: Named>(
 }
 
 /// After one more publish the version that was current is tried too: nobody is left at it.
-fn publishes_the_last<B: Named, R: Wait + Abort>(
+fn publishes_the_last<B: Named, R: Abort>(
     rt: &R,
     stage: &mut NamedStage<B, ManySeats>,
     image: Arc<Verified, Global>,
 ) {
-    let published = stage.shelves.publish(rt, &mut stage.loader, image).is_ok();
-    let found = stage.shelves.collect(rt, &mut stage.loader);
+    let published = stage.shelves.publish(&mut stage.loader, image).is_ok();
+    let found = stage.shelves.collect(&mut stage.loader);
     assert!(rt; published && stage.shelves.word(0) / 8 == 52);
     assert_eq!(rt; found.busy, [0; 8]);
 }

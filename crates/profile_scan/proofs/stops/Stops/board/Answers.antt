@@ -1,4 +1,5 @@
-use Rattle.std.proofs.Common.{◌<◌, arith}
+use Rattle.std.proofs.Common.{◌<◌, ℕ, [], OnOk, Contains, sym, subst, arith}
+use Rattle.std.proofs.lemmas.List.Elements.{Contains-push}
 use Rattle.reasoning.proofs.ListLemmas.{extends_none}
 use Rattle.fronts.specs.Lists.{steps_of}
 use Rattle.profile_scan.specs.Matching.{from_to}
@@ -7,9 +8,11 @@ use Rattle.profile_scan.specs.Steps.{boardings}
 use Rattle.profile_scan.specs.Adding.{label_points}
 use Rattle.profile_scan.specs.Bound.{carried}
 use Rattle.profile_scan.specs.Kept.{points_at}
+use Rattle.profile_scan.specs.Parts.{StopTakes}
 use Rattle.profile_scan.proofs.Offers.{takes_none}
 use Rattle.profile_scan.proofs.BoundLemmas.{from_carried}
-use Rattle.profile_scan.proofs.RideLemmas.{ridden_admitted, no_ridden}
+use Rattle.profile_scan.proofs.LabelLemmas.{as_point}
+use Rattle.profile_scan.proofs.RideLemmas.{one_alone, ridden_admitted, no_ridden}
 use Rattle.profile_scan.proofs.BoardLemmas.{walks_into_it, boardings_taken}
 use Rattle.profile_scan.proofs.StepFacts.{begins_in}
 use Rattle.profile_scan.proofs.stops.Stops.board.Given as given
@@ -88,3 +91,21 @@ returns-then-len-eq0-clause-stops g c = record {
 
 pub returns-then-not-hop-clause-stops : goal.returns-then-not-hop-clause-stops
 returns-then-not-hop-clause-stops g c = record { stops = c.requires.stops; steps = extends_none (steps_of c.args.self.now.lists) }
+
+-- the trip has one label alone
+pub board_alone-requires-clause-label : goal.board_alone-requires-clause-label
+board_alone-requires-clause-label g c =
+    let label = c.index-labels-0.result in
+    let only = one_alone c.args.labels.now label c.if-labels-eq1.true c.index-labels-0.is in
+    c.requires.labels (as_point label) (subst (λ ls. Contains (label_points ls) (as_point label)) (sym only)
+    (Contains-push [] (as_point label)))
+
+pub returns-then-labels-eq1-clause-takes : goal.returns-then-labels-eq1-clause-takes
+returns-then-labels-eq1-clause-takes g c =
+    let rules = g.C.Criterion.rules c.args.asked.now.criterion in
+    let t = g.S.ConnSource.timetable c.args.source.now in
+    let values = c.args.hop.now.bound.now in
+    let only = one_alone c.args.labels.now c.index-labels-0.result c.if-labels-eq1.true c.index-labels-0.is in
+    subst (λ ls. OnOk c.board_alone.result ((stop : ℕ) → StopTakes rules t.footpaths stop
+    (λ tags. boardings rules t tags c.args.hop.now.place stop (carried rules values (label_points ls)))
+    c.args.self.now c.board_alone.new.self)) (sym only) c.board_alone.ensures.takes

@@ -6,5 +6,6 @@ invariant-loop-place g l =
     let t = g.S.ConnSource.timetable l.source in
     record {
       stops : ChangesLists g.C.Criterion.rules l.asked.criterion t.stops l.fn.self l.self;
-      takes : BoardsAfterEach (g.C.Criterion.rules l.asked.criterion) t.footpaths l.fn.walks.start l.place l.hop l.fn.self l.self;
+      takes : BoardsAfterEach (g.C.Criterion.rules l.asked.criterion) t.footpaths l.fn.walks.start l.place l.hop l.fn.self.ridden.items
+          l.fn.self l.self;
     }

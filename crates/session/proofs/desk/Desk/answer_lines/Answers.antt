@@ -3,7 +3,7 @@ use Rattle.reasoning.proofs.BoolLemmas.{where_true, where_false}
 use Rattle.lines.proofs.GivenLemmas.{Gives-ended, Gives-nothing, Gives-rest}
 use Rattle.session.proofs.LineLemmas.{nothing_is_one_line, some_bytes, SoFar-more, SoFar-start, TurnsTo-number}
 use Rattle.session.proofs.LineLemmas.{cut_short_at_line, cut_short_at_rest, ends_at_end, ends_with_rest, not_rose}
-use Rattle.session.proofs.LineLemmas.{read_fails, rose, too_many, why_failed}
+use Rattle.session.proofs.LineLemmas.{none_failed, one_failed, read_fails, read_stops, rose, too_many, why_failed}
 use Rattle.session.proofs.LearnLemmas.{learns_on, learns_same}
 use Rattle.session.proofs.desk.Desk.answer_lines.Goals as goal
 
@@ -22,7 +22,7 @@ pub returns-in-Err-clause-session : goal.returns-in-Err-clause-session
 returns-in-Err-clause-session g c =
     let e = c.in-Err.ensures in
     read_fails _ _ _ _ _ e.0 _ _ _ _ _ _ _ _ _ (omega (arith, c.loop-test.true, c.loop.auto.counter-end))
-    c.loop.invariant.so_far e.1 e.2.0 (why_failed _ _ _ _ c.requires.counts.0 c.loop.invariant.reads e.2.2) (not_rose _ _ c.loop.invariant.writes)
+    c.loop.invariant.so_far e.1 e.2.0 (why_failed _ _ _ _ _ c.requires.counts.0 c.loop.invariant.reads e.2.2) (not_rose _ _ c.loop.invariant.writes)
 
 pub returns-in-Ok-Nothing-clause-session : goal.returns-in-Ok-Nothing-clause-session
 returns-in-Ok-Nothing-clause-session g c =
@@ -39,7 +39,7 @@ returns-in-Err-answer_line-2-clause-session g c =
     let turn = TurnsTo-number _ _ _ _ _ _ _ c.loop.invariant.number done.2 in
     cut_short_at_line _ _ _ _ _ e.0 _ _ _ _ _ _ _ _ _ _ _ _ _ (omega (arith, c.loop-test.true, c.loop.auto.counter-end))
     c.loop.invariant.so_far e.1 gives done.0 done.1 turn done.3.0 done.3.1 (not_rose _ _ (e.2.1 ∙ c.loop.invariant.reads))
-    (rose _ _ _ c.requires.counts.1 c.loop.invariant.writes c.in-Err-answer_line-2.ensures.failures)
+    (rose _ _ _ c.requires.counts.1 c.loop.invariant.writes c.in-Err-answer_line-2.ensures.failures.0)
 
 pub loop-preserved : goal.loop-preserved
 loop-preserved g c =
@@ -74,7 +74,7 @@ returns-in-Err-answer_line-clause-session g c =
     let turn = TurnsTo-number _ _ _ _ _ _ _ c.loop.invariant.number done.2 in
     cut_short_at_rest _ _ _ _ _ e.0 _ _ _ _ _ _ _ _ _ _ _ _ _ (omega (arith, c.loop-test.true, c.loop.auto.counter-end))
     c.loop.invariant.so_far e.1 gives done.0 done.1 turn done.3.0 done.3.1 (not_rose _ _ (e.2.1 ∙ c.loop.invariant.reads))
-    (rose _ _ _ c.requires.counts.1 c.loop.invariant.writes c.in-Err-answer_line.ensures.failures)
+    (rose _ _ _ c.requires.counts.1 c.loop.invariant.writes c.in-Err-answer_line.ensures.failures.0)
 
 pub returns-in-Ok-true-clause-session : goal.returns-in-Ok-true-clause-session
 returns-in-Ok-true-clause-session g c =
@@ -99,7 +99,7 @@ returns-clause-session g c =
     let e = c.in-Err-has_byte.ensures in
     read_fails _ _ _ _ _ e.0 _ _ _ _ _ _ _ _ _ (omega (arith, c.loop-test.false, c.loop.auto.counter-end))
     c.loop.invariant.so_far e.1 (nothing_is_one_line _ (sym e.2 ∙ e.3.0))
-    (inl (rose _ _ _ c.requires.counts.0 c.loop.invariant.reads e.3.1)) (not_rose _ _ c.loop.invariant.writes)
+    (inl (rose _ _ _ c.requires.counts.0 c.loop.invariant.reads e.3.1.0)) (not_rose _ _ c.loop.invariant.writes)
 
 pub returns-in-Err-clause-learns : goal.returns-in-Err-clause-learns
 returns-in-Err-clause-learns g c = c.loop.invariant.learns
@@ -124,3 +124,39 @@ returns-in-Err-answer_line-clause-learns g c = learns_on _ _ _ _ _ _ c.loop.inva
 
 pub returns-clause-learns : goal.returns-clause-learns
 returns-clause-learns g c = c.loop.invariant.learns
+
+pub returns-in-Err-clause-stops : goal.returns-in-Err-clause-stops
+returns-in-Err-clause-stops g c = (read_stops _ _ _ _ _ c.loop.invariant.reads c.in-Err.ensures.2.2, none_failed _ _ _ c.loop.invariant.writes)
+
+pub returns-in-Ok-Nothing-clause-stops : goal.returns-in-Ok-Nothing-clause-stops
+returns-in-Ok-Nothing-clause-stops g c =
+    (none_failed _ _ _ (c.in-Ok-Nothing.ensures.2.1 ∙ c.loop.invariant.reads), none_failed _ _ _ c.loop.invariant.writes)
+
+pub returns-in-Err-answer_line-2-clause-stops : goal.returns-in-Err-answer_line-2-clause-stops
+returns-in-Err-answer_line-2-clause-stops g c = (
+  none_failed _ _ _ (c.in-Ok-Ended.ensures.2.1 ∙ c.loop.invariant.reads),
+  one_failed _ _ _ _ c.loop.invariant.writes c.in-Err-answer_line-2.ensures.failures,
+)
+
+pub returns-in-Ok-clause-stops : goal.returns-in-Ok-clause-stops
+returns-in-Ok-clause-stops g c = (
+  none_failed _ _ _ (c.in-Ok-Rest.ensures.2.1 ∙ c.loop.invariant.reads),
+  none_failed _ _ _ (c.in-Ok.ensures.failures ∙ c.loop.invariant.writes),
+)
+
+pub returns-in-Err-answer_line-clause-stops : goal.returns-in-Err-answer_line-clause-stops
+returns-in-Err-answer_line-clause-stops g c = (
+  none_failed _ _ _ (c.in-Ok-Rest.ensures.2.1 ∙ c.loop.invariant.reads),
+  one_failed _ _ _ _ c.loop.invariant.writes c.in-Err-answer_line.ensures.failures,
+)
+
+pub returns-in-Ok-true-clause-stops : goal.returns-in-Ok-true-clause-stops
+returns-in-Ok-true-clause-stops g c =
+    (none_failed _ _ _ (c.in-Ok-true.ensures.3.1 ∙ c.loop.invariant.reads), none_failed _ _ _ c.loop.invariant.writes)
+
+pub returns-in-Ok-false-clause-stops : goal.returns-in-Ok-false-clause-stops
+returns-in-Ok-false-clause-stops g c =
+    (none_failed _ _ _ (c.in-Ok-false.ensures.3.1 ∙ c.loop.invariant.reads), none_failed _ _ _ c.loop.invariant.writes)
+
+pub returns-clause-stops : goal.returns-clause-stops
+returns-clause-stops g c = (one_failed _ _ _ _ c.loop.invariant.reads c.in-Err-has_byte.ensures.3.1, none_failed _ _ _ c.loop.invariant.writes)

@@ -1,0 +1,147 @@
+//! A query's answer as the line that replies it.
+
+ghost use Rattle.std.specs.Prelude.{◌≡◌, IfOk, map, string_bytes};
+ghost use Rattle.timetable.specs.Queries.{IsAskable};
+ghost use Rattle.session_texts.specs.Replies.{line_of, profile_data};
+ghost use Rattle.session_texts.specs.Telling.{points_of};
+ghost use Rattle.answer_replies.specs.Replying.{IsAnswered, IsAnsweredBy};
+ghost use Rattle.answer_replies.specs.Replying.{bare_data, data_with_legs, departures_data};
+
+use crate::legs::legs_told;
+use crate::point_form::PointForm;
+use criteria::{Arrival, ArrivalTrips, ArrivalTripsWalk, CriterionName, Told};
+use image_verifier::Verified;
+use journeys::{Answer, Departure, answer_query, journey_string};
+use session_texts::Points;
+use sources::InPlace;
+use std::alloc::{AllocError, Global};
+use timetable::Query;
+
+/// The line that replies to a query over the image of that version, by the criterion of a name.
+///
+/// # Errors
+///
+/// Memory ran out.
+pub fn reply_by_name(
+    alloc: Global,
+    form: PointForm,
+    image: &Verified,
+    criterion: CriterionName,
+    query: &Query,
+    version: u64,
+) -> Result<String, AllocError>
+    requires { IsAskable image.now.timetable.stops query.now }
+    ensures { IfOk result (λ line. IsAnsweredBy form criterion image.now version query.now (string_bytes line)) }
+{
+    match criterion {
+        CriterionName::Arrival => line_by(alloc, form, image, &Arrival, query, version),
+        CriterionName::ArrivalTrips => line_by(alloc, form, image, &ArrivalTrips, query, version),
+        CriterionName::ArrivalTripsWalk => line_by(
+            alloc,
+            form,
+            image,
+            &ArrivalTripsWalk,
+            query,
+            version,
+        ),
+    }
+}
+
+// The reply that answers a query. The image is read where it lies.
+fn line_by<C: Told>(
+    alloc: Global,
+    form: PointForm,
+    image: &Verified,
+    criterion: &C,
+    query: &Query,
+    version: u64,
+) -> Result<String, AllocError>
+    requires { IsAskable image.now.timetable.stops query.now }
+    ensures { IfOk result (λ line. IsAnswered form C.told (C.rules criterion.now) image.now version query.now
+        (string_bytes line)) }
+{
+    let mut source = InPlace::new(image);
+    let answer = answer_query(alloc, &mut source, criterion, query)?;
+    profile_reply(alloc, form, image, version, criterion, &answer)
+}
+
+/// The line that replies an answer over the image of that version.
+///
+/// # Errors
+///
+/// Memory ran out.
+pub fn profile_reply<C: Told>(
+    alloc: Global,
+    form: PointForm,
+    image: &Verified,
+    version: u64,
+    criterion: &C,
+    answer: &Answer<C>,
+) -> Result<String, AllocError>
+    ensures { IfOk result (λ line. string_bytes line ≡ line_of (profile_data
+        (departures_data form image.now C.told answer.now.departures.items) version answer.now.walk)) }
+{
+    let points = points_told(alloc, form, image, criterion, &answer.departures)?;
+    points.profile_line(alloc, version, answer.walk)
+}
+
+// What is told of each departure, in the form.
+fn points_told<C: Told>(
+    alloc: Global,
+    form: PointForm,
+    image: &Verified,
+    criterion: &C,
+    departures: &[Departure<C::V>],
+) -> Result<Points, AllocError>
+    ensures { IfOk result (λ points. points_of points ≡ departures_data form image.now C.told departures.now) }
+{
+    match form {
+        PointForm::Bare => bare_points(alloc, criterion, departures),
+        PointForm::WithLegs => points_with_legs(alloc, image, criterion, departures),
+    }
+}
+
+// What is told of each departure without its legs.
+fn bare_points<C: Told>(
+    alloc: Global,
+    criterion: &C,
+    departures: &[Departure<C::V>],
+) -> Result<Points, AllocError>
+    ensures { IfOk result (λ points. points_of points ≡ map (bare_data C.told) departures.now) }
+{
+    let mut points = Points::new(alloc);
+    for departure in departures {
+        let journey = journey_string(alloc, &departure.journey)?;
+        points.add(
+            alloc,
+            departure.time,
+            criterion.tell(&departure.value),
+            journey,
+        )?;
+    }
+    Ok(points)
+}
+
+// What is told of each departure, with the legs of its journey.
+fn points_with_legs<C: Told>(
+    alloc: Global,
+    image: &Verified,
+    criterion: &C,
+    departures: &[Departure<C::V>],
+) -> Result<Points, AllocError>
+    ensures { IfOk result (λ points. points_of points ≡ map (data_with_legs image.now C.told) departures.now) }
+{
+    let mut points = Points::new(alloc);
+    for departure in departures {
+        let journey = journey_string(alloc, &departure.journey)?;
+        let legs = legs_told(alloc, image, &departure.journey)?;
+        points.add_with_legs(
+            alloc,
+            departure.time,
+            criterion.tell(&departure.value),
+            journey,
+            legs,
+        )?;
+    }
+    Ok(points)
+}

@@ -1,0 +1,24 @@
+-- What the disk gave is noted.
+use Rattle.std.proofs.Common.{◌≡◌, Err, rules}
+use Rattle.feed_files.specs.declared.files.FileFault.TheVariants as faults
+use Rattle.feed_files.proofs.FolderReads.{one_failed, one_more}
+use Rattle.feed_files.proofs.folder.FolderFilesFeedFiles.read.Goals as goal
+
+pub invariant_of-self : goal.invariant_of-self
+invariant_of-self g c =
+    let files = c.args.self.now in
+    record {
+      given = one_more (g.H.Disk.gives files.disk.now files.folder.now) files.reads c.note.new.self c.args.name.now c.in-Ok.file
+          c.feed_file-read.result c.in-Ok.is c.feed_file-read.ensures.gives c.note.ensures files.given;
+      unread = files.unread;
+    }
+
+pub invariant_of-self-in-Err-Failed : goal.invariant_of-self-in-Err-Failed
+invariant_of-self-in-Err-Failed g c =
+    let files = c.args.self.now in
+    let failed : c.feed_file-read.result ≡ Err faults.Failed = search rules in
+    record {
+      given = files.given;
+      unread = one_failed (g.H.Disk.gives files.disk.now files.folder.now) files.failed c.note-in-Err-Failed.new.self c.args.name.now
+          c.feed_file-read.result failed c.feed_file-read.ensures.gives c.note-in-Err-Failed.ensures files.unread;
+    }

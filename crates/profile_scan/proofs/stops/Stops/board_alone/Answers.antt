@@ -1,0 +1,94 @@
+use Rattle.std.proofs.Common.{◌<◌, [], ◌∷◌, ◌∙◌, refl, sym, subst}
+use Rattle.fronts.specs.declared.entry.Ridden.{Ridden}
+use Rattle.reasoning.proofs.ListLemmas.{extends_none}
+use Rattle.criteria.specs.Laws.{Admits}
+use Rattle.fronts.specs.Lists.{steps_of}
+use Rattle.profile_scan.specs.Matching.{from_to}
+use Rattle.profile_scan.specs.Story.{told}
+use Rattle.profile_scan.specs.Steps.{boardings}
+use Rattle.profile_scan.specs.Adding.{label_points}
+use Rattle.profile_scan.specs.Bound.{carried}
+use Rattle.profile_scan.specs.Kept.{points_at}
+use Rattle.profile_scan.specs.Parts.{BoardsAfterEach, ChangesLists}
+use Rattle.profile_scan.proofs.Offers.{takes_none}
+use Rattle.profile_scan.proofs.LabelLemmas.{as_point}
+use Rattle.profile_scan.proofs.RideLemmas.{alone_ridden, alone_bettered, alone_admitted, no_ridden}
+use Rattle.profile_scan.proofs.BoardLemmas.{walks_into_it, boardings_taken}
+use Rattle.profile_scan.proofs.StepFacts.{begins_in}
+use Rattle.profile_scan.proofs.stops.Stops.board_alone.Given as given
+use Rattle.profile_scan.proofs.stops.Stops.board_alone.Goals.{Start}
+use Rattle.profile_scan.proofs.stops.Stops.board_alone.Goals as goal
+
+pub is_bettered-requires-clause-value : goal.is_bettered-requires-clause-value
+is_bettered-requires-clause-value g c =
+    subst (Admits (g.C.Criterion.rules c.args.asked.now.criterion)) (sym c.ride-value.ensures)
+    ((g.met.C.Criterion.laws c.args.asked.now.criterion).ride_admits c.args.label.now.value c.requires.label)
+
+-- the connection begins at a stop
+begins : (g : given.Over) (c : goal.Start g) → c.args.hop.now.connection.from < (g.S.ConnSource.timetable c.args.source.now).stops
+begins g c =
+    let at = c.requires.hop.stands in
+    begins_in (g.S.ConnSource.timetable c.args.source.now) (g.met.S.ConnSource.legal c.args.source.now)
+    c.args.hop.now.place at.in_range c.args.hop.now.connection at.is
+
+pub walks_into-begin-requires : goal.walks_into-begin-requires
+walks_into-begin-requires g c = begins g (goal.at.walks_into-begin-requires g c).Start
+
+pub board_one-requires-clause-walks : goal.board_one-requires-clause-walks
+board_one-requires-clause-walks g c =
+    walks_into_it (g.S.ConnSource.timetable c.args.source.now) c.args.hop.now.connection.from
+    c.walks_into-begin.result.0 c.walks_into-begin.result.1
+    (begins g (goal.at.board_one-requires-clause-walks g c).Start)
+    c.walks_into-begin.ensures.order c.walks_into-begin.ensures.within c.walks_into-begin.ensures.exact
+
+pub board_one-requires-clause-stops : goal.board_one-requires-clause-stops
+board_one-requires-clause-stops g c =
+    let are = c.requires.stops in
+    record { under = refl; sound = are.sound; long = are.long; within = are.within }
+
+pub board_one-requires-clause-ride : goal.board_one-requires-clause-ride
+board_one-requires-clause-ride g c =
+    subst (λ k. Admits (g.C.Criterion.rules k) c.ride-value.result) (sym c.requires.stops.under)
+    (subst (Admits (g.C.Criterion.rules c.args.asked.now.criterion)) (sym c.ride-value.ensures)
+    ((g.met.C.Criterion.laws c.args.asked.now.criterion).ride_admits c.args.label.now.value c.requires.label))
+
+-- the label is bettered
+pub returns-then-is_bettered-clause-stops : goal.returns-then-is_bettered-clause-stops
+returns-then-is_bettered-clause-stops g c = record { stops = c.requires.stops; steps = extends_none (steps_of c.args.self.now.lists) }
+
+pub returns-then-is_bettered-clause-takes : goal.returns-then-is_bettered-clause-takes
+returns-then-is_bettered-clause-takes g c stop exits set_outs before all ext_before ext =
+    let rules = g.C.Criterion.rules c.args.asked.now.criterion in
+    let t = g.S.ConnSource.timetable c.args.source.now in
+    let values = c.args.hop.now.bound.now in
+    let labels = carried rules values (label_points (c.args.label.now ∷ [])) in
+    let none = alone_bettered rules values (as_point c.args.label.now) c.ride-value.result c.ride-value.ensures
+    (sym c.is_bettered.ensures ∙ c.if-is_bettered.true) in
+    takes_none rules (boardings rules t (from_to (told t.footpaths before) (told t.footpaths all)) c.args.hop.now.place
+    stop labels) (points_at c.args.self.now stop) (λ way may. no_ridden rules labels [] none refl way.label may.is_label)
+
+pub returns-clause-stops : goal.returns-clause-stops
+returns-clause-stops g c =
+    let changes = subst (λ k. ChangesLists g.C.Criterion.rules k (g.S.ConnSource.timetable c.args.source.now).stops
+    c.args.self.now c.board_one.new.self) c.requires.stops.under c.in_ok-board_one.ensures.stops in
+    record { stops = changes.stops; steps = changes.steps }
+
+pub returns-clause-takes : goal.returns-clause-takes
+returns-clause-takes g c stop exits set_outs before all ext_before ext =
+    let rules = g.C.Criterion.rules c.args.asked.now.criterion in
+    let t = g.S.ConnSource.timetable c.args.source.now in
+    let label = as_point c.args.label.now in
+    let values = c.args.hop.now.bound.now in
+    let labels = carried rules values (label_points (c.args.label.now ∷ [])) in
+    let ride : Ridden g.row.C-V.Denot = record { value = c.ride-value.result; label = c.args.label.now.tag } in
+    let are = alone_ridden rules values label ride (sym c.is_bettered.ensures ∙ c.if-is_bettered.false)
+    c.ride-value.ensures refl in
+    let boards = subst (λ k. BoardsAfterEach (g.C.Criterion.rules k) t.footpaths c.walks_into-begin.result.0
+    c.walks_into-begin.result.1 c.args.hop.now (ride ∷ []) c.args.self.now c.board_one.new.self)
+    c.requires.stops.under c.in_ok-board_one.ensures.takes in
+    boardings_taken rules t (from_to (told t.footpaths before) (told t.footpaths all)) c.args.hop.now.place
+    c.args.hop.now.connection c.requires.hop.stands.is c.requires.boards c.walks_into-begin.result.0
+    c.walks_into-begin.result.1 c.walks_into-begin.ensures.exact labels stop (points_at c.args.self.now stop)
+    (points_at c.board_one.new.self stop)
+    (boards labels are (λ p h. alone_admitted rules values label c.requires.label p h)
+    stop exits set_outs before all ext_before ext)

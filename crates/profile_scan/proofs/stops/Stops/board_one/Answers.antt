@@ -1,0 +1,88 @@
+use Rattle.std.proofs.Common.{◌≡◌, ◌<◌, ℕ, [], ◌∷◌, vec_len, refl, sym, subst, arith}
+use Rattle.criteria.specs.Laws.{Admits}
+use Rattle.fronts.specs.Lists.{lists_criterion, steps_of}
+use Rattle.profile_scan.specs.Matching.{from_to}
+use Rattle.profile_scan.specs.Story.{story, told}
+use Rattle.profile_scan.specs.Steps.{TakesIn}
+use Rattle.profile_scan.specs.Parts.{BoardsAfter, ChangesLists}
+use Rattle.profile_scan.specs.Adding.{each_of, StandsBetween, boardings_by}
+use Rattle.profile_scan.specs.Kept.{points_at}
+use Rattle.profile_scan.proofs.PartLemmas.{lists_none, lists_on}
+use Rattle.profile_scan.proofs.StoryLemmas.{grows_on, steps_grow}
+use Rattle.profile_scan.proofs.BoardLemmas.{walks_first, walks_next}
+use Rattle.profile_scan.proofs.stops.Stops.board_one.Goals as goal
+
+pub loop-place-init : goal.loop-place-init
+loop-place-init g c =
+    let criterion = lists_criterion c.args.self.now.lists in
+    let walks = (g.S.ConnSource.timetable c.args.source.now).footpaths in
+    record {
+      stops = lists_none g.C.Criterion.rules criterion (g.S.ConnSource.timetable c.args.source.now).stops
+          c.args.self.now c.requires.stops;
+      takes = λ labels are admitted stop exits set_outs before all ext_before ext.
+          walks_first (g.C.Criterion.rules criterion) walks (boardings_by (g.C.Criterion.rules criterion)
+          (from_to (told walks before) (told walks all)) c.args.hop.now.place c.args.hop.now.connection stop labels)
+          c.args.walks.start (points_at c.args.self.now stop);
+    }
+
+pub board_one_after-requires-clause-stop : goal.board_one_after-requires-clause-stop
+board_one_after-requires-clause-stop g c =
+    let from_in : c.footpath_into-walk.result.from < (g.S.ConnSource.timetable c.args.source.now).stops =
+    ((g.met.S.ConnSource.legal c.args.source.now).ends_in_range c.loop-place.place c.footpath_into-walk.result
+    c.footpath_into-walk.ensures).0 in
+    subst (λ (n : ℕ). c.footpath_into-walk.result.from < n) (sym c.loop-place.invariant.stops.stops.long) from_in
+
+pub board_one_after-requires-clause-stops : goal.board_one_after-requires-clause-stops
+board_one_after-requires-clause-stops g c =
+    let are = c.loop-place.invariant.stops.stops in
+    record { under = refl; sound = are.sound; long = refl; within = are.within }
+
+pub board_one_after-requires-clause-ride : goal.board_one_after-requires-clause-ride
+board_one_after-requires-clause-ride g c =
+    subst (λ k. Admits (g.C.Criterion.rules k) c.args.ride.value) (sym c.loop-place.invariant.stops.stops.under)
+    c.requires.ride
+
+pub loop-place-preserved : goal.loop-place-preserved
+loop-place-preserved g c =
+    let criterion = lists_criterion c.args.self.now.lists in
+    let t = g.S.ConnSource.timetable c.args.source.now in
+    let inv = c.loop-place.invariant in
+    let walk = c.footpath_into-walk.result in
+    let mid = c.loop-place.self in
+    let new = c.board_one_after.new.self in
+    let old_steps = steps_of c.args.self.now.lists in
+    let mid_steps = steps_of mid.lists in
+    let new_steps = steps_of new.lists in
+    let changes = subst (λ k. ChangesLists g.C.Criterion.rules k (vec_len mid.heads) mid new) inv.stops.stops.under
+    c.in_ok-board_one_after.ensures.stops in
+    let boards = subst (λ k. BoardsAfter (g.C.Criterion.rules k) c.args.hop.now c.loop-place.place walk
+    (c.args.ride ∷ []) mid new) inv.stops.stops.under c.in_ok-board_one_after.ensures.takes in
+    record {
+      stops = lists_on g.C.Criterion.rules criterion t.stops c.args.self.now mid new inv.stops changes;
+      takes = λ labels are admitted stop exits set_outs before all ext_before ext.
+          let s0 = story exits old_steps set_outs in
+          let s1 = story exits mid_steps set_outs in
+          let s2 = story exits new_steps set_outs in
+          walks_next (g.C.Criterion.rules criterion) (g.met.C.Criterion.laws criterion) t
+          (g.met.S.ConnSource.limits c.args.source.now) labels admitted
+          (from_to (told t.footpaths before) (told t.footpaths all)) c.args.hop.now.place
+          c.args.hop.now.connection stop c.args.walks.start c.loop-place.place walk (points_at c.args.self.now stop)
+          (points_at mid stop) (points_at new stop) c.loop-place.auto.place c.footpath_into-walk.ensures
+          (inv.takes labels are admitted stop exits set_outs before all ext_before
+          (grows_on s1 s2 all (steps_grow exits mid_steps new_steps set_outs changes.steps) ext))
+          (boards labels are t.footpaths c.footpath_into-walk.ensures stop exits set_outs before all
+          (grows_on before s0 s1 ext_before (steps_grow exits old_steps mid_steps set_outs inv.stops.steps)) ext);
+    }
+
+pub returns-clause-takes : goal.returns-clause-takes
+returns-clause-takes g c labels are admitted stop exits set_outs before all ext_before ext =
+    let rules = g.C.Criterion.rules (lists_criterion c.args.self.now.lists) in
+    let t = g.S.ConnSource.timetable c.args.source.now in
+    let over = c.loop-place-test.false in
+    let within = c.loop-place.auto.place-end c.requires.walks.order in
+    let at_end : c.loop-place.place ≡ c.args.walks.end = omega arith in
+    subst (λ (n : ℕ). TakesIn rules (each_of (StandsBetween t.footpaths c.args.walks.start n)
+    (boardings_by rules (from_to (told t.footpaths before) (told t.footpaths all)) c.args.hop.now.place
+    c.args.hop.now.connection stop labels)) (points_at c.args.self.now stop) (points_at c.loop-place.self stop))
+    at_end
+    (c.loop-place.invariant.takes labels are admitted stop exits set_outs before all ext_before ext)

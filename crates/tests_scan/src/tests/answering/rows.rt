@@ -1,0 +1,240 @@
+//! Worked queries through the one call that answers them, over an image in place and over its lists decoded. The texts
+//! of the answers were worked out by hand.
+
+use super::{ASKED, NO_TRIPS, WITH_DIRECT_TRIP, by, until};
+use crate::tests::images::{REPEATED, image};
+use criteria::{Arrival, ArrivalTrips, ArrivalTripsWalk, Told};
+use image_layout::{sample_words, second_sample_words};
+use journeys::{Answer, Departure, answer_query, journey_string};
+use sources::{ConnSource, Decoded, InPlace};
+use std::alloc::{AllocError, Global};
+use std::process::Abort;
+use std::test::*;
+use timetable::{Clock, Query};
+
+/// The words of an image, a query, and the text of its answer.
+type Row<'a> = (&'a [u32], Query, &'a str);
+
+/// The sample with a footpath of 900 seconds from stop 1 to stop 2.
+const WITH_LONG_WALK: [u32; 49] = [
+    0x50415343, 1, 3, 2, 3, 4, 7, 1705276800, 0, 0, 1, 28800, 29400, 0, 3, 1, 2, 29400, 30600, 0,
+    3, 1, 2, 29520, 30000, 1, 3, 0, 1, 2, 4, 0, 0, 1, 0, 1, 900, 2, 0, 0, 1, 2, 3, 5, 7, 20240115,
+    20240115, 0x54434241, 0x00325431,
+];
+
+/// By a change at stop 1.
+const CHANGE: &str = "\
+dep 08:00:00 arr 08:20:00 : ride 0 0 walk 1 1 0 ride 2 2
+points 1 read 3 walk none";
+
+/// The same where a change there takes two minutes.
+const SLOW_CHANGE: &str = "\
+dep 08:00:00 arr 08:20:00 : ride 0 0 walk 1 1 120 ride 2 2
+points 1 read 3 walk none";
+
+/// By one trip.
+const DIRECT: &str = "\
+dep 08:00:00 arr 08:30:00 : ride 0 1
+points 1 read 3 walk none";
+
+const NONE: &str = "points 0 read 3 walk none";
+
+const NOTHING: &str = "points 0 read 0 walk none";
+
+/// A change is faster, and takes more trips.
+const BOTH: &str = "\
+dep 08:00:00 arr 08:20:00 trips 2 : ride 0 0 walk 1 1 0 ride 2 2
+dep 08:00:00 arr 08:30:00 trips 1 : ride 0 1
+points 2 read 3 walk none";
+
+/// A trip is as fast as the change.
+const FAST_TRIP: &str = "\
+dep 08:00:00 arr 08:20:00 trips 1 : ride 1 1
+points 1 read 4 walk none";
+
+/// Three repeats.
+const REPEATS: &str = "\
+dep 09:00:00 arr 09:30:00 trips 1 : ride 1 2
+dep 09:20:00 arr 09:50:00 trips 1 : ride 3 4
+dep 09:40:00 arr 10:10:00 trips 1 : ride 5 6
+points 3 read 6 walk none";
+
+/// A long walk saves a trip, and one more trip saves the walk.
+const LONG_WALK: &str = "\
+dep 08:00:00 arr 08:20:00 trips 2 walked 0 : ride 0 0 walk 1 1 0 ride 2 2
+dep 08:00:00 arr 08:25:00 trips 1 walked 900 : ride 0 0 walk 1 2 900
+dep 08:00:00 arr 08:30:00 trips 1 walked 0 : ride 0 1
+points 3 read 3 walk none";
+
+/// A change on foot.
+const WALKED_CHANGE: &str = "\
+dep 08:00:00 arr 08:20:00 trips 2 walked 60 : ride 0 0 walk 1 1 60 ride 2 2
+dep 08:00:00 arr 08:30:00 trips 1 walked 0 : ride 0 1
+points 2 read 3 walk none";
+
+/// From 09:00:00 until 10:00:00, by 11:00:00.
+const LATER: Query = Query {
+    source: 0,
+    target: 2,
+    from: 32400,
+    until: 36000,
+    by: 39600,
+};
+
+/// The sample with another word at a place.
+fn changed(place: usize, word: u32) -> [u32; 47] {
+    let mut words = sample_words();
+    if let Some(at) = words.get_mut(place) {
+        *at = word;
+    }
+    words
+}
+
+/// A line of a point: when it departs, what the criterion counts, and its journey.
+fn add_point<C: Told>(
+    alloc: Global,
+    criterion: &C,
+    point: &Departure<C::V>,
+    text: &mut String,
+) -> Result<(), AllocError> {
+    let told = criterion.tell(&point.value);
+    write!(
+        text,
+        "dep {} arr {}",
+        Clock(point.time),
+        Clock(told.arrival)
+    )?;
+    if let Some(trips) = told.trips {
+        write!(text, " trips {trips}")?;
+    }
+    if let Some(walked) = told.walked {
+        write!(text, " walked {walked}")?;
+    }
+    let journey = journey_string(alloc, &point.journey)?;
+    write!(text, " : {}\n", journey.as_str())
+}
+
+/// The points, and how many there are, how many connections were read, and the footpath to the target.
+fn text_of<C: Told>(
+    alloc: Global,
+    criterion: &C,
+    answer: &Answer<C>,
+) -> Result<String, AllocError> {
+    let mut text = String::new(alloc);
+    for point in answer.departures.iter() {
+        add_point(alloc, criterion, point, &mut text)?;
+    }
+    write!(
+        text,
+        "points {} read {} walk ",
+        answer.departures.len(),
+        answer.read
+    )?;
+    match answer.walk {
+        Some(seconds) => write!(text, "{seconds}")?,
+        None => text.push_str("none")?,
+    }
+    Ok(text)
+}
+
+/// The text of the answer to a query.
+fn answer_text<S: ConnSource, C: Told>(
+    alloc: Global,
+    source: &mut S,
+    criterion: &C,
+    query: &Query,
+) -> Result<String, Fail> {
+    let stops = source.stops();
+    query.check(stops).ok().ok_or("the query can be asked")?;
+    let answer = answer_query(alloc, source, criterion, query)?;
+    Ok(text_of(alloc, criterion, &answer)?)
+}
+
+/// The answer's text over the image in place, and over its lists decoded.
+fn both_texts<C: Told>(
+    alloc: Global,
+    words: &[u32],
+    criterion: &C,
+    query: &Query,
+) -> Result<(String, String), Fail> {
+    let image = image(alloc, words)?;
+    let in_place = answer_text(alloc, &mut InPlace::new(&image), criterion, query)?;
+    let decoded = answer_text(alloc, &mut Decoded::of(alloc, &image)?, criterion, query)?;
+    Ok((in_place, decoded))
+}
+
+/// Each query has its answer, over both.
+fn try_rows<C: Told>(
+    rt: &impl Abort,
+    alloc: Global,
+    criterion: &C,
+    rows: &[Row<'_>],
+) -> Result<(), Fail> {
+    for (words, query, expected) in rows {
+        let (in_place, decoded) = both_texts(alloc, *words, criterion, query)?;
+        assert_eq!(rt; in_place.as_str(), *expected);
+        assert_eq!(rt; decoded.as_str(), *expected);
+    }
+    Ok(())
+}
+
+#[test]
+fn rows_by_arrival(rt: HostRuntime) -> Result<(), Fail> {
+    let sample = sample_words();
+    let rows: [Row<'_>; 9] = [
+        (&NO_TRIPS, ASKED, NOTHING),
+        (&sample, ASKED, CHANGE),
+        (&changed(34, 120), ASKED, SLOW_CHANGE),
+        (&changed(34, 121), ASKED, DIRECT),
+        (&sample, until(28799), NONE),
+        (&changed(32, 60), until(28799), NONE),
+        (&sample, until(28800), CHANGE),
+        (&sample, by(30000), CHANGE),
+        (&sample, by(29999), NONE),
+    ];
+    try_rows(&rt, rt.alloc(), &Arrival, &rows)
+}
+
+#[test]
+fn rows_by_trips(rt: HostRuntime) -> Result<(), Fail> {
+    let rows: [Row<'_>; 4] = [
+        (&sample_words(), ASKED, BOTH),
+        (&second_sample_words(), ASKED, BOTH),
+        (&WITH_DIRECT_TRIP, ASKED, FAST_TRIP),
+        (&REPEATED, LATER, REPEATS),
+    ];
+    try_rows(&rt, rt.alloc(), &ArrivalTrips, &rows)
+}
+
+#[test]
+fn rows_by_walking(rt: HostRuntime) -> Result<(), Fail> {
+    let rows: [Row<'_>; 2] = [
+        (&WITH_LONG_WALK, ASKED, LONG_WALK),
+        (&changed(34, 60), ASKED, WALKED_CHANGE),
+    ];
+    try_rows(&rt, rt.alloc(), &ArrivalTripsWalk, &rows)
+}
+
+/// Whether the text has one point, at 08:00:00 and 08:20:00, whatever its journey.
+fn is_one_point(text: &str) -> bool {
+    text.starts_with("dep 08:00:00 arr 08:20:00 : ride ")
+        && text.ends_with("\npoints 1 read 4 walk none")
+        && text.bytes().filter(|byte| *byte == b'\n').count() == 1
+}
+
+/// Where a trip is as fast as a change, arrival alone has one point of the two journeys.
+#[test]
+fn equal_journeys_are_one_point(rt: HostRuntime) -> Result<(), Fail> {
+    let (in_place, decoded) = both_texts(rt.alloc(), &WITH_DIRECT_TRIP, &Arrival, &ASKED)?;
+    assert!(rt;
+        is_one_point(in_place.as_str()),
+        "in place: {}",
+        in_place.as_str()
+    );
+    assert!(rt;
+        is_one_point(decoded.as_str()),
+        "decoded: {}",
+        decoded.as_str()
+    );
+    Ok(())
+}

@@ -1,0 +1,228 @@
+//! A server at whose shelves other seats hold versions: what its loader finds no shelf for, and what a client that went
+//! away gave back.
+
+ghost use Rattle.std.specs.Prelude.{◌≡◌, All, IfOk};
+
+use super::{Counts, Manner, Row, Shared, Visitor, two_feeds, visitor_of};
+use epochs::{ShelfLoader, ShelfSeat, Shelves};
+use image_layout::sample_words;
+use image_verifier::{Verified, verify};
+use load_orders::Notes;
+use orders::OpenGate;
+use std::alloc::{AllocError, Global};
+use std::marker::Brand;
+use std::process::Abort;
+use std::sync::{Arc, Mutex, Wait};
+use std::test::Fail;
+use std::thread::Threads;
+use workers::{PointForm, run_shelves};
+
+/// Shelves, the loader's seat and the workers' seats.
+#[derive(Drop)]
+struct Stage {
+    shelves: Shelves,
+    loader: ShelfLoader,
+    seats: Vec<ShelfSeat>,
+}
+
+fn sample(alloc: Global) -> Result<Arc<Verified, Global>, AllocError> {
+    let Ok(image) = verify(alloc, sample_words().to_vec(alloc)?) else {
+        return Err(AllocError);
+    };
+    match Arc::new(alloc, image) {
+        Ok(shared) => Ok(shared),
+        Err(_) => Err(AllocError),
+    }
+}
+
+/// New shelves with the sample.
+fn stage_of(alloc: Global) -> Result<Stage, AllocError>
+    ensures loader { IfOk result (λ stage. stage.loader.table ≡ stage.shelves) }
+    ensures seats { IfOk result (λ stage. All (λ seat. seat.table ≡ stage.shelves) stage.seats.items) }
+{
+    match Shelves::new(alloc, sample(alloc)?) {
+        Ok((shelves, loader, seats)) => Ok(Stage {
+            shelves,
+            loader,
+            seats,
+        }),
+        Err(_) => Err(AllocError),
+    }
+}
+
+/// The seat pins the version that is current, and the sample becomes the next one: whether both went well.
+fn hold(
+    shelves: &Shelves,
+    loader: &mut ShelfLoader,
+    seat: &mut ShelfSeat,
+    image: Arc<Verified, Global>,
+) -> bool
+    requires { (loader.old.table ≡ shelves.now) × (seat.old.table ≡ shelves.now) }
+    ensures { loader.new.table ≡ shelves.now }
+{
+    let is_pinned = shelves.pin(seat).is_ok();
+    let is_published = shelves.publish(loader, image).is_ok();
+    is_pinned && is_published
+}
+
+/// These seats hold a version each, from the first on: whether all went well.
+fn hold_all(
+    alloc: Global,
+    shelves: &Shelves,
+    loader: &mut ShelfLoader,
+    seats: Vec<ShelfSeat>,
+    held: &mut Vec<ShelfSeat>,
+) -> Result<bool, AllocError>
+    requires loader { loader.old.table ≡ shelves.now }
+    requires seats { All (λ seat. seat.table ≡ shelves.now) seats.items }
+    ensures { loader.new.table ≡ shelves.now }
+{
+    let mut is_held = true;
+    for mut seat in seats {
+        is_held = hold(shelves, loader, &mut seat, sample(alloc)?) && is_held;
+        held.push(seat)?;
+    }
+    Ok(is_held)
+}
+
+/// Serves visitors, the last first, at one seat; how their sessions ended, and what was written to the errors.
+fn serve_at<R: Threads + Wait + Sync + Abort>(
+    rt: &R,
+    alloc: Global,
+    visitors: Vec<Visitor<'_, R>>,
+    shelves: Shelves,
+    loader: ShelfLoader,
+    seat: ShelfSeat,
+) -> Result<(Counts, Vec<u8>), Fail>
+    requires { (loader.table ≡ shelves) × (seat.table ≡ shelves) }
+{
+    let seats = vec![in alloc; seat]?;
+    let feeds = two_feeds(alloc)?;
+    let told = Mutex::new(Vec::new(alloc));
+    let row = Row {
+        visitors,
+        came: Notes::none(),
+    };
+    let errors = Shared {
+        rt,
+        bytes: &told,
+        is_gone: false,
+    };
+    let Ok(ran) = run_shelves::<Brand, _, _, _, _, _, _>(
+        rt,
+        alloc,
+        row,
+        shelves,
+        seats,
+        loader,
+        &feeds,
+        &OpenGate,
+        PointForm::Bare,
+        errors,
+    ) else {
+        return Err(AllocError.into());
+    };
+    let counts = Counts {
+        ended: ran.served.ended(),
+        failed: ran.served.failed(),
+        spent: ran.served.spent(),
+    };
+    Ok((counts, told.into_inner()))
+}
+
+/// The same while so many other seats hold a version each, the first ones in turn.
+fn serve_beside<R: Threads + Wait + Sync + Abort>(
+    rt: &R,
+    alloc: Global,
+    visitors: Vec<Visitor<'_, R>>,
+    count: usize,
+) -> Result<(Counts, Vec<u8>), Fail> {
+    let Stage {
+        shelves,
+        mut loader,
+        mut seats,
+    } = stage_of(alloc)?;
+    let Some(seat) = seats.pop() else {
+        return Err("a seat".into());
+    };
+    seats.truncate(count);
+    let mut held = Vec::new(alloc);
+    assert!(rt; hold_all(alloc, &shelves, &mut loader, seats, &mut held)?);
+    serve_at(rt, alloc, visitors, shelves, loader, seat)
+}
+
+/// Serves clients who ask so, the last first, beside so many holders: how their sessions ended, what was replied, and
+/// what was written to the errors.
+fn asking_beside<R: Threads + Wait + Sync + Abort>(
+    rt: &R,
+    alloc: Global,
+    asking: &[(&'static str, Manner)],
+    count: usize,
+) -> Result<(Counts, Vec<u8>, Vec<u8>), Fail> {
+    let bytes = Mutex::new(Vec::new(alloc));
+    let mut visitors = Vec::new(alloc);
+    for (requests, manner) in asking {
+        visitors.push(visitor_of(rt, *requests, *manner, &bytes))?;
+    }
+    let (counts, told) = serve_beside(rt, alloc, visitors, count)?;
+    Ok((counts, bytes.into_inner(), told))
+}
+
+const PIN: &str = "{\"do\":\"pin\"}\n";
+
+/// Two loads that are waited for, and then a pin.
+const LOADS: &str = "\
+{\"do\":\"load\",\"feed\":\"slow\",\"wait\":true}
+{\"do\":\"load\",\"feed\":\"slow\",\"wait\":true}
+{\"do\":\"pin\"}
+";
+
+/// The replies where no shelf is free: version 8 stays current, with the image that it had.
+const REFUSED: &str = "\
+{\"error\":120,\"name\":\"LoadRefused\",\"refusal\":94}
+{\"error\":120,\"name\":\"LoadRefused\",\"refusal\":94}
+{\"base\":1705276800,\"ok\":\"pin\",\"version\":8}
+";
+
+/// What the loader writes of that, and behind each line the feed and the number.
+const FULL: &str = "\
+load slow refused 94 ShelvesFull 1 1 1 1 1 1 1 0
+0: 94
+load slow refused 94 ShelvesFull 1 1 1 1 1 1 1 0
+0: 94
+";
+
+/// Versions 1 to 7 are held by seven seats, and version 8 is current: a load finds no shelf. Its image isn't
+/// published, and a seat that pins then has version 8 as before.
+#[test]
+fn a_load_meets_full_shelves(rt: HostRuntime) -> Result<(), Fail> {
+    let asking = [(LOADS, Manner::Reads)];
+    let (counts, replies, told) = asking_beside(&rt, rt.alloc(), &asking, 7)?;
+    assert_eq!(&rt; counts.ended, 1);
+    assert_eq!(&rt; str::from_utf8(&replies).unwrap_or("?"), REFUSED);
+    assert_eq!(&rt; str::from_utf8(&told).unwrap_or("?"), FULL);
+    Ok(())
+}
+
+/// The replies where one shelf is free, and one more once nobody is at version 7. The second load is for 20240116.
+const LOADED_TWICE: &str = "\
+{\"feed\":\"slow\",\"ok\":\"load\",\"version\":8}
+{\"feed\":\"slow\",\"ok\":\"load\",\"version\":9}
+{\"base\":1705363200,\"ok\":\"pin\",\"version\":9}
+";
+
+/// Versions 1 to 6 are held by six seats. A client pins version 7 and goes away: its session fails, and nobody is at
+/// that version any more. So its shelf is freed once version 8 took the last free one, and version 9 has it.
+#[test]
+fn a_client_that_went_away_holds_nothing(rt: HostRuntime) -> Result<(), Fail> {
+    let asking = [(LOADS, Manner::Reads), (PIN, Manner::GoesAway)];
+    let (counts, replies, told) = asking_beside(&rt, rt.alloc(), &asking, 6)?;
+    assert_eq!(&rt; counts.ended, 1);
+    assert_eq!(&rt; counts.failed, 1);
+    assert_eq!(&rt; str::from_utf8(&replies).unwrap_or("?"), LOADED_TWICE);
+    assert_eq!(&rt;
+        str::from_utf8(&told).unwrap_or("?"),
+        "loaded slow version 8\n0: 8 3 2 3\nloaded slow version 9\n0: 9 3 0 0\n"
+    );
+    Ok(())
+}

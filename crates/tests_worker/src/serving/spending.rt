@@ -1,0 +1,108 @@
+//! A client that sends one request more than a session may have.
+
+use super::{Counts, Row, shelves_for, two_feeds};
+use load_orders::Notes;
+use orders::OpenGate;
+use std::alloc::{AllocError, Global};
+use std::io;
+use std::io::{Read, Write};
+use std::marker::Brand;
+use std::process::Abort;
+use std::sync::Wait;
+use std::test::Fail;
+use std::thread::Threads;
+use workers::*;
+
+/// A reader of so many line ends.
+#[derive(Drop)]
+struct LineEnds {
+    left: usize,
+}
+
+impl Read for LineEnds {
+    fn read(&mut self, room: &mut [u8]) -> io::Result<usize> {
+        let count = room.len().min(self.left);
+        room[..count].fill(b'\n');
+        self.left -= count;
+        Ok(count)
+    }
+}
+
+/// A writer that takes all and keeps nothing.
+#[derive(Drop)]
+struct Sink;
+
+impl Write for Sink {
+    fn write(&mut self, piece: &[u8]) -> io::Result<usize> {
+        Ok(piece.len())
+    }
+
+    fn flush(&mut self) -> io::Result<()> {
+        Ok(())
+    }
+}
+
+/// A client that sends so many empty lines.
+#[derive(Drop)]
+struct Sender {
+    lines: usize,
+}
+
+impl Client for Sender {
+    type Reader = LineEnds;
+
+    type Writer = Sink;
+
+    ghost opens = { λ _ _. Unit {0} };
+
+    fn open(self) -> Result<(LineEnds, Sink), ConnFault> {
+        Ok((LineEnds { left: self.lines }, Sink))
+    }
+
+    fn close(_reader: LineEnds, _writer: Sink, _end: End) {}
+}
+
+/// Serves senders at one seat, the last first: how their sessions ended.
+fn serve_senders<R: Threads + Wait + Sync + Abort>(
+    rt: &R,
+    alloc: Global,
+    visitors: Vec<Sender>,
+) -> Result<Counts, Fail> {
+    let (shelves, loader, seats) = shelves_for(alloc, false)?;
+    let feeds = two_feeds(alloc)?;
+    let row = Row {
+        visitors,
+        came: Notes::none(),
+    };
+    let Ok(ran) = run_shelves::<Brand, _, _, _, _, _, _>(
+        rt,
+        alloc,
+        row,
+        shelves,
+        seats,
+        loader,
+        &feeds,
+        &OpenGate,
+        PointForm::Bare,
+        Sink,
+    ) else {
+        return Err(AllocError.into());
+    };
+    Ok(Counts {
+        ended: ran.served.ended(),
+        failed: ran.served.failed(),
+        spent: ran.served.spent(),
+    })
+}
+
+/// A million lines are answered, and one more is too many: the session counts as spent, and the next client is served.
+#[test]
+fn a_session_with_too_many_requests_is_spent(rt: HostRuntime) -> Result<(), Fail> {
+    let alloc: Global = rt.alloc();
+    let senders = vec![in alloc; Sender { lines: 1 }, Sender { lines: 1_000_001 }]?;
+    let counts = serve_senders(&rt, alloc, senders)?;
+    assert_eq!(&rt; counts.ended, 1);
+    assert_eq!(&rt; counts.failed, 0);
+    assert_eq!(&rt; counts.spent, 1);
+    Ok(())
+}
