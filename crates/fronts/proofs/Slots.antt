@@ -1,9 +1,8 @@
 -- The label in a trip's slot, and labels in slots or in runs.
-use Rattle.std.proofs.Common.{◌≡◌, ℕ, zero, suc, ◌+◌, ◌<◌, ◌≤◌, Bool, true, false, cond, not, nat_eq, List, [], ◌∷◌, ◌++◌, length, take, drop, set, Contains}
+use Rattle.std.proofs.Common.{◌≡◌, ℕ, zero, suc, ◌+◌, ◌<◌, Bool, true, false, cond, not, nat_eq, List, [], ◌∷◌, ◌++◌, length, take, drop, set, Contains}
 use Rattle.std.proofs.Common.{inl, inr, refl, sym, ◌∙◌, ap, subst, arith}
 use Rattle.std.specs.Prelude.{Option, Some, None, Result, Ok, Err, IfOk, OnOk, slice_get, replicate}
 use Rattle.std.proofs.lemmas.Bool.{cases_eq, eq-eqb, ne_eqb}
-use Rattle.std.proofs.lemmas.List.{length-set}
 use Rattle.std.proofs.lemmas.List.Elements.{Contains-push_cases}
 use Rattle.std.proofs.lemmas.Option.{slice_get_past}
 use Rattle.std.proofs.Math.Bool.{or-false}
@@ -36,10 +35,14 @@ module _ {V : Type 0} (slots others : List (Label V)) (trip : ℕ) where
       → slot_or (slice_get slots trip) others ≡ []
   none_there empty none = empty_by (slice_get slots trip) refl empty none
 
--- where there are slots there are no runs, so past the slots there are none
-pub no_slots : (trip slots runs count : ℕ) → trip < slots + runs → (0 < slots → runs ≡ 0) → count ≡ slots → count ≤ trip → slots ≡ 0
-no_slots trip zero runs count in_range either e past = refl
-no_slots trip (suc n) runs count in_range either e past = (let none : runs ≡ 0 = either (omega arith) in absurd (omega arith))
+-- under a total criterion each trip has a slot, and under any other there are none
+pub in_slots : (P : Type 0) (trip slots runs : ℕ) → trip < slots + runs → (0 < runs → P → ⊥) → P → trip < slots
+in_slots P trip slots zero in_range partial total = omega arith
+in_slots P trip slots (suc n) in_range partial total = absurd (partial (omega arith) total)
+
+pub no_slots : (P : Type 0) (slots : ℕ) → (0 < slots → P) → (P → ⊥) → slots ≡ 0
+no_slots P zero total partial = refl
+no_slots P (suc n) total partial = absurd (partial (total (omega arith)))
 
 pub no_slots_are : {V : Type 0} (rules : Rules V) (slots : List (Label V)) → slots ≡ [] → AreSlots rules slots
 no_slots_are rules slots none k slot at =

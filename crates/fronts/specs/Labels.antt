@@ -1,5 +1,5 @@
 -- Labels of many trips: under a total criterion each trip's one label in its slot, else those of each in a run.
-use Rattle.std.specs.Prelude.{◌≡◌, ℕ, ◌+◌, ◌<◌, List, length, slice_get}
+use Rattle.std.specs.Prelude.{ℕ, ◌+◌, ◌<◌, List, length, slice_get}
 use Rattle.criteria.specs.Laws.{Rules, IsTotal}
 use Rattle.fronts.specs.RunLabels.{AreRunLabels, run_labels, runs_of}
 use Rattle.fronts.specs.SlotLabels.{AreSlots, slot_or}
@@ -14,9 +14,9 @@ labels_at labels trip = slot_or (slice_get labels.slots.items trip) (run_labels 
 abbrev pub trips_of : {V : Type 0} → Labels V → ℕ
 trips_of labels = length labels.slots.items + length (runs_of labels.runs)
 
--- labels of trips, of values that the laws speak of: slots or runs, and slots only where one label a trip is enough
+-- labels of trips, of values that the laws speak of: slots where one label a trip is enough, else runs
 pub record AreLabels {V : Type 0} (rules : Rules V) (labels : Labels V) : Type 0 where
   pub slots : AreSlots rules labels.slots.items
   pub runs : AreRunLabels rules labels.runs
   pub total : 0 < length labels.slots.items → IsTotal rules
-  pub either : 0 < length labels.slots.items → length (runs_of labels.runs) ≡ 0
+  pub partial : 0 < length (runs_of labels.runs) → IsTotal rules → ⊥

@@ -39,11 +39,13 @@ pub record AreRunLabels {V : Type 0} (rules : Rules V) (labels : RunLabels V) : 
   pub admitted : (l : Label V) → Contains labels.labels.items l → Admits rules l.value
 
 -- new labels stand in a run, and the others where they stood: what was in the old run's room may be gone
-pub record ArePut {V : Type 0} (old : List (Label V)) (run : Run) (new : List (Label V)) (placed : Run) (now : List (Label V)) : Type 0 where
+pub record ArePut {V : Type 0} (old : List (Label V)) (run : Run) (new : List (Label V)) (placed : Run)
+    (now : List (Label V)) : Type 0 where
   pub counted : placed.count ≤ placed.room
   pub within : placed.first + placed.room ≤ length now
   pub longer : length old ≤ length now
   pub here : labels_in now placed ≡ new
-  pub others : (other : Run) → other.count ≤ other.room → other.first + other.room ≤ length old → AreApart other run → labels_in now other ≡ labels_in old other
+  pub others : (other : Run) → other.count ≤ other.room → other.first + other.room ≤ length old → AreApart other run
+      → labels_in now other ≡ labels_in old other
   pub apart : (other : Run) → other.first + other.room ≤ length old → AreApart other run → AreApart other placed
   pub only : (l : Label V) → Contains now l → Contains old l ⊎ Contains new l

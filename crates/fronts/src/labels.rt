@@ -1,9 +1,9 @@
 //! Labels of many trips: what one who sits in each may be worth.
 //!
 //! A criterion that is total needs one label a trip, which is in the trip's slot; of any other the labels of a trip are
-//! in a run.
+//! in a run. Which it is, is known when the program is compiled: each call asks the criterion, and not the labels.
 
-ghost use Rattle.std.specs.Prelude.{◌≡◌, ◌++◌, ◌∷◌, [], ℕ, ◌<◌, cond, not, IfOk, OnOk};
+ghost use Rattle.std.specs.Prelude.{◌≡◌, ◌++◌, ◌∷◌, [], ℕ, ◌<◌, cond, length, not, IfOk, OnOk};
 ghost use Rattle.criteria.specs.Laws.{Admits};
 ghost use Rattle.fronts.specs.Offered.{is_beaten, others};
 ghost use Rattle.fronts.specs.Labels.{AreLabels, labels_at, trips_of};
@@ -23,9 +23,9 @@ pub struct Label<V> {
 /// The labels of so many trips: of each those of which none is no worse than another.
 #[derive(Drop)]
 pub struct Labels<V> {
-    // of each trip its one label: none under a criterion that isn't known to be total
+    // of each trip its one label, under a total criterion
     slots: Vec<Label<V>>,
-    // no runs, if there are slots
+    // of each trip its labels, under any other
     runs: RunLabels<V>,
 }
 
@@ -51,36 +51,34 @@ pub fn no_labels<C: Criterion>(
     })
 }
 
-impl<V: Copy> Labels<V> {
-    ghost use Rattle.std.specs.Prelude.{◌≡◌, ◌<◌, length};
-    ghost use Rattle.criteria.specs.Laws.{Rules};
-    ghost use Rattle.fronts.specs.Labels.{AreLabels, labels_at, trips_of};
-
-    /// How many labels a trip has.
-    #[inline(always)]
-    pub fn count(&self, trip: u32) -> u32
-        requires trip { trip < trips_of self.now }
-        requires labels { (rules : Rules _) × AreLabels rules self.now }
-        ensures { result ≡ length (labels_at self.now trip) }
-    {
-        if (trip as usize) < self.slots.len() {
-            return count_at(&self.slots, trip);
-        }
-        self.runs.count(trip)
+/// How many labels a trip has.
+#[inline(always)]
+pub fn label_count<C: Criterion>(criterion: &C, labels: &Labels<C::V>, trip: u32) -> u32
+    requires trip { trip < trips_of labels.now }
+    requires labels { AreLabels (C.rules criterion.now) labels.now }
+    ensures { result ≡ length (labels_at labels.now trip) }
+{
+    if criterion.is_total() {
+        return count_at(&labels.slots, trip);
     }
+    labels.runs.count(trip)
+}
 
-    /// The labels of a trip.
-    #[inline(always)]
-    pub fn of(&self, trip: u32) -> &[Label<V>]
-        requires trip { trip < trips_of self.now }
-        requires labels { (rules : Rules _) × AreLabels rules self.now }
-        ensures { result.now ≡ labels_at self.now trip }
-    {
-        if (trip as usize) < self.slots.len() {
-            return label_of(&self.slots, trip);
-        }
-        self.runs.of(trip)
+/// The labels of a trip.
+#[inline(always)]
+pub fn labels_of<'a, C: Criterion>(
+    criterion: &C,
+    labels: &'a Labels<C::V>,
+    trip: u32,
+) -> &'a [Label<C::V>]
+    requires trip { trip < trips_of labels.now }
+    requires labels { AreLabels (C.rules criterion.now) labels.now }
+    ensures { result.now ≡ labels_at labels.now trip }
+{
+    if criterion.is_total() {
+        return label_of(&labels.slots, trip);
     }
+    labels.runs.of(trip)
 }
 
 /// Offers the labels of a trip a value with its tag: unless one of them is no worse, it comes to
@@ -108,7 +106,7 @@ pub fn offer_label<C: Criterion>(
           tag = tag;
         } ∷ []) (labels_at labels.old trip)) }
 {
-    if (trip as usize) < labels.slots.len() {
+    if criterion.is_total() {
         return offer_slot(criterion, &mut labels.slots, trip, value, tag);
     }
     offer_run(criterion, &mut labels.runs, trip, value, tag)

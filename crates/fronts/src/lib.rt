@@ -16,5 +16,5 @@ mod valued;
 
 pub use entry::{Entry, Item, Ridden, Step};
 pub use front_lists::FrontLists;
-pub use labels::{Label, Labels, no_labels, offer_label};
+pub use labels::{Label, Labels, label_count, labels_of, no_labels, offer_label};
 pub use valued::{Valued, some_no_worse};

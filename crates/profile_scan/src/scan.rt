@@ -8,6 +8,7 @@ use crate::origin::Origin;
 use crate::stops::Stops;
 use crate::trips::Trips;
 use criteria::Criterion;
+use fronts::{label_count, labels_of};
 use sources::ConnSource;
 use std::alloc::{AllocError, Global};
 use std::ops::Range;
@@ -53,7 +54,7 @@ impl<C: Criterion> State<C> {
         ensures { result ≡ true → IsIdle asked.now.query connection.now way
             ((kept_by self.now).labels connection.now.trip) ((kept_by self.now).bag connection.now.to) }
     {
-        if self.trips.labels.count(connection.trip) > 0 {
+        if label_count(&asked.criterion, &self.trips.labels, connection.trip) > 0 {
             return false;
         }
         let head = self.stops.head(connection.to);
@@ -77,7 +78,7 @@ impl<C: Criterion> State<C> {
             asked.now.query hop.now self.old self.new) }
     {
         self.trips.alight(asked, hop, &self.stops)?;
-        let labels = self.trips.labels.of(hop.connection.trip);
+        let labels = labels_of(&asked.criterion, &self.trips.labels, hop.connection.trip);
         if labels.len() == 0 {
             return Ok(());
         }

@@ -7,8 +7,8 @@ pub returns-then-is_total-clause-labels : goal.returns-then-is_total-clause-labe
 returns-then-is_total-clause-labels g c = record {
   slots = c.in_ok-slots.ensures.slots;
   runs = c.in_ok-runs.ensures.labels (g.C.Criterion.rules c.args.criterion.now);
-  total = λ some. c.is_total.ensures c.if-is_total.true;
-  either = λ some. c.in_ok-runs.ensures.long;
+  total = λ some. c.is_total.ensures.total c.if-is_total.true;
+  partial = λ some total. (let long = c.in_ok-runs.ensures.long in absurd (omega (arith, long, some)));
 }
 
 pub returns-then-is_total-clause-none : goal.returns-then-is_total-clause-none
@@ -23,7 +23,7 @@ returns-clause-labels g c =
       slots = no_slots_are rules c.new-3.result.items c.new-3.ensures.items;
       runs = c.in_ok-runs-2.ensures.labels rules;
       total = λ some. absurd (omega (arith, none, some));
-      either = λ some. absurd (omega (arith, none, some));
+      partial = λ some. c.is_total.ensures.partial c.if-is_total.false;
     }
 
 pub returns-clause-none : goal.returns-clause-none

@@ -1,58 +1,57 @@
-use Rattle.std.proofs.Common.{◌≡◌, ◌+◌, ◌<◌, ◌++◌, ◌∷◌, [], List, cond, not, length, sym, ◌∙◌, ap, arith}
+use Rattle.std.proofs.Common.{◌+◌, ◌++◌, ◌∷◌, [], cond, not, length, sym, ◌∙◌, ap, arith}
 use Rattle.std.proofs.lemmas.Result.{IfOk-weaker, on_ok_weaker}
+use Rattle.criteria.specs.Laws.{IsTotal}
 use Rattle.fronts.specs.declared.labels.Label.{Label}
 use Rattle.fronts.specs.Offered.{is_beaten, others}
 use Rattle.fronts.specs.RunLabels.{run_labels, runs_of}
 use Rattle.fronts.specs.SlotLabels.{slot_or}
-use Rattle.fronts.proofs.Slots.{if_ok_both, in_slot, no_slot, no_slots}
+use Rattle.fronts.proofs.Slots.{if_ok_both, in_slot, in_slots, no_slot, no_slots}
 use Rattle.fronts.proofs.labels.offer_label.Goals as goal
 
-pub offer_slot-requires-clause-total : goal.offer_slot-requires-clause-total
-offer_slot-requires-clause-total g c =
+pub offer_slot-requires-clause-trip : goal.offer_slot-requires-clause-trip
+offer_slot-requires-clause-trip g c =
     let labels = c.args.labels.now in
-    let trip = c.args.trip in
-    let long = c.len.ensures ∙ labels.slots.ok.0 in
-    let below : trip < length labels.slots.items = omega (arith, long, c.if-trip-len.true) in
-    c.requires.labels.total (omega (arith, below))
+    in_slots (IsTotal (g.C.Criterion.rules c.args.criterion.now)) c.args.trip (length labels.slots.items) (length (runs_of labels.runs))
+    c.requires.trip c.requires.labels.partial (c.is_total.ensures.total c.if-is_total.true)
 
-pub returns-then-trip-len-clause-labels : goal.returns-then-trip-len-clause-labels
-returns-then-trip-len-clause-labels g c =
+pub returns-then-is_total-clause-labels : goal.returns-then-is_total-clause-labels
+returns-then-is_total-clause-labels g c =
     let labels = c.args.labels.now in
     let trip = c.args.trip in
-    let long = c.len.ensures ∙ labels.slots.ok.0 in
-    let below : trip < length labels.slots.items = omega (arith, long, c.if-trip-len.true) in
+    let below = in_slots (IsTotal (g.C.Criterion.rules c.args.criterion.now)) trip (length labels.slots.items) (length (runs_of labels.runs))
+    c.requires.trip c.requires.labels.partial (c.is_total.ensures.total c.if-is_total.true) in
     on_ok_weaker c.offer_slot.result (λ slots. record {
       slots = slots;
       runs = c.requires.labels.runs;
       total = λ some. c.requires.labels.total (omega (arith, below));
-      either = λ some. c.requires.labels.either (omega (arith, below));
+      partial = c.requires.labels.partial;
     }) c.offer_slot.ensures.slots
 
-pub returns-then-trip-len-clause-long : goal.returns-then-trip-len-clause-long
-returns-then-trip-len-clause-long g c =
+pub returns-then-is_total-clause-long : goal.returns-then-is_total-clause-long
+returns-then-is_total-clause-long g c =
     on_ok_weaker c.offer_slot.result (λ long. ap (λ n. n + length (runs_of c.args.labels.now.runs)) long) c.offer_slot.ensures.long
 
-pub returns-then-trip-len-clause-same : goal.returns-then-trip-len-clause-same
-returns-then-trip-len-clause-same g c =
+pub returns-then-is_total-clause-same : goal.returns-then-is_total-clause-same
+returns-then-is_total-clause-same g c =
     on_ok_weaker c.offer_slot.result (λ same k other. ap (λ slot. slot_or slot (run_labels c.args.labels.now.runs k)) (same k other))
     c.offer_slot.ensures.same
 
-pub returns-then-trip-len-clause-stands : goal.returns-then-trip-len-clause-stands
-returns-then-trip-len-clause-stands g c =
+pub returns-then-is_total-clause-stands : goal.returns-then-is_total-clause-stands
+returns-then-is_total-clause-stands g c =
     let labels = c.args.labels.now in
     let trip = c.args.trip in
-    let long = c.len.ensures ∙ labels.slots.ok.0 in
-    let below : trip < length labels.slots.items = omega (arith, long, c.if-trip-len.true) in
+    let below = in_slots (IsTotal (g.C.Criterion.rules c.args.criterion.now)) trip (length labels.slots.items) (length (runs_of labels.runs))
+    c.requires.trip c.requires.labels.partial (c.is_total.ensures.total c.if-is_total.true) in
     let rules = g.C.Criterion.rules c.args.criterion.now in
     let here = in_slot labels.slots.items (run_labels labels.runs trip) trip below in
     IfOk-weaker c.offer_slot.result _ _ (λ stands is. is ∙ ap (λ xs. not (is_beaten rules xs c.args.value)) (sym here)) c.offer_slot.ensures.stands
 
-pub returns-then-trip-len-clause-taken : goal.returns-then-trip-len-clause-taken
-returns-then-trip-len-clause-taken g c =
+pub returns-then-is_total-clause-taken : goal.returns-then-is_total-clause-taken
+returns-then-is_total-clause-taken g c =
     let labels = c.args.labels.now in
     let trip = c.args.trip in
-    let long = c.len.ensures ∙ labels.slots.ok.0 in
-    let below : trip < length labels.slots.items = omega (arith, long, c.if-trip-len.true) in
+    let below = in_slots (IsTotal (g.C.Criterion.rules c.args.criterion.now)) trip (length labels.slots.items) (length (runs_of labels.runs))
+    c.requires.trip c.requires.labels.partial (c.is_total.ensures.total c.if-is_total.true) in
     let rules = g.C.Criterion.rules c.args.criterion.now in
     let new : Label g.row.C-V.Denot = record { value = c.args.value; tag = c.args.tag } in
     let here = in_slot labels.slots.items (run_labels labels.runs trip) trip below in
@@ -64,21 +63,21 @@ pub offer_run-requires-clause-trip : goal.offer_run-requires-clause-trip
 offer_run-requires-clause-trip g c =
     let labels = c.args.labels.now in
     let trip = c.args.trip in
-    let none = no_slots trip (length labels.slots.items) (length (runs_of labels.runs)) c.len.result c.requires.trip
-    c.requires.labels.either (c.len.ensures ∙ labels.slots.ok.0) c.if-trip-len.false in
+    let none = no_slots (IsTotal (g.C.Criterion.rules c.args.criterion.now)) (length labels.slots.items) c.requires.labels.total
+    (c.is_total.ensures.partial c.if-is_total.false) in
     omega (arith, none, c.requires.trip)
 
 pub returns-clause-labels : goal.returns-clause-labels
 returns-clause-labels g c =
     let labels = c.args.labels.now in
     let trip = c.args.trip in
-    let none = no_slots trip (length labels.slots.items) (length (runs_of labels.runs)) c.len.result c.requires.trip
-    c.requires.labels.either (c.len.ensures ∙ labels.slots.ok.0) c.if-trip-len.false in
+    let none = no_slots (IsTotal (g.C.Criterion.rules c.args.criterion.now)) (length labels.slots.items) c.requires.labels.total
+    (c.is_total.ensures.partial c.if-is_total.false) in
     on_ok_weaker c.offer_run.result (λ runs. record {
       slots = c.requires.labels.slots;
       runs = runs;
       total = c.requires.labels.total;
-      either = λ some. absurd (omega (arith, none, some));
+      partial = λ some. c.is_total.ensures.partial c.if-is_total.false;
     }) c.offer_run.ensures.labels
 
 pub returns-clause-long : goal.returns-clause-long
@@ -89,8 +88,8 @@ pub returns-clause-same : goal.returns-clause-same
 returns-clause-same g c =
     let labels = c.args.labels.now in
     let trip = c.args.trip in
-    let none = no_slots trip (length labels.slots.items) (length (runs_of labels.runs)) c.len.result c.requires.trip
-    c.requires.labels.either (c.len.ensures ∙ labels.slots.ok.0) c.if-trip-len.false in
+    let none = no_slots (IsTotal (g.C.Criterion.rules c.args.criterion.now)) (length labels.slots.items) c.requires.labels.total
+    (c.is_total.ensures.partial c.if-is_total.false) in
     let slots = labels.slots.items in
     on_ok_weaker c.offer_run.result (λ same k other. no_slot slots (run_labels c.offer_run.new.labels k) k none ∙ same k other
     ∙ sym (no_slot slots (run_labels labels.runs k) k none)) c.offer_run.ensures.same
@@ -99,8 +98,8 @@ pub returns-clause-stands : goal.returns-clause-stands
 returns-clause-stands g c =
     let labels = c.args.labels.now in
     let trip = c.args.trip in
-    let none = no_slots trip (length labels.slots.items) (length (runs_of labels.runs)) c.len.result c.requires.trip
-    c.requires.labels.either (c.len.ensures ∙ labels.slots.ok.0) c.if-trip-len.false in
+    let none = no_slots (IsTotal (g.C.Criterion.rules c.args.criterion.now)) (length labels.slots.items) c.requires.labels.total
+    (c.is_total.ensures.partial c.if-is_total.false) in
     let rules = g.C.Criterion.rules c.args.criterion.now in
     let here = no_slot labels.slots.items (run_labels labels.runs trip) trip none in
     IfOk-weaker c.offer_run.result _ _ (λ stands is. is ∙ ap (λ xs. not (is_beaten rules xs c.args.value)) (sym here)) c.offer_run.ensures.stands
@@ -109,8 +108,8 @@ pub returns-clause-taken : goal.returns-clause-taken
 returns-clause-taken g c =
     let labels = c.args.labels.now in
     let trip = c.args.trip in
-    let none = no_slots trip (length labels.slots.items) (length (runs_of labels.runs)) c.len.result c.requires.trip
-    c.requires.labels.either (c.len.ensures ∙ labels.slots.ok.0) c.if-trip-len.false in
+    let none = no_slots (IsTotal (g.C.Criterion.rules c.args.criterion.now)) (length labels.slots.items) c.requires.labels.total
+    (c.is_total.ensures.partial c.if-is_total.false) in
     let rules = g.C.Criterion.rules c.args.criterion.now in
     let new : Label g.row.C-V.Denot = record { value = c.args.value; tag = c.args.tag } in
     let here = no_slot labels.slots.items (run_labels labels.runs trip) trip none in
