@@ -60,13 +60,15 @@ labels_of-labels-requires-clause-labels g c = c.in_ok-alight.ensures.trip.labels
 pub set_out-requires-clause-labels : goal.set_out-requires-clause-labels
 set_out-requires-clause-labels g c =
     let rules = g.C.Criterion.rules c.args.asked.now.criterion in
-    subst (λ (xs : List (Label g.row.C-V.Denot)). (p : Point g.row.C-V.Denot) → Contains (label_points xs) p → Admits rules p.value) (sym c.labels_of-labels.ensures)
+    subst (λ (xs : List (Label g.row.C-V.Denot)). (p : Point g.row.C-V.Denot) → Contains (label_points xs) p → Admits rules p.value)
+    (sym c.labels_of-labels.ensures)
     (trip_admitted rules c.alight.new.self.labels c.in_ok-alight.ensures.trip.labels.labels c.args.hop.now.connection.trip)
 
 pub board-requires-clause-labels : goal.board-requires-clause-labels
 board-requires-clause-labels g c =
     let rules = g.C.Criterion.rules c.args.asked.now.criterion in
-    subst (λ (xs : List (Label g.row.C-V.Denot)). (p : Point g.row.C-V.Denot) → Contains (label_points xs) p → Admits rules p.value) (sym c.labels_of-labels.ensures)
+    subst (λ (xs : List (Label g.row.C-V.Denot)). (p : Point g.row.C-V.Denot) → Contains (label_points xs) p → Admits rules p.value)
+    (sym c.labels_of-labels.ensures)
     (trip_admitted rules c.alight.new.self.labels c.in_ok-alight.ensures.trip.labels.labels c.args.hop.now.connection.trip)
 
 pub returns-clause-state : goal.returns-clause-state
