@@ -83,6 +83,10 @@ impl Criterion for ArrivalTripsWalk {
         true
     }
 
+    fn is_total(&self) -> bool {
+        false
+    }
+
     ghost laws = { λ _. record {
       arrive_admits = λ time h. arrival_admitted time h;
       ride_admits = λ v a. ride_admitted v a;

@@ -4,7 +4,7 @@
 
 ghost use Rattle.std.specs.Prelude.{◌≡◌, ◌+◌, ◌≤◌, ◌&&◌, ℕ, None, Some, min, nat_le};
 ghost use Rattle.std.specs.Ordering.{nat_cmp, ordering_then};
-ghost use Rattle.criteria.specs.Laws.{RidingWorsens};
+ghost use Rattle.criteria.specs.Laws.{RidingWorsens, IsTotal};
 ghost use Rattle.criteria.specs.Names.{name_text};
 
 use crate::{Arrival, ArrivalTrips, ArrivalTripsWalk, Criterion, CriterionName, Told};
@@ -17,6 +17,7 @@ pub fn arrival_is_the_time(criterion: &Arrival)
     ensures no_worse { (v w : ℕ) → (⟦<Arrival as Criterion>⟧.rules criterion.now).no_worse v w ≡ nat_le v w }
     ensures list_order { (v w : ℕ) → (⟦<Arrival as Criterion>⟧.rules criterion.now).list_order v w ≡ nat_cmp v w }
     ensures riding { RidingWorsens (⟦<Arrival as Criterion>⟧.rules criterion.now) }
+    ensures total { IsTotal (⟦<Arrival as Criterion>⟧.rules criterion.now) }
     ensures told { (v : ℕ) → ⟦<Arrival as Told>⟧.told v ≡ record { arrival = v; trips = None; walked = None } }
 {}
 

@@ -10,4 +10,5 @@ pub mod Walks
 pub mod Inserted
 pub mod Mapped
 pub mod Runs
+pub mod Slots
 pub mod Ahead

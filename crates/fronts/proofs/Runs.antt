@@ -9,8 +9,9 @@ use Rattle.std.proofs.lemmas.List.Elements.{Contains-append_cases, Contains-appe
 use Rattle.reasoning.proofs.ListLemmas.{from_filter}
 use Rattle.criteria.specs.Laws.{Rules, Admits}
 use Rattle.fronts.specs.declared.labels.Label.{Label}
-use Rattle.fronts.specs.declared.labels.Run.{Run}
-use Rattle.fronts.specs.Labels.{AreApart, AreRuns, ArePut, labels_in, no_run, others, run_at}
+use Rattle.fronts.specs.declared.run_labels.Run.{Run}
+use Rattle.fronts.specs.RunLabels.{AreApart, AreRuns, ArePut, labels_in, no_run, run_at}
+use Rattle.fronts.specs.Offered.{others}
 use Rattle.fronts.proofs.Growth.{same_part}
 
 -- what is in a part is in the whole

@@ -6,7 +6,8 @@ use Rattle.fronts.specs.declared.entry.Entry.{Entry}
 use Rattle.fronts.specs.Front.{front, next_of, departure_of, Betters}
 
 -- an entry carries a front, by the entry that comes next on its list, where there is one
-pub record IsLinked {V : Type 0} (rules : Rules V) (departure next later : ℕ) (points rest : List (Item V)) : Type 0 where
+pub record IsLinked {V : Type 0} (rules : Rules V) (departure next later : ℕ)
+    (points rest : List (Item V)) : Type 0 where
   -- the next entry departs later
   pub rises : 0 < next → departure < later
   -- the points depart no earlier than the entry, and are worth what the laws speak of

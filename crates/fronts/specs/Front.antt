@@ -1,5 +1,6 @@
 -- Lists of entries, and the fronts that they carry.
-use Rattle.std.specs.Prelude.{ℕ, zero, suc, ◌≤◌, List, [], ◌∷◌, ◌++◌, take, drop, slice_get, Option, Some, None, Contains}
+use Rattle.std.specs.Prelude.{ℕ, zero, suc, ◌≤◌, List, [], ◌∷◌, ◌++◌, take, drop, slice_get, Contains}
+use Rattle.std.specs.Prelude.{Option, Some, None}
 pub use Rattle.reasoning.specs.Lists.{Extends}
 use Rattle.criteria.specs.Laws.{Rules, NoWorse}
 use Rattle.fronts.specs.declared.entry.Item.{Item}
@@ -14,7 +15,8 @@ abbrev pub front_of : {V : Type 0} → List (Item V) → Option (Entry V) → Li
 front_of items None = []
 front_of items (Some e) = own e ∷ take e.count (drop e.rest items)
 
--- the front that the entry at a place carries: its own point, then a part of the items; the entry at place 0 ends each list, and carries none
+-- the front that the entry at a place carries: its own point, then a part of the items; the entry at place 0 ends each
+-- list, and carries none
 abbrev pub front : {V : Type 0} → List (Entry V) → List (Item V) → ℕ → List (Item V)
 front entries items zero = []
 front entries items (suc m) = front_of items (slice_get entries (suc m))
@@ -39,7 +41,8 @@ departure_of entries m = departure_in (slice_get entries m)
 unfoldable pub points_to : {V : Type 0} → List (Entry V) → List (Item V) → ℕ → ℕ → List (Item V)
 points_to entries items zero m = []
 points_to entries items (suc n) zero = []
-points_to entries items (suc n) (suc m) = front entries items (suc m) ++ points_to entries items n (next_of entries (suc m))
+points_to entries items (suc n) (suc m) =
+    front entries items (suc m) ++ points_to entries items n (next_of entries (suc m))
 
 -- the points of the list that begins at a place
 abbrev pub points_from : {V : Type 0} → List (Entry V) → List (Item V) → ℕ → List (Item V)
@@ -51,4 +54,5 @@ Betters {V} rules points v = (p : Item V) × Contains points p × NoWorse rules 
 
 -- a list has a point that departs no earlier and is no worse
 abbrev pub Covers : {V : Type 0} → Rules V → List (Item V) → ℕ → V → Type 0
-Covers {V} rules points departure v = (p : Item V) × Contains points p × (departure ≤ p.departure) × NoWorse rules p.value v
+Covers {V} rules points departure v =
+    (p : Item V) × Contains points p × (departure ≤ p.departure) × NoWorse rules p.value v

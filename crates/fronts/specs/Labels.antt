@@ -1,58 +1,22 @@
--- Labels of many trips, those of each in a run.
-use Rattle.std.specs.Prelude.{◌≡◌, ◌⊎◌, ℕ, ◌+◌, ◌≤◌, List, Bool, not, filter, take, drop, length, slice_index_or, Contains}
-use Rattle.std.specs.List.{list_any}
-use Rattle.criteria.specs.Laws.{Rules, Admits}
+-- Labels of many trips: under a total criterion each trip's one label in its slot, else those of each in a run.
+use Rattle.std.specs.Prelude.{ℕ, ◌+◌, ◌<◌, List, length, slice_get}
+use Rattle.criteria.specs.Laws.{Rules, IsTotal}
+use Rattle.fronts.specs.RunLabels.{AreRunLabels, run_labels, runs_of}
+use Rattle.fronts.specs.SlotLabels.{AreSlots, slot_or}
 use Rattle.fronts.specs.declared.labels.Label.{Label}
-use Rattle.fronts.specs.declared.labels.Run.{Run}
 use Rattle.fronts.specs.declared.labels.Labels.{Labels}
-
--- no labels, and no room
-abbrev pub no_run : Run
-no_run = record { first = 0; count = 0; room = 0 }
-
-abbrev pub run_at : List Run → ℕ → Run
-run_at runs trip = slice_index_or runs trip no_run
-
--- the labels of a run
-abbrev pub labels_in : {V : Type 0} → List (Label V) → Run → List (Label V)
-labels_in labels run = take run.count (drop run.first labels)
-
-abbrev pub runs_of : {V : Type 0} → Labels V → List Run
-runs_of labels = labels.runs.items
 
 -- the labels of a trip
 abbrev pub labels_at : {V : Type 0} → Labels V → ℕ → List (Label V)
-labels_at labels trip = labels_in labels.labels.items (run_at labels.runs.items trip)
+labels_at labels trip = slot_or (slice_get labels.slots.items trip) (run_labels labels.runs trip)
 
--- the room of one run ends before that of the other begins
-abbrev pub AreApart : Run → Run → Type 0
-AreApart a b = (a.first + a.room ≤ b.first) ⊎ (b.first + b.room ≤ a.first)
+-- how many trips there are
+abbrev pub trips_of : {V : Type 0} → Labels V → ℕ
+trips_of labels = length labels.slots.items + length (runs_of labels.runs)
 
--- so many places have room for runs: each within them, and no two in one place
-pub record AreRuns (runs : List Run) (places : ℕ) : Type 0 where
-  pub counted : (k : ℕ) → (run_at runs k).count ≤ (run_at runs k).room
-  pub within : (k : ℕ) → (run_at runs k).first + (run_at runs k).room ≤ places
-  pub apart : (a b : ℕ) → (a ≡ b → ⊥) → AreApart (run_at runs a) (run_at runs b)
-
--- labels of trips, of values that the laws speak of
+-- labels of trips, of values that the laws speak of: slots where one label a trip is enough, else runs
 pub record AreLabels {V : Type 0} (rules : Rules V) (labels : Labels V) : Type 0 where
-  pub runs : AreRuns labels.runs.items (length labels.labels.items)
-  pub admitted : (l : Label V) → Contains labels.labels.items l → Admits rules l.value
-
--- whether a label is no worse than a value
-abbrev pub is_beaten : {V : Type 0} → Rules V → List (Label V) → V → Bool
-is_beaten rules labels v = list_any (λ l. rules.no_worse l.value v) labels
-
--- the labels that stay when a value comes: those that it isn't no worse than
-abbrev pub others : {V : Type 0} → Rules V → V → List (Label V) → List (Label V)
-others rules v labels = filter (λ l. not (rules.no_worse v l.value)) labels
-
--- new labels stand in a run, and the others where they stood: what was in the old run's room may be gone
-pub record ArePut {V : Type 0} (old : List (Label V)) (run : Run) (new : List (Label V)) (placed : Run) (now : List (Label V)) : Type 0 where
-  pub counted : placed.count ≤ placed.room
-  pub within : placed.first + placed.room ≤ length now
-  pub longer : length old ≤ length now
-  pub here : labels_in now placed ≡ new
-  pub others : (other : Run) → other.count ≤ other.room → other.first + other.room ≤ length old → AreApart other run → labels_in now other ≡ labels_in old other
-  pub apart : (other : Run) → other.first + other.room ≤ length old → AreApart other run → AreApart other placed
-  pub only : (l : Label V) → Contains now l → Contains old l ⊎ Contains new l
+  pub slots : AreSlots rules labels.slots.items
+  pub runs : AreRunLabels rules labels.runs
+  pub total : 0 < length labels.slots.items → IsTotal rules
+  pub partial : 0 < length (runs_of labels.runs) → IsTotal rules → ⊥

@@ -26,7 +26,8 @@ pub record IsLate {V : Type 0} (entries : List (Entry V)) (items : List (Item V)
   pub within : m < length entries
   pub late : time ≤ departure_of entries m
   pub only : (p : Item V) → Contains (points_from entries items m) p → Contains (points_from entries items head) p
-  pub all : (p : Item V) → Contains (points_from entries items head) p → time ≤ p.departure → Contains (points_from entries items m) p
+  pub all : (p : Item V) → Contains (points_from entries items head) p → time ≤ p.departure
+      → Contains (points_from entries items m) p
 
 -- these entries lead from a place to another along a list
 abbrev pub IsPath : {V : Type 0} → List (Entry V) → ℕ → List ℕ → ℕ → Type 0
@@ -39,10 +40,12 @@ DepartBefore entries time places = (b : ℕ) → Contains places b → departure
 
 -- a list covers what another does
 abbrev pub CoversAll : {V : Type 0} → Rules V → List (Item V) → List (Item V) → Type 0
-CoversAll {V} rules old new = (departure : ℕ) (v : V) → Admits rules v → Covers rules old departure v → Covers rules new departure v
+CoversAll {V} rules old new =
+    (departure : ℕ) (v : V) → Admits rules v → Covers rules old departure v → Covers rules new departure v
 
 -- points of one departure, that may be put before a list
-pub record MayPut {V : Type 0} (rules : Rules V) (entries : List (Entry V)) (departure m : ℕ) (points : List (Item V)) : Type 0 where
+pub record MayPut {V : Type 0} (rules : Rules V) (entries : List (Entry V)) (departure m : ℕ)
+    (points : List (Item V)) : Type 0 where
   pub within : m < length entries
   pub early : departure ≤ departure_of entries m
   pub some : 0 < length points
@@ -57,4 +60,5 @@ pub record IsUnion {V : Type 0} (rules : Rules V) (a b new : List (Item V)) : Ty
 
 -- what comes after a front put before the list of an entry
 abbrev pub Follows : ℕ → ℕ → ℕ → ℕ → ℕ → Type 0
-Follows later next place departure after = ((later ≡ departure) × (after ≡ next)) ⊎ ((departure < later) × (after ≡ place))
+Follows later next place departure after =
+    ((later ≡ departure) × (after ≡ next)) ⊎ ((departure < later) × (after ≡ place))

@@ -14,7 +14,8 @@ pub record IsKept {V : Type 0} (steps : List Step) (kept : List (Item V)) (depar
   pub kept_more : now ≡ kept ++ record { departure = departure; value = v; tag = length steps } ∷ []
 
 -- a point is one of the ridden values after a footpath, and its tag is the place of the step that says so
-pub record IsBoarding {V : Type 0} (rules : Rules V) (steps : List Step) (departure first walk secs : ℕ) (ridden : List (Ridden V)) (p : Item V) : Type 0 where
+pub record IsBoarding {V : Type 0} (rules : Rules V) (steps : List Step) (departure first walk secs : ℕ)
+    (ridden : List (Ridden V)) (p : Item V) : Type 0 where
   pub by : Ridden V
   pub is_ridden : Contains ridden by
   pub departs : p.departure ≡ departure
@@ -32,7 +33,8 @@ AllWalked {V} rules points secs ridden n kept =
     (k : ℕ) (d : Ridden V) → k < n → Betters rules kept (rules.walk secs (slice_index_or ridden k d).value)
     ⊎ Betters rules points (rules.walk secs (slice_index_or ridden k d).value)
 
--- a list takes the ridden values in: each of its points stood before or is one of them, what was covered stays so, and each of them is covered
+-- a list takes the ridden values in: each of its points stood before or is one of them, what was covered stays so, and
+-- each of them is covered
 pub record TakesBoardings {V : Type 0} (rules : Rules V) (steps : List Step) (departure first walk secs : ℕ)
     (ridden : List (Ridden V)) (old new : List (Item V)) : Type 0 where
   pub only : (p : Item V) → Contains new p → Contains old p ⊎ IsBoarding rules steps departure first walk secs ridden p

@@ -1,19 +1,15 @@
-//! Labels of many trips in one vector: those of a trip stand side by side, a run of it.
+//! Labels of many trips: what one who sits in each may be worth.
 //!
-//! A run is written over while it has room. Where it has none, its labels go to the vector's end,
-//! with room for nearly as many again. So the places that a trip has left behind are no more than
-//! those that it has, and all of them are fewer than four for each label of the most that it had at
-//! once.
+//! A criterion that is total needs one label a trip, which is in the trip's slot; of any other the labels of a trip are
+//! in a run. Which it is, is known when the program is compiled: each call asks the criterion, and not the labels.
 
-ghost use Rattle.std.specs.Prelude.{◌≡◌, ◌+◌, ◌++◌, ◌∷◌, [], ℕ, ◌<◌, ◌≤◌, cond, not, take, drop, length, replicate};
-ghost use Rattle.std.specs.Prelude.{Contains, IfOk, OnOk};
-ghost use Rattle.criteria.specs.Laws.{Rules, Admits};
-ghost use Rattle.fronts.specs.declared.labels.Label.{Label};
-ghost use Rattle.fronts.specs.declared.labels.Run.{Run};
-ghost use Rattle.fronts.specs.Labels.{AreLabels, ArePut, is_beaten, labels_in, labels_at, no_run, others, runs_of};
+ghost use Rattle.std.specs.Prelude.{◌≡◌, ◌++◌, ◌∷◌, [], ℕ, ◌<◌, cond, length, not, IfOk, OnOk};
+ghost use Rattle.criteria.specs.Laws.{Admits};
+ghost use Rattle.fronts.specs.Offered.{is_beaten, others};
+ghost use Rattle.fronts.specs.Labels.{AreLabels, labels_at, trips_of};
 
-use crate::putting::place_of;
-use crate::valued::some_no_worse;
+use crate::run_labels::{RunLabels, offer_run};
+use crate::slot_labels::{count_at, empty_slots, label_of, offer_slot};
 use criteria::Criterion;
 use std::alloc::{AllocError, Global};
 
@@ -24,157 +20,70 @@ pub struct Label<V> {
     pub tag: u32,
 }
 
-/// Where labels stand: so many from a place on, and for how many there is room.
-#[derive(Clone, Copy, Drop)]
-pub struct Run {
-    pub first: u32,
-    pub count: u32,
-    pub room: u32,
-}
-
 /// The labels of so many trips: of each those of which none is no worse than another.
 #[derive(Drop)]
 pub struct Labels<V> {
-    runs: Vec<Run>,
-    labels: Vec<Label<V>>,
-    // room for the labels of one trip
-    kept: Vec<Label<V>>,
+    // of each trip its one label, under a total criterion
+    slots: Vec<Label<V>>,
+    // of each trip its labels, under any other
+    runs: RunLabels<V>,
 }
 
-impl<V: Copy> Labels<V> {
-    ghost use Rattle.std.specs.Prelude.{◌≡◌, [], ◌<◌, ℕ, IfOk, length};
-    ghost use Rattle.criteria.specs.Laws.{Rules};
-    ghost use Rattle.fronts.specs.Labels.{AreLabels, labels_at, runs_of};
-
-    /// So many trips without labels.
-    pub fn new(alloc: Global, trips: u32) -> Result<Self, AllocError>
-        ensures long { IfOk result (λ labels. length (runs_of labels) ≡ trips) }
-        ensures labels { IfOk result (λ labels. (rules : Rules _) → AreLabels rules labels) }
-        ensures none { IfOk result (λ labels. (trip : ℕ) → labels_at labels trip ≡ []) }
-    {
-        let runs = no_runs(alloc, trips as usize)?;
-        Ok(Labels {
-            runs,
-            labels: Vec::new(alloc),
-            kept: Vec::new(alloc),
-        })
-    }
-
-    /// How many labels a trip has.
-    pub fn count(&self, trip: u32) -> u32
-        requires trip { trip < length (runs_of self.now) }
-        requires labels { (rules : Rules _) × AreLabels rules self.now }
-        ensures { result ≡ length (labels_at self.now trip) }
-    {
-        self.runs[trip as usize].count
-    }
-
-    /// The labels of a trip.
-    pub fn of(&self, trip: u32) -> &[Label<V>]
-        requires trip { trip < length (runs_of self.now) }
-        requires labels { (rules : Rules _) × AreLabels rules self.now }
-        ensures { result.now ≡ labels_at self.now trip }
-    {
-        part(&self.labels, self.runs[trip as usize])
-    }
-}
-
-// As many runs as wanted, without room.
-fn no_runs(alloc: Global, count: usize) -> Result<Vec<Run>, AllocError>
-    ensures { IfOk result (λ runs. runs.items ≡ replicate count no_run) }
-{
-    let none = Run {
-        first: 0,
-        count: 0,
-        room: 0,
-    };
-    vec![in alloc; none; count]
-}
-
-// The labels of a run.
-fn part<V>(labels: &[Label<V>], run: Run) -> &[Label<V>]
-    requires { run.first + run.count ≤ length labels.now }
-    ensures { result.now ≡ labels_in labels.now run }
-{
-    &labels[run.first as usize..run.first as usize + run.count as usize]
-}
-
-// Keeps a label that a value isn't no worse than.
-fn keep_other<C: Criterion>(
+/// So many trips without labels.
+pub fn no_labels<C: Criterion>(
+    alloc: Global,
     criterion: &C,
-    label: Label<C::V>,
-    value: &C::V,
-    kept: &mut Vec<Label<C::V>>,
-) -> Result<(), AllocError>
-    requires label { Admits (C.rules criterion.now) label.value }
-    requires value { Admits (C.rules criterion.now) value.now }
-    ensures { OnOk result (kept.new.items ≡ kept.old.items ++ others (C.rules criterion.now) value.now (label ∷ [])) }
+    trips: u32,
+) -> Result<Labels<C::V>, AllocError>
+    ensures long { IfOk result (λ labels. trips_of labels ≡ trips) }
+    ensures labels { IfOk result (λ labels. AreLabels (C.rules criterion.now) labels) }
+    ensures none { IfOk result (λ labels. (trip : ℕ) → labels_at labels trip ≡ []) }
 {
-    if !criterion.no_worse(value, &label.value) {
-        kept.push(label)?;
+    if criterion.is_total() {
+        let slots = empty_slots(alloc, criterion, trips as usize)?;
+        let runs = RunLabels::new(alloc, 0)?;
+        return Ok(Labels { slots, runs });
     }
-    Ok(())
+    let runs = RunLabels::new(alloc, trips)?;
+    Ok(Labels {
+        slots: Vec::new(alloc),
+        runs,
+    })
 }
 
-// Keeps the labels that a value isn't no worse than.
-fn keep_others<C: Criterion>(
+/// How many labels a trip has.
+#[inline(always)]
+pub fn label_count<C: Criterion>(criterion: &C, labels: &Labels<C::V>, trip: u32) -> u32
+    requires trip { trip < trips_of labels.now }
+    requires labels { AreLabels (C.rules criterion.now) labels.now }
+    ensures { result ≡ length (labels_at labels.now trip) }
+{
+    if criterion.is_total() {
+        return count_at(&labels.slots, trip);
+    }
+    labels.runs.count(trip)
+}
+
+/// The labels of a trip.
+#[inline(always)]
+pub fn labels_of<'a, C: Criterion>(
     criterion: &C,
-    labels: &[Label<C::V>],
-    value: &C::V,
-    kept: &mut Vec<Label<C::V>>,
-) -> Result<(), AllocError>
-    requires labels { (l : Label _) → Contains labels.now l → Admits (C.rules criterion.now) l.value }
-    requires value { Admits (C.rules criterion.now) value.now }
-    ensures { OnOk result (kept.new.items ≡ others (C.rules criterion.now) value.now labels.now) }
+    labels: &'a Labels<C::V>,
+    trip: u32,
+) -> &'a [Label<C::V>]
+    requires trip { trip < trips_of labels.now }
+    requires labels { AreLabels (C.rules criterion.now) labels.now }
+    ensures { result.now ≡ labels_at labels.now trip }
 {
-    kept.clear();
-    for k in 0..labels.len() {
-        let label = labels[k];
-        keep_other(criterion, label, value, kept)?;
+    if criterion.is_total() {
+        return label_of(&labels.slots, trip);
     }
-    Ok(())
-}
-
-// Writes labels over those from a place on.
-fn write_over<V: Copy>(labels: &mut Vec<Label<V>>, first: u32, new: &[Label<V>])
-    requires { first + length new.now ≤ length labels.old.items }
-    ensures { labels.new.items ≡ take first labels.old.items
-        ++ (new.now ++ drop (first + length new.now) labels.old.items) }
-{
-    for k in 0..new.len() {
-        labels[first as usize + k] = new[k];
-    }
-}
-
-// Puts labels at the end, with room for nearly as many again.
-fn append<V: Copy>(labels: &mut Vec<Label<V>>, new: &[Label<V>]) -> Result<Run, AllocError>
-    requires some { 0 < length new.now }
-    ensures { IfOk result (λ placed. (run : Run) → ArePut labels.old.items run new.now placed labels.new.items) }
-{
-    let first = place_of(labels.len())?;
-    labels.extend_from_slice(new)?;
-    labels.extend_from_slice(&new[1..])?;
-    let room = place_of(labels.len() - first as usize)?;
-    let count = place_of(new.len())?;
-    Ok(Run { first, count, room })
-}
-
-// Puts labels where a run has room for them, or else at the end, and tells where they are.
-fn put<V: Copy>(labels: &mut Vec<Label<V>>, run: Run, new: &[Label<V>]) -> Result<Run, AllocError>
-    requires some { 0 < length new.now }
-    requires within { run.first + run.room ≤ length labels.old.items }
-    ensures { IfOk result (λ placed. ArePut labels.old.items run new.now placed labels.new.items) }
-{
-    let count = place_of(new.len())?;
-    if count > run.room {
-        return append(labels, new);
-    }
-    write_over(labels, run.first, new);
-    Ok(Run { count, ..run })
+    labels.runs.of(trip)
 }
 
 /// Offers the labels of a trip a value with its tag: unless one of them is no worse, it comes to
 /// stand among those that it isn't no worse than. The answer tells whether it stands.
+#[inline(always)]
 pub fn offer_label<C: Criterion>(
     criterion: &C,
     labels: &mut Labels<C::V>,
@@ -182,11 +91,11 @@ pub fn offer_label<C: Criterion>(
     value: C::V,
     tag: usize,
 ) -> Result<bool, AllocError>
-    requires trip { trip < length (runs_of labels.old) }
+    requires trip { trip < trips_of labels.old }
     requires labels { AreLabels (C.rules criterion.now) labels.old }
     requires value { Admits (C.rules criterion.now) value }
     ensures labels { OnOk result (AreLabels (C.rules criterion.now) labels.new) }
-    ensures long { OnOk result (length (runs_of labels.new) ≡ length (runs_of labels.old)) }
+    ensures long { OnOk result (trips_of labels.new ≡ trips_of labels.old) }
     ensures same { OnOk result ((k : ℕ) → (k ≡ trip → ⊥) → labels_at labels.new k ≡ labels_at labels.old k) }
     ensures stands { IfOk result (λ stands. stands
         ≡ not (is_beaten (C.rules criterion.now) (labels_at labels.old trip) value)) }
@@ -197,18 +106,8 @@ pub fn offer_label<C: Criterion>(
           tag = tag;
         } ∷ []) (labels_at labels.old trip)) }
 {
-    let run = labels.runs[trip as usize];
-    if some_no_worse(criterion, part(&labels.labels, run), &value) {
-        return Ok(false);
+    if criterion.is_total() {
+        return offer_slot(criterion, &mut labels.slots, trip, value, tag);
     }
-    let tag = place_of(tag)?;
-    keep_others(
-        criterion,
-        part(&labels.labels, run),
-        &value,
-        &mut labels.kept,
-    )?;
-    labels.kept.push(Label { value, tag })?;
-    labels.runs[trip as usize] = put(&mut labels.labels, run, &labels.kept)?;
-    Ok(true)
+    offer_run(criterion, &mut labels.runs, trip, value, tag)
 }

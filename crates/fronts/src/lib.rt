@@ -9,10 +9,12 @@ mod insertion;
 mod keeping;
 mod labels;
 mod putting;
+mod run_labels;
 mod search;
+mod slot_labels;
 mod valued;
 
 pub use entry::{Entry, Item, Ridden, Step};
 pub use front_lists::FrontLists;
-pub use labels::{Label, Labels, offer_label};
+pub use labels::{Label, Labels, label_count, labels_of, no_labels, offer_label};
 pub use valued::{Valued, some_no_worse};

@@ -8,8 +8,9 @@ use Rattle.criteria.specs.Laws.{Rules, Laws, Admits}
 use Rattle.bags.specs.declared.point.Point.{Point}
 use Rattle.fronts.specs.declared.labels.Label.{Label}
 use Rattle.fronts.specs.declared.labels.Labels.{Labels}
-use Rattle.fronts.specs.Labels.{AreLabels, is_beaten, labels_at, others, run_at}
-use Rattle.fronts.proofs.Runs.{in_part}
+use Rattle.fronts.specs.Labels.{AreLabels, labels_at}
+use Rattle.fronts.specs.Offered.{is_beaten, others}
+use Rattle.fronts.proofs.Slots.{labels_admitted}
 use Rattle.profile_scan.specs.Steps.{TakesIn}
 use Rattle.profile_scan.specs.Adding.{IsRelabelled, label_points, one_way, trip_points}
 
@@ -40,9 +41,8 @@ as_point label = record { departure = 0; value = label.value; tag = label.tag }
 pub trip_admitted : {V : Type 0} (rules : Rules V) (labels : Labels V) → AreLabels rules labels → (trip : ℕ) (p : Point V)
     → Contains (trip_points labels trip) p → Admits rules p.value
 trip_admitted rules labels are trip p h =
-    let run = run_at labels.runs.items trip in
     let l = from_map as_point (labels_at labels trip) p h in
-    subst (λ (x : Point _). Admits rules x.value) l.2 (are.admitted l.0 (in_part labels.labels.items run.first run.count l.0 l.1))
+    subst (λ (x : Point _). Admits rules x.value) l.2 (labels_admitted rules labels are trip l.0 l.1)
 
 -- no labels, no points
 pub no_trip_points : {V : Type 0} (labels : Labels V) (trip : ℕ) → length (labels_at labels trip) ≡ 0 → (p : Point V) → Contains (trip_points labels trip) p → ⊥

@@ -20,7 +20,7 @@ use Rattle.profile_scan.specs.declared.story.SetOut.{SetOut}
 use Rattle.fronts.specs.declared.entry.Ridden.{Ridden}
 use Rattle.fronts.specs.declared.labels.Label.{Label}
 use Rattle.fronts.specs.declared.labels.Labels.{Labels}
-use Rattle.fronts.specs.Labels.{AreLabels, labels_at, runs_of}
+use Rattle.fronts.specs.Labels.{AreLabels, labels_at, trips_of}
 
 -- one way, which is open
 abbrev pub one_way : {V : Type 0} → ℕ → V → (ℕ → Type 0) → Offer (Unit {0}) V
@@ -53,7 +53,7 @@ trip_points labels trip = label_points (labels_at labels trip)
 -- no labels but those of one trip are others
 pub record IsRelabelled {V : Type 0} (rules : Rules V) (trip : ℕ) (old new : Labels V) : Type 0 where
   pub labels : AreLabels rules new
-  pub long : length (runs_of new) ≡ length (runs_of old)
+  pub long : trips_of new ≡ trips_of old
   pub same : (k : ℕ) → (k ≡ trip → ⊥) → labels_at new k ≡ labels_at old k
 
 -- a list takes an offer in while a story is written on: whichever beginning of it one asks, and whatever is still to

@@ -7,7 +7,7 @@ use Rattle.bags.specs.declared.point.Point.{Point}
 use Rattle.timetable.specs.TimetableValue.{TimetableValue}
 use Rattle.timetable.specs.declared.query.Query.{Query}
 use Rattle.timetable.specs.Journeys.{Counts}
-use Rattle.fronts.specs.Labels.{AreLabels, runs_of}
+use Rattle.fronts.specs.Labels.{AreLabels, trips_of}
 use Rattle.fronts.specs.Lists.{steps_of}
 use Rattle.profile_scan.specs.Values.{journey_value}
 use Rattle.profile_scan.specs.Continuations.{CountsFrom}
@@ -40,7 +40,7 @@ story_from state stop =
 pub record IsStateOfAll {K V : Type 0} {c : _} (rules_of : K → Rules V) (criterion : K) (stops trips : ℕ)
     (state : StateOfAll K V c) : Type 0 where
   pub at_stops : AreStops rules_of criterion stops state.stops
-  pub long : length (runs_of state.trips.labels) ≡ trips
+  pub long : trips_of state.trips.labels ≡ trips
   pub labels : AreLabels (rules_of criterion) state.trips.labels
   pub origins : AreOrigins criterion stops state.origins
 

@@ -8,7 +8,7 @@ use Rattle.timetable.specs.declared.limits.TheConstants.{MAX_WALK_SECS}
 use Rattle.timetable.specs.TimetableValue.{TimetableValue}
 use Rattle.criteria.specs.Laws.{Rules}
 use Rattle.fronts.specs.Lists.{IsSound, lists_criterion, entries_of, steps_of, list_points}
-use Rattle.fronts.specs.Labels.{AreLabels, runs_of}
+use Rattle.fronts.specs.Labels.{AreLabels, trips_of}
 use Rattle.profile_scan.specs.Adding.{trip_points}
 use Rattle.profile_scan.specs.Matching.{ScanValue}
 use Rattle.profile_scan.specs.Story.{Story, story}
@@ -73,7 +73,7 @@ story_of state = story state.trips.exits.items (steps_of state.stops.lists) stat
 pub record IsState {K V : Type 0} {c : _} (rules_of : K → Rules V) (criterion : K) (stops trips : ℕ)
     (state : State K V c) : Type 0 where
   pub at_stops : AreStops rules_of criterion stops state.stops
-  pub long : length (runs_of state.trips.labels) ≡ trips
+  pub long : trips_of state.trips.labels ≡ trips
   pub labels : AreLabels (rules_of criterion) state.trips.labels
   pub found : criterion_of state.origin.found ≡ criterion
 

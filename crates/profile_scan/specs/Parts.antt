@@ -1,5 +1,5 @@
 -- What each part of a scan's state takes in at a connection, and what it keeps.
-use Rattle.std.specs.Prelude.{◌≡◌, ℕ, ◌<◌, List, length, Contains, slice_get, Some}
+use Rattle.std.specs.Prelude.{◌≡◌, ℕ, ◌<◌, List, Contains, slice_get, Some}
 use Rattle.criteria.specs.Laws.{Rules, Admits}
 use Rattle.bags.specs.Bag.{criterion_of, points_of}
 use Rattle.bags.specs.declared.point.Point.{Point}
@@ -8,7 +8,7 @@ use Rattle.timetable.specs.declared.query.Query.{Query}
 use Rattle.timetable.specs.TimetableValue.{TimetableValue}
 use Rattle.timetable.specs.Journeys.{connection_at}
 use Rattle.fronts.specs.Front.{Extends}
-use Rattle.fronts.specs.Labels.{AreLabels, runs_of}
+use Rattle.fronts.specs.Labels.{AreLabels, trips_of}
 use Rattle.fronts.specs.Lists.{steps_of}
 use Rattle.fronts.specs.declared.entry.Ridden.{Ridden}
 use Rattle.fronts.specs.declared.entry.Step.{Step}
@@ -33,7 +33,7 @@ use Rattle.profile_scan.specs.declared.trips.Trips.{Trips}
 
 -- a trip is there, and labels are of values that the laws speak of
 pub record HasTrip {K V : Type 0} (rules : Rules V) (trip : ℕ) (trips : Trips K V) : Type 0 where
-  pub there : trip < length (runs_of trips.labels)
+  pub there : trip < trips_of trips.labels
   pub labels : AreLabels rules trips.labels
 
 -- no labels but those of one trip are others, and exits are only added

@@ -8,6 +8,7 @@ use crate::scan::ends_nothing;
 use crate::stops::Stops;
 use crate::trips::Trips;
 use criteria::Criterion;
+use fronts::{label_count, labels_of};
 use sources::ConnSource;
 use std::alloc::{AllocError, Global};
 use std::ops::Range;
@@ -41,7 +42,7 @@ impl<C: Criterion> StateOfAll<C> {
         ensures labels { IfOk result (λ state. (trip : ℕ) → trip_points state.trips.labels trip ≡ []) }
         ensures found { IfOk result (λ state. (stop : ℕ) → found_from state.origins stop ≡ []) }
     {
-        let trips = Trips::new(alloc, trips)?;
+        let trips = Trips::new(alloc, criterion, trips)?;
         let origins = Origins::new(alloc, *criterion, stops)?;
         let stops = Stops::new(alloc, criterion, stops)?;
         Ok(StateOfAll {
@@ -58,7 +59,7 @@ impl<C: Criterion> StateOfAll<C> {
         ensures { result ≡ true → IsIdle asked.now.query connection.now way
             (trip_points self.now.trips.labels connection.now.trip) (points_at self.now.stops connection.now.to) }
     {
-        if self.trips.labels.count(connection.trip) > 0 {
+        if label_count(&asked.criterion, &self.trips.labels, connection.trip) > 0 {
             return false;
         }
         let head = self.stops.head(connection.to);
@@ -86,7 +87,7 @@ impl<C: Criterion> StateOfAll<C> {
             hop.now.place (kept_from self.old stop) (kept_from self.new stop)) }
     {
         self.trips.alight(asked, hop, &self.stops)?;
-        let labels = self.trips.labels.of(hop.connection.trip);
+        let labels = labels_of(&asked.criterion, &self.trips.labels, hop.connection.trip);
         if labels.len() == 0 {
             return Ok(());
         }

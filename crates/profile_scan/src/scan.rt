@@ -8,6 +8,7 @@ use crate::origin::Origin;
 use crate::stops::Stops;
 use crate::trips::Trips;
 use criteria::Criterion;
+use fronts::{label_count, labels_of};
 use sources::ConnSource;
 use std::alloc::{AllocError, Global};
 use std::ops::Range;
@@ -24,7 +25,6 @@ pub struct State<C: Criterion> {
 impl<C: Criterion> State<C> {
     ghost use Rattle.std.specs.Prelude.{◌≡◌, ◌<◌, [], ℕ, IfOk, OnOk, true, length, vec_len};
     ghost use Rattle.bags.specs.Bag.{points_of};
-    ghost use Rattle.fronts.specs.Labels.{runs_of};
     ghost use Rattle.profile_scan.specs.Steps.{IsIdle};
     ghost use Rattle.profile_scan.specs.Kept.{HasStop, IsState, kept_by};
     ghost use Rattle.profile_scan.specs.Hops.{IsHopOf};
@@ -37,7 +37,7 @@ impl<C: Criterion> State<C> {
         ensures labels { IfOk result (λ state. (trip : ℕ) → (kept_by state).labels trip ≡ []) }
         ensures found { IfOk result (λ state. points_of state.origin.found ≡ []) }
     {
-        let trips = Trips::new(alloc, trips)?;
+        let trips = Trips::new(alloc, criterion, trips)?;
         let stops = Stops::new(alloc, criterion, stops)?;
         let origin = Origin::new(alloc, *criterion);
         Ok(State {
@@ -54,7 +54,7 @@ impl<C: Criterion> State<C> {
         ensures { result ≡ true → IsIdle asked.now.query connection.now way
             ((kept_by self.now).labels connection.now.trip) ((kept_by self.now).bag connection.now.to) }
     {
-        if self.trips.labels.count(connection.trip) > 0 {
+        if label_count(&asked.criterion, &self.trips.labels, connection.trip) > 0 {
             return false;
         }
         let head = self.stops.head(connection.to);
@@ -78,7 +78,7 @@ impl<C: Criterion> State<C> {
             asked.now.query hop.now self.old self.new) }
     {
         self.trips.alight(asked, hop, &self.stops)?;
-        let labels = self.trips.labels.of(hop.connection.trip);
+        let labels = labels_of(&asked.criterion, &self.trips.labels, hop.connection.trip);
         if labels.len() == 0 {
             return Ok(());
         }

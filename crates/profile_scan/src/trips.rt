@@ -2,11 +2,11 @@
 //!
 //! A trip is left where a connection ends: at the target, one footpath before it, or to change.
 
-ghost use Rattle.std.specs.Prelude.{◌≡◌, ◌+◌, ◌≤◌, [], ℕ, true, false, IfOk, IfSome, MatchOption, OnOk, Option, length};
+ghost use Rattle.std.specs.Prelude.{◌≡◌, ◌+◌, ◌≤◌, [], ℕ, true, false, IfOk, IfSome, MatchOption, OnOk, Option};
 ghost use Rattle.criteria.specs.Laws.{Admits, IsTime, IsSecs};
 ghost use Rattle.timetable.specs.declared.network.Footpath.{Footpath};
 ghost use Rattle.timetable.specs.Journeys.{start_secs};
-ghost use Rattle.fronts.specs.Labels.{AreLabels, runs_of};
+ghost use Rattle.fronts.specs.Labels.{AreLabels, trips_of};
 ghost use Rattle.profile_scan.specs.Values.{started};
 ghost use Rattle.profile_scan.specs.Bound.{is_bettered, carried};
 ghost use Rattle.profile_scan.specs.Story.{IsExit};
@@ -19,7 +19,7 @@ use crate::stops::Stops;
 use crate::story::Exit;
 use bags::Point;
 use criteria::Criterion;
-use fronts::{Labels, offer_label};
+use fronts::{Labels, no_labels, offer_label};
 use std::alloc::{AllocError, Global};
 use timetable::{Connection, Footpath, Query};
 
@@ -31,9 +31,9 @@ pub struct Trips<C: Criterion> {
 }
 
 impl<C: Criterion> Trips<C> {
-    ghost use Rattle.std.specs.Prelude.{◌≡◌, [], ℕ, true, false, IfOk, OnOk, length};
+    ghost use Rattle.std.specs.Prelude.{◌≡◌, [], ℕ, true, false, IfOk, OnOk};
     ghost use Rattle.criteria.specs.Laws.{Admits};
-    ghost use Rattle.fronts.specs.Labels.{AreLabels, runs_of};
+    ghost use Rattle.fronts.specs.Labels.{AreLabels, trips_of};
     ghost use Rattle.profile_scan.specs.Bound.{is_bettered, carried};
     ghost use Rattle.profile_scan.specs.Story.{IsExit};
     ghost use Rattle.profile_scan.specs.declared.story.Exit.TheVariants.{Changes};
@@ -44,12 +44,12 @@ impl<C: Criterion> Trips<C> {
     ghost use Rattle.profile_scan.specs.Parts.{HasTrip, ChangesTrip, TripTakes};
 
     /// So many trips without labels.
-    pub fn new(alloc: Global, count: u32) -> Result<Self, AllocError>
-        ensures long { IfOk result (λ trips. length (runs_of trips.labels) ≡ count) }
-        ensures labels { IfOk result (λ trips. (rules : _) → AreLabels rules trips.labels) }
+    pub fn new(alloc: Global, criterion: &C, count: u32) -> Result<Self, AllocError>
+        ensures long { IfOk result (λ trips. trips_of trips.labels ≡ count) }
+        ensures labels { IfOk result (λ trips. AreLabels (C.rules criterion.now) trips.labels) }
         ensures none { IfOk result (λ trips. (trip : ℕ) → trip_points trips.labels trip ≡ []) }
     {
-        let labels = Labels::new(alloc, count)?;
+        let labels = no_labels(alloc, criterion, count)?;
         Ok(Trips {
             labels,
             exits: Vec::new(alloc),

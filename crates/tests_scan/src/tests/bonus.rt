@@ -57,6 +57,10 @@ impl Criterion for WithBonus {
         value.cmp(other)
     }
 
+    fn is_total(&self) -> bool {
+        true
+    }
+
     ghost laws = { λ _. record {
       arrive_admits = λ time h. lt-ltb time time_limit h;
       ride_admits = λ v a. less_below 60 v time_limit a;

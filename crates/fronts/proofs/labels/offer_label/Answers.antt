@@ -1,46 +1,117 @@
-use Rattle.std.proofs.Common.{◌≡◌, List, ◌++◌, ◌∷◌, [], length, Contains, inl, inr, ◌∙◌, ap, subst}
-use Rattle.std.proofs.lemmas.List.{get_or_default}
+use Rattle.std.proofs.Common.{◌+◌, ◌++◌, ◌∷◌, [], cond, not, length, sym, ◌∙◌, ap, arith}
+use Rattle.std.proofs.lemmas.Result.{IfOk-weaker, on_ok_weaker}
+use Rattle.criteria.specs.Laws.{IsTotal}
 use Rattle.fronts.specs.declared.labels.Label.{Label}
-use Rattle.fronts.specs.declared.labels.Run.{Run}
-use Rattle.fronts.specs.Labels.{ArePut, labels_in, no_run, others, run_at}
-use Rattle.fronts.proofs.Runs.{run_there, runs_put, with_admitted}
+use Rattle.fronts.specs.Offered.{is_beaten, others}
+use Rattle.fronts.specs.RunLabels.{run_labels, runs_of}
+use Rattle.fronts.specs.SlotLabels.{slot_or}
+use Rattle.fronts.proofs.Slots.{if_ok_both, in_slot, in_slots, no_slot, no_slots}
 use Rattle.fronts.proofs.labels.offer_label.Goals as goal
+
+pub offer_slot-requires-clause-trip : goal.offer_slot-requires-clause-trip
+offer_slot-requires-clause-trip g c =
+    let labels = c.args.labels.now in
+    in_slots (IsTotal (g.C.Criterion.rules c.args.criterion.now)) c.args.trip (length labels.slots.items) (length (runs_of labels.runs))
+    c.requires.trip c.requires.labels.partial (c.is_total.ensures.total c.if-is_total.true)
+
+pub returns-then-is_total-clause-labels : goal.returns-then-is_total-clause-labels
+returns-then-is_total-clause-labels g c =
+    let labels = c.args.labels.now in
+    let trip = c.args.trip in
+    let below = in_slots (IsTotal (g.C.Criterion.rules c.args.criterion.now)) trip (length labels.slots.items) (length (runs_of labels.runs))
+    c.requires.trip c.requires.labels.partial (c.is_total.ensures.total c.if-is_total.true) in
+    on_ok_weaker c.offer_slot.result (λ slots. record {
+      slots = slots;
+      runs = c.requires.labels.runs;
+      total = λ some. c.requires.labels.total (omega (arith, below));
+      partial = c.requires.labels.partial;
+    }) c.offer_slot.ensures.slots
+
+pub returns-then-is_total-clause-long : goal.returns-then-is_total-clause-long
+returns-then-is_total-clause-long g c =
+    on_ok_weaker c.offer_slot.result (λ long. ap (λ n. n + length (runs_of c.args.labels.now.runs)) long) c.offer_slot.ensures.long
+
+pub returns-then-is_total-clause-same : goal.returns-then-is_total-clause-same
+returns-then-is_total-clause-same g c =
+    on_ok_weaker c.offer_slot.result (λ same k other. ap (λ slot. slot_or slot (run_labels c.args.labels.now.runs k)) (same k other))
+    c.offer_slot.ensures.same
+
+pub returns-then-is_total-clause-stands : goal.returns-then-is_total-clause-stands
+returns-then-is_total-clause-stands g c =
+    let labels = c.args.labels.now in
+    let trip = c.args.trip in
+    let below = in_slots (IsTotal (g.C.Criterion.rules c.args.criterion.now)) trip (length labels.slots.items) (length (runs_of labels.runs))
+    c.requires.trip c.requires.labels.partial (c.is_total.ensures.total c.if-is_total.true) in
+    let rules = g.C.Criterion.rules c.args.criterion.now in
+    let here = in_slot labels.slots.items (run_labels labels.runs trip) trip below in
+    IfOk-weaker c.offer_slot.result _ _ (λ stands is. is ∙ ap (λ xs. not (is_beaten rules xs c.args.value)) (sym here)) c.offer_slot.ensures.stands
+
+pub returns-then-is_total-clause-taken : goal.returns-then-is_total-clause-taken
+returns-then-is_total-clause-taken g c =
+    let labels = c.args.labels.now in
+    let trip = c.args.trip in
+    let below = in_slots (IsTotal (g.C.Criterion.rules c.args.criterion.now)) trip (length labels.slots.items) (length (runs_of labels.runs))
+    c.requires.trip c.requires.labels.partial (c.is_total.ensures.total c.if-is_total.true) in
+    let rules = g.C.Criterion.rules c.args.criterion.now in
+    let new : Label g.row.C-V.Denot = record { value = c.args.value; tag = c.args.tag } in
+    let here = in_slot labels.slots.items (run_labels labels.runs trip) trip below in
+    if_ok_both c.offer_slot.result _ _ _ (λ stands long taken.
+    in_slot c.offer_slot.new.slots.items (run_labels labels.runs trip) trip (omega (arith, long, below))
+    ∙ taken ∙ ap (λ xs. cond stands (others rules c.args.value xs ++ new ∷ []) xs) (sym here)) c.offer_slot.ensures.long c.offer_slot.ensures.taken
+
+pub offer_run-requires-clause-trip : goal.offer_run-requires-clause-trip
+offer_run-requires-clause-trip g c =
+    let labels = c.args.labels.now in
+    let trip = c.args.trip in
+    let none = no_slots (IsTotal (g.C.Criterion.rules c.args.criterion.now)) (length labels.slots.items) c.requires.labels.total
+    (c.is_total.ensures.partial c.if-is_total.false) in
+    omega (arith, none, c.requires.trip)
 
 pub returns-clause-labels : goal.returns-clause-labels
 returns-clause-labels g c =
-    let rules = g.C.Criterion.rules c.args.criterion.now in
-    let runs = c.args.labels.now.runs.items in
-    let old = c.args.labels.now.labels.items in
-    let now = c.put.new.labels.items in
-    let run = c.index-run.result.now in
-    let placed = c.in_ok-labels.field-0 in
-    let are = c.requires.labels in
-    let label : Label g.row.C-V.Denot = record { value = c.args.value; tag = c.in_ok-tag.tag } in
-    let run_is = c.index-run.ensures ∙ get_or_default runs c.args.trip run no_run c.requires.trip in
-    let put = subst (λ (r : Run). ArePut old r c.deref-3.result.now placed now) run_is c.in_ok-labels.ensures in
-    let new_is : c.deref-3.result.now ≡ others rules c.args.value (labels_in old run) ++ label ∷ [] =
-    c.deref-3.ensures.value ∙ c.in_ok-push.ensures.items
-    ∙ ap (λ (xs : List (Label g.row.C-V.Denot)). xs ++ label ∷ []) (c.in_ok-keep_others.ensures
-    ∙ ap (others rules c.args.value) (c.part-2.ensures
-    ∙ ap (λ (xs : List (Label g.row.C-V.Denot)). labels_in xs run) c.deref-2.ensures.value)) in
-    record {
-      runs = runs_put runs c.args.trip placed c.requires.trip (length old) (length now) are.runs put.counted put.within put.longer put.apart;
-      admitted = λ l h. elim (put.only l h) [
-        | inl was ↦ are.admitted l was
-        | inr is ↦ with_admitted rules old run c.args.value label are.admitted c.requires.value l
-            (subst (λ (xs : List (Label g.row.C-V.Denot)). Contains xs l) new_is is)
-      ];
-    }
+    let labels = c.args.labels.now in
+    let trip = c.args.trip in
+    let none = no_slots (IsTotal (g.C.Criterion.rules c.args.criterion.now)) (length labels.slots.items) c.requires.labels.total
+    (c.is_total.ensures.partial c.if-is_total.false) in
+    on_ok_weaker c.offer_run.result (λ runs. record {
+      slots = c.requires.labels.slots;
+      runs = runs;
+      total = c.requires.labels.total;
+      partial = λ some. c.is_total.ensures.partial c.if-is_total.false;
+    }) c.offer_run.ensures.labels
+
+pub returns-clause-long : goal.returns-clause-long
+returns-clause-long g c =
+    on_ok_weaker c.offer_run.result (λ long. ap (λ n. length c.args.labels.now.slots.items + n) long) c.offer_run.ensures.long
 
 pub returns-clause-same : goal.returns-clause-same
-returns-clause-same g c k other =
-    let runs = c.args.labels.now.runs.items in
-    let old = c.args.labels.now.labels.items in
-    let now = c.put.new.labels.items in
-    let run = c.index-run.result.now in
-    let placed = c.in_ok-labels.field-0 in
-    let are = c.requires.labels.runs in
-    let run_is = c.index-run.ensures ∙ get_or_default runs c.args.trip run no_run c.requires.trip in
-    let put = subst (λ (r : Run). ArePut old r c.deref-3.result.now placed now) run_is c.in_ok-labels.ensures in
-    ap (labels_in now) (run_there runs c.args.trip placed c.requires.trip k other)
-    ∙ put.others (run_at runs k) (are.counted k) (are.within k) (are.apart k c.args.trip other)
+returns-clause-same g c =
+    let labels = c.args.labels.now in
+    let trip = c.args.trip in
+    let none = no_slots (IsTotal (g.C.Criterion.rules c.args.criterion.now)) (length labels.slots.items) c.requires.labels.total
+    (c.is_total.ensures.partial c.if-is_total.false) in
+    let slots = labels.slots.items in
+    on_ok_weaker c.offer_run.result (λ same k other. no_slot slots (run_labels c.offer_run.new.labels k) k none ∙ same k other
+    ∙ sym (no_slot slots (run_labels labels.runs k) k none)) c.offer_run.ensures.same
+
+pub returns-clause-stands : goal.returns-clause-stands
+returns-clause-stands g c =
+    let labels = c.args.labels.now in
+    let trip = c.args.trip in
+    let none = no_slots (IsTotal (g.C.Criterion.rules c.args.criterion.now)) (length labels.slots.items) c.requires.labels.total
+    (c.is_total.ensures.partial c.if-is_total.false) in
+    let rules = g.C.Criterion.rules c.args.criterion.now in
+    let here = no_slot labels.slots.items (run_labels labels.runs trip) trip none in
+    IfOk-weaker c.offer_run.result _ _ (λ stands is. is ∙ ap (λ xs. not (is_beaten rules xs c.args.value)) (sym here)) c.offer_run.ensures.stands
+
+pub returns-clause-taken : goal.returns-clause-taken
+returns-clause-taken g c =
+    let labels = c.args.labels.now in
+    let trip = c.args.trip in
+    let none = no_slots (IsTotal (g.C.Criterion.rules c.args.criterion.now)) (length labels.slots.items) c.requires.labels.total
+    (c.is_total.ensures.partial c.if-is_total.false) in
+    let rules = g.C.Criterion.rules c.args.criterion.now in
+    let new : Label g.row.C-V.Denot = record { value = c.args.value; tag = c.args.tag } in
+    let here = no_slot labels.slots.items (run_labels labels.runs trip) trip none in
+    IfOk-weaker c.offer_run.result _ _ (λ stands taken. no_slot labels.slots.items (run_labels c.offer_run.new.labels trip) trip none
+    ∙ taken ∙ ap (λ xs. cond stands (others rules c.args.value xs ++ new ∷ []) xs) (sym here)) c.offer_run.ensures.taken

@@ -13,8 +13,8 @@ returns g c is =
     let cn = c.args.connection.now in
     let labels = c.args.self.now.trips.labels in
     let nothing = c.ends_nothing.ensures.0 is in
-    let no_label : c.count.result ≡ 0 = omega (arith, c.if-count-gt0.false) in
-    let none = nil_from_length (labels_at labels cn.trip) (sym c.count.ensures ∙ no_label) in
+    let no_label : c.label_count.result ≡ 0 = omega (arith, c.if-label_count-gt0.false) in
+    let none = nil_from_length (labels_at labels cn.trip) (sym c.label_count.ensures ∙ no_label) in
     let empty = ap (map point_of) (none_at_end (g.C.Criterion.rules (lists_criterion lists)) (entries_of lists) (items_of lists) c.requires.stop.stops.sound) in
     record {
       no_labels = ap label_points none;

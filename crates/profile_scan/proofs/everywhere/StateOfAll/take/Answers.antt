@@ -4,7 +4,6 @@ use Rattle.bags.specs.declared.point.Point.{Point}
 use Rattle.timetable.specs.declared.network.Connection.{Connection}
 use Rattle.timetable.specs.Journeys.{connection_at}
 use Rattle.fronts.specs.declared.labels.Label.{Label}
-use Rattle.fronts.specs.Labels.{runs_of}
 use Rattle.fronts.specs.Lists.{steps_of}
 use Rattle.profile_scan.specs.Steps.{leavings, boardings, settings_out, TakesIn}
 use Rattle.profile_scan.specs.Adding.{label_points, trip_points}
@@ -50,26 +49,28 @@ alight-requires-clause-stop g c =
       stops = subst (λ (n : ℕ). AreStops g.C.Criterion.rules c.args.asked.now.criterion n c.args.self.now.stops) (sym stops.long) stops;
     }
 
-pub of-labels-requires-clause-trip : goal.of-labels-requires-clause-trip
-of-labels-requires-clause-trip g c =
+pub labels_of-labels-requires-clause-trip : goal.labels_of-labels-requires-clause-trip
+labels_of-labels-requires-clause-trip g c =
     let at = c.requires.hop.stands in
     subst (λ (n : ℕ). c.args.hop.now.connection.trip < n) (sym (c.in_ok-alight.ensures.trip.labels.long ∙ c.requires.state.long))
     (trip_in (g.S.ConnSource.timetable c.args.source.now) (g.met.S.ConnSource.legal c.args.source.now) c.args.hop.now.place at.in_range
     c.args.hop.now.connection at.is)
 
-pub of-labels-requires-clause-labels : goal.of-labels-requires-clause-labels
-of-labels-requires-clause-labels g c = (g.C.Criterion.rules c.args.asked.now.criterion, c.in_ok-alight.ensures.trip.labels.labels)
+pub labels_of-labels-requires-clause-labels : goal.labels_of-labels-requires-clause-labels
+labels_of-labels-requires-clause-labels g c = c.in_ok-alight.ensures.trip.labels.labels
 
 pub set_out-requires-clause-labels : goal.set_out-requires-clause-labels
 set_out-requires-clause-labels g c =
     let rules = g.C.Criterion.rules c.args.asked.now.criterion in
-    subst (λ (xs : List (Label g.row.C-V.Denot)). (p : Point g.row.C-V.Denot) → Contains (label_points xs) p → Admits rules p.value) (sym c.of-labels.ensures)
+    subst (λ (xs : List (Label g.row.C-V.Denot)). (p : Point g.row.C-V.Denot) → Contains (label_points xs) p → Admits rules p.value)
+    (sym c.labels_of-labels.ensures)
     (trip_admitted rules c.alight.new.self.labels c.in_ok-alight.ensures.trip.labels.labels c.args.hop.now.connection.trip)
 
 pub board-requires-clause-labels : goal.board-requires-clause-labels
 board-requires-clause-labels g c =
     let rules = g.C.Criterion.rules c.args.asked.now.criterion in
-    subst (λ (xs : List (Label g.row.C-V.Denot)). (p : Point g.row.C-V.Denot) → Contains (label_points xs) p → Admits rules p.value) (sym c.of-labels.ensures)
+    subst (λ (xs : List (Label g.row.C-V.Denot)). (p : Point g.row.C-V.Denot) → Contains (label_points xs) p → Admits rules p.value)
+    (sym c.labels_of-labels.ensures)
     (trip_admitted rules c.alight.new.self.labels c.in_ok-alight.ensures.trip.labels.labels c.args.hop.now.connection.trip)
 
 pub returns-clause-state : goal.returns-clause-state
@@ -143,12 +144,12 @@ returns-clause-steps g c stop =
           subst (λ (x : Connection). TakesIn rules (boardings rules t second i k (carried rules values (new x.trip))) (points_at stops k)
           (points_at c.board.new.self k)) at.is
           (subst (λ (xs : List (Label g.row.C-V.Denot)). TakesIn rules (boardings rules t second i k (carried rules values (label_points xs)))
-          (points_at stops k) (points_at c.board.new.self k)) c.of-labels.ensures
+          (points_at stops k) (points_at c.board.new.self k)) c.labels_of-labels.ensures
           (c.in_ok-board.ensures.takes k mid now_outs between after out_grows (grows_none after)));
       sets_out =
           subst (λ (x : Connection). TakesIn rules (settings_out rules t q second i (new x.trip)) old_found new_found) at.is
           (subst (λ (xs : List (Label g.row.C-V.Denot)). TakesIn rules (settings_out rules t q second i (label_points xs)) old_found new_found)
-          c.of-labels.ensures
+          c.labels_of-labels.ensures
           (c.in_ok-set_out.ensures.takes stop mid steps between after (grows_none between) in_grows));
     }
 
@@ -187,7 +188,7 @@ returns-then-labels-eq0-clause-steps g c stop =
     (carried rules values (points_at stops hop.connection.to)) (old hop.connection.trip) (new hop.connection.trip)
     (c.in_ok-alight.ensures.takes t.footpaths steps outs was between (grows_none was) (grows_none between))))) in
     let second = from_to (told t.footpaths between) (told t.footpaths between) in
-    let none = no_trip_points c.alight.new.self.labels hop.connection.trip (ap length (sym c.of-labels.ensures) ∙ c.if-labels-eq0.true) in
+    let none = no_trip_points c.alight.new.self.labels hop.connection.trip (ap length (sym c.labels_of-labels.ensures) ∙ c.if-labels-eq0.true) in
     let none_there : (p : Point g.row.C-V.Denot) → Contains (new trip) p → ⊥ = subst
     (λ (x : Connection). (p : Point g.row.C-V.Denot) → Contains (new x.trip) p → ⊥) at.is none in
     record {

@@ -46,27 +46,29 @@ alight-requires-clause-stop g c =
       stops = subst (λ (n : ℕ). AreStops g.C.Criterion.rules c.args.asked.now.criterion n c.args.self.now.stops) (sym stops.long) stops;
     }
 
-pub of-labels-requires-clause-trip : goal.of-labels-requires-clause-trip
-of-labels-requires-clause-trip g c =
+pub labels_of-labels-requires-clause-trip : goal.labels_of-labels-requires-clause-trip
+labels_of-labels-requires-clause-trip g c =
     let at = c.requires.hop.stands in
     subst (λ (n : ℕ). c.args.hop.now.connection.trip < n)
     (sym (c.in_ok-alight.ensures.trip.labels.long ∙ c.requires.state.long))
     (trip_in (g.S.ConnSource.timetable c.args.source.now) (g.met.S.ConnSource.legal c.args.source.now)
     c.args.hop.now.place at.in_range c.args.hop.now.connection at.is)
 
-pub of-labels-requires-clause-labels : goal.of-labels-requires-clause-labels
-of-labels-requires-clause-labels g c = (g.C.Criterion.rules c.args.asked.now.criterion, c.in_ok-alight.ensures.trip.labels.labels)
+pub labels_of-labels-requires-clause-labels : goal.labels_of-labels-requires-clause-labels
+labels_of-labels-requires-clause-labels g c = c.in_ok-alight.ensures.trip.labels.labels
 
 pub set_out-requires-clause-labels : goal.set_out-requires-clause-labels
 set_out-requires-clause-labels g c =
     let rules = g.C.Criterion.rules c.args.asked.now.criterion in
-    subst (λ (xs : List (Label g.row.C-V.Denot)). (p : Point g.row.C-V.Denot) → Contains (label_points xs) p → Admits rules p.value) (sym c.of-labels.ensures)
+    subst (λ (xs : List (Label g.row.C-V.Denot)). (p : Point g.row.C-V.Denot) → Contains (label_points xs) p → Admits rules p.value)
+    (sym c.labels_of-labels.ensures)
     (trip_admitted rules c.alight.new.self.labels c.in_ok-alight.ensures.trip.labels.labels c.args.hop.now.connection.trip)
 
 pub board-requires-clause-labels : goal.board-requires-clause-labels
 board-requires-clause-labels g c =
     let rules = g.C.Criterion.rules c.args.asked.now.criterion in
-    subst (λ (xs : List (Label g.row.C-V.Denot)). (p : Point g.row.C-V.Denot) → Contains (label_points xs) p → Admits rules p.value) (sym c.of-labels.ensures)
+    subst (λ (xs : List (Label g.row.C-V.Denot)). (p : Point g.row.C-V.Denot) → Contains (label_points xs) p → Admits rules p.value)
+    (sym c.labels_of-labels.ensures)
     (trip_admitted rules c.alight.new.self.labels c.in_ok-alight.ensures.trip.labels.labels c.args.hop.now.connection.trip)
 
 pub returns-clause-state : goal.returns-clause-state
@@ -123,12 +125,12 @@ returns-clause-takes g c =
           subst (λ (xs : List (Label g.row.C-V.Denot)). TakesIn rules
           (boardings rules t (from_to (told t.footpaths before) (told t.footpaths all)) hop.place stop
           (carried rules hop.bound.now (label_points xs))) (points_at stops stop) (points_at c.board.new.self stop))
-          c.of-labels.ensures
+          c.labels_of-labels.ensures
           (c.in_ok-board.ensures.takes stop mid now_outs before all (grows_on before between set_out ext_before out_grows) ext);
       sets_out = λ before all ext_before ext.
           subst (λ (xs : List (Label g.row.C-V.Denot)). TakesIn rules
           (settings_out rules t q (from_to (told t.footpaths before) (told t.footpaths all)) hop.place
-          (label_points xs)) (points_of origin.found) (points_of c.set_out.new.self.found)) c.of-labels.ensures
+          (label_points xs)) (points_of origin.found) (points_of c.set_out.new.self.found)) c.labels_of-labels.ensures
           (c.in_ok-set_out.ensures.takes mid steps before all ext_before (grows_on set_out after all in_grows ext));
     }
 
@@ -151,7 +153,7 @@ returns-then-labels-eq0-clause-takes g c =
     let between = story mid steps outs in
     let bag = carried rules hop.bound.now (points_at stops hop.connection.to) in
     let bag_is = ap (λ (x : Connection). carried rules hop.bound.now (points_at stops x.to)) at.is in
-    let none = no_trip_points c.alight.new.self.labels hop.connection.trip (ap length (sym c.of-labels.ensures) ∙ c.if-labels-eq0.true) in
+    let none = no_trip_points c.alight.new.self.labels hop.connection.trip (ap length (sym c.labels_of-labels.ensures) ∙ c.if-labels-eq0.true) in
     record {
       between = between;
       grows_first = exits_grow c.args.self.now.trips.exits.items mid steps outs c.in_ok-alight.ensures.trip.exits;

@@ -1,7 +1,7 @@
 use Rattle.std.proofs.Common.{rules, ◌++◌, length, ap, ◌∙◌, arith}
 use Rattle.std.proofs.lemmas.Slice.{between_to_end}
 use Rattle.fronts.proofs.Runs.{end_puts}
-use Rattle.fronts.proofs.labels.append.Goals as goal
+use Rattle.fronts.proofs.run_labels.append.Goals as goal
 
 pub returns : goal.returns
 returns g c run =

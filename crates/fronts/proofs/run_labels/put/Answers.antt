@@ -1,7 +1,7 @@
 use Rattle.std.proofs.Common.{rules, arith}
 use Rattle.std.proofs.lemmas.Result.{IfOk-weaker}
 use Rattle.fronts.proofs.Runs.{over_puts}
-use Rattle.fronts.proofs.labels.put.Goals as goal
+use Rattle.fronts.proofs.run_labels.put.Goals as goal
 
 pub returns-then-count-run : goal.returns-then-count-run
 returns-then-count-run g c = IfOk-weaker c.append.result _ _ (λ placed puts. puts c.args.run) c.append.ensures

@@ -1,7 +1,7 @@
 use Rattle.std.proofs.Common.{◌+◌, set, arith, ap, ◌∙◌}
 use Rattle.std.proofs.Math.Seq.{paste}
 use Rattle.std.proofs.lemmas.List.Edits.{paste_more}
-use Rattle.fronts.proofs.labels.write_over.Goals as goal
+use Rattle.fronts.proofs.run_labels.write_over.Goals as goal
 
 pub loop-k-preserved : goal.loop-k-preserved
 loop-k-preserved g c =

@@ -1,0 +1,209 @@
+//! Labels of many trips in one vector: those of a trip stand side by side, a run of it.
+//!
+//! A run is written over while it has room. Where it has none, its labels go to the vector's end,
+//! with room for nearly as many again. So the places that a trip has left behind are no more than
+//! those that it has, and all of them are fewer than four for each label of the most that it had at
+//! once.
+
+ghost use Rattle.std.specs.Prelude.{◌≡◌, ◌+◌, ◌++◌, ◌∷◌, [], ℕ, ◌<◌, ◌≤◌, cond, not, take, drop, length, replicate};
+ghost use Rattle.std.specs.Prelude.{Contains, IfOk, OnOk};
+ghost use Rattle.criteria.specs.Laws.{Rules, Admits};
+ghost use Rattle.fronts.specs.declared.labels.Label.{Label};
+ghost use Rattle.fronts.specs.declared.run_labels.Run.{Run};
+ghost use Rattle.fronts.specs.Offered.{is_beaten, others};
+ghost use Rattle.fronts.specs.RunLabels.{AreRunLabels, ArePut, labels_in, no_run, run_labels, runs_of};
+
+use crate::labels::Label;
+use crate::putting::place_of;
+use crate::valued::some_no_worse;
+use criteria::Criterion;
+use std::alloc::{AllocError, Global};
+
+/// Where labels stand: so many from a place on, and for how many there is room.
+#[derive(Clone, Copy, Drop)]
+pub struct Run {
+    pub first: u32,
+    pub count: u32,
+    pub room: u32,
+}
+
+/// The labels of so many trips: of each those of which none is no worse than another.
+#[derive(Drop)]
+pub struct RunLabels<V> {
+    runs: Vec<Run>,
+    labels: Vec<Label<V>>,
+    // room for the labels of one trip
+    kept: Vec<Label<V>>,
+}
+
+impl<V: Copy> RunLabels<V> {
+    ghost use Rattle.std.specs.Prelude.{◌≡◌, [], ◌<◌, ℕ, IfOk, length};
+    ghost use Rattle.criteria.specs.Laws.{Rules};
+    ghost use Rattle.fronts.specs.RunLabels.{AreRunLabels, run_labels, runs_of};
+
+    /// So many trips without labels.
+    pub fn new(alloc: Global, trips: u32) -> Result<Self, AllocError>
+        ensures long { IfOk result (λ labels. length (runs_of labels) ≡ trips) }
+        ensures labels { IfOk result (λ labels. (rules : Rules _) → AreRunLabels rules labels) }
+        ensures none { IfOk result (λ labels. (trip : ℕ) → run_labels labels trip ≡ []) }
+    {
+        let runs = no_runs(alloc, trips as usize)?;
+        Ok(RunLabels {
+            runs,
+            labels: Vec::new(alloc),
+            kept: Vec::new(alloc),
+        })
+    }
+
+    /// How many labels a trip has.
+    pub fn count(&self, trip: u32) -> u32
+        requires trip { trip < length (runs_of self.now) }
+        requires labels { (rules : Rules _) × AreRunLabels rules self.now }
+        ensures { result ≡ length (run_labels self.now trip) }
+    {
+        self.runs[trip as usize].count
+    }
+
+    /// The labels of a trip.
+    pub fn of(&self, trip: u32) -> &[Label<V>]
+        requires trip { trip < length (runs_of self.now) }
+        requires labels { (rules : Rules _) × AreRunLabels rules self.now }
+        ensures { result.now ≡ run_labels self.now trip }
+    {
+        part(&self.labels, self.runs[trip as usize])
+    }
+}
+
+// As many runs as wanted, without room.
+fn no_runs(alloc: Global, count: usize) -> Result<Vec<Run>, AllocError>
+    ensures { IfOk result (λ runs. runs.items ≡ replicate count no_run) }
+{
+    let none = Run {
+        first: 0,
+        count: 0,
+        room: 0,
+    };
+    vec![in alloc; none; count]
+}
+
+// The labels of a run.
+fn part<V>(labels: &[Label<V>], run: Run) -> &[Label<V>]
+    requires { run.first + run.count ≤ length labels.now }
+    ensures { result.now ≡ labels_in labels.now run }
+{
+    &labels[run.first as usize..run.first as usize + run.count as usize]
+}
+
+// Keeps a label that a value isn't no worse than.
+fn keep_other<C: Criterion>(
+    criterion: &C,
+    label: Label<C::V>,
+    value: &C::V,
+    kept: &mut Vec<Label<C::V>>,
+) -> Result<(), AllocError>
+    requires label { Admits (C.rules criterion.now) label.value }
+    requires value { Admits (C.rules criterion.now) value.now }
+    ensures { OnOk result (kept.new.items ≡ kept.old.items ++ others (C.rules criterion.now) value.now (label ∷ [])) }
+{
+    if !criterion.no_worse(value, &label.value) {
+        kept.push(label)?;
+    }
+    Ok(())
+}
+
+// Keeps the labels that a value isn't no worse than.
+fn keep_others<C: Criterion>(
+    criterion: &C,
+    labels: &[Label<C::V>],
+    value: &C::V,
+    kept: &mut Vec<Label<C::V>>,
+) -> Result<(), AllocError>
+    requires labels { (l : Label _) → Contains labels.now l → Admits (C.rules criterion.now) l.value }
+    requires value { Admits (C.rules criterion.now) value.now }
+    ensures { OnOk result (kept.new.items ≡ others (C.rules criterion.now) value.now labels.now) }
+{
+    kept.clear();
+    for k in 0..labels.len() {
+        let label = labels[k];
+        keep_other(criterion, label, value, kept)?;
+    }
+    Ok(())
+}
+
+// Writes labels over those from a place on.
+fn write_over<V: Copy>(labels: &mut Vec<Label<V>>, first: u32, new: &[Label<V>])
+    requires { first + length new.now ≤ length labels.old.items }
+    ensures { labels.new.items ≡ take first labels.old.items
+        ++ (new.now ++ drop (first + length new.now) labels.old.items) }
+{
+    for k in 0..new.len() {
+        labels[first as usize + k] = new[k];
+    }
+}
+
+// Puts labels at the end, with room for nearly as many again.
+fn append<V: Copy>(labels: &mut Vec<Label<V>>, new: &[Label<V>]) -> Result<Run, AllocError>
+    requires some { 0 < length new.now }
+    ensures { IfOk result (λ placed. (run : Run) → ArePut labels.old.items run new.now placed labels.new.items) }
+{
+    let first = place_of(labels.len())?;
+    labels.extend_from_slice(new)?;
+    labels.extend_from_slice(&new[1..])?;
+    let room = place_of(labels.len() - first as usize)?;
+    let count = place_of(new.len())?;
+    Ok(Run { first, count, room })
+}
+
+// Puts labels where a run has room for them, or else at the end, and tells where they are.
+fn put<V: Copy>(labels: &mut Vec<Label<V>>, run: Run, new: &[Label<V>]) -> Result<Run, AllocError>
+    requires some { 0 < length new.now }
+    requires within { run.first + run.room ≤ length labels.old.items }
+    ensures { IfOk result (λ placed. ArePut labels.old.items run new.now placed labels.new.items) }
+{
+    let count = place_of(new.len())?;
+    if count > run.room {
+        return append(labels, new);
+    }
+    write_over(labels, run.first, new);
+    Ok(Run { count, ..run })
+}
+
+/// Offers the labels of a trip a value with its tag: unless one of them is no worse, it comes to
+/// stand among those that it isn't no worse than. The answer tells whether it stands.
+pub fn offer_run<C: Criterion>(
+    criterion: &C,
+    labels: &mut RunLabels<C::V>,
+    trip: u32,
+    value: C::V,
+    tag: usize,
+) -> Result<bool, AllocError>
+    requires trip { trip < length (runs_of labels.old) }
+    requires labels { AreRunLabels (C.rules criterion.now) labels.old }
+    requires value { Admits (C.rules criterion.now) value }
+    ensures labels { OnOk result (AreRunLabels (C.rules criterion.now) labels.new) }
+    ensures long { OnOk result (length (runs_of labels.new) ≡ length (runs_of labels.old)) }
+    ensures same { OnOk result ((k : ℕ) → (k ≡ trip → ⊥) → run_labels labels.new k ≡ run_labels labels.old k) }
+    ensures stands { IfOk result (λ stands. stands
+        ≡ not (is_beaten (C.rules criterion.now) (run_labels labels.old trip) value)) }
+    ensures taken { IfOk result (λ stands. run_labels labels.new trip
+        ≡ cond stands (others (C.rules criterion.now) value (run_labels labels.old trip) ++ record {
+          value =
+              value;
+          tag = tag;
+        } ∷ []) (run_labels labels.old trip)) }
+{
+    let run = labels.runs[trip as usize];
+    if some_no_worse(criterion, part(&labels.labels, run), &value) {
+        return Ok(false);
+    }
+    let tag = place_of(tag)?;
+    keep_others(
+        criterion,
+        part(&labels.labels, run),
+        &value,
+        &mut labels.kept,
+    )?;
+    labels.kept.push(Label { value, tag })?;
+    labels.runs[trip as usize] = put(&mut labels.labels, run, &labels.kept)?;
+    Ok(true)
+}

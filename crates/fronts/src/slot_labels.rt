@@ -1,0 +1,141 @@
+//! Labels of trips that have no more than one: each in the trip's slot, in which there may be none.
+//!
+//! That one is enough where the criterion is total: of two labels the better one stays.
+
+ghost use Rattle.std.specs.Prelude.{◌≡◌, ◌++◌, ◌∷◌, [], ℕ, ◌<◌, ◌≤◌, cond, nat_eq, not, length, replicate};
+ghost use Rattle.std.specs.Prelude.{IfOk, OnOk, slice_get, Some};
+ghost use Rattle.criteria.specs.Laws.{Admits, IsTotal};
+ghost use Rattle.fronts.specs.declared.labels.Label.{Label};
+ghost use Rattle.fronts.specs.Offered.{is_beaten, others};
+ghost use Rattle.fronts.specs.SlotLabels.{AreSlots, label_in, no_tag, slot_label};
+
+use crate::labels::Label;
+use crate::putting::place_of;
+use criteria::Criterion;
+use std::alloc::{AllocError, Global};
+
+// The tag of a slot without a label.
+const NO_TAG: u32 = u32::MAX;
+
+/// So many slots without labels.
+pub fn empty_slots<C: Criterion>(
+    alloc: Global,
+    criterion: &C,
+    count: usize,
+) -> Result<Vec<Label<C::V>>, AllocError>
+    ensures long { IfOk result (λ slots. length slots.items ≡ count) }
+    ensures slots { IfOk result (λ slots. AreSlots (C.rules criterion.now) slots.items) }
+    ensures none { IfOk result (λ slots. (k : ℕ) (slot : Label _) → slice_get slots.items k ≡ Some slot
+        → label_in slot ≡ []) }
+{
+    let none = Label {
+        value: criterion.arrive(0),
+        tag: NO_TAG,
+    };
+    let slots = alike(alloc, none, count)?;
+    Ok(slots)
+}
+
+// So many slots of one content.
+fn alike<V: Copy>(alloc: Global, slot: Label<V>, count: usize) -> Result<Vec<Label<V>>, AllocError>
+    ensures { IfOk result (λ slots. slots.items ≡ replicate count slot) }
+{
+    let mut slots = Vec::with_capacity(alloc, count)?;
+    for k in 0..count {
+        slots.push(slot)?;
+    }
+    Ok(slots)
+}
+
+/// How many labels are in a trip's slot.
+#[inline(always)]
+pub fn count_at<V: Copy>(slots: &[Label<V>], trip: u32) -> u32
+    requires { trip < length slots.now }
+    ensures count { result ≡ length (slot_label slots.now trip) }
+    ensures most { result ≤ 1 }
+{
+    let slot = slots[trip as usize];
+    count_in(slot.tag)
+}
+
+// How many labels are in a slot of this tag.
+#[inline(always)]
+fn count_in(tag: u32) -> u32
+    ensures count { result ≡ cond (nat_eq tag no_tag) 0 1 }
+    ensures most { result ≤ 1 }
+{
+    if tag == NO_TAG {
+        return 0;
+    }
+    1
+}
+
+/// The label in a trip's slot, if there is one.
+#[inline(always)]
+pub fn label_of<V: Copy>(slots: &[Label<V>], trip: u32) -> &[Label<V>]
+    requires { trip < length slots.now }
+    ensures { result.now ≡ slot_label slots.now trip }
+{
+    let count = count_at(slots, trip);
+    &slots[trip as usize..trip as usize + count as usize]
+}
+
+// Whether the label in a slot is no worse than a value.
+#[inline(always)]
+fn beats<C: Criterion>(criterion: &C, slot: &Label<C::V>, value: &C::V) -> bool
+    requires slot { Admits (C.rules criterion.now) slot.now.value }
+    requires value { Admits (C.rules criterion.now) value.now }
+    ensures { result ≡ is_beaten (C.rules criterion.now) (label_in slot.now) value.now }
+{
+    if slot.tag == NO_TAG {
+        return false;
+    }
+    criterion.no_worse(&slot.value, value)
+}
+
+// A number as the tag of a label. From 2^32 - 1 on there is no room.
+fn slot_tag(number: usize) -> Result<u32, AllocError>
+    ensures { IfOk result (λ tag. (tag ≡ number) × (tag < no_tag)) }
+{
+    let tag = place_of(number)?;
+    if tag >= NO_TAG {
+        return Err(AllocError);
+    }
+    Ok(tag)
+}
+
+/// Offers a trip's slot a value with its tag: unless the label there is no worse, it is put in its
+/// place. The answer tells whether it stands.
+#[inline(always)]
+pub fn offer_slot<C: Criterion>(
+    criterion: &C,
+    slots: &mut Vec<Label<C::V>>,
+    trip: u32,
+    value: C::V,
+    tag: usize,
+) -> Result<bool, AllocError>
+    requires trip { trip < length slots.old.items }
+    requires total { IsTotal (C.rules criterion.now) }
+    requires slots { AreSlots (C.rules criterion.now) slots.old.items }
+    requires value { Admits (C.rules criterion.now) value }
+    ensures slots { OnOk result (AreSlots (C.rules criterion.now) slots.new.items) }
+    ensures long { OnOk result (length slots.new.items ≡ length slots.old.items) }
+    ensures same { OnOk result
+        ((k : ℕ) → (k ≡ trip → ⊥) → slice_get slots.new.items k ≡ slice_get slots.old.items k) }
+    ensures stands { IfOk result (λ stands. stands
+        ≡ not (is_beaten (C.rules criterion.now) (slot_label slots.old.items trip) value)) }
+    ensures taken { IfOk result (λ stands. slot_label slots.new.items trip
+        ≡ cond stands (others (C.rules criterion.now) value (slot_label slots.old.items trip) ++ record {
+          value =
+              value;
+          tag = tag;
+        } ∷ []) (slot_label slots.old.items trip)) }
+{
+    let slot = slots[trip as usize];
+    if beats(criterion, &slot, &value) {
+        return Ok(false);
+    }
+    let tag = slot_tag(tag)?;
+    slots[trip as usize] = Label { value, tag };
+    Ok(true)
+}
