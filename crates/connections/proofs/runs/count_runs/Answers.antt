@@ -1,4 +1,4 @@
-use Rattle.std.proofs.Common.{◌+◌, ◌∙◌, sym, subst, length, take, List, get_or, omega}
+use Rattle.std.proofs.Common.{◌+◌, ◌∙◌, sym, subst, length, take, List, get_or}
 use Rattle.gtfs_rows.specs.declared.values.Day.{Day}
 use Rattle.gtfs_tables.specs.declared.tables.Trip.{Trip}
 use Rattle.timetable.specs.declared.limits.TheConstants.{MAX_TRIPS}
@@ -29,10 +29,13 @@ loop-active-preserved c =
           (subst (λ (ts : List Trip). IsCount MAX_TRIPS c.in_ok-count.count (n + length (runs_from feed day 0 ts))) (sym trips_are)
           (c.in_ok-count.ensures.count feed day active.names n
           (hold_kept feed.frequencies.items (length c.args.trips.now) c.args.starts.now.items before holds was.kept)
-          (rw c.deref-2.ensures.value active.named) (c.deref.ensures.value ∙ here.1)
+          (rw c.deref-in-loop-active.ensures.value active.named) (c.deref.ensures.value ∙ here.1)
           (was.count feed days trips_are holds active)));
     }
 
 pub returns-clause-count : goal.returns-clause-count
 returns-clause-count c feed days trips_are holds active =
-    active_all feed active.names days c.args.services.now.active.items c.loop-active.active-index active.active
+    subst (λ ds. IsCount MAX_TRIPS c.loop-active.count (length (runs_of_days feed ds)))
+    (active_all feed active.names days c.args.services.now.active.items c.loop-active.active-index active.active
+    (rw c.deref-active-items.ensures.value at c.loop-active-test.false))
+    (c.loop-active.invariant.count feed days trips_are holds active)

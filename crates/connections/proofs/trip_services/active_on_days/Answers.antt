@@ -1,5 +1,5 @@
-use Rattle.std.proofs.Common.{◌+◌, ◌∙◌, ap, length, map, List}
-use Rattle.std.proofs.lemmas.List.{length_push, take_all}
+use Rattle.std.proofs.Common.{◌+◌, ◌∙◌, ap, get_or, length, map, pos, List}
+use Rattle.std.proofs.lemmas.List.{get_or_default, length_push, take_all}
 use Rattle.service_days.specs.Named.{names_of}
 use Rattle.connections.specs.Active.{active_among}
 use Rattle.connections.specs.declared.days.ServiceDay.{ServiceDay}
@@ -8,12 +8,16 @@ use Rattle.connections.proofs.trip_services.active_on_days.Goals as goal
 
 pub loop-day-preserved : goal.loop-day-preserved
 loop-day-preserved c =
+    let none : ServiceDay = record { day = record { year = 0; month = 0; day = 0 }; start = pos 0 } in
+    let days = c.args.days.now in
+    let i = c.loop-day.day-index in
+    let day : ServiceDay = get_or days i none in
     let was = c.loop-day.invariant in
     record {
       len = ap length c.in_ok-push.ensures.items ∙ length_push c.loop-day.active.items c.in_ok-running.running ∙ ap (λ n. n + 1) was.len;
       active = λ feed holds.
-          active_more feed (names_of c.args.named.now) c.args.days.now c.loop-day.active.items c.push.new.self.items c.loop-day.day-index
-          c.day-item.result c.in_ok-running.running c.loop-day-test.true c.day-item.is
+          active_more feed (names_of c.args.named.now) days c.loop-day.active.items c.push.new.self.items i day c.in_ok-running.running
+          c.loop-day-test.true (get_or_default days i none day c.loop-day-test.true)
           (c.in_ok-running.ensures feed.calendar.items feed.calendar_dates.items holds) c.in_ok-push.ensures.items (was.active feed holds);
     }
 
