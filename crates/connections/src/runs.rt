@@ -336,8 +336,8 @@ pub(crate) fn runs_on(
     runs_by(alloc, feed, &services, &mut starts, days)
 }
 
-// The runs of the days, by the services of its trips and by the starts of each of its trips: those of a trip are listed when
-// its runs are first counted, so starts are never kept of many more runs than there may be.
+// The runs of the days, by the services of its trips and by their starts: those of a trip are listed when its runs are
+// first counted, so starts are never kept of many more runs than there may be.
 fn runs_by(
     alloc: Global,
     feed: &Feed,
