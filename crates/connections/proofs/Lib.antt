@@ -1,3 +1,4 @@
+pub mod ActiveSteps
 pub mod DaySteps
 pub mod FinalLemmas
 pub mod GroupSteps

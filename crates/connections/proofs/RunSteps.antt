@@ -49,12 +49,6 @@ days_more feed days i d lt =
     ∙ ap (runs_of_days feed) (map-append (λ (day : ServiceDay). day.day) (take i days) (get_or days i d ∷ []))
     ∙ sym (flat_map_more (λ day. runs_from feed day 0 feed.trips.items) [] (map (λ day. day.day) (take i days)) (get_or days i d).day)
 
-pub days_count : (feed : Feed) (days : List ServiceDay) (i : ℕ) (d : ServiceDay) → i < length days
-    → length (runs_of_days feed (map (λ day. day.day) (take (i + 1) days))) ≡ length (runs_of_days feed (map (λ day. day.day) (take i days))) + length
-    (runs_from feed (get_or days i d).day 0 feed.trips.items)
-days_count feed days i d lt = ap length (days_more feed days i d lt)
-    ∙ length-append (runs_of_days feed (map (λ day. day.day) (take i days))) (runs_from feed (get_or days i d).day 0 feed.trips.items)
-
 -- the steps of the loops
 pub runs_step : (feed : Feed) (day : Day) (trips : List Trip) (i : ℕ) (trip : Trip) (old before new : List Run) → i < length trips → trip ≡ get_or trips i trip
     → before ≡ old ++ runs_from feed day 0 (take i trips) → new ≡ before ++ runs_at feed day i trip → new ≡ old ++ runs_from feed day 0 (take (i + 1) trips)
@@ -119,7 +113,12 @@ days_step feed days i day before new lt is was now =
     ∙ ap (λ (d : ServiceDay). runs_of_days feed (map (λ d. d.day) (take i days)) ++ runs_from feed d.day 0 feed.trips.items) is
     ∙ sym (days_more feed days i day lt)
 
-pub days_count_step : (feed : Feed) (days : List ServiceDay) (i : ℕ) (d : ServiceDay) (most count : ℕ) → i < length days
-    → IsCount most count (length (runs_of_days feed (map (λ d. d.day) (take i days))) + length (runs_from feed (get_or days i d).day 0 feed.trips.items))
-    → IsCount most count (length (runs_of_days feed (map (λ d. d.day) (take (i + 1) days))))
-days_count_step feed days i d most count lt was = subst (λ (k : ℕ). IsCount most count k) (sym (days_count feed days i d lt)) was
+pub days_count_step : (feed : Feed) (days : List Day) (i : ℕ) (d : Day) (most count : ℕ) → i < length days
+    → IsCount most count (length (runs_of_days feed (take i days)) + length (runs_from feed (get_or days i d) 0 feed.trips.items))
+    → IsCount most count (length (runs_of_days feed (take (i + 1) days)))
+days_count_step feed days i d most count lt was =
+    let more : runs_of_days feed (take (i + 1) days) ≡ runs_of_days feed (take i days) ++ runs_from feed (get_or days i d) 0 feed.trips.items =
+    ap (runs_of_days feed) (take_more days i d lt)
+    ∙ sym (flat_map_more (λ day. runs_from feed day 0 feed.trips.items) [] (take i days) (get_or days i d)) in
+    subst (λ (k : ℕ). IsCount most count k)
+    (sym (ap length more ∙ length-append (runs_of_days feed (take i days)) (runs_from feed (get_or days i d) 0 feed.trips.items))) was

@@ -1,3 +1,4 @@
+pub mod Active
 pub mod Building
 pub mod Counting
 pub mod Days

@@ -14,6 +14,7 @@ mod repeats;
 mod report;
 mod runs;
 mod times;
+mod trip_services;
 mod trip_starts;
 
 pub use days::MAX_DAYS;

@@ -1,13 +1,13 @@
 //! Runs: which trips leave on which service days, how often, and with which repeats.
 
-ghost use Rattle.std.specs.Prelude.{◌≡◌, ◌≤◌, ◌<◌, ◌^◌, ◌-◌, ◌+◌, ◌++◌, min, length, map, IfOk, IfErr, OnOk, All};
+ghost use Rattle.std.specs.Prelude.{◌≡◌, ◌≤◌, ◌<◌, ◌^◌, ◌-◌, ◌+◌, ◌++◌, ◌&&◌, min, length, map, get_or, false};
+ghost use Rattle.std.specs.Prelude.{IfOk, IfErr, OnOk, All};
 ghost use Rattle.std.specs.Prelude.{◌⊎◌, ℕ, List};
 ghost use Rattle.gtfs_tables.specs.Joined.{makes_connections as makes};
 ghost use Rattle.gtfs_rows.specs.declared.values.Day.{Day as RunDay};
 ghost use Rattle.gtfs_tables.specs.declared.tables.Feed.{Feed as JoinedFeed};
 ghost use Rattle.gtfs_tables.specs.declared.tables.Frequency.{Frequency as Row};
-ghost use Rattle.service_days.specs.Asked.{AreOfDay};
-ghost use Rattle.service_days.specs.Services.{HoldsServices};
+ghost use Rattle.connections.specs.Active.{AreActive, AreNamed, active_among};
 ghost use Rattle.connections.specs.Counting.{IsCount};
 ghost use Rattle.connections.specs.Faults.{IsWantOfMemory, too_many_of};
 ghost use Rattle.connections.specs.Keeping.{AreKept, AreStartsOf, HoldStarts, IsKept};
@@ -17,9 +17,10 @@ ghost use Rattle.connections.specs.Runs.{runs_on as runs_then};
 
 use crate::days::ServiceDay;
 use crate::fault::{RunsFault, out_of_memory, too_many};
+use crate::trip_services::TripServices;
 use crate::trip_starts::{TripStarts, starts_by_trip};
 use gtfs_tables::{Day, Feed, Table, Trip};
-use service_days::{DayServices, Services};
+use service_days::Services;
 use std::alloc::{AllocError, Global};
 use timetable::limits::MAX_TRIPS;
 
@@ -44,44 +45,31 @@ pub(crate) fn makes_connections(trip: &Trip) -> bool
     !trip.flex && trip.end - trip.first >= 2
 }
 
-// Whether a trip gives connections on a day.
-fn is_running(
-    asked: &mut DayServices,
-    services: &Services,
-    day: Day,
-    trip: &Trip,
-) -> Result<bool, AllocError>
+// Whether a trip gives connections on a day, by whether each service runs on it.
+fn is_running(active: &[bool], service: usize, trip: &Trip) -> bool
     requires { trip.now.first ≤ trip.now.end }
-    ensures asked { (feed : JoinedFeed) → HoldsServices feed.calendar.items feed.calendar_dates.items services.now
-        → AreOfDay feed.calendar.items feed.calendar_dates.items day asked.old
-        → OnOk result (AreOfDay feed.calendar.items feed.calendar_dates.items day asked.new) }
-    ensures told { (feed : JoinedFeed) → HoldsServices feed.calendar.items feed.calendar_dates.items services.now
-        → AreOfDay feed.calendar.items feed.calendar_dates.items day asked.old
-        → IfOk result (λ runs. runs ≡ runs_then feed day trip.now) }
+    ensures { result ≡ (makes trip.now && get_or active.now service false) }
 {
-    if makes_connections(trip) {
-        return asked.runs(services, &trip.service, day);
-    }
-    Ok(false)
+    makes_connections(trip) && active.get(service).copied().unwrap_or(false)
 }
 
-// Whether each of the trips gives connections on a day; each service is asked for once.
+// Whether each of the trips gives connections on a day, by whether each service runs on it.
 fn running_on(
     alloc: Global,
-    services: &Services,
-    day: Day,
+    active: &[bool],
+    indices: &[usize],
     trips: &[Trip],
 ) -> Result<Vec<bool>, AllocError>
-    requires { All (λ trip. trip.first ≤ trip.end) trips.now }
+    requires rising { All (λ trip. trip.first ≤ trip.end) trips.now }
+    requires same { length indices.now ≡ length trips.now }
     ensures len { IfOk result (λ running. length running.items ≡ length trips.now) }
-    ensures told { (feed : JoinedFeed) → HoldsServices feed.calendar.items feed.calendar_dates.items services.now
+    ensures told { (feed : JoinedFeed) (day : RunDay) (names : List (List ℕ)) → AreNamed names trips.now indices.now
+        → active.now ≡ active_among feed names day
         → IfOk result (λ running. running.items ≡ map (runs_then feed day) trips.now) }
 {
-    let mut asked = DayServices::new(alloc, services);
     let mut running = Vec::with_capacity(alloc, trips.len())?;
-    for trip in trips {
-        let runs = is_running(&mut asked, services, day, trip)?;
-        running.push(runs)?;
+    for (place, trip) in trips.iter().enumerate() {
+        running.push(is_running(active, indices[place], trip))?;
     }
     Ok(running)
 }
@@ -155,45 +143,47 @@ fn count_with_trips(
 fn count_with_day(
     alloc: Global,
     before: usize,
-    services: &Services,
-    day: Day,
+    active: &[bool],
+    indices: &[usize],
     trips: &[Trip],
     starts: &mut Vec<TripStarts>,
 ) -> Result<usize, AllocError>
     requires rising { All (λ trip. trip.first ≤ trip.end) trips.now }
+    requires named { length indices.now ≡ length trips.now }
     requires same { length starts.old.items ≡ length trips.now }
     ensures kept { OnOk result (AreKept starts.old.items starts.new.items) }
-    ensures count { (feed : JoinedFeed) (n : ℕ) → HoldStarts feed.frequencies.items (length trips.now) starts.old.items
-        → HoldsServices feed.calendar.items feed.calendar_dates.items services.now
+    ensures count { (feed : JoinedFeed) (day : RunDay) (names : List (List ℕ)) (n : ℕ)
+        → HoldStarts feed.frequencies.items (length trips.now) starts.old.items
+        → AreNamed names trips.now indices.now → active.now ≡ active_among feed names day
         → IsCount MAX_TRIPS before n
         → IfOk result (λ count. IsCount MAX_TRIPS count (n + length (runs_from feed day 0 trips.now))) }
 {
     if before > MAX_TRIPS as usize {
         return Ok(before);
     }
-    let running = running_on(alloc, services, day, trips)?;
+    let running = running_on(alloc, active, indices, trips)?;
     count_with_trips(alloc, before, &running, trips, starts)
 }
 
-// How many runs the days have, counted no further than to more than there may be.
+// How many runs the days have on which the services run, counted no further than to more than there may be.
 fn count_runs(
     alloc: Global,
-    services: &Services,
-    days: &[ServiceDay],
+    services: &TripServices,
     trips: &[Trip],
     starts: &mut Vec<TripStarts>,
 ) -> Result<usize, AllocError>
     requires rising { All (λ trip. trip.first ≤ trip.end) trips.now }
+    requires named { length services.now.indices.items ≡ length trips.now }
     requires same { length starts.old.items ≡ length trips.now }
     ensures kept { OnOk result (AreKept starts.old.items starts.new.items) }
-    ensures count { (feed : JoinedFeed) → feed.trips.items ≡ trips.now
+    ensures count { (feed : JoinedFeed) (days : List RunDay) → feed.trips.items ≡ trips.now
         → HoldStarts feed.frequencies.items (length trips.now) starts.old.items
-        → HoldsServices feed.calendar.items feed.calendar_dates.items services.now
-        → IfOk result (λ count. IsCount MAX_TRIPS count (length (runs_of_days feed (map (λ d. d.day) days.now)))) }
+        → AreActive feed days trips.now services.now
+        → IfOk result (λ count. IsCount MAX_TRIPS count (length (runs_of_days feed days))) }
 {
     let mut count = 0usize;
-    for day in days {
-        count = count_with_day(alloc, count, services, day.day, trips, starts)?;
+    for active in &services.active {
+        count = count_with_day(alloc, count, active, &services.indices, trips, starts)?;
     }
     Ok(count)
 }
@@ -297,22 +287,24 @@ fn add_runs_on(
 // The runs of the days, for so many of which room is made.
 fn list_runs(
     alloc: Global,
-    services: &Services,
+    services: &TripServices,
     days: &[ServiceDay],
     trips: &[Trip],
     starts: &mut Vec<TripStarts>,
     count: usize,
 ) -> Result<Vec<Run>, AllocError>
     requires rising { All (λ trip. trip.first ≤ trip.end) trips.now }
+    requires named { length services.now.indices.items ≡ length trips.now }
+    requires active { length services.now.active.items ≡ length days.now }
     requires same { length starts.old.items ≡ length trips.now }
     ensures { (feed : JoinedFeed) → feed.trips.items ≡ trips.now
         → HoldStarts feed.frequencies.items (length trips.now) starts.old.items
-        → HoldsServices feed.calendar.items feed.calendar_dates.items services.now
+        → AreActive feed (map (λ d. d.day) days.now) trips.now services.now
         → IfOk result (λ runs. runs.items ≡ runs_of_days feed (map (λ d. d.day) days.now)) }
 {
     let mut runs = Vec::with_capacity(alloc, count)?;
-    for day in days {
-        let running = running_on(alloc, services, day.day, trips)?;
+    for (number, day) in days.iter().enumerate() {
+        let running = running_on(alloc, &services.active[number], &services.indices, trips)?;
         add_runs_on(alloc, &mut runs, day.day, &running, trips, starts)?;
     }
     Ok(runs)
@@ -338,28 +330,33 @@ pub(crate) fn runs_on(
     let Ok(mut starts) = starts_by_trip(alloc, &feed.frequencies, feed.trips.len()) else {
         return Err(out_of_memory());
     };
+    let Ok(services) = TripServices::new(alloc, &services, days, &feed.trips) else {
+        return Err(out_of_memory());
+    };
     runs_by(alloc, feed, &services, &mut starts, days)
 }
 
-// The runs of the days, by the feed's services and by the starts of each of its trips: those of a trip are listed when
-// its runs are first counted, so starts are never kept of many more runs than there may be.
+// The runs of the days, by the services of its trips and by their starts: those of a trip are listed when its runs are
+// first counted, so starts are never kept of many more runs than there may be.
 fn runs_by(
     alloc: Global,
     feed: &Feed,
-    services: &Services,
+    services: &TripServices,
     starts: &mut Vec<TripStarts>,
     days: &[ServiceDay],
 ) -> Result<Vec<Run>, RunsFault>
     requires rising { All (λ trip. trip.first ≤ trip.end) feed.now.trips.items }
     requires starts { HoldStarts feed.now.frequencies.items (length feed.now.trips.items) starts.old.items }
-    requires services { HoldsServices feed.now.calendar.items feed.now.calendar_dates.items services.now }
+    requires named { length services.now.indices.items ≡ length feed.now.trips.items }
+    requires days { length services.now.active.items ≡ length days.now }
+    requires active { AreActive feed.now (map (λ d. d.day) days.now) feed.now.trips.items services.now }
     ensures ok { IfOk result (λ runs. runs.items ≡ runs_of_days feed.now (map (λ d. d.day) days.now)) }
     ensures few { IfOk result (λ runs. length runs.items ≤ MAX_TRIPS) }
     ensures err { IfErr result (λ fault. IsWantOfMemory fault
         ⊎ ((fault ≡ too_many_of Table.Trips) × (MAX_TRIPS < length
         (runs_of_days feed.now (map (λ d. d.day) days.now))))) }
 {
-    let Ok(count) = count_runs(alloc, services, days, &feed.trips, starts) else {
+    let Ok(count) = count_runs(alloc, services, &feed.trips, starts) else {
         return Err(out_of_memory());
     };
     if count > MAX_TRIPS as usize {

@@ -1,5 +1,6 @@
 pub mod Asked
 pub mod Days
 pub mod Faults
+pub mod Named
 pub mod Services
 pub mod Zones

@@ -8,11 +8,13 @@ mod asked;
 mod day;
 mod fault;
 pub mod laws;
+mod named;
 mod services;
 mod zone;
 
 pub use asked::DayServices;
 pub use day::{day_after, day_start};
 pub use fault::DayFault;
+pub use named::NamedServices;
 pub use services::{Services, active};
 pub use zone::Zone;

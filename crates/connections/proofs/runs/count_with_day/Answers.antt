@@ -5,11 +5,11 @@ use Rattle.connections.proofs.RunSteps.{count_over}
 use Rattle.connections.proofs.runs.count_with_day.Goals as goal
 
 pub returns-then-before-clause-count : goal.returns-then-before-clause-count
-returns-then-before-clause-count c feed n holds services was =
-    count_over MAX_TRIPS c.args.before n (n + length (runs_from feed c.args.day 0 c.args.trips.now)) was c.if-before.true (omega arith)
+returns-then-before-clause-count c feed day names n holds named are was =
+    count_over MAX_TRIPS c.args.before n (n + length (runs_from feed day 0 c.args.trips.now)) was c.if-before.true (omega arith)
 
 pub returns-clause-count : goal.returns-clause-count
-returns-clause-count c feed n holds services was =
-    let told : c.deref.result.now ≡ map (runs_on feed c.args.day) c.args.trips.now =
-    c.deref.ensures.value ∙ c.in_ok-running.ensures.told feed services in
-    c.count_with_trips.ensures.count feed c.args.day n told holds was
+returns-clause-count c feed day names n holds named are was =
+    let told : c.deref.result.now ≡ map (runs_on feed day) c.args.trips.now =
+    c.deref.ensures.value ∙ c.in_ok-running.ensures.told feed day names named are in
+    c.count_with_trips.ensures.count feed day n told holds was

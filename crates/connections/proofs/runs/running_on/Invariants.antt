@@ -1,14 +1,13 @@
-use Rattle.std.proofs.Common.{◌≡◌, length, map, take}
+use Rattle.std.proofs.Common.{◌≡◌, ℕ, List, length, map, take}
+use Rattle.gtfs_rows.specs.declared.values.Day.{Day}
 use Rattle.gtfs_tables.specs.declared.tables.Feed.{Feed}
-use Rattle.service_days.specs.Asked.{AreOfDay}
-use Rattle.service_days.specs.Services.{HoldsServices}
+use Rattle.connections.specs.Active.{AreNamed, active_among}
 use Rattle.connections.specs.Runs.{runs_on}
 use Rattle.connections.proofs.runs.running_on.Given as goal
 
-abbrev pub invariant-loop-trip : goal.invariant-loop-trip
-invariant-loop-trip l = record {
-  len : length l.running.items ≡ l.trip-index;
-  told : (feed : Feed) → HoldsServices feed.calendar.items feed.calendar_dates.items l.services
-      → AreOfDay feed.calendar.items feed.calendar_dates.items l.day l.asked
-      × (l.running.items ≡ map (runs_on feed l.day) (take l.trip-index l.trips));
+abbrev pub invariant-loop-place : goal.invariant-loop-place
+invariant-loop-place l = record {
+  len : length l.running.items ≡ l.place;
+  told : (feed : Feed) (day : Day) (names : List (List ℕ)) → AreNamed names l.trips l.indices → l.active ≡ active_among feed names day
+      → l.running.items ≡ map (runs_on feed day) (take l.place l.trips);
 }

@@ -1,0 +1,78 @@
+//! The services of a feed's trips, and which of them run on each day of a plan: worked out once for a plan.
+
+ghost use Rattle.std.specs.Prelude.{◌≡◌, length, map, IfOk};
+ghost use Rattle.gtfs_tables.specs.declared.tables.Feed.{Feed as JoinedFeed};
+ghost use Rattle.service_days.specs.Named.{names_of};
+ghost use Rattle.service_days.specs.Services.{HoldsServices};
+ghost use Rattle.connections.specs.Active.{AreActive, AreNamed, active_among};
+
+use crate::days::ServiceDay;
+use gtfs_tables::Trip;
+use service_days::{NamedServices, Services};
+use std::alloc::{AllocError, Global};
+
+/// The service of each trip, and which services run on each day.
+#[derive(Drop)]
+pub(crate) struct TripServices {
+    /// The index of each trip's service.
+    pub indices: Vec<usize>,
+    /// For each day whether each service runs on it.
+    pub active: Vec<Vec<bool>>,
+}
+
+impl TripServices {
+    // The services of the trips, each judged once for each of the days.
+    pub(crate) fn new(
+        alloc: Global,
+        services: &Services,
+        days: &[ServiceDay],
+        trips: &[Trip],
+    ) -> Result<TripServices, AllocError>
+        ensures trips { IfOk result (λ made. length made.indices.items ≡ length trips.now) }
+        ensures days { IfOk result (λ made. length made.active.items ≡ length days.now) }
+        ensures active { (feed : JoinedFeed) → HoldsServices feed.calendar.items feed.calendar_dates.items services.now
+            → IfOk result (λ made. AreActive feed (map (λ d. d.day) days.now) trips.now made) }
+    {
+        let mut named = NamedServices::new(alloc, services);
+        let indices = indices_of(alloc, &mut named, trips)?;
+        let active = active_on_days(alloc, services, &named, days)?;
+        Ok(TripServices { indices, active })
+    }
+}
+
+// The index of each trip's service among those that are named.
+fn indices_of(
+    alloc: Global,
+    named: &mut NamedServices,
+    trips: &[Trip],
+) -> Result<Vec<usize>, AllocError>
+    ensures len { IfOk result (λ indices. length indices.items ≡ length trips.now) }
+    ensures named { IfOk result (λ indices. AreNamed (names_of named.new) trips.now indices.items) }
+{
+    let mut indices = Vec::with_capacity(alloc, trips.len())?;
+    for trip in trips {
+        let index = named.index_of(&trip.service)?;
+        indices.push(index)?;
+    }
+    Ok(indices)
+}
+
+// For each day whether each of the named services runs on it.
+fn active_on_days(
+    alloc: Global,
+    services: &Services,
+    named: &NamedServices,
+    days: &[ServiceDay],
+) -> Result<Vec<Vec<bool>>, AllocError>
+    ensures len { IfOk result (λ active. length active.items ≡ length days.now) }
+    ensures active { (feed : JoinedFeed) → HoldsServices feed.calendar.items feed.calendar_dates.items services.now
+        → IfOk result (λ active. map (λ each. each.items) active.items
+        ≡ map (active_among feed (names_of named.now)) (map (λ d. d.day) days.now)) }
+{
+    let mut active = Vec::with_capacity(alloc, days.len())?;
+    for day in days {
+        let running = named.active_on(alloc, services, day.day)?;
+        active.push(running)?;
+    }
+    Ok(active)
+}

@@ -1,0 +1,63 @@
+//! The services that trips name, each once, so that which of them run on a day is worked out once.
+
+ghost use Rattle.std.specs.Prelude.{◌≡◌, [], List, map, IfOk, OnOk};
+ghost use Rattle.gtfs_rows.specs.Ids.{seen_also};
+ghost use Rattle.gtfs_rows.specs.Rows.{StandsAt};
+ghost use Rattle.gtfs_rows.specs.declared.rows.CalendarDateRow.{CalendarDateRow};
+ghost use Rattle.gtfs_rows.specs.declared.rows.CalendarRow.{CalendarRow};
+ghost use Rattle.service_days.specs.Named.{names_of};
+ghost use Rattle.service_days.specs.Services.{HoldsServices, is_active};
+ghost use Rattle.std.specs.String.{string_bytes};
+
+use crate::services::{Services, active};
+use gtfs_rows::{Day, IdHash};
+use indexmap::IndexSet;
+use std::alloc::{AllocError, Global};
+
+/// The services that were named, each once, in the order in which they were first named.
+#[derive(Drop)]
+pub struct NamedServices {
+    ids: IndexSet<String, IdHash>,
+}
+
+impl NamedServices {
+    /// No service was named.
+    pub fn new(alloc: Global, services: &Services) -> NamedServices
+        ensures { names_of result ≡ [] }
+    {
+        NamedServices {
+            ids: IndexSet::with_hasher(alloc, services.hash()),
+        }
+    }
+
+    /// The index of a service, which goes last if it wasn't named before.
+    pub fn index_of(&mut self, service: &String) -> Result<usize, AllocError>
+        ensures names { OnOk result (names_of self.new ≡ seen_also (names_of self.old) (string_bytes service.now)) }
+        ensures index { IfOk result (λ index. StandsAt (names_of self.new) index (string_bytes service.now)) }
+    {
+        if let Some((index, _)) = self.ids.get_full(service.as_str()) {
+            return Ok(index);
+        }
+        let (index, _) = self.ids.insert_full(service.clone()?)?;
+        Ok(index)
+    }
+
+    /// Whether each of the services runs on a day, in their order, as [`active`] returns.
+    pub fn active_on(
+        &self,
+        alloc: Global,
+        services: &Services,
+        day: Day,
+    ) -> Result<Vec<bool>, AllocError>
+        ensures { (calendar : List CalendarRow) (dates : List CalendarDateRow)
+            → HoldsServices calendar dates services.now
+            → IfOk result (λ running. running.items
+            ≡ map (λ name. is_active calendar dates name day) (names_of self.now)) }
+    {
+        let mut running = Vec::with_capacity(alloc, self.ids.len())?;
+        for id in self.ids.as_slice() {
+            running.push(active(services, id, day))?;
+        }
+        Ok(running)
+    }
+}
