@@ -32,6 +32,7 @@ returns-in-Ok-list_runs-clause-few c =
     let active : AreActive feed (map (λ (d : ServiceDay). d.day) c.args.days.now) c.deref.result.now c.args.services.now =
     subst (λ (ts : List Trip). AreActive feed (map (λ (d : ServiceDay). d.day) c.args.days.now) ts c.args.services.now) (sym c.deref.ensures.value)
     c.requires.active in
-    let counted = (c.in-Ok.ensures.count feed (map (λ (d : ServiceDay). d.day) c.args.days.now) (sym c.deref.ensures.value) held active).exact c.if-count.false in
+    let counted = (c.in-Ok.ensures.count feed (map (λ (d : ServiceDay). d.day) c.args.days.now)
+    (sym c.deref.ensures.value) held active).exact c.if-count.false in
     let listed = ap (λ (runs : List Run). length runs) (made (goal.at.returns-in-Ok-list_runs-clause-few c).In-Ok-list_runs) in
     subst (λ (n : ℕ). n ≤ MAX_TRIPS) (counted ∙ sym listed) c.if-count.false
