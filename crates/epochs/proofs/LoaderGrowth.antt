@@ -1,5 +1,5 @@
 -- What the loader knows only grows; and what its calls did in it.
-use Rattle.std.proofs.Common.{◌≡◌, ℕ, zero, suc, ◌+◌, ◌<◌, Bool, true, false, List, [], ◌∷◌, ◌++◌, length, get_or, Option, None, Some}
+use Rattle.std.proofs.Common.{◌≡◌, ◌≢◌, ℕ, zero, suc, ◌+◌, ◌<◌, ◌≤◌, Bool, true, false, List, [], ◌∷◌, ◌++◌, length, get_or, Option, None, Some}
 use Rattle.std.proofs.Common.{slice_get, refl, sym, ap, ◌∙◌, subst, arith, inl, inr, append_assoc, append-nil}
 use mathlib.Core.Logic.{dite}
 use native.Mathlib.Decide.{ℕ_discrete}
@@ -19,7 +19,7 @@ use Rattle.shelf_steps.specs.Plays.{OfLoader, gives_notice, newest_of}
 use Rattle.epochs.specs.declared.collected.Collected.{Collected}
 use Rattle.epochs.specs.declared.faults.PublishFault.{PublishFault}
 use Rattle.epochs.specs.SeatHistory.{Grows, IsPublished, EndsPublish, IsTried, FindsByTries, IsFullByTries}
-use Rattle.epochs.specs.SeatHistory.{AreTries, IsReported, OnlyTries}
+use Rattle.epochs.specs.SeatHistory.{AreTries, IsReported, OnlyTries, IsTriedOnce, EndsRefused}
 use Rattle.epochs.specs.ShelfLoads.{Rests, TriedShelf, TriesBelow, shelf_of, CollectsBySteps, MakesRoomBySteps, PublishesBySteps, RefusesBySteps}
 use Rattle.epochs.proofs.GrowthLemmas.{grows_same, growths_join, happened_grows, same_grows}
 
@@ -261,6 +261,52 @@ tries_only (suc n) u found u' t =
     (one_only (IsReported found) n (shelf_of t.0 n) t.0 (get_or found.freed n false) (get_or found.busy n 0) u'
     (λ is. inl (was_freed found.freed n is)) (λ some. inr (get_or found.busy n 0, some, was_busy found.busy n some)) t.2)
 
+-- a try at another shelf is none at this one
+other_tried : (k j : ℕ) (s : Option Shelf) (u : View) (f : Bool) (b : ℕ) (u' : View) → j ≢ k → TriedShelf j s u f b u'
+    → OnlyTries (λ i. i ≢ k) (known_of u) (known_of u')
+other_tried k j s u f b u' other t = (one_only (λ i. i ≢ k) j s u f b u' (λ is. other) (λ some. other) t).0
+
+-- below a shelf, no try is at it
+others_below : (n k : ℕ) (u : View) (freed : List Bool) (busy : List ℕ) (u' : View) → n ≤ k → TriesBelow n u freed busy u'
+    → OnlyTries (λ i. i ≢ k) (known_of u) (known_of u')
+others_below zero k u freed busy u' less t = (those_none (λ i. i ≢ k) u u' t).0
+others_below (suc n) k u freed busy u' less t =
+    only_join (λ i. i ≢ k) (known_of u) (known_of t.0) (known_of u') (others_below n k u freed busy t.0 (omega arith) t.1)
+    (other_tried k n (shelf_of t.0 n) t.0 (get_or freed n false) (get_or busy n 0) u' (λ e. let z = e in omega arith) t.2)
+
+-- where workers were found, it was the one try
+once_busy : (k : ℕ) (s : Option Shelf) (u : View) (f : Bool) (b : ℕ) (u' : View) → 0 < b → TriedShelf k s u f b u'
+    → IsTriedOnce (known_of u) k (Reply.Busy b) (known_of u')
+once_busy k (Some (Shelf.Closing v)) u true b u' some t = absurd (let z = t.0 in omega arith)
+once_busy k (Some (Shelf.Closing v)) u false b u' some t = both_load (λ x y. FoundBusy x k b y) (λ x y. IsTriedOnce x k (Reply.Busy b) y) u u'
+    (λ x y found. (x.known, y.known, only_none (λ i. i ≢ k) x.known, found.collect, only_none (λ i. i ≢ k) y.known)) t
+once_busy k (Some (Shelf.Open v)) u f b u' some t = absurd (let z = t.1 in omega arith)
+once_busy k (Some Shelf.Free) u f b u' some t = absurd (let z = t.1 in omega arith)
+once_busy k None u f b u' some t = absurd (let z = t.1 in omega arith)
+
+once_since : (first before after : Known) (k : ℕ) (reply : Reply) → OnlyTries (λ i. i ≢ k) first before
+    → IsTriedOnce before k reply after → IsTriedOnce first k reply after
+once_since first before after k reply tried h = (h.0, h.1, only_join (λ i. i ≢ k) first before h.0 tried h.2, h.3, h.4)
+
+once_until : (before after last : Known) (k : ℕ) (reply : Reply) → OnlyTries (λ i. i ≢ k) after last
+    → IsTriedOnce before k reply after → IsTriedOnce before k reply last
+once_until before after last k reply tried h = (h.0, h.1, h.2, h.3, only_join (λ i. i ≢ k) h.1 after last h.4 tried)
+
+tries_once : (n : ℕ) (u : View) (freed : List Bool) (busy : List ℕ) (u' : View) → TriesBelow n u freed busy u'
+    → (k : ℕ) → k < n → 0 < get_or busy k 0 → IsTriedOnce (known_of u) k (Reply.Busy (get_or busy k 0)) (known_of u')
+tries_once zero u freed busy u' t k less some = absurd (omega arith)
+tries_once (suc n) u freed busy u' t k less some =
+    dite (ℕ_discrete k n)
+    (λ e.
+    let here : 0 < get_or busy n 0 = subst (λ m. 0 < get_or busy m 0) e some in
+    subst (λ m. IsTriedOnce (known_of u) m (Reply.Busy (get_or busy m 0)) (known_of u')) (sym e)
+    (once_since (known_of u) (known_of t.0) (known_of u') n (Reply.Busy (get_or busy n 0))
+    (others_below n n u freed busy t.0 (omega arith) t.1)
+    (once_busy n (shelf_of t.0 n) t.0 (get_or freed n false) (get_or busy n 0) u' here t.2)))
+    (λ ne. once_until (known_of u) (known_of t.0) (known_of u') k (Reply.Busy (get_or busy k 0))
+    (other_tried k n (shelf_of t.0 n) t.0 (get_or freed n false) (get_or busy n 0) u' (λ e. ne (sym e)) t.2)
+    (tries_once n u freed busy t.0 t.1 k (omega arith) some))
+
 pub collects_find : (u u' : View) (found : Collected) → CollectsBySteps u found u' → FindsByTries (known_of u) found (known_of u')
 collects_find u u' found h = record {
   freed = λ k less is. (tries_reported 8 u found.freed found.busy u' h k less).0 (got_bool found.freed k true false is);
@@ -268,6 +314,10 @@ collects_find u u' found h = record {
       let same : get_or found.busy k 0 ≡ count = got_count found.busy k count 0 is in
       subst (λ n. IsTried (known_of u) k (Reply.Busy n) (known_of u')) same
       ((tries_reported 8 u found.freed found.busy u' h k less).1 (omega arith));
+  once = λ k count less some is.
+      let same : get_or found.busy k 0 ≡ count = got_count found.busy k count 0 is in
+      subst (λ n. IsTriedOnce (known_of u) k (Reply.Busy n) (known_of u')) same
+      (tries_once 8 u found.freed found.busy u' h k less (omega arith));
   only = (tries_only 8 u found u' h).0;
   images = (tries_only 8 u found u' h).1;
 }
@@ -295,6 +345,12 @@ room_only u u' h = elim h [
   | inl x ↦ those_none (λ k. Unit {0}) u u' x.1
   | inr y ↦ any_shelf (known_of u) (known_of u') y.1.0 (collects_find u u' y.1.0 y.1.1)
 ]
+
+-- and so is what a refused publish did
+pub refuses_only : (u u' : View) (fault : PublishFault) → RefusesBySteps u fault u' → EndsRefused (known_of u) (known_of u')
+refuses_only u u' PublishFault.VersionsSpent h = those_none (λ k. Unit {0}) u u' h.1
+refuses_only u u' PublishFault.OutOfMemory h = room_only u u' h.1
+refuses_only u u' (PublishFault.ShelvesFull counts) h = any_shelf (known_of u) (known_of u') h.2.0 (collects_find u u' h.2.0 h.2.1)
 
 -- room was made, and then the image published
 abbrev Published : View → ImageValue → ℕ → View → Type 0

@@ -92,17 +92,27 @@ abbrev pub IsTried : Known → ℕ → Reply → Known → Type 0
 IsTried before shelf reply after = (first : Known) × (tried : Known) × Grows before first
     × Happened first (Event.Collect shelf) reply tried × Grows tried after
 
+-- between what was known before and what is known after, the shelf was tried once, and answered so: the loader's other events are tries at others
+abbrev pub IsTriedOnce : Known → ℕ → Reply → Known → Type 0
+IsTriedOnce before shelf reply after = (first : Known) × (tried : Known) × OnlyTries (λ k. k ≢ shelf) before first
+    × Happened first (Event.Collect shelf) reply tried × OnlyTries (λ k. k ≢ shelf) tried after
+
 -- the shelf is reported as freed, or as in use
 abbrev pub IsReported : Collected → ℕ → Type 0
 IsReported found k = (slice_get found.freed k ≡ Some true) ⊎ ((count : ℕ) × (0 < count) × (slice_get found.busy k ≡ Some count))
 
 -- what a collection reports was found by tries in the history since then: of each shelf that it reports as freed, a try freed it; and each
--- count above 0 that it reports, a try found at that shelf. The loader did nothing else, and published no image
+-- count above 0 that it reports, a try found at that shelf, the only one there. The loader did nothing else, and published no image
 pub record FindsByTries (before : Known) (found : Collected) (after : Known) : Type 0 where
   pub freed : (k : ℕ) → k < 8 → slice_get found.freed k ≡ Some true → IsTried before k Reply.Freed after
   pub busy : (k count : ℕ) → k < 8 → 0 < count → slice_get found.busy k ≡ Some count → IsTried before k (Reply.Busy count) after
+  pub once : (k count : ℕ) → k < 8 → 0 < count → slice_get found.busy k ≡ Some count → IsTriedOnce before k (Reply.Busy count) after
   pub only : OnlyTries (IsReported found) before after
   pub images : after.images ≡ before.images
+
+-- a publish that is refused did nothing but tries at shelves, if any, and no image is new
+abbrev pub EndsRefused : Known → Known → Type 0
+EndsRefused before after = OnlyTries (λ k. Unit {0}) before after × (after.images ≡ before.images)
 
 -- where a publish is refused since all shelves are in use, each count above 0 that it tells was found by a try at that shelf since then
 abbrev pub IsFullByTries : Known → PublishFault → Known → Type 0

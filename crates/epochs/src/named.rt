@@ -4,7 +4,7 @@ ghost use Rattle.std.specs.Prelude.{◌≡◌, ◌+◌, ◌<◌, Some, None, IfO
 ghost use Rattle.std.specs.Arc.{arc_value};
 ghost use Rattle.shelf_steps.specs.declared.views.View.{View};
 ghost use Rattle.epochs.specs.SeatHistory.{Grows, HoldsAsKnown, EndsPin, EndsRelease, IsPublished, EndsPublish};
-ghost use Rattle.epochs.specs.SeatHistory.{FindsByTries, IsFullByTries};
+ghost use Rattle.epochs.specs.SeatHistory.{FindsByTries, IsFullByTries, EndsRefused};
 ghost use Rattle.shelf_steps.specs.Events.{known_of};
 ghost use Rattle.epochs.specs.Seats.{PinStep, ReleaseStep, JoinStep, PublishStep, RefuseStep, CollectStep};
 ghost use Rattle.epochs.specs.Seats.{KnowsItsSeats};
@@ -287,6 +287,7 @@ impl<B: Named, K> Loads for NamedShelves<B, K> {
             (λ e. RefuseStep loader.old.answers e.1 loader.new.answers) }
         ensures spent { IfErr result (λ e. IsSpentAt loader.old.current e.1) }
         ensures full { IfErr result (λ e. IsFullByTries (known_of loader.old.view) e.1 (known_of loader.new.view)) }
+        ensures refused { IfErr result (λ _. EndsRefused (known_of loader.old.view) (known_of loader.new.view)) }
         ensures steps { MatchResult result (λ r. (room : View) × MakesRoomBySteps loader.old.view room
             × PublishesWithNotice room (arc_value image) r.0 loader.new.view)
             (λ e. RefusesBySteps loader.old.view e.1 loader.new.view) }

@@ -5,7 +5,7 @@ ghost use Rattle.std.specs.Arc.{arc_value};
 ghost use Rattle.epochs.specs.Seats.{SeatValue, PinStep, ReleaseStep, JoinStep, PublishStep, RefuseStep, CollectStep};
 ghost use Rattle.epochs.specs.Seats.{KnowsItsSeats};
 ghost use Rattle.epochs.specs.SeatHistory.{Grows, HoldsAsKnown, EndsPin, EndsRelease, IsPublished, EndsPublish};
-ghost use Rattle.epochs.specs.SeatHistory.{FindsByTries, IsFullByTries};
+ghost use Rattle.epochs.specs.SeatHistory.{FindsByTries, IsFullByTries, EndsRefused};
 ghost use Rattle.epochs.specs.ShelfLoads.{IsSpentAt};
 ghost use Rattle.shelf_steps.specs.declared.views.Known.{Known};
 ghost use Rattle.epochs.specs.declared.seats.LoaderAnswer.{LoaderAnswer};
@@ -114,6 +114,7 @@ pub trait Loads: Versions {
             (λ e. RefuseStep (answers loader.old) e.1 (answers loader.new)) }
         ensures spent { IfErr result (λ e. IsSpentAt (current loader.old) e.1) }
         ensures full { IfErr result (λ e. IsFullByTries (learned loader.old) e.1 (learned loader.new)) }
+        ensures refused { IfErr result (λ _. EndsRefused (learned loader.old) (learned loader.new)) }
         ensures notice { IfOk result (λ r. IfSome r.1 (λ n. Self.Versions.noted n ≡ r.0)) }
         ensures published { IfOk result (λ r. IsPublished (learned loader.new) r.0 (arc_value image)) }
         ensures grows { Grows (learned loader.old) (learned loader.new) }

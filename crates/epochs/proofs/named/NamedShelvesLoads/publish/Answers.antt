@@ -1,10 +1,10 @@
 use Rattle.std.proofs.Common.{◌≡◌, ℕ, Option, ap, sym, subst}
 use Rattle.std.specs.Arc.{arc_value}
 use Rattle.shelf_steps.specs.Events.{known_of}
-use Rattle.epochs.specs.SeatHistory.{IsPublished, EndsPublish, IsFullByTries}
+use Rattle.epochs.specs.SeatHistory.{IsPublished, EndsPublish, IsFullByTries, EndsRefused}
 use Rattle.epochs.specs.ShelfSeats.{NoticeValue}
 use Rattle.epochs.specs.ShelfLoads.{ShelfLoaderValue, MakesRoomBySteps, PublishesWithNotice}
-use Rattle.epochs.proofs.LoaderGrowth.{full_by_tries}
+use Rattle.epochs.proofs.LoaderGrowth.{full_by_tries, refuses_only}
 use Rattle.epochs.proofs.named.NamedShelvesLoads.publish.Goals as goal
 
 pub returns-clause-steps : goal.returns-clause-steps
@@ -32,3 +32,9 @@ pub returns-in-Err-clause-full : goal.returns-in-Err-clause-full
 returns-in-Err-clause-full g c =
     subst (λ (s : ShelfLoaderValue). IsFullByTries (known_of s.view) c.in-Err.refused.1 (known_of c.publish.new.loader.view)) c.loader.view_is
     (full_by_tries _ _ c.in-Err.refused.1 c.in-Err.ensures.steps)
+
+-- and it did nothing but tries
+pub returns-in-Err-clause-refused : goal.returns-in-Err-clause-refused
+returns-in-Err-clause-refused g c =
+    subst (λ (s : ShelfLoaderValue). EndsRefused (known_of s.view) (known_of c.publish.new.loader.view)) c.loader.view_is
+    (refuses_only _ _ c.in-Err.refused.1 c.in-Err.ensures.steps)
