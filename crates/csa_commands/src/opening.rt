@@ -1,8 +1,8 @@
 //! What every command over an image begins with.
 
-ghost use Rattle.std.specs.Prelude.{◌≡◌, ◌⊎◌, codes, IfErr, IfOk, IfSome};
+ghost use Rattle.std.specs.Prelude.{◌≡◌, ◌⊎◌, codes, IfErr, IfOk, IfSome, OnOk};
 ghost use Rattle.command_requests.specs.declared.statuses.TheConstants.{INPUT_OUTPUT, OUT_OF_MEMORY, REFUSED};
-ghost use Rattle.csa_commands.specs.Opening.{SpellsImage};
+ghost use Rattle.csa_commands.specs.Opening.{IsNoImage, SpellsImage};
 
 use crate::refusal::Refusal;
 use crate::status;
@@ -24,6 +24,9 @@ pub fn open_image<H: Files + AllocGlobal, I: Read, O: Write, E: Write>(
     ensures image { IfOk result (λ image. path.now ≡ codes "-"
         → IfSome (I.remaining input.old) (SpellsImage image.timetable image.names)) }
     ensures status { IfErr result (λ status. (status ≡ REFUSED) ⊎ (status ≡ INPUT_OUTPUT) ⊎ (status ≡ OUT_OF_MEMORY)) }
+    ensures silent { OnOk result (O.contents output.new ≡ O.contents output.old) }
+    ensures refused { IfErr result (λ status. status ≡ REFUSED → path.now ≡ codes "-"
+        → IfSome (I.remaining input.old) IsNoImage) }
 {
     let words = match image_words(rt, path, input) {
         Ok(words) => words,

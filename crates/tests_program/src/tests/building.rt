@@ -172,6 +172,9 @@ answers stops 2 runs 1 connections 1 footpaths 2 lifted 0 flex 0 frequencies 0 s
 asks profile feed.csa --from A --to B --after 00:00:00 --until 48:00:00 --by 48:00:00 --criterion arrival
 prints dep 08:00:00 arr 08:10:00 : ride 0 0
 answers points 1 read 1 walk none
+run build feed feed.csa --first 20240114 --days 4 --zone fixed:0
+tells csa: warning: no trip runs on 20240114, 20240116, 20240117
+answers stops 2 runs 1 connections 1 footpaths 2 lifted 0 flex 0 frequencies 0 skipped 0
 
 # Two stops of a station, and nothing that runs: two minutes between them, unless a row has another time, or there is no way.
 rows feed/stops.txt stop_id,location_type,parent_station | S,1, | P,0,S | Q,0,S
@@ -232,6 +235,11 @@ ends 3
 remove unread/agency.txt
 tells csa: unread: no file agency.txt
 answers refused 1 MissingFile agency.txt 0
+rows unread/agency.txt agency_timezone | Etc/UTC
+folder unread/stops.txt
+tells csa: unread/stops.txt: it is a folder
+prints refused 101 FileFailed stops.txt
+ends 3
 remove unread
 ";
 

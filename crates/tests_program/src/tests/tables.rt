@@ -23,8 +23,11 @@ with stop_times.txt 2 T1,08:10:00,07:59:00,B,2
 tells csa: stop_times.txt, line 3: trip_id \"T1\" has a time in this row that is earlier than the one before it
 answers refused 13 TimeGoesBack stop_times.txt 2
 with stop_times.txt 3 T1,08:30:00,08:30:00,C,2
-tells csa: stop_times.txt, line 4: stop_sequence \"2\" is in another row of this trip too
+tells csa: stop_times.txt, line 4: stop_sequence \"2\" of this trip is in line 3 too
 answers refused 11 SequenceTwice stop_times.txt 3
+with stop_times.txt 5 T2,08:20:00,08:20:00,C,01.0
+tells csa: stop_times.txt, line 6: stop_sequence \"01.0\" of this trip is in line 5 too
+answers refused 11 SequenceTwice stop_times.txt 5
 with stop_times.txt 5 T2,,,C,2
 tells csa: stop_times.txt, line 6: trip_id \"T2\" begins or ends with this row, which has no time
 answers refused 12 EndWithoutTime stop_times.txt 5
