@@ -16,8 +16,10 @@ use Rattle.timetable.specs.TimetableValue.{TimetableValue}
 use Rattle.csa_commands.specs.Folders.{AreTablesOf, IsBuiltFrom, MayBeOf}
 
 -- over files of a folder, as they began and as they are then
-module _ {D : Type 0} (gives : D → List ℕ → MayGive) (disk : D) (folder began then : List ℕ) (old new : List FileRead) where
-  may_be_of : (content : Content) → began ≡ folder → AreRead content all_tables (opened began ∷ old) (opened then ∷ new)
+module _ {D : Type 0} (gives : D → List ℕ → MayGive) (disk : D) (folder began then : List ℕ)
+    (old new : List FileRead) where
+  may_be_of : (content : Content) → began ≡ folder
+      → AreRead content all_tables (opened began ∷ old) (opened then ∷ new)
       → ∥ All (MayBeRead (gives disk then)) new ∥₁ → MayBeOf gives folder content
   may_be_of content same read given = (
     disk,
@@ -27,13 +29,15 @@ module _ {D : Type 0} (gives : D → List ℕ → MayGive) (disk : D) (folder be
 
   pub tables_of : (t : Tables) → began ≡ folder → AllWereRead (opened began ∷ old) (opened then ∷ new)
       → ∥ All (MayBeRead (gives disk then)) new ∥₁
-      → ((content : Content) → AreRead content all_tables (opened began ∷ old) (opened then ∷ new) → HoldsTables content t)
+      → ((content : Content) → AreRead content all_tables (opened began ∷ old) (opened then ∷ new)
+      → HoldsTables content t)
       → AreTablesOf gives folder t
   tables_of t same (content, read) given held = (content, may_be_of content same read given, held content read)
 
-  pub built_of : (asked : PlanText) (bytes : List ℕ) (plan : Plan) (t : TimetableValue) (names : NamesValue) (report : Report)
-      → began ≡ folder → IsPlanNow asked bytes plan → ∥ All (MayBeRead (gives disk then)) new ∥₁
-      → (content : Content) × AreRead content all_tables (opened began ∷ old) (opened then ∷ new) × IsLoaded content plan t names report
+  pub built_of : (asked : PlanText) (bytes : List ℕ) (plan : Plan) (t : TimetableValue) (names : NamesValue)
+      (report : Report) → began ≡ folder → IsPlanNow asked bytes plan → ∥ All (MayBeRead (gives disk then)) new ∥₁
+      → (content : Content) × AreRead content all_tables (opened began ∷ old) (opened then ∷ new)
+      × IsLoaded content plan t names report
       → IsBuiltFrom gives folder asked t names report
   built_of asked bytes plan t names report same planned given (content, read, loaded) =
       (bytes, plan, content, planned, may_be_of content same read given, loaded)

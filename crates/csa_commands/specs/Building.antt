@@ -24,7 +24,8 @@ unfoldable pub report_line : Report → List ℕ
 report_line report = made_text report ++ changed_text report ++ codes "\n"
 
 -- the counts of an image of the folder's files were added to what was printed before, and nothing else
-abbrev pub IsReported : {D : Type 0} → (D → List ℕ → MayGive) → List ℕ → PlanText → Option (List ℕ) → Option (List ℕ) → Type 0
+abbrev pub IsReported : {D : Type 0} → (D → List ℕ → MayGive) → List ℕ → PlanText
+    → Option (List ℕ) → Option (List ℕ) → Type 0
 IsReported gives folder asked before after =
     (t : TimetableValue) × (names : NamesValue) × (report : Report) × IsBuiltFrom gives folder asked t names report
     × Appends before after (report_line report)

@@ -32,4 +32,5 @@ module _ {D : Type 0} (gives : D → List ℕ → MayGive) (folder : List ℕ) w
   -- the timetable and its names are those of the folder's files by a plan that was asked for, and have these counts
   abbrev pub IsBuiltFrom : PlanText → TimetableValue → NamesValue → Report → Type 0
   IsBuiltFrom asked t names report =
-      (bytes : List ℕ) × (plan : Plan) × (content : Content) × IsPlanNow asked bytes plan × MayBeOf content × IsLoaded content plan t names report
+      (bytes : List ℕ) × (plan : Plan) × (content : Content) × IsPlanNow asked bytes plan × MayBeOf content
+      × IsLoaded content plan t names report

@@ -13,5 +13,5 @@ SpellsImage t n bytes = (words : List ℕ) × (bytes_of words ≡ bytes) × IsIm
 
 -- the bytes are no whole words, or spell words that have a first fault
 abbrev pub IsNoImage : List ℕ → Type 0
-IsNoImage bytes =
-    (length bytes % 4 ≢ 0) ⊎ ((words : List ℕ) × (fault : ImageFault) × (bytes_of words ≡ bytes) × (first_fault words ≡ Some fault))
+IsNoImage bytes = (length bytes % 4 ≢ 0)
+    ⊎ ((words : List ℕ) × (fault : ImageFault) × (bytes_of words ≡ bytes) × (first_fault words ≡ Some fault))

@@ -39,5 +39,7 @@ abbrev pub AreCountsOf : {D : Type 0} → (D → List ℕ → MayGive) → List 
 AreCountsOf gives folder counts = (t : Tables) × AreTablesOf gives folder t × (counts ≡ counts_of t)
 
 -- the line of these tables was added to what was printed before, and nothing else
-abbrev pub AreCounted : {D : Type 0} → (D → List ℕ → MayGive) → List ℕ → Option (List ℕ) → Option (List ℕ) → Type 0
-AreCounted gives folder before after = (counts : Counts) × AreCountsOf gives folder counts × Appends before after (counts_text counts)
+abbrev pub AreCounted : {D : Type 0} → (D → List ℕ → MayGive) → List ℕ
+    → Option (List ℕ) → Option (List ℕ) → Type 0
+AreCounted gives folder before after =
+    (counts : Counts) × AreCountsOf gives folder counts × Appends before after (counts_text counts)

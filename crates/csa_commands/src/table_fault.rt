@@ -130,7 +130,7 @@ fn line_of_record<H: Files + AllocGlobal>(
 
 fn row_length(alloc: Global, found: &Records) -> Option<String> {
     let (fields, columns) = (found.record.fields(), found.header.fields());
-    format!(in alloc; "the record has {fields} fields, the header {columns}").ok()
+    format!(in alloc; "the number of fields is {fields}, in the header {columns}").ok()
 }
 
 /// The column that isn't as it must be, and its value.

@@ -53,7 +53,7 @@ holds built.csa
 
 # A day that can't be, and a file that can't be written.
 run build base_feed built.csa --first 99991231 --days 2 --zone fixed:0
-tells csa: --first, --days: a day is beyond the calendar, or a trip has a time that no image can have
+tells csa: --first, --days: a day is outside the years 1 to 9999, or a trip has a time that no image can have
 answers refused 22 DayOutOfRange
 holds built.csa
 run build base_feed no_such_folder/built.csa --first 20240115 --days 1 --zone fixed:0
@@ -68,7 +68,7 @@ run build base_feed today.csa --first today-1 --days 14 --zone posix:CET-1CEST,M
 tells csa: warning: no trip runs on these days, so no query has a departure
 answers stops 3 runs 0 connections 0 footpaths 3 lifted 0 flex 0 frequencies 0 skipped 0
 run build base_feed today.csa --first today --days 1 --zone posix:none
-tells csa: --zone: neither a POSIX rule, such as CET-1CEST,M3.5.0,M10.5.0/3, nor a time zone file (TZif)
+tells csa: --zone: file:PATH must be a time zone file (TZif), posix:TEXT a rule such as CET-1CEST,M3.5.0,M10.5.0/3
 answers refused 21 BadZone
 remove today.csa
 
@@ -219,7 +219,7 @@ run build no_such_feed none.csa --first 20240115 --days 1 --zone fixed:-86399
 tells csa: no_such_feed: no such file or folder
 answers refused 1 MissingFile agency.txt 0
 run build no_such_feed none.csa --first 20240115 --days 1 --zone posix:CET
-tells csa: --zone: neither a POSIX rule, such as CET-1CEST,M3.5.0,M10.5.0/3, nor a time zone file (TZif)
+tells csa: --zone: file:PATH must be a time zone file (TZif), posix:TEXT a rule such as CET-1CEST,M3.5.0,M10.5.0/3
 answers refused 21 BadZone
 run build no_such_feed none.csa --first 20240115 --days 1 --zone file:no_such_zone
 tells csa: no_such_zone can't be read: no such file or folder
@@ -272,7 +272,7 @@ holds east.csa
 
 # A zone file that is none.
 rows zone_file no zone
-tells csa: --zone: neither a POSIX rule, such as CET-1CEST,M3.5.0,M10.5.0/3, nor a time zone file (TZif)
+tells csa: --zone: file:PATH must be a time zone file (TZif), posix:TEXT a rule such as CET-1CEST,M3.5.0,M10.5.0/3
 answers refused 21 BadZone
 remove zone_file
 remove east.csa

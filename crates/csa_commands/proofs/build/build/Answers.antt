@@ -7,7 +7,8 @@ pub returns : goal.returns
 returns g c =
     let began = c.new-files.result.files in
     let then = c.build_reported-built.new.files.files in
+    let asked = c.args.request.now in
     IfOk-weaker c.build_reported-built.result _ _ (λ built is.
-    built_of g.H.Disk.gives then.disk.now c.args.request.now.folder.now began.folder.now then.folder.now began.reads then.reads
-    c.args.request.now.plan c.in_ok-plan.ensures.plan.0 c.in_ok-plan.plan built.image.timetable built.image.names built.report
+    built_of g.H.Disk.gives then.disk.now asked.folder.now began.folder.now then.folder.now began.reads then.reads
+    asked.plan c.in_ok-plan.ensures.plan.0 c.in_ok-plan.plan built.image.timetable built.image.names built.report
     _ c.in_ok-plan.ensures.plan.1 then.given is) c.build_reported-built.ensures

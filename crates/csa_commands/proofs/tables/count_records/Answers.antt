@@ -9,7 +9,7 @@ returns g c =
     let tables = c.in_ok-tables.tables in
     let read = c.in_ok-tables.ensures in (
       tables,
-      tables_of g.H.Disk.gives then.disk.now c.args.folder.now began.folder.now then.folder.now began.reads then.reads tables
-          c.new-files.ensures.folder read.all_read then.given (λ content is. read.read_ok content _ is),
+      tables_of g.H.Disk.gives then.disk.now c.args.folder.now began.folder.now then.folder.now began.reads then.reads
+          tables c.new-files.ensures.folder read.all_read then.given (λ content is. read.read_ok content _ is),
       c.counts_of-counts.ensures,
     )
