@@ -13,7 +13,11 @@ pub(crate) const STATUSES: &str = "Exit status:\n\
 \x20 4   out of memory\n\
 \x20 64  wrong command line";
 
-pub(crate) const VERIFY: &str = "Example: csa verify examples/base.csa";
+pub(crate) const VERIFY: &str =
+    "Standard output has one line, as `ok stops 3 trips 2 connections 3 footpaths 3`: csa info --help says what is\n\
+counted.\n\
+\n\
+Example: csa verify examples/base.csa";
 
 pub(crate) const INFO: &str = "Each line is a word and a value, with a space between:\n\
 \x20 layout          the layout of the image, 1 or 2\n\
@@ -31,9 +35,18 @@ An image that csa verify refuses is refused.\n\
 \n\
 Example: csa info examples/base.csa";
 
-pub(crate) const STOPS: &str = "Example: csa stops examples/base.csa";
+pub(crate) const STOPS: &str =
+    "Each line is the number of a stop in the image, from 0 on, and its stop_id: 0 A\n\
+\n\
+Example: csa stops examples/base.csa";
 
-pub(crate) const TABLES: &str = "Example: csa tables examples/base";
+pub(crate) const TABLES: &str =
+    "Standard output has one line, with the number of records of each file:\n\
+\x20 tables agencies 1 stops 3 trips 2 stop_times 5 calendar 1 calendar_dates 0 transfers 0\n\
+stops counts stations too, agencies is agency.txt. frequencies.txt is checked, and not counted.\n\
+A refusal names the first fault: mend it and run this again.\n\
+\n\
+Example: csa tables examples/base";
 
 pub(crate) const DAYS: &str = "Each line is a word and a value, with a space between:\n\
 \x20 first           the first day, YYYYMMDD, on which a row of calendar.txt or calendar_dates.txt\n\
@@ -46,10 +59,13 @@ A feed that csa tables refuses is refused.\n\
 \n\
 Example: csa days examples/base";
 
-pub(crate) const UPGRADE: &str = "Example: csa upgrade examples/base.csa base.csa";
+pub(crate) const UPGRADE: &str = "Standard output has the line of csa verify.\n\
+\n\
+Example: csa upgrade examples/base.csa base.csa";
 
 pub(crate) const JOURNEY: &str =
-    "A journey rides at least once. Its numbers are those of the image, as `csa profile` prints them without\n\
+    "Standard output has one line, `ok dep CLOCK arr CLOCK`, or the refusal.\n\
+A journey rides at least once. Its numbers are those of the image, as `csa profile` prints them without\n\
 --names:\n\
 \x20 ride FIRST LAST    from the first to the last of these connections, which are of one trip\n\
 \x20 walk FROM TO SECS  from one stop to another\n\
@@ -116,6 +132,7 @@ Example: csa build examples/base base.csa --first 20240115 --days 1 --zone fixed
 pub(crate) const SERVE: &str =
     "The image is version 1. The days and the zone are those of the feeds that are loaded. A warning says if the\n\
 image and the feeds use different time bases, or if the folder of a feed is not there yet.\n\
+Standard output has `listening P` once clients can connect and, with --sessions N, `served N` at the end.\n\
 A session is lines of JSON over TCP:\n\
 \x20 {\"do\":\"pin\"}\n\
 \x20 {\"do\":\"release\"}\n\

@@ -1,3 +1,4 @@
 mod AnswerLemmas
+mod OfFolder
 mod Picturing
 mod StopLines

@@ -2,6 +2,11 @@
 use Rattle.std.specs.Prelude.{List, ℕ, Option, ◌++◌, codes, decimal}
 use Rattle.std.specs.Io.KnownBytes.{Appends}
 use Rattle.connections.specs.declared.report.Report.{Report}
+use Rattle.command_requests.specs.declared.plans.PlanText.{PlanText}
+use Rattle.feed_files.specs.Files.{MayGive}
+use Rattle.timetable.specs.NamesValue.{NamesValue}
+use Rattle.timetable.specs.TimetableValue.{TimetableValue}
+use Rattle.csa_commands.specs.Folders.{IsBuiltFrom}
 
 -- how much the image has
 unfoldable pub made_text : Report → List ℕ
@@ -18,6 +23,9 @@ changed_text report =
 unfoldable pub report_line : Report → List ℕ
 report_line report = made_text report ++ changed_text report ++ codes "\n"
 
--- the counts of some image were added to what was printed before, and nothing else
-abbrev pub IsReported : Option (List ℕ) → Option (List ℕ) → Type 0
-IsReported before after = (report : Report) × Appends before after (report_line report)
+-- the counts of an image of the folder's files were added to what was printed before, and nothing else
+abbrev pub IsReported : {D : Type 0} → (D → List ℕ → MayGive) → List ℕ → PlanText
+    → Option (List ℕ) → Option (List ℕ) → Type 0
+IsReported gives folder asked before after =
+    (t : TimetableValue) × (names : NamesValue) × (report : Report) × IsBuiltFrom gives folder asked t names report
+    × Appends before after (report_line report)

@@ -5,6 +5,7 @@ pub mod Commands
 pub mod Counting
 pub mod Departing
 pub mod Elapsed
+pub mod Folders
 pub mod Informing
 pub mod Judging
 pub mod Listing

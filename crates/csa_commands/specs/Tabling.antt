@@ -2,6 +2,8 @@
 use Rattle.std.specs.Prelude.{◌≡◌, ℕ, List, Option, ◌++◌, codes, decimal, length}
 use Rattle.std.specs.Io.KnownBytes.{Appends}
 use Rattle.gtfs_tables.specs.declared.tables.Tables.{Tables}
+use Rattle.feed_files.specs.Files.{MayGive}
+use Rattle.csa_commands.specs.Folders.{AreTablesOf}
 use Rattle.csa_commands.specs.declared.tables.Counts.{Counts}
 
 -- how many records each table has
@@ -32,10 +34,12 @@ services_text counts =
 abbrev pub counts_text : Counts → List ℕ
 counts_text counts = trips_text counts ++ services_text counts ++ codes "\n"
 
--- some tables have so many records
-abbrev pub AreOfTables : Counts → Type 0
-AreOfTables counts = (t : Tables) × (counts ≡ counts_of t)
+-- the tables of the folder's files have so many records
+abbrev pub AreCountsOf : {D : Type 0} → (D → List ℕ → MayGive) → List ℕ → Counts → Type 0
+AreCountsOf gives folder counts = (t : Tables) × AreTablesOf gives folder t × (counts ≡ counts_of t)
 
--- the line of some tables was added to what was printed before, and nothing else
-abbrev pub AreCounted : Option (List ℕ) → Option (List ℕ) → Type 0
-AreCounted before after = (counts : Counts) × AreOfTables counts × Appends before after (counts_text counts)
+-- the line of these tables was added to what was printed before, and nothing else
+abbrev pub AreCounted : {D : Type 0} → (D → List ℕ → MayGive) → List ℕ
+    → Option (List ℕ) → Option (List ℕ) → Type 0
+AreCounted gives folder before after =
+    (counts : Counts) × AreCountsOf gives folder counts × Appends before after (counts_text counts)

@@ -4,7 +4,11 @@ ghost use Rattle.std.specs.Prelude.{◌≡◌, ◌≢◌, ◌≤◌, ◌<◌, �
 ghost use Rattle.std.specs.Io.KnownBytes.{Appends};
 ghost use Rattle.connections.specs.declared.days.TheConstants.{MAX_DAYS};
 ghost use Rattle.command_requests.specs.declared.statuses.TheConstants.{ACCEPTED, REFUSED};
+ghost use Rattle.feed_files.specs.Reading.{Content};
+ghost use Rattle.feed_files.specs.Reads.{AreRead, all_tables};
+ghost use Rattle.feed_loader.specs.Refused.{IsLoaded};
 ghost use Rattle.csa_commands.specs.Building.{IsReported, changed_text, made_text, report_line};
+ghost use Rattle.csa_commands.specs.Folders.{IsBuiltFrom};
 
 use crate::explaining::{explain_refused, reason_of};
 use crate::planning::{PlanFailure, plan_of};
@@ -14,12 +18,11 @@ use crate::status;
 use crate::warnings::{Built, warn};
 use crate::writing::put_image;
 use command_requests::BuildRequest;
-use feed_files::{FeedFiles, FolderFiles};
+use feed_files::{Disk, FeedFiles, FolderFiles};
 use feed_loader::{LoadFault, Plan, Report};
 use std::alloc::{AllocError, Global};
 use std::io;
 use std::io::{ErrorKind, Write};
-use std::random::RandomSource;
 use std::rt::Files;
 use std::time::Clock;
 use text_pieces::{put_number, put_text};
@@ -55,7 +58,7 @@ impl<'a> From<PlanFailure<'a>> for Failure<'a> {
 /// that is wrong. A file at the path is replaced once the image is whole. Explanations go to `errors`, and so do
 /// warnings, if they are wanted, and progress, if it is asked for or that is a terminal. The status is that of an
 /// accepted request, of a refused one, of a file or a line that can't be read or written, or of memory that ran out.
-pub fn run<H: Files + RandomSource + AllocGlobal + Clock, O: Write, E: Write>(
+pub fn run<H: Files + Disk + AllocGlobal + Clock, O: Write, E: Write>(
     rt: &H,
     request: BuildRequest<'_>,
     output: &mut O,
@@ -63,7 +66,8 @@ pub fn run<H: Files + RandomSource + AllocGlobal + Clock, O: Write, E: Write>(
     is_terminal: bool,
     warnings: bool,
 ) -> u8
-    ensures { result ≡ ACCEPTED → IsReported (O.contents output.old) (O.contents output.new) }
+    ensures { result ≡ ACCEPTED → IsReported H.gives request.entry.folder.now request.entry.plan
+        (O.contents output.old) (O.contents output.new) }
 {
     let alloc = rt.alloc();
     let folder = request.folder;
@@ -92,12 +96,15 @@ pub fn run<H: Files + RandomSource + AllocGlobal + Clock, O: Write, E: Write>(
 }
 
 // Builds the image, and writes it; progress is reported, if there is anything to report it to.
-fn build<'a, 'c, H: Files + RandomSource + AllocGlobal + Clock, E: Write>(
+fn build<'a, 'c, H: Files + Disk + AllocGlobal + Clock, E: Write>(
     rt: &'c H,
     request: &BuildRequest<'a>,
     log: Option<&'c mut E>,
     is_terminal: bool,
-) -> Result<Built, Failure<'a>> {
+) -> Result<Built, Failure<'a>>
+    ensures { IfOk result (λ built. IsBuiltFrom H.gives request.now.folder.now request.now.plan
+        built.image.timetable built.image.names built.report) }
+{
     let plan = plan_of(rt, &request.plan)?;
     let progress = Progress::new(rt.alloc(), rt, log, is_terminal);
     let mut files = ReportedFiles::new(FolderFiles::new(rt, request.folder), progress);
@@ -116,6 +123,9 @@ fn build_reported<'a, H: Files + AllocGlobal, F: FeedFiles, R: Reports>(
     requires failures { F.failures files.old.files < 2 ^ 64 - 1 }
     requires some { 1 ≤ plan.days }
     requires few { plan.days ≤ MAX_DAYS }
+    ensures { IfOk result (λ built. (content : Content)
+        × AreRead content all_tables (F.reads files.old.files) (F.reads files.new.files)
+        × IsLoaded content plan built.image.timetable built.image.names built.report) }
 {
     let (image, report) = load_reported(rt.alloc(), files, &plan)?;
     files.report_writing(out);

@@ -1,32 +1,32 @@
 //! `csa days FOLDER`.
 
-ghost use Rattle.std.specs.Prelude.{◌≡◌, ◌≢◌};
+ghost use Rattle.std.specs.Prelude.{◌≡◌, ◌≢◌, IfOk};
 ghost use Rattle.command_requests.specs.declared.statuses.TheConstants.{ACCEPTED, REFUSED};
 ghost use Rattle.gtfs_tables.specs.declared.tables.Feed.{Feed};
+ghost use Rattle.csa_commands.specs.Folders.{IsFeedOf};
 ghost use Rattle.csa_commands.specs.Informing.{IsInformedOfDays};
 
 use crate::explaining::explain_refused;
 use crate::refusal::refuse_feed;
 use crate::status;
 use feed_days::days_text;
-use feed_files::{FolderFiles, read_tables};
+use feed_files::{Disk, FolderFiles, read_tables};
 use feed_loader::LoadFault;
 use gtfs_tables::{Feed, join};
 use std::alloc::Global;
 use std::io::Write;
-use std::random::RandomSource;
 use std::rt::Files;
 
 /// Reads and joins the tables of the folder's files, and prints to `output` which service days the feed has, or the
 /// first thing that is wrong, which `errors` explains. The status is that of an accepted request, of a refused one, of
 /// a file or a line that can't be read or written, or of memory that ran out.
-pub fn run<H: Files + RandomSource + AllocGlobal, O: Write, E: Write>(
+pub fn run<H: Files + Disk + AllocGlobal, O: Write, E: Write>(
     rt: &H,
     folder: &str,
     output: &mut O,
     errors: &mut E,
 ) -> u8
-    ensures { result ≡ ACCEPTED → (feed : Feed)
+    ensures { result ≡ ACCEPTED → (feed : Feed) × IsFeedOf H.gives folder.now feed
         × IsInformedOfDays feed (O.contents output.old) (O.contents output.new) }
 {
     let alloc = rt.alloc();
@@ -40,10 +40,9 @@ pub fn run<H: Files + RandomSource + AllocGlobal, O: Write, E: Write>(
 }
 
 // The feed of the folder's files.
-fn read_feed<H: Files + RandomSource + AllocGlobal>(
-    rt: &H,
-    folder: &str,
-) -> Result<Feed, LoadFault> {
+fn read_feed<H: Disk + AllocGlobal>(rt: &H, folder: &str) -> Result<Feed, LoadFault>
+    ensures { IfOk result (IsFeedOf H.gives folder.now) }
+{
     let alloc = rt.alloc();
     let mut files = FolderFiles::new(rt, folder);
     let tables = read_tables(alloc, &mut files)?;

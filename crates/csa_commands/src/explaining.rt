@@ -119,9 +119,9 @@ pub fn explain_refused<H: Files + AllocGlobal, E: Write>(
 pub fn explain_load<E: Write>(fault: &LoadFault, errors: &mut E) {
     let reason = match fault.number() {
         21 =>
-            "--zone: neither a POSIX rule, such as CET-1CEST,M3.5.0,M10.5.0/3, nor a time zone file (TZif)",
+            "--zone: file:PATH must be a time zone file (TZif), posix:TEXT a rule such as CET-1CEST,M3.5.0,M10.5.0/3",
         22 =>
-            "--first, --days: a day is beyond the calendar, or a trip has a time that no image can have",
+            "--first, --days: a day is outside the years 1 to 9999, or a trip has a time that no image can have",
         41 => "transfers.txt: walks that follow one another take more than 1000000 seconds",
         42 =>
             "transfers.txt, stops.txt: there are more than 5000000 footpaths, counting those that follow from others",

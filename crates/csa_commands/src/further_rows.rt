@@ -2,7 +2,7 @@
 //! mended row by row, and which is the first with a key that is there twice.
 
 use crate::records::{Records, Search};
-use crate::suspects::{Form, Suspect};
+use crate::suspects::{Form, KeyColumn, Suspect};
 
 /// Counts the rows behind one that name the same id in a column where ids are looked up alike.
 #[derive(Drop)]
@@ -43,7 +43,7 @@ impl<'a> Search for FurtherRows<'a> {
 #[derive(Drop)]
 pub struct SameKey<'a> {
     /// The columns of the key.
-    pub columns: &'static [&'static str],
+    pub columns: &'static [KeyColumn],
     /// The header, and the later row.
     pub later: &'a Records,
 }
@@ -51,7 +51,8 @@ pub struct SameKey<'a> {
 impl<'a> SameKey<'a> {
     fn is_key_of(&self, records: &Records) -> bool {
         for column in self.columns {
-            if !records.has(column, self.later.value(column)) {
+            let name = column.name();
+            if !column.is_same(records.value(name), self.later.value(name)) {
                 return false;
             }
         }

@@ -24,6 +24,7 @@ mod question;
 mod records;
 mod refusal;
 mod replying;
+mod separator;
 pub mod status;
 mod stops;
 mod suspects;

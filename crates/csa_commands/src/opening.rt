@@ -1,13 +1,15 @@
 //! What every command over an image begins with.
 
-ghost use Rattle.std.specs.Prelude.{◌≡◌, ◌⊎◌, codes, IfErr, IfOk, IfSome};
+ghost use Rattle.std.specs.Prelude.{◌≡◌, ◌≢◌, ◌⊎◌, codes, IfErr, IfOk, IfSome, OnOk};
 ghost use Rattle.command_requests.specs.declared.statuses.TheConstants.{INPUT_OUTPUT, OUT_OF_MEMORY, REFUSED};
-ghost use Rattle.csa_commands.specs.Opening.{SpellsImage};
+ghost use Rattle.image_verifier.specs.declared.fault.ImageFault.TheVariants.{OutOfMemory as WasOutOfMemory};
+ghost use Rattle.csa_commands.specs.Opening.{IsNoImage, SpellsImage};
 
 use crate::refusal::Refusal;
 use crate::status;
 use image_files::{ImageFileFault, image_words};
 use image_verifier::{ImageFault, Verified, verify};
+use std::alloc::Global;
 use std::fmt;
 use std::io::{Read, Write};
 use std::rt::Files;
@@ -24,6 +26,9 @@ pub fn open_image<H: Files + AllocGlobal, I: Read, O: Write, E: Write>(
     ensures image { IfOk result (λ image. path.now ≡ codes "-"
         → IfSome (I.remaining input.old) (SpellsImage image.timetable image.names)) }
     ensures status { IfErr result (λ status. (status ≡ REFUSED) ⊎ (status ≡ INPUT_OUTPUT) ⊎ (status ≡ OUT_OF_MEMORY)) }
+    ensures silent { OnOk result (O.contents output.new ≡ O.contents output.old) }
+    ensures refused { IfErr result (λ status. status ≡ REFUSED → path.now ≡ codes "-"
+        → IfSome (I.remaining input.old) IsNoImage) }
 {
     let words = match image_words(rt, path, input) {
         Ok(words) => words,
@@ -44,13 +49,27 @@ pub fn open_image<H: Files + AllocGlobal, I: Read, O: Write, E: Write>(
     };
     match verify(rt.alloc(), words) {
         Ok(image) => Ok(image),
-        Err((_words, ImageFault::OutOfMemory)) => Err(status::OUT_OF_MEMORY),
-        Err((_words, fault)) => {
-            let status = status::print_refusal(rt.alloc(), output, &Refusal::Image(fault));
-            explain(status, path, &fault, errors);
-            Err(status)
-        }
+        Err((_words, fault)) => Err(refuse_words(rt.alloc(), path, fault, output, errors)),
     }
+}
+
+// Prints why the words of the image at a path are refused, unless memory ran out while they were judged.
+fn refuse_words<O: Write, E: Write>(
+    alloc: Global,
+    path: &str,
+    fault: ImageFault,
+    output: &mut O,
+    errors: &mut E,
+) -> u8
+    ensures status { (result ≡ REFUSED) ⊎ (result ≡ INPUT_OUTPUT) ⊎ (result ≡ OUT_OF_MEMORY) }
+    ensures refused { result ≡ REFUSED → fault ≢ WasOutOfMemory }
+{
+    if fault == ImageFault::OutOfMemory {
+        return status::OUT_OF_MEMORY;
+    }
+    let status = status::print_refusal(alloc, output, &Refusal::Image(fault));
+    explain(status, path, &fault, errors);
+    status
 }
 
 // Says what is wrong with the image at a path, once its refusal was printed. It takes no memory.

@@ -1,10 +1,10 @@
 //! What is reported while an image is made.
 
-ghost use Rattle.std.specs.Prelude.{◌≡◌, ◌≤◌, ◌<◌, ◌+◌, ◌-◌, ◌^◌, ℕ, List, take, IfOk, IfErr, OnOk};
+ghost use Rattle.std.specs.Prelude.{◌≡◌, ◌≤◌, ◌<◌, ◌+◌, ◌-◌, ◌^◌, List, IfOk, IfErr, OnOk};
 ghost use Rattle.image_layout.specs.declared.layout.TheConstants.{LAYOUT};
 ghost use Rattle.connections.specs.declared.days.TheConstants.{MAX_DAYS};
 ghost use Rattle.feed_files.specs.Reading.{Content, Tells};
-ghost use Rattle.feed_files.specs.Reads.{AreRead, all_tables};
+ghost use Rattle.feed_files.specs.Reads.{AllWereRead, AreRead, SomeWereRead};
 ghost use Rattle.gtfs_rows.specs.declared.fault.Table.{Table};
 ghost use Rattle.feed_loader.specs.Faults.{failed_by, failed_in};
 ghost use Rattle.feed_loader.specs.Refused.{IsLoadRefusal, IsLoaded, IsWantOfMemory};
@@ -57,10 +57,8 @@ pub fn load_reported<F: FeedFiles, R: Reports>(
     ensures failures { F.failures files.new.files ≡ F.failures files.old.files + failed_in result }
     ensures failed { F.failed files.new.files ≡ failed_by (F.failed files.old.files) result }
     ensures layout { IfOk result (λ loaded. loaded.0.layout ≡ LAYOUT) }
-    ensures all_read { OnOk result ((content : Content)
-        × AreRead content all_tables (F.reads files.old.files) (F.reads files.new.files)) }
-    ensures first_read { (count : ℕ) × (content : Content)
-        × AreRead content (take count all_tables) (F.reads files.old.files) (F.reads files.new.files) }
+    ensures all_read { OnOk result (AllWereRead (F.reads files.old.files) (F.reads files.new.files)) }
+    ensures first_read { SomeWereRead (F.reads files.old.files) (F.reads files.new.files) }
     ensures read_ok { (content : Content) (ts : List Table)
         → AreRead content ts (F.reads files.old.files) (F.reads files.new.files)
         → IfOk result (λ loaded. IsLoaded content plan.now loaded.0.timetable loaded.0.names loaded.1) }
@@ -272,14 +270,18 @@ impl<F: FeedFiles, R: Reports> ReportedFiles<F, R> {
     }
 
     /// Reports that the image is written at a path.
-    pub fn report_writing(&mut self, path: &str) {
+    pub fn report_writing(&mut self, path: &str)
+        ensures { self.new.files ≡ self.old.files }
+    {
         if let Some(reports) = &mut self.reports {
             reports.begin_writing(path);
         }
     }
 
     /// Reports that the image of so many words was written at a path.
-    pub fn report_written(&mut self, path: &str, words: usize) {
+    pub fn report_written(&mut self, path: &str, words: usize)
+        ensures { self.new.files ≡ self.old.files }
+    {
         if let Some(reports) = &mut self.reports {
             reports.note_written(path, words);
         }

@@ -1,5 +1,6 @@
 //! Which columns of a record can be at fault, by the kind of fault, and what is said of their values.
 
+use gtfs_rows::values::number;
 use gtfs_rows::{FaultKind, Table, TableFault};
 
 /// What the text of a field must be.
@@ -50,9 +51,9 @@ const NO_TRIP: &str = "isn't in trips.txt";
 
 const NO_STOP: &str = "isn't in stops.txt";
 
-const NOT_A_STOP: &str = "isn't a stop, by its location_type in stops.txt";
+const NOT_A_STOP: &str = "isn't a stop or platform: its location_type in stops.txt is 1 to 4";
 
-const NOT_AN_END: &str = "is neither a stop nor a station, by its location_type in stops.txt";
+const NOT_AN_END: &str = "is no stop and no station: its location_type in stops.txt is 2 to 4";
 
 const ARRIVAL_OR_DEPARTURE: &[Suspect] = &[
     Suspect("arrival_time", Form::TimeOrBlank, BAD_TIME),
@@ -200,14 +201,42 @@ fn suspects_by_id(kind: FaultKind, table: Table) -> &'static [Suspect] {
     }
 }
 
+/// A column of a key.
+#[derive(Clone, Copy)]
+pub enum KeyColumn {
+    Text(&'static str),
+    /// Two values are the same if they are the same number: `1` and `01.0` are.
+    Number(&'static str),
+}
+
+impl KeyColumn {
+    pub fn name(self) -> &'static str {
+        match self {
+            KeyColumn::Text(name) | KeyColumn::Number(name) => name,
+        }
+    }
+
+    /// Whether two values of the column are the same.
+    pub fn is_same(self, value: &[u8], other: &[u8]) -> bool {
+        match self {
+            KeyColumn::Text(_) => value == other,
+            KeyColumn::Number(_) => number(value).is_some() && number(value) == number(other),
+        }
+    }
+}
+
 /// The columns of which no two records of a table may have the same values; none if its records may be alike.
-pub fn key_columns(table: Table) -> &'static [&'static str] {
+pub fn key_columns(table: Table) -> &'static [KeyColumn] {
     match table {
-        Table::Stops => &["stop_id"],
-        Table::Trips => &["trip_id"],
-        Table::Calendar => &["service_id"],
-        Table::CalendarDates => &["service_id", "date"],
-        Table::Agency | Table::StopTimes | Table::Transfers | Table::Frequencies => &[],
+        Table::Stops => &[KeyColumn::Text("stop_id")],
+        Table::Trips => &[KeyColumn::Text("trip_id")],
+        Table::StopTimes => &[
+            KeyColumn::Text("trip_id"),
+            KeyColumn::Number("stop_sequence"),
+        ],
+        Table::Calendar => &[KeyColumn::Text("service_id")],
+        Table::CalendarDates => &[KeyColumn::Text("service_id"), KeyColumn::Text("date")],
+        Table::Agency | Table::Transfers | Table::Frequencies => &[],
     }
 }
 

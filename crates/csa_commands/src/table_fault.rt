@@ -4,6 +4,7 @@ use crate::explaining::{explain, is_file, quoted, unread_reason};
 use crate::folders::missing_file;
 use crate::further_rows::{FurtherRows, SameKey};
 use crate::records::{Records, Search, Unread, Wanted, find};
+use crate::separator::Separator;
 use crate::suspects::{Form, Suspect, key_columns, required_columns, suspects_of};
 use feed_files::LONGEST_FILE;
 use gtfs_rows::values::number;
@@ -92,18 +93,18 @@ fn missing_column<H: Files + AllocGlobal>(rt: &H, folder: &str, table: Table) ->
     };
     let line = found.record.line;
     let mut text = format!(in rt.alloc(); "{file}, line {line}: the header lacks").ok()?;
+    let mut separator = Separator::new(" ");
     for column in required_columns(table) {
         if found.record.index_of(column.as_bytes()).is_none() {
-            append_column(&mut text, column)?;
+            append_column(&mut text, separator.next(), column)?;
         }
     }
     Some(text)
 }
 
-/// Appends a column that the header lacks, behind a comma if it isn't the first.
-fn append_column(text: &mut String, column: &str) -> Option<()> {
-    let separator = if text.ends_with("lacks") { " " } else { ", " };
-    text.push_str(separator).ok()?;
+/// Appends a column that the header lacks, behind what is between it and the one before.
+fn append_column(text: &mut String, between: &str, column: &str) -> Option<()> {
+    text.push_str(between).ok()?;
     text.push_str(column).ok()
 }
 
@@ -129,7 +130,7 @@ fn line_of_record<H: Files + AllocGlobal>(
 
 fn row_length(alloc: Global, found: &Records) -> Option<String> {
     let (fields, columns) = (found.record.fields(), found.header.fields());
-    format!(in alloc; "the record has {fields} fields, the header {columns}").ok()
+    format!(in alloc; "the number of fields is {fields}, in the header {columns}").ok()
 }
 
 /// The column that isn't as it must be, and its value.
@@ -183,9 +184,10 @@ fn what_is_wrong<H: Files + AllocGlobal>(
     }
 }
 
-/// Whose id or date is there twice.
+/// Whose id, date or stop_sequence is there twice.
 fn whose_key(table: Table) -> &'static str {
     match table {
+        Table::StopTimes => " of this trip",
         Table::CalendarDates => " of this service",
         _ => "",
     }
@@ -199,7 +201,8 @@ fn earlier_line<H: Files + AllocGlobal>(
     later: &Records,
 ) -> Option<u64> {
     let columns = key_columns(fault.table);
-    if fault.kind != FaultKind::IdTwice || columns.is_empty() {
+    let is_twice = matches!(fault.kind, FaultKind::IdTwice | FaultKind::SequenceTwice);
+    if !is_twice || columns.is_empty() {
         return None;
     }
     let mut same = SameKey { columns, later };

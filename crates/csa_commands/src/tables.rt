@@ -3,18 +3,17 @@
 ghost use Rattle.std.specs.Prelude.{◌≡◌, ◌≢◌, ◌++◌, IfOk, OnOk, string_bytes};
 ghost use Rattle.std.specs.Io.KnownBytes.{Appends};
 ghost use Rattle.command_requests.specs.declared.statuses.TheConstants.{ACCEPTED, REFUSED};
-ghost use Rattle.csa_commands.specs.Tabling.{AreCounted, AreOfTables, counts_of, counts_text};
+ghost use Rattle.csa_commands.specs.Tabling.{AreCounted, AreCountsOf, counts_of, counts_text};
 ghost use Rattle.csa_commands.specs.Tabling.{services_text, trips_text};
 
 use crate::explaining::explain_refused;
 use crate::refusal::refuse_feed;
 use crate::status;
-use feed_files::{FolderFiles, read_tables};
+use feed_files::{Disk, FolderFiles, read_tables};
 use feed_loader::LoadFault;
 use gtfs_tables::{Tables, join};
 use std::alloc::{AllocError, Global};
 use std::io::Write;
-use std::random::RandomSource;
 use std::rt::Files;
 use text_pieces::{put_number, put_text};
 
@@ -33,13 +32,13 @@ struct Counts {
 /// Reads and joins the tables of the folder's files, and prints to `output` how many records each has, or the first
 /// thing that is wrong, which `errors` explains. The status is that of an accepted request, of a refused one, of a file
 /// or a line that can't be read or written, or of memory that ran out.
-pub fn run<H: Files + RandomSource + AllocGlobal, O: Write, E: Write>(
+pub fn run<H: Files + Disk + AllocGlobal, O: Write, E: Write>(
     rt: &H,
     folder: &str,
     output: &mut O,
     errors: &mut E,
 ) -> u8
-    ensures { result ≡ ACCEPTED → AreCounted (O.contents output.old) (O.contents output.new) }
+    ensures { result ≡ ACCEPTED → AreCounted H.gives folder.now (O.contents output.old) (O.contents output.new) }
 {
     let alloc = rt.alloc();
     match count_records(rt, folder) {
@@ -52,11 +51,8 @@ pub fn run<H: Files + RandomSource + AllocGlobal, O: Write, E: Write>(
 }
 
 // How many records there are, if the tables can be read and joined.
-fn count_records<H: Files + RandomSource + AllocGlobal>(
-    rt: &H,
-    folder: &str,
-) -> Result<Counts, LoadFault>
-    ensures { IfOk result AreOfTables }
+fn count_records<H: Disk + AllocGlobal>(rt: &H, folder: &str) -> Result<Counts, LoadFault>
+    ensures { IfOk result (AreCountsOf H.gives folder.now) }
 {
     let alloc = rt.alloc();
     let mut files = FolderFiles::new(rt, folder);

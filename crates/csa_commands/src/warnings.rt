@@ -5,6 +5,7 @@ ghost use Rattle.gtfs_rows.specs.Values.{is_civil};
 
 use crate::explaining::{explain, is_file};
 use crate::records::{Records, Search, Wanted};
+use crate::separator::Separator;
 use crate::table_fault::{found_in, search_in};
 use command_requests::ZoneText;
 use feed_loader::{Plan, Report};
@@ -63,12 +64,13 @@ fn warn_of<E: Write>(errors: &mut E, line: &str) {
 /// The days of the plan on which no trip runs, if there are any.
 fn idle_days(alloc: Global, built: &Built) -> Option<String> {
     let mut text = format!(in alloc; "no trip runs on").ok()?;
+    let mut separator = Separator::new(" ");
     let mut day = built.plan.first_day;
     for _ in 0..built.plan.days {
-        append_if_idle(&mut text, built, day)?;
+        append_if_idle(&mut text, &mut separator, built, day)?;
         day = day_after(day);
     }
-    if text.ends_with(" on") {
+    if separator.is_unused() {
         None
     } else {
         Some(text)
@@ -76,7 +78,12 @@ fn idle_days(alloc: Global, built: &Built) -> Option<String> {
 }
 
 /// Appends a day on which no trip runs. None if it is no day of the calendar.
-fn append_if_idle(text: &mut String, built: &Built, day: Day) -> Option<()>
+fn append_if_idle(
+    text: &mut String,
+    separator: &mut Separator,
+    built: &Built,
+    day: Day,
+) -> Option<()>
     ensures { IfSome result (λ _. is_civil day ≡ true) }
 {
     day_start(&built.plan.zone, day).ok()?;
@@ -84,8 +91,8 @@ fn append_if_idle(text: &mut String, built: &Built, day: Day) -> Option<()>
     if has_trip_on(&built.image, number) {
         return Some(());
     }
-    let separator = if text.ends_with(" on") { " " } else { ", " };
-    write!(text, "{separator}{number:08}").ok()
+    let between = separator.next();
+    write!(text, "{between}{number:08}").ok()
 }
 
 /// Whether a trip of the image runs on a day, which is a number YYYYMMDD.
@@ -118,41 +125,27 @@ impl Rows {
         self.count = self.count.saturating_add(1);
     }
 
-    /// Appends how many they are and where the first one is, if there are any: behind a colon for the first reason of
-    /// the line, else behind a comma. Which reason of the line the next one is.
+    /// Appends how many they are and where the first one is, if there are any.
     fn append(
         &self,
         text: &mut String,
-        order: ReasonOrder,
+        separator: &mut Separator,
         reason: &str,
-    ) -> Result<ReasonOrder, AllocError> {
-        let separator = order.separator();
+    ) -> Result<(), AllocError> {
         let first = self.first;
         match self.count {
-            0 => return Ok(order),
-            1 => write!(text, "{separator}1 {reason} (line {first})")?,
-            count => write!(
-                text,
-                "{separator}{count} {reason} (the first in line {first})"
-            )?,
-        }
-        Ok(ReasonOrder::Further)
-    }
-}
-
-/// Whether a reason is the first that a line names.
-#[derive(Clone, Copy, Drop)]
-enum ReasonOrder {
-    First,
-    Further,
-}
-
-impl ReasonOrder {
-    /// What is between the reason and what is before it.
-    fn separator(self) -> &'static str {
-        match self {
-            ReasonOrder::First => ": ",
-            ReasonOrder::Further => ", ",
+            0 => Ok(()),
+            1 => {
+                let between = separator.next();
+                write!(text, "{between}1 {reason} (line {first})")
+            }
+            count => {
+                let between = separator.next();
+                write!(
+                    text,
+                    "{between}{count} {reason} (the first in line {first})"
+                )
+            }
         }
     }
 }
@@ -204,12 +197,13 @@ fn warn_of_transfers<H: Files + AllocGlobal, E: Write>(rt: &H, folder: &str, err
 fn transfers_line(alloc: Global, left_out: &LeftOut) -> Result<String, AllocError> {
     let mut text = format!(in alloc; "rows of transfers.txt are left out")?;
     let other_type = "of a transfer_type that isn't one of 0, 1, 2, 3";
-    let order = left_out
+    let mut separator = Separator::new(": ");
+    left_out
         .between_trips
-        .append(&mut text, ReasonOrder::First, "between trips or routes")?;
+        .append(&mut text, &mut separator, "between trips or routes")?;
     left_out
         .of_other_types
-        .append(&mut text, order, other_type)?;
+        .append(&mut text, &mut separator, other_type)?;
     text.push_str("; a change there may need more time than answers give it")?;
     Ok(text)
 }

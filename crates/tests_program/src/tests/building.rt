@@ -53,7 +53,7 @@ holds built.csa
 
 # A day that can't be, and a file that can't be written.
 run build base_feed built.csa --first 99991231 --days 2 --zone fixed:0
-tells csa: --first, --days: a day is beyond the calendar, or a trip has a time that no image can have
+tells csa: --first, --days: a day is outside the years 1 to 9999, or a trip has a time that no image can have
 answers refused 22 DayOutOfRange
 holds built.csa
 run build base_feed no_such_folder/built.csa --first 20240115 --days 1 --zone fixed:0
@@ -68,7 +68,7 @@ run build base_feed today.csa --first today-1 --days 14 --zone posix:CET-1CEST,M
 tells csa: warning: no trip runs on these days, so no query has a departure
 answers stops 3 runs 0 connections 0 footpaths 3 lifted 0 flex 0 frequencies 0 skipped 0
 run build base_feed today.csa --first today --days 1 --zone posix:none
-tells csa: --zone: neither a POSIX rule, such as CET-1CEST,M3.5.0,M10.5.0/3, nor a time zone file (TZif)
+tells csa: --zone: file:PATH must be a time zone file (TZif), posix:TEXT a rule such as CET-1CEST,M3.5.0,M10.5.0/3
 answers refused 21 BadZone
 remove today.csa
 
@@ -172,6 +172,9 @@ answers stops 2 runs 1 connections 1 footpaths 2 lifted 0 flex 0 frequencies 0 s
 asks profile feed.csa --from A --to B --after 00:00:00 --until 48:00:00 --by 48:00:00 --criterion arrival
 prints dep 08:00:00 arr 08:10:00 : ride 0 0
 answers points 1 read 1 walk none
+run build feed feed.csa --first 20240114 --days 4 --zone fixed:0
+tells csa: warning: no trip runs on 20240114, 20240116, 20240117
+answers stops 2 runs 1 connections 1 footpaths 2 lifted 0 flex 0 frequencies 0 skipped 0
 
 # Two stops of a station, and nothing that runs: two minutes between them, unless a row has another time, or there is no way.
 rows feed/stops.txt stop_id,location_type,parent_station | S,1, | P,0,S | Q,0,S
@@ -216,7 +219,7 @@ run build no_such_feed none.csa --first 20240115 --days 1 --zone fixed:-86399
 tells csa: no_such_feed: no such file or folder
 answers refused 1 MissingFile agency.txt 0
 run build no_such_feed none.csa --first 20240115 --days 1 --zone posix:CET
-tells csa: --zone: neither a POSIX rule, such as CET-1CEST,M3.5.0,M10.5.0/3, nor a time zone file (TZif)
+tells csa: --zone: file:PATH must be a time zone file (TZif), posix:TEXT a rule such as CET-1CEST,M3.5.0,M10.5.0/3
 answers refused 21 BadZone
 run build no_such_feed none.csa --first 20240115 --days 1 --zone file:no_such_zone
 tells csa: no_such_zone can't be read: no such file or folder
@@ -232,6 +235,11 @@ ends 3
 remove unread/agency.txt
 tells csa: unread: no file agency.txt
 answers refused 1 MissingFile agency.txt 0
+rows unread/agency.txt agency_timezone | Etc/UTC
+folder unread/stops.txt
+tells csa: unread/stops.txt: it is a folder
+prints refused 101 FileFailed stops.txt
+ends 3
 remove unread
 ";
 
@@ -264,7 +272,7 @@ holds east.csa
 
 # A zone file that is none.
 rows zone_file no zone
-tells csa: --zone: neither a POSIX rule, such as CET-1CEST,M3.5.0,M10.5.0/3, nor a time zone file (TZif)
+tells csa: --zone: file:PATH must be a time zone file (TZif), posix:TEXT a rule such as CET-1CEST,M3.5.0,M10.5.0/3
 answers refused 21 BadZone
 remove zone_file
 remove east.csa

@@ -32,10 +32,10 @@ complains 3
 
 # A zone that is none is told before an image that is none.
 run serve --image - --port 0 --workers 2 --sessions 1 --first 20240115 --days 1 --zone posix:none slow=slow_feed
-tells csa: --zone: neither a POSIX rule, such as CET-1CEST,M3.5.0,M10.5.0/3, nor a time zone file (TZif)
+tells csa: --zone: file:PATH must be a time zone file (TZif), posix:TEXT a rule such as CET-1CEST,M3.5.0,M10.5.0/3
 answers refused 21 BadZone
 run serve --image - --port 0 --workers 2 --sessions 1 --first today --days 1 --zone posix:none slow=slow_feed
-tells csa: --zone: neither a POSIX rule, such as CET-1CEST,M3.5.0,M10.5.0/3, nor a time zone file (TZif)
+tells csa: --zone: file:PATH must be a time zone file (TZif), posix:TEXT a rule such as CET-1CEST,M3.5.0,M10.5.0/3
 answers refused 21 BadZone
 sample
 cut 3

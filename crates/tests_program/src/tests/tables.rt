@@ -23,8 +23,11 @@ with stop_times.txt 2 T1,08:10:00,07:59:00,B,2
 tells csa: stop_times.txt, line 3: trip_id \"T1\" has a time in this row that is earlier than the one before it
 answers refused 13 TimeGoesBack stop_times.txt 2
 with stop_times.txt 3 T1,08:30:00,08:30:00,C,2
-tells csa: stop_times.txt, line 4: stop_sequence \"2\" is in another row of this trip too
+tells csa: stop_times.txt, line 4: stop_sequence \"2\" of this trip is in line 3 too
 answers refused 11 SequenceTwice stop_times.txt 3
+with stop_times.txt 5 T2,08:20:00,08:20:00,C,01.0
+tells csa: stop_times.txt, line 6: stop_sequence \"01.0\" of this trip is in line 5 too
+answers refused 11 SequenceTwice stop_times.txt 5
 with stop_times.txt 5 T2,,,C,2
 tells csa: stop_times.txt, line 6: trip_id \"T2\" begins or ends with this row, which has no time
 answers refused 12 EndWithoutTime stop_times.txt 5
@@ -161,11 +164,11 @@ remove base_feed/frequencies.txt
 # A station, and an entrance, are no stops; a row that is skipped isn't looked up, and of the ends that are unknown comes first.
 rows base_feed/stops.txt stop_id,location_type | A, | B,1 | C,2
 rows base_feed/transfers.txt from_stop_id,to_stop_id,transfer_type | C,Q,4
-tells csa: stop_times.txt, line 3: stop_id \"B\" isn't a stop, by its location_type in stops.txt
+tells csa: stop_times.txt, line 3: stop_id \"B\" isn't a stop or platform: its location_type in stops.txt is 1 to 4
 answers refused 15 NotAStop stop_times.txt 2
 rows base_feed/stops.txt stop_id,location_type | A, | B, | C, | E,2
 rows base_feed/transfers.txt from_stop_id,to_stop_id | A,B | E,B
-tells csa: transfers.txt, line 3: from_stop_id \"E\" is neither a stop nor a station, by its location_type in stops.txt
+tells csa: transfers.txt, line 3: from_stop_id \"E\" is no stop and no station: its location_type in stops.txt is 2 to 4
 answers refused 15 NotAStop transfers.txt 2
 rows base_feed/transfers.txt from_stop_id,to_stop_id | E,Q
 tells csa: transfers.txt, line 2: to_stop_id \"Q\" isn't in stops.txt
@@ -185,7 +188,7 @@ answers refused 9 UnknownId stop_times.txt 1
 
 # A header without a column, one without any, a record that is too short, and an id that is there twice.
 with stop_times.txt 1 T1,08:00:00,08:00:00,A
-tells csa: stop_times.txt, line 2: the record has 4 fields, the header 5
+tells csa: stop_times.txt, line 2: the number of fields is 4, in the header 5
 answers refused 4 RowLength stop_times.txt 1
 rows base_feed/stop_times.txt trip_id,arrival_time,stop_id
 tells csa: stop_times.txt, line 1: the header lacks departure_time, stop_sequence
@@ -239,7 +242,7 @@ crlf trip_id,arrival_time , departure_time,stop_id,stop_sequence
 crlf
 crlf  T1 ,08:00:00,08:00:00, A,1
 crlf T1,08:10:00,08:10:00, C ,2
-tells csa: stop_times.txt, line 4: stop_id \"C\" isn't a stop, by its location_type in stops.txt
+tells csa: stop_times.txt, line 4: stop_id \"C\" isn't a stop or platform: its location_type in stops.txt is 1 to 4
 answers refused 15 NotAStop stop_times.txt 2
 
 remove base_feed

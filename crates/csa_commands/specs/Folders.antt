@@ -1,0 +1,36 @@
+-- What a command reads of a folder.
+use Rattle.std.specs.Prelude.{◌≡◌, ℕ, List, false}
+use Rattle.std.specs.Io.KnownBytes.{Appends}
+use Rattle.connections.specs.declared.report.Report.{Report}
+use Rattle.feed_files.specs.Files.{MayGive}
+use Rattle.feed_files.specs.Reading.{Content, HoldsTables}
+use Rattle.feed_files.specs.Reads.{MayHold, all_tables}
+use Rattle.feed_loader.specs.Refused.{IsLoaded}
+use Rattle.feed_loader.specs.declared.plan.Plan.{Plan}
+use Rattle.feed_plans.specs.Planning.{IsPlanNow}
+use Rattle.command_requests.specs.declared.plans.PlanText.{PlanText}
+use Rattle.gtfs_tables.specs.Feeds.{IsJoined}
+use Rattle.gtfs_tables.specs.declared.tables.Feed.{Feed}
+use Rattle.gtfs_tables.specs.declared.tables.Tables.{Tables}
+use Rattle.timetable.specs.NamesValue.{NamesValue}
+use Rattle.timetable.specs.TimetableValue.{TimetableValue}
+
+-- over what the disks of a kind may give: of a disk, for a folder, for the file of a name
+module _ {D : Type 0} (gives : D → List ℕ → MayGive) (folder : List ℕ) where
+  -- the files of the folder may hold this: each was read, and that is what was read
+  abbrev pub MayBeOf : Content → Type 0
+  MayBeOf content = (disk : D) × MayHold (gives disk folder) content all_tables
+
+  -- the tables are those of the folder's files
+  abbrev pub AreTablesOf : Tables → Type 0
+  AreTablesOf t = (content : Content) × MayBeOf content × HoldsTables content t
+
+  -- the feed is that of the folder's files, whose hops may take no time
+  abbrev pub IsFeedOf : Feed → Type 0
+  IsFeedOf feed = (t : Tables) × AreTablesOf t × IsJoined false t feed
+
+  -- the timetable and its names are those of the folder's files by a plan that was asked for, and have these counts
+  abbrev pub IsBuiltFrom : PlanText → TimetableValue → NamesValue → Report → Type 0
+  IsBuiltFrom asked t names report =
+      (bytes : List ℕ) × (plan : Plan) × (content : Content) × IsPlanNow asked bytes plan × MayBeOf content
+      × IsLoaded content plan t names report
