@@ -12,6 +12,7 @@ use session::{Desk, OpenGate, PointForm, SoloOrders, Streams};
 use session_texts::{JourneyLegs, Points, RideTold, WalkTold};
 use std::alloc::{AllocError, Global};
 use std::marker::Brand;
+use std::process::Abort;
 use std::sync::Arc;
 use std::test::Fail;
 
@@ -57,14 +58,24 @@ const BARE_REPLIES: &str =
 const LEGGED_REPLIES: &str =
     "{\"base\":1705276800,\"ok\":\"pin\",\"version\":1}\n{\"ok\":\"profile\",\"points\":[{\"arr\":\"08:20:00\",\"dep\":\"08:00:00\",\"journey\":\"ride 0 0 walk 1 1 0 ride 2 2\",\"legs\":[{\"arr\":\"08:10:00\",\"day\":20240115,\"dep\":\"08:00:00\",\"from\":\"A\",\"to\":\"B\",\"trip\":\"T1\"},{\"from\":\"B\",\"secs\":0,\"to\":\"B\"},{\"arr\":\"08:20:00\",\"day\":20240115,\"dep\":\"08:12:00\",\"from\":\"B\",\"to\":\"C\",\"trip\":\"T2\"}],\"trips\":2,\"walked\":0},{\"arr\":\"08:30:00\",\"dep\":\"08:00:00\",\"journey\":\"ride 0 1\",\"legs\":[{\"arr\":\"08:30:00\",\"day\":20240115,\"dep\":\"08:00:00\",\"from\":\"A\",\"to\":\"C\",\"trip\":\"T1\"}],\"trips\":1,\"walked\":0}],\"version\":1,\"walk\":null}\n";
 
+// What is replied over the sample.
+fn of_sample(alloc: Global, form: PointForm) -> Result<Vec<u8>, Fail> {
+    replied(alloc, image(alloc, 0)?, form, BY_WALKING)
+}
+
+fn assert_text(rt: &impl Abort, replies: &[u8], wanted: &str) {
+    assert_eq!(rt; str::from_utf8(replies).unwrap_or("?"), wanted);
+}
+
 /// Each ride by its trip and each walk by its stops, and nothing else changes.
 #[test]
 fn legs_are_replied_where_they_are_wanted(rt: HostRuntime) -> Result<(), Fail> {
-    let alloc: Global = rt.alloc();
-    let bare = replied(alloc, image(alloc, 0)?, PointForm::Bare, BY_WALKING)?;
-    assert_eq!(&rt; str::from_utf8(&bare).unwrap_or("?"), BARE_REPLIES);
-    let legged = replied(alloc, image(alloc, 0)?, PointForm::WithLegs, BY_WALKING)?;
-    assert_eq!(&rt; str::from_utf8(&legged).unwrap_or("?"), LEGGED_REPLIES);
+    assert_text(&rt, &of_sample(rt.alloc(), PointForm::Bare)?, BARE_REPLIES);
+    assert_text(
+        &rt,
+        &of_sample(rt.alloc(), PointForm::WithLegs)?,
+        LEGGED_REPLIES,
+    );
     Ok(())
 }
 
@@ -93,7 +104,7 @@ fn a_walk_a_quote_and_a_repeat(rt: HostRuntime) -> Result<(), Fail> {
     let alloc: Global = rt.alloc();
     let first = image_of_a_quote(alloc)?;
     let replies = replied(alloc, first, PointForm::WithLegs, BY_ARRIVAL)?;
-    assert_eq!(&rt; str::from_utf8(&replies).unwrap_or("?"), QUOTED_REPLIES);
+    assert_text(&rt, &replies, QUOTED_REPLIES);
     Ok(())
 }
 
@@ -132,39 +143,39 @@ fn line_of(alloc: Global, legs: JourneyLegs) -> Result<String, AllocError> {
 const FRONT: &str =
     "{\"ok\":\"profile\",\"points\":[{\"arr\":\"24:00:00\",\"dep\":\"08:00:00\",\"journey\":\"\",\"legs\":[";
 
-/// Names are JSON as any text: none, quotation marks, control characters.
-#[test]
-fn odd_names_are_texts(rt: HostRuntime) -> Result<(), Fail> {
-    let alloc: Global = rt.alloc();
+// The reply with a walk and a ride of such names.
+fn odd_line(alloc: Global) -> Result<String, AllocError> {
     let mut legs = JourneyLegs::new(alloc);
     legs.add_walk(alloc, walk_of(alloc, "", "\\\"")?)?;
     legs.add_ride(alloc, ride_of(alloc, "", "\n", "\u{7f}ä")?)?;
-    let line = line_of(alloc, legs)?;
-    assert!(&rt; line.as_str().starts_with(FRONT));
-    assert_eq!(&rt;
-        &line.as_bytes()[FRONT.len()..],
-        "{\"from\":\"\",\"secs\":7,\"to\":\"\\\\\\\"\"},{\"arr\":\"24:00:00\",\"day\":20240115,\"dep\":\"08:00:00\",\"from\":\"\\n\",\"to\":\"\u{7f}ä\",\"trip\":\"\"}]}],\"version\":1,\"walk\":null}\n".as_bytes()
+    line_of(alloc, legs)
+}
+
+/// Names are JSON as any text: none, quotation marks, control characters.
+#[test]
+fn odd_names_are_texts(rt: HostRuntime) -> Result<(), Fail> {
+    let line = odd_line(rt.alloc())?;
+    assert_eq!(rt;
+        line.as_str().strip_prefix(FRONT).unwrap_or("?"),
+        "{\"from\":\"\",\"secs\":7,\"to\":\"\\\\\\\"\"},{\"arr\":\"24:00:00\",\"day\":20240115,\"dep\":\"08:00:00\",\"from\":\"\\n\",\"to\":\"\u{7f}ä\",\"trip\":\"\"}]}],\"version\":1,\"walk\":null}\n"
     );
     Ok(())
 }
 
+// The reply with a walk from A to a stop of this name.
+fn line_to(alloc: Global, name: &str) -> Result<String, AllocError> {
+    let mut legs = JourneyLegs::new(alloc);
+    legs.add_walk(alloc, walk_of(alloc, "A", name)?)?;
+    line_of(alloc, legs)
+}
+
 /// A name of 60,000 bytes is told whole.
 #[test]
-fn a_long_name_is_told_whole(rt: HostRuntime) -> Result<(), Fail> {
-    let alloc: Global = rt.alloc();
-    let mut name = String::new(alloc);
-    for _ in 0..60_000 {
-        name.push('n')?;
-    }
-    let mut legs = JourneyLegs::new(alloc);
-    legs.add_walk(alloc, walk_of(alloc, "A", name.as_str())?)?;
-    let line = line_of(alloc, legs)?;
-    assert!(&rt; line.as_str().contains(name.as_str()));
-    assert_eq!(&rt;
-        line.len(),
-        FRONT.len()
-            + 60_000
-            + "{\"from\":\"A\",\"secs\":7,\"to\":\"\"}]}],\"version\":1,\"walk\":null}\n".len()
-    );
+fn a_long_name_is_told_whole(rt: HostRuntime) -> Result<(), AllocError> {
+    let name = "n".repeat(rt.alloc(), 60_000)?;
+    let line = line_to(rt.alloc(), name.as_str())?;
+    assert!(rt; line.as_str().contains(name.as_str()));
+    let rest = "{\"from\":\"A\",\"secs\":7,\"to\":\"\"}]}],\"version\":1,\"walk\":null}\n";
+    assert!(rt; line.len() == FRONT.len() + 60_000 + rest.len());
     Ok(())
 }

@@ -270,6 +270,12 @@ fn drawn(alloc: Global, dice: &mut Dice) -> Result<Script, AllocError> {
     Ok(script)
 }
 
+// Whether a session ended, and wrote the replies that the model tells.
+fn is_answered(script: &Script, told: &(Result<Ended, SessionFault>, Taker)) -> bool {
+    let (ended, taker) = told;
+    *ended == Ok(Ended) && taker.taken.as_slice() == script.replies.as_bytes()
+}
+
 #[test]
 fn drawn_sessions_are_answered(rt: HostRuntime) -> Result<(), Fail> {
     let mut dice = Dice { state: 1 };
@@ -280,9 +286,7 @@ fn drawn_sessions_are_answered(rt: HostRuntime) -> Result<(), Fail> {
             most: 100,
             is_failing: false,
         };
-        let (ended, taker) = told(rt.alloc(), reader)?;
-        assert!(&rt; ended == Ok(Ended));
-        assert!(&rt; taker.taken.as_slice() == script.replies.as_bytes());
+        assert!(rt; is_answered(&script, &told(rt.alloc(), reader)?));
     }
     Ok(())
 }
@@ -308,15 +312,22 @@ impl Read for Halves<'_> {
     }
 }
 
+// The requests are answered in two reads, of which the first ends at a place.
+fn cut_at<R: Abort>(rt: &R, alloc: Global, script: &Script, place: usize) -> Result<(), Fail> {
+    let bytes = script.requests.as_bytes();
+    let (front, back) = bytes.split_at(bytes.len().min(place));
+    assert!(rt;
+        is_answered(script, &told(alloc, Halves { front, back })?),
+        "at {place}"
+    );
+    Ok(())
+}
+
 #[test]
 fn lines_may_be_cut_anywhere(rt: HostRuntime) -> Result<(), Fail> {
     let script = script_of(rt.alloc(), &SHORT)?;
-    let bytes = script.requests.as_bytes();
-    for place in 0..bytes.len() {
-        let (front, back) = bytes.split_at(place);
-        let (ended, taker) = told(rt.alloc(), Halves { front, back })?;
-        assert!(&rt; ended == Ok(Ended));
-        assert!(&rt; taker.taken.as_slice() == script.replies.as_bytes());
+    for place in 0..script.requests.len() {
+        cut_at(&rt, rt.alloc(), &script, place)?;
     }
     Ok(())
 }
@@ -325,12 +336,8 @@ fn lines_may_be_cut_anywhere(rt: HostRuntime) -> Result<(), Fail> {
 #[test]
 fn a_long_line_may_be_cut(rt: HostRuntime) -> Result<(), Fail> {
     let script = script_of(rt.alloc(), &LONG)?;
-    let bytes = script.requests.as_bytes();
     for place in [13, 14, 65_548, 65_549, 65_550, 65_551] {
-        let (front, back) = bytes.split_at(bytes.len().min(place));
-        let (ended, taker) = told(rt.alloc(), Halves { front, back })?;
-        assert!(&rt; ended == Ok(Ended));
-        assert!(&rt; taker.taken.as_slice() == script.replies.as_bytes());
+        cut_at(&rt, rt.alloc(), &script, place)?;
     }
     Ok(())
 }
@@ -338,6 +345,13 @@ fn a_long_line_may_be_cut(rt: HostRuntime) -> Result<(), Fail> {
 // How many lines of the text are whole.
 fn whole_lines(text: &[u8]) -> usize {
     text.iter().filter(|byte| **byte == b'\n').count()
+}
+
+// Whether these are the replies to the lines that are whole in the bytes that were read.
+fn answers_whole_lines(script: &Script, taken: &[u8], read: &[u8]) -> bool {
+    script.replies.as_bytes().starts_with(taken)
+        && whole_lines(taken) == whole_lines(read)
+        && (taken.is_empty() || taken.ends_with(b"\n"))
 }
 
 /// The reader of a session fails after so many bytes: each line that was whole is answered, and the session fails.
@@ -351,9 +365,10 @@ fn fails_at<R: Abort>(rt: &R, alloc: Global, script: &Script, place: usize) -> R
     };
     let (ended, taker) = told(alloc, reader)?;
     assert!(rt; ended == Err(SessionFault::ReadFailed));
-    assert!(rt; script.replies.as_bytes().starts_with(&taker.taken));
-    assert_eq!(rt; whole_lines(&taker.taken), whole_lines(front));
-    assert!(rt; taker.taken.is_empty() || taker.taken.ends_with(b"\n"));
+    assert!(rt;
+        answers_whole_lines(script, &taker.taken, front),
+        "at {place}"
+    );
     Ok(())
 }
 
@@ -413,16 +428,14 @@ impl Write for Notes<'_> {
     }
 }
 
-/// A scan is left once its reply was written.
-#[test]
-fn scans_are_left_behind_their_replies(rt: HostRuntime) -> Result<(), Fail> {
-    let alloc: Global = rt.alloc();
-    let script = script_of(alloc, &SHORT)?;
-    let scans = Scans {
-        open: AtomicU64::new(0),
-    };
+// What comes of a session, and what is noted of its scans.
+fn noted(
+    alloc: Global,
+    script: &Script,
+    scans: &Scans,
+) -> Result<(Result<Ended, SessionFault>, String), Fail> {
     let notes = Notes {
-        scans: &scans,
+        scans,
         noted: String::new(alloc),
     };
     let reader = Pieces {
@@ -430,16 +443,21 @@ fn scans_are_left_behind_their_replies(rt: HostRuntime) -> Result<(), Fail> {
         most: 100,
         is_failing: false,
     };
-    let (ended, notes) = talked(
-        alloc,
-        image(alloc, 0)?,
-        feeds(alloc)?,
-        reader,
-        notes,
-        &scans,
-    )?;
-    assert!(&rt; ended == Ok(Ended));
-    assert_eq!(&rt; notes.noted.as_str(), "00101000000");
+    let (first, feeds) = (image(alloc, 0)?, feeds(alloc)?);
+    let (ended, notes) = talked(alloc, first, feeds, reader, notes, scans)?;
+    Ok((ended, notes.noted))
+}
+
+/// A scan is left once its reply was written.
+#[test]
+fn scans_are_left_behind_their_replies(rt: HostRuntime) -> Result<(), Fail> {
+    let script = script_of(rt.alloc(), &SHORT)?;
+    let scans = Scans {
+        open: AtomicU64::new(0),
+    };
+    let (ended, noted) = noted(rt.alloc(), &script, &scans)?;
+    assert!(rt; ended == Ok(Ended));
+    assert!(rt; noted.as_str() == "00101000000");
     Ok(())
 }
 
@@ -556,23 +574,37 @@ fn loads_told(replies: &[u8]) -> usize {
         .count()
 }
 
+// A script for each line at which memory may be wanting.
+fn all_wanting(alloc: Global) -> Result<Vec<Script>, AllocError> {
+    let mut wanting = Vec::new(alloc);
+    for line in 0..GROWING.len() {
+        wanting.push(wanting_at(alloc, line)?)?;
+    }
+    Ok(wanting)
+}
+
+// The session is answered as the whole script tells, or as one at which memory is wanting.
+fn answers_or_wants<R: Abort>(
+    rt: &R,
+    alloc: Global,
+    whole: &Script,
+    wanting: &[Script],
+) -> Result<(), Fail> {
+    let (ended, taker, ordered) = counting(alloc, whole.requests.as_bytes())?;
+    assert!(rt; ended == Ok(Ended) && ordered == loads_told(&taker.taken));
+    if is_told_by_one(wanting, &taker.taken) {
+        return Err(AllocError.into());
+    }
+    assert!(rt; taker.taken.as_slice() == whole.replies.as_bytes());
+    Ok(())
+}
+
 /// Whichever growth is refused while a line is answered, that line's reply tells want of memory,
 /// the others are as ever, a pin that can't be told is given back, and a load that can't be told
 /// isn't ordered. A refused growth ends the test with `AllocError`.
 #[test]
 fn refused_growth_is_told_by_a_reply(rt: HostRuntime) -> Result<(), Fail> {
-    let alloc: Global = rt.alloc();
-    let whole = wanting_at(alloc, GROWING.len())?;
-    let mut wanting = Vec::new(alloc);
-    for line in 0..GROWING.len() {
-        wanting.push(wanting_at(alloc, line)?)?;
-    }
-    let (ended, taker, ordered) = counting(alloc, whole.requests.as_bytes())?;
-    assert!(&rt; ended == Ok(Ended));
-    assert_eq!(&rt; ordered, loads_told(&taker.taken));
-    if is_told_by_one(&wanting, &taker.taken) {
-        return Err(AllocError.into());
-    }
-    assert!(&rt; taker.taken.as_slice() == whole.replies.as_bytes());
-    Ok(())
+    let whole = wanting_at(rt.alloc(), GROWING.len())?;
+    let wanting = all_wanting(rt.alloc())?;
+    answers_or_wants(&rt, rt.alloc(), &whole, &wanting)
 }

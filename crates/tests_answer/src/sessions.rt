@@ -17,6 +17,7 @@ use std::cell::Cell;
 use std::io;
 use std::io::{Read, Write};
 use std::marker::Brand;
+use std::process::Abort;
 use std::sync::Arc;
 use std::test::Fail;
 use timetable::Trace;
@@ -227,6 +228,13 @@ fn talked_at<B: Named, In: Read + Drop, Out: Write + Drop, G: Gate>(
     (ended, streams.writer.into_inner())
 }
 
+// The session ended, and wrote these replies.
+fn assert_replies(rt: &impl Abort, told: &(Result<Ended, SessionFault>, Vec<u8>), replies: &str) {
+    let (ended, written) = told;
+    assert!(rt; *ended == Ok(Ended));
+    assert_eq!(rt; str::from_utf8(written).unwrap_or("?"), replies);
+}
+
 #[test]
 fn any_reads_give_the_same_replies(rt: HostRuntime) -> Result<(), Fail> {
     let bytes = requests(rt.alloc())?;
@@ -236,11 +244,16 @@ fn any_reads_give_the_same_replies(rt: HostRuntime) -> Result<(), Fail> {
             most,
             is_failing: false,
         };
-        let (ended, written) = served(rt.alloc(), reader, 100_000, true)?;
-        assert!(&rt; ended == Ok(Ended));
-        assert_eq!(&rt; str::from_utf8(&written).unwrap_or("?"), REPLIES);
+        assert_replies(&rt, &served(rt.alloc(), reader, 100_000, true)?, REPLIES);
     }
     Ok(())
+}
+
+// Whether the session failed at a write behind so many bytes of the replies.
+fn is_cut(told: &(Result<Ended, SessionFault>, Vec<u8>), room: usize) -> bool {
+    let (ended, written) = told;
+    let is_front = REPLIES.as_bytes().starts_with(written) && written.len() == room;
+    is_front && *ended == Err(SessionFault::WriteFailed)
 }
 
 /// A writer that takes so many bytes and then fails, or takes no more.
@@ -249,25 +262,23 @@ fn a_writer_that_fails_ends_the_session(rt: HostRuntime) -> Result<(), Fail> {
     let bytes = requests(rt.alloc())?;
     for number in 0..2 * REPLIES.len() {
         let room = number / 2;
-        let (ended, written) = served(rt.alloc(), whole(&bytes), room, number % 2 == 1)?;
-        assert!(&rt; ended == Err(SessionFault::WriteFailed));
-        assert!(&rt; REPLIES.as_bytes().starts_with(&written));
-        assert_eq!(&rt; written.len(), room);
+        let told = served(rt.alloc(), whole(&bytes), room, number % 2 == 1)?;
+        assert!(rt; is_cut(&told, room), "{room} bytes");
     }
     Ok(())
 }
 
+// Which byte is served over and over, how the session fails, and how many lines are replied to.
+const LIMITS: [(u8, SessionFault, u64); 2] = [
+    (b'\n', SessionFault::TooManyRequests, 1_000_000),
+    (b'x', SessionFault::ReadFailed, 0),
+];
+
 /// A million requests are answered, and no line without an end.
 #[test]
 fn requests_have_limits(rt: HostRuntime) -> Result<(), Fail> {
-    let limits = [
-        (b'\n', SessionFault::TooManyRequests, 1_000_000),
-        (b'x', SessionFault::ReadFailed, 0),
-    ];
-    for (byte, fault, answered) in limits {
-        let (ended, replies) = tallied(rt.alloc(), byte)?;
-        assert!(&rt; ended == Err(fault));
-        assert_eq!(&rt; replies, answered);
+    for (byte, fault, answered) in LIMITS.iter() {
+        assert!(rt; tallied(rt.alloc(), *byte)? == (Err(*fault), *answered));
     }
     Ok(())
 }
@@ -285,11 +296,8 @@ fn tallied(alloc: Global, byte: u8) -> Result<(Result<Ended, SessionFault>, u64)
     Ok((ended, tally.replies))
 }
 
-/// A session ends at the first read or flush that fails, though the next one would succeed. Nothing
-/// is replied behind it.
-#[test]
-fn one_failure_ends_the_session(rt: HostRuntime) -> Result<(), Fail> {
-    let alloc: Global = rt.alloc();
+// What comes of a session whose first read fails, and how many lines were replied to.
+fn reading_fails(alloc: Global) -> Result<(Result<Ended, SessionFault>, u64), Fail> {
     let (ended, tally) = talked(
         alloc,
         image(alloc, 0)?,
@@ -298,8 +306,11 @@ fn one_failure_ends_the_session(rt: HostRuntime) -> Result<(), Fail> {
         Tally { replies: 0 },
         &OpenGate,
     )?;
-    assert!(&rt; ended == Err(SessionFault::ReadFailed));
-    assert_eq!(&rt; tally.replies, 0);
+    Ok((ended, tally.replies))
+}
+
+// What comes of a session whose first flush fails, and how many calls of the writer there were.
+fn flushing_fails(alloc: Global) -> Result<(Result<Ended, SessionFault>, u64), Fail> {
     let (ended, writer) = talked(
         alloc,
         image(alloc, 0)?,
@@ -308,8 +319,16 @@ fn one_failure_ends_the_session(rt: HostRuntime) -> Result<(), Fail> {
         failing_at(2),
         &OpenGate,
     )?;
-    assert!(&rt; ended == Err(SessionFault::WriteFailed));
-    assert_eq!(&rt; writer.calls, 2);
+    Ok((ended, writer.calls))
+}
+
+/// A session ends at the first read or flush that fails, though the next one would succeed. Nothing
+/// is replied behind it.
+#[test]
+fn one_failure_ends_the_session(rt: HostRuntime) -> Result<(), Fail> {
+    let alloc: Global = rt.alloc();
+    assert!(rt; reading_fails(alloc)? == (Err(SessionFault::ReadFailed), 0));
+    assert!(rt; flushing_fails(alloc)? == (Err(SessionFault::WriteFailed), 2));
     Ok(())
 }
 
@@ -333,8 +352,7 @@ fn each_line_is_answered_at_once(rt: HostRuntime) -> Result<(), Fail> {
         },
         &OpenGate,
     )?;
-    assert!(&rt; ended == Ok(Ended));
-    assert_eq!(&rt; answered.get(), 3);
+    assert!(rt; ended == Ok(Ended) && answered.get() == 3);
     Ok(())
 }
 
@@ -344,15 +362,18 @@ const BY_WALKING: &str =
 const WALKED_REPLIES: &str =
     "{\"ok\":\"profile\",\"points\":[{\"arr\":\"08:20:00\",\"dep\":\"08:00:00\",\"journey\":\"ride 0 0 walk 1 1 0 ride 2 2\",\"trips\":2,\"walked\":0},{\"arr\":\"08:25:00\",\"dep\":\"08:00:00\",\"journey\":\"ride 0 0 walk 1 2 900\",\"trips\":1,\"walked\":900},{\"arr\":\"08:30:00\",\"dep\":\"08:00:00\",\"journey\":\"ride 0 1\",\"trips\":1,\"walked\":0}],\"version\":1,\"walk\":null}\n{\"feed\":\"slow\",\"ok\":\"load\"}\n{\"ok\":\"profile\",\"points\":[{\"arr\":\"08:20:00\",\"dep\":\"08:00:00\",\"journey\":\"ride 0 0 walk 1 1 60 ride 2 2\",\"trips\":2,\"walked\":60},{\"arr\":\"08:30:00\",\"dep\":\"08:00:00\",\"journey\":\"ride 0 1\",\"trips\":1,\"walked\":0}],\"version\":2,\"walk\":null}\n";
 
+// Serves these bytes where one may walk from B to C, and then where a change at B takes a minute.
+fn walked(alloc: Global, bytes: &[u8]) -> Result<(Result<Ended, SessionFault>, Vec<u8>), Fail> {
+    let (first, slow) = (image_with_a_footpath(alloc)?, image(alloc, 60)?);
+    served_from(alloc, first, slow, whole(bytes), 10_000, true)
+}
+
 /// What is walked is told where the criterion counts it: behind the last ride, and by a loop on the way.
 #[test]
 fn walked_seconds_are_told(rt: HostRuntime) -> Result<(), Fail> {
     let alloc: Global = rt.alloc();
     let bytes = lines_of(alloc, &[BY_WALKING, LOAD, BY_WALKING])?;
-    let (first, slow) = (image_with_a_footpath(alloc)?, image(alloc, 60)?);
-    let (ended, written) = served_from(alloc, first, slow, whole(&bytes), 10_000, true)?;
-    assert!(&rt; ended == Ok(Ended));
-    assert_eq!(&rt; str::from_utf8(&written).unwrap_or("?"), WALKED_REPLIES);
+    assert_replies(&rt, &walked(alloc, &bytes)?, WALKED_REPLIES);
     Ok(())
 }
 
@@ -367,9 +388,11 @@ fn a_load_is_waited_for(rt: HostRuntime) -> Result<(), Fail> {
     let alloc: Global = rt.alloc();
     let odd = "{\"do\":\"load\",\"feed\":\"slow\",\"wait\":\"yes\"}";
     let bytes = lines_of(alloc, &[PIN, WAIT, PIN, RELEASE, PIN, WAIT, odd])?;
-    let (ended, written) = served(alloc, whole(&bytes), 10_000, true)?;
-    assert!(&rt; ended == Ok(Ended));
-    assert_eq!(&rt; str::from_utf8(&written).unwrap_or("?"), WAITED_REPLIES);
+    assert_replies(
+        &rt,
+        &served(alloc, whole(&bytes), 10_000, true)?,
+        WAITED_REPLIES,
+    );
     Ok(())
 }
 
@@ -474,36 +497,44 @@ fn an_overtaken_notice_is_joined(rt: HostRuntime) -> Result<(), Fail> {
     Ok(())
 }
 
-/// Why no version is told, each with its line. A version may have been published all the same, and is pinned then.
+// Whether the replies are this line and that version 2 was pinned.
+fn tells_and_pins(replies: &[u8], line: &str) -> bool {
+    match str::from_utf8(replies).unwrap_or("?").strip_prefix(line) {
+        Some(rest) => rest == "\n{\"base\":1705276800,\"ok\":\"pin\",\"version\":2}\n",
+        None => false,
+    }
+}
+
+// Why no version is told, each with its line.
+const FAULTS: [(OrderFault, &str); 5] = [
+    (
+        OrderFault::LoaderGone,
+        "{\"error\":121,\"name\":\"LoaderGone\"}",
+    ),
+    (
+        OrderFault::OutOfMemory,
+        "{\"error\":116,\"name\":\"OutOfMemory\"}",
+    ),
+    (
+        OrderFault::LoadRefused { refusal: 94 },
+        "{\"error\":120,\"name\":\"LoadRefused\",\"refusal\":94}",
+    ),
+    (
+        OrderFault::LoadRefused { refusal: 95 },
+        "{\"error\":120,\"name\":\"LoadRefused\",\"refusal\":95}",
+    ),
+    (
+        OrderFault::LoadRefused { refusal: 96 },
+        "{\"error\":120,\"name\":\"LoadRefused\",\"refusal\":96}",
+    ),
+];
+
+/// Each fault is told. A version may have been published all the same, and is pinned then.
 #[test]
 fn faults_are_told_to_who_waits(rt: HostRuntime) -> Result<(), Fail> {
-    let faults = [
-        (
-            OrderFault::LoaderGone,
-            "{\"error\":121,\"name\":\"LoaderGone\"}",
-        ),
-        (
-            OrderFault::OutOfMemory,
-            "{\"error\":116,\"name\":\"OutOfMemory\"}",
-        ),
-        (
-            OrderFault::LoadRefused { refusal: 94 },
-            "{\"error\":120,\"name\":\"LoadRefused\",\"refusal\":94}",
-        ),
-        (
-            OrderFault::LoadRefused { refusal: 95 },
-            "{\"error\":120,\"name\":\"LoadRefused\",\"refusal\":95}",
-        ),
-        (
-            OrderFault::LoadRefused { refusal: 96 },
-            "{\"error\":120,\"name\":\"LoadRefused\",\"refusal\":96}",
-        ),
-    ];
-    for (fault, line) in faults {
-        let replies = waited_and_pinned(rt.alloc(), 1, Some(fault))?;
-        let told = str::from_utf8(&replies).unwrap_or("?");
-        assert!(&rt; told.starts_with(line));
-        assert!(&rt; told.ends_with("}\n{\"base\":1705276800,\"ok\":\"pin\",\"version\":2}\n"));
+    for (fault, line) in FAULTS.iter() {
+        let replies = waited_and_pinned(rt.alloc(), 1, Some(*fault))?;
+        assert!(rt; tells_and_pins(&replies, *line), "{line}");
     }
     Ok(())
 }

@@ -1,6 +1,6 @@
 //! The machine of versions: courses of events with their replies.
 
-use std::alloc::Global;
+use std::alloc::{AllocError, Global};
 use std::process::Abort;
 use std::test::*;
 use version_core::*;
@@ -202,13 +202,18 @@ fn play_event<R: Abort>(rt: &R, alloc: Global, core: &mut Core, line: &str) -> R
     Ok(())
 }
 
-/// Each of these versions is opened, on the shelf before its number, and published.
+/// Whether a version is opened, on the shelf before its number, and published.
+fn loads(core: &mut Core, version: u64) -> Result<bool, AllocError> {
+    let shelf = version.saturating_sub(1) as usize;
+    let is_opened = core.open(version)? == Reply::Opened { version, shelf };
+    Ok(is_opened && core.publish() == Reply::Published { version })
+}
+
+/// Each of these versions is loaded.
 fn load_each<R: Abort>(rt: &R, core: &mut Core, versions: &str) -> Result<(), Fail> {
     let (first, last) = versions.split_once("..").unwrap_or((versions, ""));
     for version in number(first)?..number(last)?.saturating_add(1) {
-        let shelf = version.saturating_sub(1) as usize;
-        assert_eq!(rt; core.open(version)?, Reply::Opened { version, shelf });
-        assert_eq!(rt; core.publish(), Reply::Published { version });
+        assert!(rt; loads(core, version)?, "version {version}");
     }
     Ok(())
 }

@@ -72,19 +72,26 @@ fn new_seats(alloc: Global) -> Result<(LoaderSeat, WorkerSeat), Fail> {
     }
 }
 
+fn new_table(alloc: Global) -> Result<VersionTable, Fail> {
+    match VersionTable::new(alloc, image(alloc, 1)?) {
+        Ok(table) => Ok(table),
+        Err((_, refused)) => Err(refused.into()),
+    }
+}
+
+/// Whether each call does so with new seats, and the image that begins at second 2.
+fn calls_of_seats_succeed(alloc: Global, table: &mut VersionTable) -> Result<bool, Fail> {
+    let second = image(alloc, 2)?;
+    let (mut loader, mut seat) = new_seats(alloc)?;
+    Ok(calls_succeed(table, &mut seat, &mut loader, second))
+}
+
 /// The table itself, whose calls the lock hands on.
 #[test]
 fn the_table_without_a_lock(rt: HostRuntime) -> Result<(), Fail> {
-    let alloc: Global = rt.alloc();
-    let second = image(alloc, 2)?;
-    let (mut loader, mut seat) = new_seats(alloc)?;
-    match VersionTable::new(alloc, image(alloc, 1)?) {
-        Ok(mut table) => {
-            assert!(&rt; calls_succeed(&mut table, &mut seat, &mut loader, second));
-            Ok(())
-        }
-        Err((_, refused)) => Err(refused.into()),
-    }
+    let mut table = new_table(rt.alloc())?;
+    assert!(rt; calls_of_seats_succeed(rt.alloc(), &mut table)?);
+    Ok(())
 }
 
 /// Why no shelves were made, of which version 1 begins at second 1: for want of memory, and the image comes back.
@@ -176,9 +183,9 @@ impl Solo {
 }
 
 fn words_change<R: Abort>(rt: &R, solo: &mut Solo, image: Arc<Verified, Global>) {
-    assert_eq!(rt; solo.pin(), Some(1));
+    assert!(rt; solo.pin() == Some(1));
     assert!(rt; solo.two_words() == (8, 65793) && solo.seat.number() == 15);
-    assert_eq!(rt; solo.publish(image), Ok(2));
+    assert!(rt; solo.publish(image) == Ok(2));
     assert!(rt; solo.two_words() == (17, 66049));
 }
 
@@ -217,7 +224,7 @@ fn faults_have_numbers_and_names(rt: HostRuntime) {
         (publish_told(PublishFault::OutOfMemory), 96, "OutOfMemory"),
     ];
     for (told, number, name) in faults.iter() {
-        assert!(&rt; told.0 == *number && told.1 == *name, "{name}");
+        assert!(rt; *told == (*number, *name), "{name}");
     }
 }
 

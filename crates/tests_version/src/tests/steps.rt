@@ -8,6 +8,7 @@ use crate::tests::images::Source;
 use shelf_steps::laws::{new_shelves, new_worker};
 use shelf_steps::*;
 use std::alloc::{AllocError, Global};
+use std::fmt::Debug;
 use std::marker::Model;
 use std::process::Abort;
 use std::test::*;
@@ -142,13 +143,19 @@ fn number(text: &str) -> Result<usize, Fail> {
     }
 }
 
+/// An answer as it is printed.
+fn words<T: Debug + Drop>(alloc: Global, answer: T) -> Result<String, AllocError> {
+    format!(in alloc; "{answer:?}")
+}
+
 impl Scene {
     /// What a step of the first worker tells.
     fn worker_tells(&mut self, step: &str) -> Result<String, AllocError> {
+        let alloc = self.source.alloc;
         match step {
-            "look" => format!(in self.source.alloc; "{:?}", self.look(0)),
-            "take" => format!(in self.source.alloc; "{:?}", self.take(0)),
-            _ => format!(in self.source.alloc; "{}", self.leave(0)),
+            "look" => words(alloc, self.look(0)),
+            "take" => words(alloc, self.take(0)),
+            _ => words(alloc, self.leave(0)),
         }
     }
 
@@ -156,21 +163,13 @@ impl Scene {
     fn loader_tells(&mut self, step: &str, shelf: usize) -> Result<String, AllocError>
         requires { shelf < 8 }
     {
+        let alloc = self.source.alloc;
         match step {
-            "open" => {
-                let is_opened = self.loader.open(&self.table, shelf, &self.source)?;
-                format!(in self.source.alloc; "{is_opened}")
-            }
-            "publish" => format!(in self.source.alloc;
-                "{}",
-                self.loader.publish(&self.table, shelf)
-            ),
-            "close" => format!(in self.source.alloc; "{}", self.loader.close(&self.table, shelf)),
-            "collect" => format!(in self.source.alloc;
-                "{:?}",
-                self.loader.collect(&self.table, shelf)
-            ),
-            _ => format!(in self.source.alloc; "{}", self.table.word(shelf)),
+            "open" => words(alloc, self.loader.open(&self.table, shelf, &self.source)?),
+            "publish" => words(alloc, self.loader.publish(&self.table, shelf)),
+            "close" => words(alloc, self.loader.close(&self.table, shelf)),
+            "collect" => words(alloc, self.loader.collect(&self.table, shelf)),
+            _ => words(alloc, self.table.word(shelf)),
         }
     }
 }
@@ -277,7 +276,31 @@ impl Beside {
     }
 }
 
-/// One step of a worker, here and in the state machine: whether both tell the same.
+/// A look of a worker, here and in the state machine: whether both tell the same.
+fn looks(scene: &mut Scene, beside: &mut Beside, number: usize) -> bool {
+    match (scene.look(number), beside.core.look(number)) {
+        (Some(word), Reply::Looked { version, shelf }) => {
+            word / 8 == version && (word % 8) as usize == shelf
+        }
+        (None, Reply::NotNow) => true,
+        _ => false,
+    }
+}
+
+/// The same of a take.
+fn takes(scene: &mut Scene, beside: &mut Beside, number: usize) -> bool {
+    match (scene.take(number), beside.core.take(number)) {
+        (Some(Some(held)), Reply::Holds { version }) => held == version,
+        (Some(None), Reply::Late) => {
+            beside.rare.came_late(&beside.core, number);
+            true
+        }
+        (None, Reply::NotNow) => true,
+        _ => false,
+    }
+}
+
+/// The same of any step of a worker.
 fn worker_steps(
     scene: &mut Scene,
     beside: &mut Beside,
@@ -285,22 +308,8 @@ fn worker_steps(
     choice: u64,
 ) -> Result<bool, AllocError> {
     match choice {
-        0 => Ok(match (scene.look(number), beside.core.look(number)) {
-            (Some(word), Reply::Looked { version, shelf }) => {
-                word / 8 == version && (word % 8) as usize == shelf
-            }
-            (None, Reply::NotNow) => true,
-            _ => false,
-        }),
-        1 => Ok(match (scene.take(number), beside.core.take(number)) {
-            (Some(Some(held)), Reply::Holds { version }) => held == version,
-            (Some(None), Reply::Late) => {
-                beside.rare.came_late(&beside.core, number);
-                true
-            }
-            (None, Reply::NotNow) => true,
-            _ => false,
-        }),
+        0 => Ok(looks(scene, beside, number)),
+        1 => Ok(takes(scene, beside, number)),
         2 => Ok(scene.leave(number) == (beside.core.leave(number) == Reply::Dropped)),
         _ => match scene.join(number)? {
             Some((version, is_joined)) => Ok(beside.joins(number, version, is_joined)),
@@ -322,22 +331,26 @@ impl Scene {
     {
         match choice {
             0 => self.opens(beside),
-            1 => match (
-                publish_any(&self.table, &mut self.loader),
-                beside.core.publish(),
-            ) {
-                (true, Reply::Published { .. }) => {
-                    let version = self.note()?;
-                    Ok(beside.core.note()? == Reply::Noted { version })
-                }
-                (false, Reply::NotNow) => Ok(true),
-                _ => Ok(false),
-            },
+            1 => self.publishes(beside),
             2 => {
                 let is_closed = self.loader.close(&self.table, shelf);
                 Ok(is_closed == (beside.core.close(shelf) == Reply::Closing))
             }
             _ => Ok(self.collects(beside, shelf)),
+        }
+    }
+
+    fn publishes(&mut self, beside: &mut Beside) -> Result<bool, AllocError> {
+        match (
+            publish_any(&self.table, &mut self.loader),
+            beside.core.publish(),
+        ) {
+            (true, Reply::Published { .. }) => {
+                let version = self.note()?;
+                Ok(beside.core.note()? == Reply::Noted { version })
+            }
+            (false, Reply::NotNow) => Ok(true),
+            _ => Ok(false),
         }
     }
 

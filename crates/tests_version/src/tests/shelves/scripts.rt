@@ -100,14 +100,33 @@ fn number(text: &str) -> Result<u32, Fail> {
     }
 }
 
-/// What is told of a round, one answer behind another.
+/// Adds an answer behind those before it.
+fn add(told: &mut String, answer: Result<String, AllocError>) -> Result<(), AllocError> {
+    let answer = answer?;
+    if !told.is_empty() {
+        told.push_str("; ")?;
+    }
+    told.push_str(answer.as_str())
+}
+
+/// Adds what is told of a round, one answer behind another.
+fn add_round<S: Stage, R: Wait>(
+    rt: &R,
+    stage: &mut S,
+    second: u32,
+    told: &mut String,
+) -> Result<(), AllocError> {
+    add(told, stage.call(rt, Deed::Release, 0))?;
+    add(told, stage.publish(rt, second))?;
+    add(told, stage.collect(rt))?;
+    add(told, stage.join(rt, 0))?;
+    add(told, stage.call(rt, Deed::Pin, 0))
+}
+
 fn round<S: Stage, R: Wait>(rt: &R, stage: &mut S, second: u32) -> Result<String, AllocError> {
-    let released = stage.call(rt, Deed::Release, 0)?;
-    let published = stage.publish(rt, second)?;
-    let collected = stage.collect(rt)?;
-    let joined = stage.join(rt, 0)?;
-    let pinned = stage.call(rt, Deed::Pin, 0)?;
-    format!(in stage.alloc(); "{released}; {published}; {collected}; {joined}; {pinned}")
+    let mut told = String::new(stage.alloc());
+    add_round(rt, stage, second, &mut told)?;
+    Ok(told)
 }
 
 /// Does what stands before the colon.
@@ -132,16 +151,25 @@ fn play_deed<S: Stage, R: Wait + Abort>(rt: &R, stage: &mut S, line: &str) -> Re
     Ok(())
 }
 
+/// The seat pins the version after its number.
+fn play_pin<S: Stage, R: Wait + Abort>(rt: &R, stage: &mut S, seat: u32) -> Result<(), Fail> {
+    let version = seat.saturating_add(1);
+    let line = format!(in stage.alloc(); "pin {seat}: ok, {version} at {version}")?;
+    play_deed(rt, stage, line.as_str())
+}
+
+/// This version is published.
+fn play_publish<S: Stage, R: Wait + Abort>(rt: &R, stage: &mut S, next: u32) -> Result<(), Fail> {
+    let line = format!(in stage.alloc(); "publish {next}: {next}")?;
+    play_deed(rt, stage, line.as_str())
+}
+
 /// Each of these seats pins the version after its number, and the next version is published.
 fn play_each<S: Stage, R: Wait + Abort>(rt: &R, stage: &mut S, seats: &str) -> Result<(), Fail> {
     let (first, last) = seats.split_once("..").unwrap_or((seats, ""));
     for seat in number(first)?..number(last)?.saturating_add(1) {
-        let version = seat.saturating_add(1);
-        let next = seat.saturating_add(2);
-        let pinned = format!(in stage.alloc(); "pin {seat}: ok, {version} at {version}")?;
-        play_deed(rt, stage, pinned.as_str())?;
-        let published = format!(in stage.alloc(); "publish {next}: {next}")?;
-        play_deed(rt, stage, published.as_str())?;
+        play_pin(rt, stage, seat)?;
+        play_publish(rt, stage, seat.saturating_add(2))?;
     }
     Ok(())
 }
@@ -233,25 +261,45 @@ fn a_script_for_one_worker(rt: HostRuntime) -> Result<(), Fail> {
     }
 }
 
+/// Two stages under a lock.
+fn two_stages(alloc: Global) -> Result<(LockedStage, LockedStage), Fail> {
+    let first = LockedStage::new(alloc)?;
+    Ok((first, LockedStage::new(alloc)?))
+}
+
+fn play_at_others<R: Wait + Abort>(
+    rt: &R,
+    first: &mut LockedStage,
+    second: &mut LockedStage,
+) -> Result<(), Fail> {
+    play(rt, first, "pin 0: ok, 1 at 1")?;
+    first.change_shelves(second);
+    play(rt, first, OTHER_SHELVES)
+}
+
 /// Other shelves know the worker of a seat otherwise than the seat does.
 #[test]
 fn a_seat_of_other_shelves(rt: HostRuntime) -> Result<(), Fail> {
-    let mut stage = LockedStage::new(rt.alloc())?;
-    let mut other = LockedStage::new(rt.alloc())?;
-    play(&rt, &mut stage, "pin 0: ok, 1 at 1")?;
-    stage.change_shelves(&mut other);
-    play(&rt, &mut stage, OTHER_SHELVES)
+    let (mut first, mut second) = two_stages(rt.alloc())?;
+    play_at_others(&rt, &mut first, &mut second)
+}
+
+fn pin_at_others<R: Wait + Abort>(
+    rt: &R,
+    first: &mut LockedStage,
+    second: &mut LockedStage,
+) -> Result<(), Fail> {
+    first.change_shelves(second);
+    play(rt, first, "pin 0: ok, 1 at 1")?;
+    first.change_shelves(second);
+    play(rt, second, "pin 0: SeatLost, nothing")?;
+    play(rt, first, "release 0: SeatLost, nothing")
 }
 
 /// A seat of the first shelves pins at the second, where its worker is free. So the second's own
 /// seat of that worker is lost, and the first shelves know nothing of what their seat holds.
 #[test]
 fn a_pin_at_other_shelves(rt: HostRuntime) -> Result<(), Fail> {
-    let mut first = LockedStage::new(rt.alloc())?;
-    let mut second = LockedStage::new(rt.alloc())?;
-    first.change_shelves(&mut second);
-    play(&rt, &mut first, "pin 0: ok, 1 at 1")?;
-    first.change_shelves(&mut second);
-    play(&rt, &mut second, "pin 0: SeatLost, nothing")?;
-    play(&rt, &mut first, "release 0: SeatLost, nothing")
+    let (mut first, mut second) = two_stages(rt.alloc())?;
+    pin_at_others(&rt, &mut first, &mut second)
 }

@@ -190,7 +190,7 @@ fn publishes_the_last<B: Named, R: Abort>(
     let published = stage.shelves.publish(&mut stage.loader, image).is_ok();
     let found = stage.shelves.collect(&mut stage.loader);
     assert!(rt; published && stage.shelves.word(0) / 8 == 52);
-    assert_eq!(rt; found.busy, [0; 8]);
+    assert!(rt; found.busy == [0; 8]);
 }
 
 /// A refused pin found four versions that were gone, each newer than those before: with fifty that
@@ -211,7 +211,7 @@ fn try_two_workers<B: Named + Send + Sync, R: Threads + Wait + Sync + Abort>(
         images,
     );
     assert!(rt; published == 50 && held >= 988 && also_held >= 988);
-    assert_eq!(rt; stage.shelves.word(0) / 8, 51);
+    assert!(rt; stage.shelves.word(0) / 8 == 51);
     publishes_the_last(rt, stage, last);
     Ok(())
 }
