@@ -10,8 +10,10 @@ ghost use Rattle.shelf_steps.specs.Events.{known_of};
 ghost use Rattle.shelf_steps.specs.Handed.{handed};
 ghost use Rattle.shelf_steps.specs.declared.views.View.{View};
 ghost use Rattle.epochs.specs.ShelfSeats.{NoticeValue, SeatsHanded};
+ghost use Rattle.load_orders.specs.Queue.{QueueId};
 ghost use Rattle.workers.specs.Carrying.{ComeOfOrders};
-ghost use Rattle.workers.specs.Sessions.{AreServedSince};
+ghost use Rattle.workers.specs.Ordering.{route_to};
+ghost use Rattle.workers.specs.Sessions.{AreServedBySome};
 ghost use Rattle.csa_program.specs.Serving.{IsServerEnd, counts_of, form_with, port_text, served_text};
 ghost use Rattle.feed_plans.specs.Planning.{IsPlanNow};
 
@@ -300,16 +302,18 @@ fn serve_all<
         ⊎ ((ran.clients.is_endless ≡ false) × (ran.clients.left ≡ 0))) }
     ensures seats { IfOk result (λ ran. All (λ seat. seat.table ≡ made.0) ran.seats.items) }
     ensures loader { IfOk result (λ ran. ran.loader.table ≡ made.0) }
-    ensures shares { IfOk result (λ ran. AreServedSince form ⟦<Visitor<'d, L> as Client>⟧.opens
+    ensures served { IfOk result (λ ran. (queue : QueueId)
+        × AreServedBySome form ⟦<Visitor<'d, L> as Client>⟧.opens
         ⟦<Requests<TcpStream, Option<Visit<'d, L>>> as Read>⟧.remaining ⟦<TcpStream as Write>⟧.contents
-        (λ seat. seat.number) (λ seat. seat.shown) (λ seat. known_of seat.view) door.entry.came ran.clients.came
-        made.2.items ran.served ran.seats.items) }
-    ensures loads { IfOk result (λ ran. ComeOfOrders (λ (notice : NoticeValue). notice.version)
+        (λ seat. seat.number) (λ seat. seat.shown) (λ seat. known_of seat.view)
+        (λ (notice : NoticeValue). notice.version) (route_to folders.now.names.items queue)
+        door.entry.came ran.clients.came made.2.items ran.served ran.seats.items
+        × ComeOfOrders (λ (notice : NoticeValue). notice.version)
         (⟦<Folders<'f, H> as Feeds>⟧.are_files folders.now) ⟦<FolderFiles<'f, H> as FeedFiles>⟧.holds
         ⟦<FolderFiles<'f, H> as FeedFiles>⟧.reads ⟦<FolderFiles<'f, H> as FeedFiles>⟧.failures
         ⟦<FolderFiles<'f, H> as FeedFiles>⟧.failed
         (IsPlanNow folders.now.asked.now folders.now.zone_bytes.items) (length folders.now.names.items)
-        made.1.answers ran.loader.answers) }
+        queue made.1.answers ran.loader.answers) }
 {
     let (shelves, loader, seats) = made;
     run_shelves::<Brand, _, _, _, _, _, _>(

@@ -1,8 +1,9 @@
 -- What a worker's end of the queue shows, and why it refuses an order.
-use Rattle.std.specs.Prelude.{◌≡◌, ◌<◌, ◌⊎◌, ◌++◌, ◌∷◌, ℕ, List, [], slice_get, Option, Some, None, ⊤}
+use Rattle.std.specs.Prelude.{◌≡◌, ◌<◌, ◌⊎◌, ◌++◌, ◌∷◌, ℕ, List, [], slice_get, Option, Some, None, Ok, Err, ⊤}
 use Rattle.orders.specs.Ordering.{OrderValue}
 use Rattle.orders.specs.declared.fault.OrderFault.{OrderFault}
-use Rattle.load_orders.specs.Queue.{EndValue, Held}
+use Rattle.orders.specs.declared.ordered.Outcome.{Outcome}
+use Rattle.load_orders.specs.Queue.{EndValue, Held, QueueId}
 use Rattle.load_orders.specs.Ways.{WayId, WayValue, heard_at}
 use Rattle.load_orders.specs.declared.queue.Order.{Order}
 use Rattle.load_orders.specs.declared.queue.Known.{Known}
@@ -14,6 +15,22 @@ pub record WorkerOrdersValue (N : Type 0) : Type 0 where
   pub end : EndValue  -- by which it orders feeds, by place
   pub asked : List OrderValue  -- all orders that were asked for here, refused ones too
   pub heard : List (WayValue N)  -- the ways back at which it waited, with what was heard there
+
+-- what a worker's orders go by: the names of the feeds, by place, and the queue
+pub record OrderRoute : Type 0 where
+  pub names : List (List ℕ)
+  pub queue : QueueId
+
+abbrev pub route_of : {N : Type 0} → WorkerOrdersValue N → OrderRoute
+route_of orders = record { names = orders.names; queue = orders.end.queue }
+
+-- nothing was asked for yet
+abbrev pub nothing_asked : {N : Type 0} → OrderRoute → WorkerOrdersValue N
+nothing_asked route = record { names = route.names; end = record { queue = route.queue; orders = [] }; asked = []; heard = [] }
+
+-- what is asked for isn't looked at
+abbrev pub unasked : {N : Type 0} → List (List ℕ) → EndValue → List (WayValue N) → WorkerOrdersValue N
+unasked names end heard = record { names = names; end = end; asked = []; heard = heard }
 
 -- the first feed of this name
 pub record IsFirst (names : List (List ℕ)) (name : List ℕ) (place : ℕ) : Type 0 where
@@ -51,6 +68,10 @@ Hears name answer before after =
 abbrev pub IsNotPut : {N : Type 0} → List ℕ → WorkerOrdersValue N → WorkerOrdersValue N → Type 0
 IsNotPut name before after = ((place : ℕ) × IsFirst before.names name place) × (after.end ≡ before.end) × (after.heard ≡ before.heard)
 
+-- the order was asked for, and the orders go by the same
+abbrev pub IsNoted : {N : Type 0} → OrderValue → WorkerOrdersValue N → WorkerOrdersValue N → Type 0
+IsNoted order before after = (route_of after ≡ route_of before) × (after.asked ≡ before.asked ++ order ∷ [])
+
 -- over the rule of the queue: what it holds, and what its ends know
 module _ {N : Type 0} (holds : List (Order N) → List Known → Type 0) where
   -- why the queue takes no order: it held four at one moment
@@ -78,3 +99,25 @@ module _ {N : Type 0} (holds : List (Order N) → List Known → Type 0) where
   RefusesVersion name (OrderFault.LoadRefused refusal) before after = Hears name (Some (LoadAnswer.Refused refusal)) before after
   RefusesVersion name OrderFault.OutOfMemory before after = Hears name (Some LoadAnswer.Unnoticed) before after ⊎ IsNotPut name before after
   RefusesVersion name OrderFault.LoaderGone before after = Hears name None before after ⊎ IsNotPut name before after
+
+  -- over notices of these versions
+  module _ (noted : N → ℕ) where
+    -- what an order of this feed did, by what it was answered: it was put, or refused; or it was waited for, and the version that came is that
+    -- of the notice that was heard, by the order's own way back
+    abbrev pub Does : List ℕ → Outcome → WorkerOrdersValue N → WorkerOrdersValue N → Type 0
+    Does feed (Outcome.Put (Ok u)) before after = IsPut feed before after × (after.heard ≡ before.heard)
+    Does feed (Outcome.Put (Err fault)) before after =
+        RefusesOrder before feed fault × (after.end ≡ before.end) × (after.heard ≡ before.heard)
+    Does feed (Outcome.Waited (Ok version)) before after =
+        (notice : N) × (noted notice ≡ version) × Hears feed (Some (LoadAnswer.Published notice)) before after
+    Does feed (Outcome.Waited (Err fault)) before after = RefusesVersion feed fault before after
+
+    -- each of these orders was asked for, one after the other
+    abbrev pub AreAsked : List OrderValue → WorkerOrdersValue N → WorkerOrdersValue N → Type 0
+    AreAsked [] before after = after ≡ before
+    AreAsked (order ∷ orders) before after = (between : WorkerOrdersValue N) × Does order.feed order.outcome before between
+        × IsNoted order before between × AreAsked orders between after
+
+    -- all orders that were asked for here did so, from the first on: what was put at the queue and heard of it comes of them alone
+    abbrev pub HasAsked : WorkerOrdersValue N → Type 0
+    HasAsked orders = AreAsked orders.asked (nothing_asked (route_of orders)) orders

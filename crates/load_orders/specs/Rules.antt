@@ -1,10 +1,8 @@
 -- That the queue holds at most four orders is kept by each step.
-use Rattle.std.specs.Prelude.{◌≡◌, ◌≤◌, ◌+◌, ◌++◌, ◌∷◌, ℕ, List, [], length}
+use Rattle.std.specs.Prelude.{◌++◌, ◌∷◌, []}
 use Rattle.std.proofs.Common.{refl, arith}
 use Rattle.std.proofs.lemmas.List.{length_push}
 use Rattle.load_orders.specs.Queue.{IsKept, mark_of, waiting}
-use Rattle.load_orders.specs.declared.queue.Known.{Known}
-use Rattle.load_orders.specs.declared.queue.Order.{Order}
 
 pub four_at_most : {N : Type 0} → IsKept {N = N} waiting
 four_at_most = record {

@@ -11,5 +11,5 @@ mod ways;
 pub use notes::Notes;
 pub use orders::{OrderFault, Orders};
 pub use queue::{MOST_WAITING, Order, OrderRule, Waiting};
-pub use taking::{LoaderOrders, OrderEnd, WorkerOrders, order_queue};
+pub use taking::{LoaderOrders, OrderEnd, UsedOrders, WorkerOrders, order_queue};
 pub use ways::{LoadAnswer, WayBack};

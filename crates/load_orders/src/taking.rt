@@ -4,7 +4,7 @@ ghost use Rattle.std.specs.Prelude.{◌≡◌, ◌++◌, ◌∷◌, [], map, str
 ghost use Rattle.std.specs.Prelude.{IfNone, Option, false, is_none};
 ghost use Rattle.orders.specs.Ordering.{IsNotTaken, order_value, version_told, waited_value};
 ghost use Rattle.load_orders.specs.Asking.{Hears, IsNotAwaited, IsPut, IsTurnedAway, RefusesOrder, RefusesVersion};
-ghost use Rattle.load_orders.specs.Asking.{awaited_order, fault_told};
+ghost use Rattle.load_orders.specs.Asking.{HasAsked, OrderRoute, awaited_order, fault_told, route_of, unasked};
 ghost use Rattle.load_orders.specs.Queue.{Held, mark_of};
 ghost use Rattle.load_orders.specs.Telling.{IsToldBack};
 ghost use Rattle.load_orders.specs.Ways.{WayId, WayValue, heard_at};
@@ -20,9 +20,10 @@ use crossbeam_channel::{Pass, TrySendError, bounded_with};
 use epochs::Versions;
 use orders::{OrderFault, Ordered, Orders};
 use std::alloc::{AllocError, Global};
+use std::collections::LinkedList;
 use std::marker::Model;
 use std::sync::Wait;
-use timetable::{Kept, Trace};
+use timetable::Kept;
 
 /// An end of the queue at which orders are put. Contracts see which queue, and the orders that were put here, in order.
 #[derive(Drop)]
@@ -52,14 +53,14 @@ pub struct WorkerOrders<'a, R: Wait, N: Drop, T: Versions<Notice = N>, P: OrderR
     names: &'a [String],
     shelves: &'a T,
     end: OrderEnd<N, P>,
-    asked: Trace<Ordered>,
-    heard: Trace<UsedWay<N>>,
+    asked: Notes<Ordered>,
+    heard: Notes<UsedWay<N>>,
 }
 
 impl<'a, R: Wait, N: Drop, T: Versions<Notice = N>, P: OrderRule<N>> Model
     for WorkerOrders<'a, R, N, T, P> {
     ghost use Rattle.std.specs.Prelude.{map, string_bytes};
-    ghost use Rattle.load_orders.specs.Asking.{WorkerOrdersValue};
+    ghost use Rattle.load_orders.specs.Asking.{HasAsked, WorkerOrdersValue};
 
     ghost Value = { WorkerOrdersValue N };
 
@@ -69,6 +70,39 @@ impl<'a, R: Wait, N: Drop, T: Versions<Notice = N>, P: OrderRule<N>> Model
       asked = s.asked;
       heard =
           s.heard;
+    } };
+
+    ghost invariant = { λ s. HasAsked P.Protocol.holds T.noted (record {
+      names = map string_bytes s.names.now;
+      end = s.end;
+      asked = s.asked;
+      heard =
+          s.heard;
+    }) };
+}
+
+/// A worker's orders once it asks for no more: what was asked for, and what that did at its end of the queue, which is
+/// gone. It takes no bytes.
+#[derive(Drop)]
+pub struct UsedOrders<N: Drop> {
+    names: Kept<LinkedList<LinkedList<u8>>>,
+    pass: Pass<Order<N>, Known>,
+    asked: Notes<Ordered>,
+    heard: Notes<UsedWay<N>>,
+}
+
+impl<N: Drop> Model for UsedOrders<N> {
+    ghost use Rattle.crossbeam_channel.specs.Claims.{view as view_of};
+    ghost use Rattle.load_orders.specs.Asking.{WorkerOrdersValue};
+
+    ghost Value = { WorkerOrdersValue N };
+
+    ghost view = { λ u. record {
+      names = u.names.value;
+      end = record { queue = u.pass.table_id; orders = (view_of u.pass).orders };
+      asked = u.asked;
+      heard =
+          u.heard;
     } };
 }
 
@@ -166,7 +200,8 @@ impl<N: Drop, P: OrderRule<N>> OrderEnd<N, P> {
 }
 
 impl<'a, R: Wait, N: Drop, T: Versions<Notice = N>, P: OrderRule<N>> WorkerOrders<'a, R, N, T, P> {
-    /// Orders of feeds of these names, by this end, to be published at these shelves. Nothing was asked for yet.
+    /// Orders of feeds of these names, by this end, at which nothing was put yet, to be published at these shelves.
+    /// Nothing was asked for yet.
     pub fn new(
         rt: &'a R,
         alloc: Global,
@@ -174,6 +209,7 @@ impl<'a, R: Wait, N: Drop, T: Versions<Notice = N>, P: OrderRule<N>> WorkerOrder
         shelves: &'a T,
         end: OrderEnd<N, P>,
     ) -> WorkerOrders<'a, R, N, T, P>
+        requires { end.orders ≡ [] }
         ensures { result ≡ record { names = map string_bytes names.now; end = end; asked = []; heard = [] } }
     {
         WorkerOrders {
@@ -182,27 +218,57 @@ impl<'a, R: Wait, N: Drop, T: Versions<Notice = N>, P: OrderRule<N>> WorkerOrder
             names,
             shelves,
             end,
-            asked: Trace::new(),
-            heard: Trace::new(),
+            asked: Notes::none(),
+            heard: Notes::none(),
         }
     }
 
-    // Puts an order, and waits for what comes of it.
-    fn wait_for(&mut self, feed: &str) -> Result<(u64, N), OrderFault>
-        ensures asked { self.new.asked ≡ self.old.asked }
-        ensures names { self.new.names ≡ self.old.names }
-        ensures queue { self.new.end.queue ≡ self.old.end.queue }
-        ensures notice { IfOk result (λ r. T.noted r.1 ≡ r.0) }
-        ensures heard { IfOk result (λ r. Hears feed.now (Some (LoadAnswer.Published r.1)) self.old self.new) }
-        ensures refused { IfErr result (λ fault. RefusesVersion P.Protocol.holds feed.now fault self.old self.new) }
+    /// Asks for no more: this end of the queue is gone, and what was asked for stays to be seen.
+    pub fn into_used(self) -> UsedOrders<N>
+        ensures same { result ≡ self.entry }
+        ensures asked { HasAsked P.Protocol.holds T.noted result }
     {
-        let Some(place) = place_of(self.names, feed) else {
-            return Err(OrderFault::UnknownFeed);
-        };
-        match put_awaited(self.rt, self.alloc, place, &mut self.end, &mut self.heard) {
-            Ok(answer) => told::<N, T>(answer),
-            Err(fault) => Err(fault),
+        let names = Kept::at(&self.names, &());
+        let WorkerOrders {
+            end: OrderEnd { sender, pass },
+            asked,
+            heard,
+            ..
+        } = self;
+        drop(sender);
+        UsedOrders {
+            names,
+            pass,
+            asked,
+            heard,
         }
+    }
+}
+
+// Puts an order of the first feed of that name, and waits for what comes of it.
+fn wait_for<R: Wait, N: Drop, T: Versions<Notice = N>, P: OrderRule<N>>(
+    rt: &R,
+    alloc: Global,
+    names: &[String],
+    feed: &str,
+    end: &mut OrderEnd<N, P>,
+    heard: &mut Notes<UsedWay<N>>,
+) -> Result<(u64, N), OrderFault>
+    ensures queue { end.new.queue ≡ end.old.queue }
+    ensures notice { IfOk result (λ r. T.noted r.1 ≡ r.0) }
+    ensures heard { IfOk result (λ r. Hears feed.now (Some (LoadAnswer.Published r.1))
+        (unasked (map string_bytes names.now) end.old heard.old)
+        (unasked (map string_bytes names.now) end.new heard.new)) }
+    ensures refused { IfErr result (λ fault. RefusesVersion P.Protocol.holds feed.now fault
+        (unasked (map string_bytes names.now) end.old heard.old)
+        (unasked (map string_bytes names.now) end.new heard.new)) }
+{
+    let Some(place) = place_of(names, feed) else {
+        return Err(OrderFault::UnknownFeed);
+    };
+    match put_awaited(rt, alloc, place, end, heard) {
+        Ok(answer) => told::<N, T>(answer),
+        Err(fault) => Err(fault),
     }
 }
 
@@ -212,7 +278,7 @@ fn put_awaited<R: Wait, N: Drop, P: OrderRule<N>>(
     alloc: Global,
     place: usize,
     end: &mut OrderEnd<N, P>,
-    heard: &mut Trace<UsedWay<N>>,
+    heard: &mut Notes<UsedWay<N>>,
 ) -> Result<Option<LoadAnswer<N>>, OrderFault>
     ensures queue { end.new.queue ≡ end.old.queue }
     ensures heard { IfOk result (λ answer. (way : WayId)
@@ -257,6 +323,10 @@ impl<'a, R: Wait, N: Drop, T: Versions<Notice = N>, P: OrderRule<N>> Orders
     for WorkerOrders<'a, R, N, T, P> {
     type Notice = N;
 
+    ghost Route = { OrderRoute };
+
+    ghost route = { λ orders. route_of orders };
+
     ghost asked = { λ orders. orders.asked };
 
     ghost told = { T.noted };
@@ -266,8 +336,7 @@ impl<'a, R: Wait, N: Drop, T: Versions<Notice = N>, P: OrderRule<N>> Orders
     fn order(&mut self, feed: &str) -> Result<(), OrderFault>
         ensures asked { self.new.asked ≡ self.old.asked ++ order_value feed.now result ∷ [] }
         ensures plain { IfErr result IsNotTaken }
-        ensures names { self.new.names ≡ self.old.names }
-        ensures queue { self.new.end.queue ≡ self.old.end.queue }
+        ensures route { route_of self.new ≡ route_of self.old }
         ensures heard { self.new.heard ≡ self.old.heard }
         ensures put { OnOk result (IsPut feed.now self.old self.new) }
         ensures refused { IfErr result (λ fault. RefusesOrder P.Protocol.holds self.old feed.now fault
@@ -293,12 +362,18 @@ impl<'a, R: Wait, N: Drop, T: Versions<Notice = N>, P: OrderRule<N>> Orders
     fn order_wait(&mut self, feed: &str) -> Result<(u64, N), OrderFault>
         ensures asked { self.new.asked ≡ self.old.asked ++ waited_value feed.now (version_told result) ∷ [] }
         ensures notice { IfOk result (λ r. T.noted r.1 ≡ r.0) }
-        ensures names { self.new.names ≡ self.old.names }
-        ensures queue { self.new.end.queue ≡ self.old.end.queue }
+        ensures route { route_of self.new ≡ route_of self.old }
         ensures heard { IfOk result (λ r. Hears feed.now (Some (LoadAnswer.Published r.1)) self.old self.new) }
         ensures refused { IfErr result (λ fault. RefusesVersion P.Protocol.holds feed.now fault self.old self.new) }
     {
-        let outcome = self.wait_for(feed);
+        let outcome = wait_for::<R, N, T, P>(
+            self.rt,
+            self.alloc,
+            self.names,
+            feed,
+            &mut self.end,
+            &mut self.heard,
+        );
         self.asked.note(&Ordered::waited(feed, &outcome));
         outcome
     }

@@ -10,6 +10,11 @@ pub trait Orders {
     /// Says that a version was published.
     type Notice;
 
+    // What the orders go by, as a queue and the feeds that there are: no call changes it.
+    ghost Route: { Type 0 } = { Unit {0} };
+
+    ghost route: { Self → Self.Route };
+
     // The orders that were asked for so far, taken or not.
     ghost asked: { Self → List OrderValue };
 
@@ -19,6 +24,7 @@ pub trait Orders {
     /// Orders a load of the feed. An order that is taken promises no load: what came of it, nobody is told here.
     fn order(&mut self, feed: &str) -> Result<(), OrderFault>
         ensures asked { asked self.new ≡ asked self.old ++ order_value feed.now result ∷ [] }
+        ensures route { Self.route self.new ≡ Self.route self.old }
         ensures refused { IfErr result IsNotTaken };
 
     /// Orders a load of the feed, and waits for what comes of it: the version as which the feed was
@@ -26,5 +32,6 @@ pub trait Orders {
     /// published that nobody here is told of.
     fn order_wait(&mut self, feed: &str) -> Result<(u64, Self::Notice), OrderFault>
         ensures asked { asked self.new ≡ asked self.old ++ waited_value feed.now (version_told result) ∷ [] }
+        ensures route { Self.route self.new ≡ Self.route self.old }
         ensures notice { IfOk result (λ r. told r.1 ≡ r.0) };
 }

@@ -16,7 +16,8 @@ use session_texts::{Refusal, load_line, loaded_line};
 impl<'a, N: Drop, T: Versions<Notice = N>, G> Desk<'a, T, G> {
     /// Orders the feed. The reply is made first, so that no order is put that can't be told.
     pub(crate) fn order_feed<O: Orders>(&self, orders: &mut O, feed: &str) -> Reply
-        ensures { (put : List OrderValue) × (O.asked orders.new ≡ O.asked orders.old ++ put)
+        ensures route { O.route orders.new ≡ O.route orders.old }
+        ensures put { (put : List OrderValue) × (O.asked orders.new ≡ O.asked orders.old ++ put)
             × (OrderIsMet feed.now put (text_of_reply result)
             ⊎ ((put ≡ []) × (text_of_reply result ≡ memory_line))) }
     {
@@ -41,6 +42,7 @@ impl<'a, N: Drop, T: Versions<Notice = N>, G> Desk<'a, T, G> {
         requires notices { AgreeOnNotices O.told T.noted }
         ensures fits { T.fits self.now.shelves.now seat.new }
         ensures number { T.number seat.new ≡ T.number seat.old }
+        ensures route { O.route orders.new ≡ O.route orders.old }
         ensures learns { Learns (T.known seat.old) (T.value seat.old) (T.known seat.new) (T.value seat.new) }
         ensures met { (put : List OrderValue) × (O.asked orders.new ≡ O.asked orders.old ++ put)
             × IsLoaded (T.number seat.old) (T.value seat.old) feed.now put (text_of_reply result) (T.value seat.new) }

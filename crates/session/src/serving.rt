@@ -44,6 +44,7 @@ pub fn serve<
     requires writes { failures_of writer.old < 2 ^ 64 - 1 }
     ensures fits { T.fits shelves.now seat.new }
     ensures number { T.number seat.new ≡ T.number seat.old }
+    ensures route { O.route orders.new ≡ O.route orders.old }
     ensures learns { Learns (T.known seat.old) (T.value seat.old) (T.known seat.new) (T.value seat.new) }
     ensures profiles { TellPublished (T.known seat.new) (T.value seat.old) (T.value seat.new) }
     ensures released { (T.value seat.new).held ≡ None }
@@ -74,6 +75,7 @@ impl<'a, N: Drop, T: Versions<Notice = N>, G: Gate> Desk<'a, T, G> {
         requires writes { failures_of streams.old.writer < 2 ^ 64 - 1 }
         ensures fits { T.fits self.now.shelves.now seat.new }
         ensures number { T.number seat.new ≡ T.number seat.old }
+        ensures route { O.route orders.new ≡ O.route orders.old }
         ensures learns { Learns (T.known seat.old) (T.value seat.old) (T.known seat.new) (T.value seat.new) }
         ensures profiles { TellPublished (T.known seat.new) (T.value seat.old) (T.value seat.new) }
         ensures released { (T.value seat.new).held ≡ None }
@@ -117,6 +119,7 @@ impl<'a, N: Drop, T: Versions<Notice = N>, G: Gate> Desk<'a, T, G> {
         requires counts { (failures_of reader.old < 2 ^ 64 - 1) × (failures_of writer.old < 2 ^ 64 - 1) }
         ensures fits { T.fits self.now.shelves.now seat.new }
         ensures number { T.number seat.new ≡ T.number seat.old }
+        ensures route { O.route orders.new ≡ O.route orders.old }
         ensures learns { Learns (T.known seat.old) (T.value seat.old) (T.known seat.new) (T.value seat.new) }
         ensures session { Serves self.now.form (T.number seat.old) result (In.remaining (inner_of reader.old))
             (In.remaining (inner_of reader.new)) (Out.contents (inner_of writer.old))
@@ -164,6 +167,7 @@ impl<'a, N: Drop, T: Versions<Notice = N>, G: Gate> Desk<'a, T, G> {
         requires notices { AgreeOnNotices O.told T.noted }
         ensures fits { T.fits self.now.shelves.now seat.new }
         ensures number { T.number seat.new ≡ T.number seat.old }
+        ensures route { O.route orders.new ≡ O.route orders.old }
         ensures learns { Learns (T.known seat.old) (T.value seat.old) (T.known seat.new) (T.value seat.new) }
         ensures failures { MatchResult result
             (λ _. failures_of writer.new ≡ failures_of writer.old)

@@ -136,6 +136,8 @@ impl<'a, N: Drop, L: Drop, T: Versions<Notice = N> + Loads<Loader = L>> Orders
     for SoloOrders<'a, N, L, T> {
     type Notice = N;
 
+    ghost route = { λ _. tt };
+
     ghost asked = { λ orders. orders.asked };
 
     ghost told = { T.Versions.noted };

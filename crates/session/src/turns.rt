@@ -25,6 +25,7 @@ impl<'a, N: Drop, T: Versions<Notice = N>, G: Gate> Desk<'a, T, G> {
         requires notices { AgreeOnNotices O.told T.noted }
         ensures fits { T.fits self.now.shelves.now seat.new }
         ensures number { T.number seat.new ≡ T.number seat.old }
+        ensures route { O.route orders.new ≡ O.route orders.old }
         ensures learns { Learns (T.known seat.old) (T.value seat.old) (T.known seat.new) (T.value seat.new) }
         ensures turn { (l : List ℕ) → ShowsLine line.entry l
             → HasTurn self.now.form (T.number seat.old) l (text_of_reply result) (T.value seat.old)

@@ -505,6 +505,8 @@ struct OrderCount<B: Named> {
 impl<B: Named> Orders for OrderCount<B> {
     type Notice = NamedNotice<B>;
 
+    ghost route = { λ _. tt };
+
     ghost asked = { λ orders. orders.asked };
 
     ghost told = { λ notice. notice.version };

@@ -408,6 +408,8 @@ struct Overtaken<O> {
 impl<N: Drop, O: Orders<Notice = N>> Orders for Overtaken<O> {
     type Notice = N;
 
+    ghost route = { λ _. tt };
+
     ghost asked = { λ orders. orders.asked };
 
     ghost told = { O.told };

@@ -2,6 +2,7 @@
 use Rattle.std.proofs.Common.{◌≡◌, ◌∙◌, ◌+◌, ◌++◌, ◌∷◌, ℕ, List, [], Option, Result, length, map, refl, sym, subst, ap, arith}
 use Rattle.std.proofs.lemmas.List.{append_assoc, append-nil, length-append, map-append}
 use Rattle.epochs.specs.Seats.{SeatValue}
+use Rattle.load_orders.specs.Asking.{OrderRoute, WorkerOrdersValue}
 use Rattle.shelf_steps.specs.declared.views.Known.{Known}
 use Rattle.answer_replies.specs.declared.point_form.PointForm.{PointForm}
 use Rattle.workers.specs.Ends.{Session}
@@ -22,70 +23,78 @@ flat_also [] hand = append-nil hand
 flat_also (first ∷ hands) hand =
     ap (λ list. first ++ list) (flat_also hands hand) ∙ sym (append_assoc first (flat_map (λ h. h) hands) hand)
 
-module _ {C R W S : Type 0} (form : PointForm) (opens : C → Result (R × W) ConnFault → Type 0)
+module _ {C R W S N : Type 0} (form : PointForm) (opens : C → Result (R × W) ConnFault → Type 0)
     (remaining : R → Option (List ℕ)) (contents : W → Option (List ℕ))
-    (number : S → ℕ) (value : S → SeatValue) (known : S → Known) where
+    (number : S → ℕ) (value : S → SeatValue) (known : S → Known) (noted : N → ℕ) (route : OrderRoute) where
   -- one share more behind the others
-  pub shares_also : (seats : List S) (hands : List (List C)) (ends : List (Session R W)) (lasts : List S)
-      (seat : S) (hand : List C) (share : List (Session R W)) (last : S)
-      → AreShares form opens remaining contents number value known seats hands ends lasts
-      → IsShare form opens remaining contents number value known seat hand share last
-      → AreShares form opens remaining contents number value known (seats ++ seat ∷ []) (hands ++ hand ∷ []) (ends ++ share) (lasts ++ last ∷ [])
-  shares_also [] [] ends [] seat hand share last before also =
+  pub shares_also : (seats : List S) (hands : List (List C)) (used : List (WorkerOrdersValue N)) (ends : List (Session R W)) (lasts : List S)
+      (seat : S) (hand : List C) (orders : WorkerOrdersValue N) (share : List (Session R W)) (last : S)
+      → AreShares form opens remaining contents number value known noted route seats hands used ends lasts
+      → IsShare form opens remaining contents number value known noted route seat hand orders share last
+      → AreShares form opens remaining contents number value known noted route
+      (seats ++ seat ∷ []) (hands ++ hand ∷ []) (used ++ orders ∷ []) (ends ++ share) (lasts ++ last ∷ [])
+  shares_also [] [] [] ends [] seat hand orders share last before also =
       (share, [], ap (λ list. list ++ share) before ∙ sym (append-nil share), also, refl)
-  shares_also [] [] ends (l ∷ lasts) seat hand share last before also = absurd before
-  shares_also [] (h ∷ hands) ends lasts seat hand share last before also = absurd before
-  shares_also (first ∷ seats) [] ends lasts seat hand share last before also = absurd before
-  shares_also (first ∷ seats) (h ∷ hands) ends [] seat hand share last before also = absurd before
-  shares_also (first ∷ seats) (h ∷ hands) ends (l ∷ lasts) seat hand share last before also =
-      let rest = shares_also seats hands before.1 lasts seat hand share last before.4 also in
+  shares_also [] [] [] ends (l ∷ lasts) seat hand orders share last before also = absurd before
+  shares_also [] [] (u ∷ used) ends lasts seat hand orders share last before also = absurd before
+  shares_also [] (h ∷ hands) used ends lasts seat hand orders share last before also = absurd before
+  shares_also (first ∷ seats) [] used ends lasts seat hand orders share last before also = absurd before
+  shares_also (first ∷ seats) (h ∷ hands) [] ends lasts seat hand orders share last before also = absurd before
+  shares_also (first ∷ seats) (h ∷ hands) (u ∷ used) ends [] seat hand orders share last before also = absurd before
+  shares_also (first ∷ seats) (h ∷ hands) (u ∷ used) ends (l ∷ lasts) seat hand orders share last before also =
+      let rest = shares_also seats hands used before.1 lasts seat hand orders share last before.4 also in
       let joined = ap (λ list. list ++ share) before.2 ∙ append_assoc before.0 before.1 share in
       (before.0, before.1 ++ share, joined, before.3, rest)
 
   module _ {H : Type 0} (seat_of : H → S) where
-    -- of all these workers those that are left weren't joined yet; what the others took is this
-    abbrev pub Joined : List H → List H → List C → List (Session R W) → List S → Type 0
-    Joined all left taken ends lasts =
+    -- of all these workers those that are left weren't joined yet; what the others took, and their orders, are these
+    abbrev pub Joined : List H → List H → List C → List (WorkerOrdersValue N) → List (Session R W) → List S → Type 0
+    Joined all left taken used ends lasts =
         (done : List H) × (hands : List (List C)) × (all ≡ done ++ left) × (taken ≡ flat_map (λ hand. hand) hands)
-        × AreShares form opens remaining contents number value known (map seat_of done) hands ends lasts
+        × AreShares form opens remaining contents number value known noted route (map seat_of done) hands used ends lasts
 
-    pub joined_none : (all left : List H) (taken : List C) (ends : List (Session R W)) (lasts : List S) → left ≡ all → taken ≡ [] → ends ≡ [] → lasts ≡ []
-        → Joined all left taken ends lasts
-    joined_none all left taken ends lasts same nothing none nobody =
-        let shares = subst (λ list. AreShares form opens remaining contents number value known [] [] ends list) (sym nobody) none in
-        ([], [], sym same, nothing, shares)
+    pub joined_none : (all left : List H) (taken : List C) (used : List (WorkerOrdersValue N)) (ends : List (Session R W)) (lasts : List S)
+        → left ≡ all → taken ≡ [] → used ≡ [] → ends ≡ [] → lasts ≡ [] → Joined all left taken used ends lasts
+    joined_none all left taken used ends lasts same nothing unused none nobody =
+        let Shares = AreShares form opens remaining contents number value known noted route [] [] in
+        let shares : Shares [] ends lasts = subst (λ list. Shares [] ends list) (sym nobody) none in
+        ([], [], sym same, nothing, subst (λ list. Shares list ends lasts) (sym unused) shares)
 
-    pub joined_next : (all left left_then : List H) (taken taken_then : List C) (ends ends_then : List (Session R W)) (lasts lasts_then : List S)
-        (hand : List C) (share : List (Session R W)) (last : S) (worker : H)
-        → Joined all left taken ends lasts → left ≡ worker ∷ left_then
-        → taken_then ≡ taken ++ hand → ends_then ≡ ends ++ share → lasts_then ≡ lasts ++ last ∷ []
-        → IsShare form opens remaining contents number value known (seat_of worker) hand share last
-        → Joined all left_then taken_then ends_then lasts_then
-    joined_next all left left_then taken taken_then ends ends_then lasts lasts_then hand share last worker before step takes grows back also =
+    pub joined_next : (all left left_then : List H) (taken taken_then : List C) (used used_then : List (WorkerOrdersValue N))
+        (ends ends_then : List (Session R W)) (lasts lasts_then : List S)
+        (hand : List C) (orders : WorkerOrdersValue N) (share : List (Session R W)) (last : S) (worker : H)
+        → Joined all left taken used ends lasts → left ≡ worker ∷ left_then
+        → taken_then ≡ taken ++ hand → used_then ≡ used ++ orders ∷ [] → ends_then ≡ ends ++ share → lasts_then ≡ lasts ++ last ∷ []
+        → IsShare form opens remaining contents number value known noted route (seat_of worker) hand orders share last
+        → Joined all left_then taken_then used_then ends_then lasts_then
+    joined_next all left left_then taken taken_then used used_then ends ends_then lasts lasts_then hand orders share last worker
+        before step takes uses grows back also =
         let done = before.0 in
         let hands = before.1 in
-        let Shares = λ (seats : List S) (list : List (Session R W)) (seats_then : List S).
-        AreShares form opens remaining contents number value known seats (hands ++ hand ∷ []) list seats_then in
-        let more : Shares (map seat_of done ++ seat_of worker ∷ []) (ends ++ share) (lasts ++ last ∷ []) =
-        shares_also (map seat_of done) hands ends lasts (seat_of worker) hand share last before.4 also in
-        let seats = subst (λ seats. Shares seats (ends ++ share) (lasts ++ last ∷ [])) (sym (map-append seat_of done (worker ∷ []))) more in
-        let grown = subst (λ list. Shares (map seat_of (done ++ worker ∷ [])) list (lasts ++ last ∷ [])) (sym grows) seats in (
+        let Shares = λ (seats : List S) (by : List (WorkerOrdersValue N)) (list : List (Session R W)) (seats_then : List S).
+        AreShares form opens remaining contents number value known noted route seats (hands ++ hand ∷ []) by list seats_then in
+        let more : Shares (map seat_of done ++ seat_of worker ∷ []) (used ++ orders ∷ []) (ends ++ share) (lasts ++ last ∷ []) =
+        shares_also (map seat_of done) hands used ends lasts (seat_of worker) hand orders share last before.4 also in
+        let seats = subst (λ seats. Shares seats (used ++ orders ∷ []) (ends ++ share) (lasts ++ last ∷ []))
+        (sym (map-append seat_of done (worker ∷ []))) more in
+        let by = subst (λ by. Shares (map seat_of (done ++ worker ∷ [])) by (ends ++ share) (lasts ++ last ∷ [])) (sym uses) seats in
+        let grown = subst (λ list. Shares (map seat_of (done ++ worker ∷ [])) used_then list (lasts ++ last ∷ [])) (sym grows) by in (
           done ++ worker ∷ [],
           hands ++ hand ∷ [],
           before.2 ∙ ap (λ list. done ++ list) step ∙ sym (append_assoc done (worker ∷ []) left_then),
           takes ∙ ap (λ list. list ++ hand) before.3 ∙ sym (flat_also hands hand),
-          subst (λ list. Shares (map seat_of (done ++ worker ∷ [])) ends_then list) (sym back) grown,
+          subst (λ list. Shares (map seat_of (done ++ worker ∷ [])) used_then ends_then list) (sym back) grown,
         )
 
     -- all were joined, and what they took is what was put
-    pub joined_all : (all left : List H) (sent taken : List C) (ends : List (Session R W)) (lasts : List S)
-        → Joined all left taken ends lasts → length left ≡ 0 → IsPermutation sent taken
-        → AreAllServed form opens remaining contents number value known sent (map seat_of all) ends lasts
-    joined_all all left sent taken ends lasts before none dealt =
+    pub joined_all : (all left : List H) (sent taken : List C) (used : List (WorkerOrdersValue N)) (ends : List (Session R W)) (lasts : List S)
+        → Joined all left taken used ends lasts → length left ≡ 0 → IsPermutation sent taken
+        → AreAllServed form opens remaining contents number value known noted route sent (map seat_of all) used ends lasts
+    joined_all all left sent taken used ends lasts before none dealt =
         let whole : all ≡ before.0 = before.2 ∙ ap (λ list. before.0 ++ list) (nothing_left left none) ∙ append-nil before.0 in (
           before.1,
           subst (λ list. IsPermutation sent list) before.3 dealt,
-          subst (λ workers. AreShares form opens remaining contents number value known (map seat_of workers) before.1 ends lasts)
+          subst (λ workers. AreShares form opens remaining contents number value known noted route (map seat_of workers) before.1 used ends lasts)
               (sym whole) before.4,
         )
 

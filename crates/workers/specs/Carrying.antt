@@ -4,6 +4,7 @@ use Rattle.epochs.specs.declared.seats.LoaderAnswer.{LoaderAnswer}
 use Rattle.feed_files.specs.Files.{FileRead}
 use Rattle.feed_loader.specs.Faults.{failed_by, failed_in}
 use Rattle.feed_loader.specs.declared.plan.Plan.{Plan}
+use Rattle.load_orders.specs.Queue.{QueueId}
 use Rattle.load_orders.specs.Telling.{AnsweredValue, IsToldBack, LoaderOrdersValue}
 use Rattle.load_orders.specs.declared.queue.OrderMark.{OrderMark}
 use Rattle.load_orders.specs.declared.ways.LoadAnswer.{LoadAnswer}
@@ -45,6 +46,6 @@ module _ {N D : Type 0} (noted : N → ℕ) (are_files : ℕ → D → Type 0) (
   abbrev pub AllCarriedOut : LoaderOrdersValue N → List LoaderAnswer → List LoaderAnswer → Type 0
   AllCarriedOut end before after = (end.over ≡ true) × AreCarriedOut end.taken end.answered before after
 
-  -- what the loader's seat has answered comes of orders that were carried out in turn, each once
-  abbrev pub ComeOfOrders : List LoaderAnswer → List LoaderAnswer → Type 0
-  ComeOfOrders before after = (orders : List OrderMark) × (answered : List (AnsweredValue N)) × AreCarriedOut orders answered before after
+  -- what the loader's seat has answered comes of orders that were taken from this queue until none came, and carried out in turn, each once
+  abbrev pub ComeOfOrders : QueueId → List LoaderAnswer → List LoaderAnswer → Type 0
+  ComeOfOrders queue before after = (end : LoaderOrdersValue N) × (end.queue ≡ queue) × AllCarriedOut end before after

@@ -3,3 +3,4 @@ pub mod Sessions
 pub mod Dealing
 pub mod Loading
 pub mod Carrying
+pub mod Ordering

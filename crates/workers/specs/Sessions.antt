@@ -3,6 +3,7 @@ use Rattle.std.specs.Prelude.{◌≡◌, ◌<◌, ◌++◌, ◌∷◌, ℕ, Opti
 use Rattle.client_queue.specs.declared.queue.DealerView.{DealerView}
 use Rattle.epochs.specs.Seats.{SeatValue}
 use Rattle.lines.specs.Counting.{failures_of, inner_of}
+use Rattle.load_orders.specs.Asking.{OrderRoute, WorkerOrdersValue}
 use Rattle.orders.specs.Ordering.{OrderValue}
 use Rattle.shelf_steps.specs.declared.views.Known.{Known}
 use Rattle.session.specs.Learning.{Learns, TellPublished}
@@ -11,6 +12,7 @@ use Rattle.session.specs.declared.fault.SessionFault.{SessionFault}
 use Rattle.answer_replies.specs.declared.point_form.PointForm.{PointForm}
 use Rattle.session.specs.Sessions.{LastRelease, Serves}
 use Rattle.workers.specs.Ends.{Session, end_of}
+use Rattle.workers.specs.Ordering.{IsAskedBy}
 use Rattle.workers.specs.declared.clients.ConnFault.{ConnFault}
 use Rattle.workers.specs.declared.served.End.{End}
 use Rattle.session.specs.declared.desk.Streams.{Streams}
@@ -63,28 +65,37 @@ module _ {C R W : Type 0} (form : PointForm) (opens : C → Result (R × W) Conn
         (m : S) × (between : List OrderValue) × IsServedAt client session a asked m between × AreServed clients sessions m between b asked_then
     AreServed _ _ _ _ _ _ = ⊥
 
-    -- a worker's share: these are these clients' sessions at its seat, with no order put before, and the seat is so then
-    abbrev pub IsShare : S → List C → List (Session R W) → S → Type 0
-    IsShare seat clients sessions last = (asked : List OrderValue) × AreServed clients sessions seat [] last asked
+    -- over notices of these versions, and what the workers' orders go by
+    module _ {N : Type 0} (noted : N → ℕ) (route : OrderRoute) where
+      -- a worker's share: these are these clients' sessions at its seat, all that was asked for in them was asked for by these orders, which go
+      -- this way, and the seat is so then
+      abbrev pub IsShare : S → List C → WorkerOrdersValue N → List (Session R W) → S → Type 0
+      IsShare seat clients orders sessions last = AreServed clients sessions seat [] last orders.asked × IsAskedBy noted route orders
 
-    -- the sessions are the workers' shares, one behind the other: at each of the seats one hand of clients was served, and it is so then
-    abbrev pub AreShares : List S → List (List C) → List (Session R W) → List S → Type 0
-    AreShares [] [] sessions [] = sessions ≡ []
-    AreShares (seat ∷ seats) (hand ∷ hands) sessions (last ∷ lasts) =
-        (share : List (Session R W)) × (rest : List (Session R W)) × (sessions ≡ share ++ rest)
-        × IsShare seat hand share last × AreShares seats hands rest lasts
-    AreShares _ _ _ _ = ⊥
+      -- the sessions are the workers' shares, one behind the other: at each of the seats one hand of clients was served, with these orders, and it
+      -- is so then
+      abbrev pub AreShares : List S → List (List C) → List (WorkerOrdersValue N) → List (Session R W) → List S → Type 0
+      AreShares [] [] [] sessions [] = sessions ≡ []
+      AreShares (seat ∷ seats) (hand ∷ hands) (orders ∷ others) sessions (last ∷ lasts) =
+          (share : List (Session R W)) × (rest : List (Session R W)) × (sessions ≡ share ++ rest)
+          × IsShare seat hand orders share last × AreShares seats hands others rest lasts
+      AreShares _ _ _ _ _ = ⊥
 
-    -- the clients are dealt to the workers, each to one and once; each worker serves its hand at its seat, one after the other; and
-    -- these are their sessions, one for each client
-    abbrev pub AreAllServed : List C → List S → List (Session R W) → List S → Type 0
-    AreAllServed clients seats sessions lasts =
-        (hands : List (List C)) × IsPermutation clients (flat_map (λ hand. hand) hands) × AreShares seats hands sessions lasts
+      -- the clients are dealt to the workers, each to one and once; each worker serves its hand at its seat, one after the other; and
+      -- these are their orders, and their sessions, one for each client
+      abbrev pub AreAllServed : List C → List S → List (WorkerOrdersValue N) → List (Session R W) → List S → Type 0
+      AreAllServed clients seats orders sessions lasts =
+          (hands : List (List C)) × IsPermutation clients (flat_map (λ hand. hand) hands) × AreShares seats hands orders sessions lasts
 
-    -- those who came since are all served
-    abbrev pub AreServedSince : List C → List C → List S → List (Session R W) → List S → Type 0
-    AreServedSince before after seats sessions lasts =
-        (clients : List C) × (after ≡ before ++ clients) × AreAllServed clients seats sessions lasts
+      -- those who came since are all served
+      abbrev pub AreServedSince : List C → List C → List S → List (WorkerOrdersValue N) → List (Session R W) → List S → Type 0
+      AreServedSince before after seats orders sessions lasts =
+          (clients : List C) × (after ≡ before ++ clients) × AreAllServed clients seats orders sessions lasts
+
+      -- by some orders
+      abbrev pub AreServedBySome : List C → List C → List S → List (Session R W) → List S → Type 0
+      AreServedBySome before after seats sessions lasts =
+          (orders : List (WorkerOrdersValue N)) × AreServedSince before after seats orders sessions lasts
 
 -- so many workers are out, none is back, and the queue was closed for each
 pub record IsReadyToJoin {C : Type 0} (dealer : DealerView C) (workers : ℕ) : Type 0 where

@@ -41,6 +41,7 @@ impl<'a, R: Wait, N: Drop, T: Versions<Notice = N> + Loads, F: Feeds> Loading<'a
         requires loads { T.Loads.loads self.now.shelves.now seat }
         requires none { (orders.taken ≡ []) × (orders.answered ≡ []) }
         ensures loads { T.Loads.loads self.now.shelves.now result.1 }
+        ensures queue { result.0.queue ≡ orders.queue }
         ensures carried { AllCarriedOut T.Versions.noted (F.are_files self.now.feeds.now) F.Files.holds F.Files.reads
             F.Files.failures F.Files.failed
             (F.is_plan self.now.feeds.now) (length (F.named self.now.feeds.now))
@@ -65,6 +66,7 @@ impl<'a, R: Wait, N: Drop, T: Versions<Notice = N> + Loads, F: Feeds> Loading<'a
     )
         requires { T.Loads.loads self.now.shelves.now seat.old }
         ensures loads { T.Loads.loads self.now.shelves.now seat.new }
+        ensures queue { orders.new.queue ≡ orders.old.queue }
         ensures taken { orders.new.taken ≡ orders.old.taken }
         ensures carried { (answer : AnsweredValue N) × (orders.new.answered ≡ orders.old.answered ++ answer ∷ [])
             × IsCarriedOut T.Versions.noted (F.are_files self.now.feeds.now) F.Files.holds F.Files.reads

@@ -3,8 +3,10 @@
 ghost use Rattle.std.specs.Prelude.{◌≡◌, ◌≤◌, [], All, length, IfOk};
 ghost use Rattle.epochs.specs.ShelfSeats.{NoticeValue};
 ghost use Rattle.shelf_steps.specs.Events.{known_of};
+ghost use Rattle.load_orders.specs.Queue.{QueueId};
 ghost use Rattle.workers.specs.Carrying.{ComeOfOrders};
-ghost use Rattle.workers.specs.Sessions.{AreServedSince, MayClose};
+ghost use Rattle.workers.specs.Ordering.{route_to};
+ghost use Rattle.workers.specs.Sessions.{AreServedBySome, MayClose};
 
 use crate::clients::{Client, Clients};
 use crate::feeds::Feeds;
@@ -61,13 +63,15 @@ pub fn run_shelves<
     ensures none_left { IfOk result (λ ran. K.none_left ran.clients) }
     ensures seats { IfOk result (λ ran. All (λ seat. seat.table ≡ shelves) ran.seats.items) }
     ensures loader { IfOk result (λ ran. ran.loader.table ≡ shelves) }
-    ensures shares { IfOk result (λ ran. AreServedSince form C.opens C.Reader.remaining C.Writer.contents
-        (λ seat. seat.number) (λ seat. seat.shown) (λ seat. known_of seat.view) (K.came clients) (K.came ran.clients)
-        seats.items ran.served ran.seats.items) }
-    ensures loads { IfOk result (λ ran. ComeOfOrders (λ (notice : NoticeValue). notice.version)
+    ensures served { IfOk result (λ ran. (queue : QueueId)
+        × AreServedBySome form C.opens C.Reader.remaining C.Writer.contents
+        (λ seat. seat.number) (λ seat. seat.shown) (λ seat. known_of seat.view)
+        (λ (notice : NoticeValue). notice.version) (route_to (F.named feeds.now) queue)
+        (K.came clients) (K.came ran.clients) seats.items ran.served ran.seats.items
+        × ComeOfOrders (λ (notice : NoticeValue). notice.version)
         (F.are_files feeds.now) F.Files.holds F.Files.reads
         F.Files.failures F.Files.failed (F.is_plan feeds.now) (length (F.named feeds.now))
-        loader.answers ran.loader.answers) }
+        queue loader.answers ran.loader.answers) }
 {
     let room = Vec::with_capacity(alloc, seats.len())?;
     let seats = named_seats::<B>(alloc, seats)?;

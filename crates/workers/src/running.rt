@@ -3,6 +3,7 @@
 ghost use denote.Param.Send.{IsSend, IsSync};
 ghost use Rattle.std.specs.Prelude.{◌≡◌, ◌≤◌, ◌++◌, ◌∷◌, [], All, length, IfOk, OnOk};
 ghost use Rattle.workers.specs.Carrying.{AllCarriedOut};
+ghost use Rattle.workers.specs.Ordering.{route_to};
 ghost use Rattle.workers.specs.Sessions.{AreServedSince, IsShare, MayClose};
 
 use crate::carrying::Loading;
@@ -10,10 +11,10 @@ use crate::clients::{Client, Clients};
 use crate::feeds::Feeds;
 use crate::served::Served;
 use crate::serving::Worker;
-use crate::shares::{LoadsAt, Share, ShareAt, deal_and_join};
+use crate::shares::{LoadsAt, RouteTo, Share, ShareAt, deal_and_join};
 use client_queue::client_queue;
 use epochs::{Loads, Versions};
-use load_orders::{LoaderOrders, WorkerOrders, order_queue};
+use load_orders::{LoaderOrders, Notes, UsedOrders, WorkerOrders, order_queue};
 use orders::Gate;
 use session::{Desk, PointForm};
 use std::alloc::{AllocError, Global};
@@ -47,6 +48,8 @@ pub struct Ran<C: Client, K, S, L, N: Drop> {
     pub orders: LoaderOrders<N>,
     /// The loader's seat.
     pub loader: L,
+    /// The workers' orders, seat after seat: contracts alone see them.
+    pub asked: Notes<UsedOrders<N>>,
 }
 
 /// Serves all clients, with a worker for each seat, and loads the feeds that they order. Profiles
@@ -86,8 +89,9 @@ where
     ensures seats { IfOk result (λ ran. All (T.Versions.fits shelves.now) ran.seats.items) }
     ensures loader { IfOk result (λ ran. T.Loads.loads shelves.now ran.loader) }
     ensures shares { IfOk result (λ ran. AreServedSince form C.opens C.Reader.remaining C.Writer.contents
-        T.Versions.number T.Versions.value T.Versions.known (K.came clients) (K.came ran.clients)
-        seats.items ran.served ran.seats.items) }
+        T.Versions.number T.Versions.value T.Versions.known
+        T.Versions.noted (route_to (F.named feeds.now) ran.orders.queue) (K.came clients) (K.came ran.clients)
+        seats.items ran.asked ran.served ran.seats.items) }
     ensures loads { IfOk result (λ ran. AllCarriedOut T.Versions.noted (F.are_files feeds.now) F.Files.holds
         F.Files.reads F.Files.failures F.Files.failed (F.is_plan feeds.now) (length (F.named feeds.now)) ran.orders
         (T.Loads.answers loader) (T.Loads.answers ran.loader)) }
@@ -107,8 +111,10 @@ where
             ensures seats { IfOk result (λ ran. All (T.Versions.fits shelves.entry.now) ran.seats.items) }
             ensures loader { IfOk result (λ ran. T.Loads.loads shelves.entry.now ran.loader) }
             ensures shares { IfOk result (λ ran. AreServedSince form C.opens C.Reader.remaining C.Writer.contents
-                T.Versions.number T.Versions.value T.Versions.known (K.came clients) (K.came ran.clients)
-                seats.items ran.served ran.seats.items) }
+                T.Versions.number T.Versions.value T.Versions.known
+                T.Versions.noted (route_to (F.named feeds.entry.now) ran.orders.queue)
+                (K.came clients) (K.came ran.clients)
+                seats.items ran.asked ran.served ran.seats.items) }
             ensures loads { IfOk result (λ ran.
                 AllCarriedOut T.Versions.noted (F.are_files feeds.entry.now) F.Files.holds F.Files.reads
                 F.Files.failures F.Files.failed
@@ -119,12 +125,13 @@ where
             let room = Vec::with_capacity(alloc, seats.len())?;
             let (mut asks, orders) = order_queue(alloc)?;
             let loader_seat = loader;
-            let promise = LoadsAt::<T, F>::of(shelves, &loader_seat, feeds);
+            let promise = LoadsAt::<T, F, T::Notice>::of(shelves, &loader_seat, feeds, &orders);
+            let route = RouteTo::of(&asks, feeds);
             let started = scope.spawn_with(
                 promise,
                 move || -> (LoaderOrders<T::Notice>, T::Loader)
                     requires { T.Loads.loads shelves.now loader_seat × (orders.taken ≡ []) × (orders.answered ≡ []) }
-                    ensures { T.Loads.loads shelves.entry.now result.1
+                    ensures { T.Loads.loads shelves.entry.now result.1 × (result.0.queue ≡ orders.queue)
                         × AllCarriedOut T.Versions.noted (F.are_files feeds.entry.now) F.Files.holds F.Files.reads
                         F.Files.failures F.Files.failed
                         (F.is_plan feeds.entry.now) (length (F.named feeds.entry.now))
@@ -149,16 +156,19 @@ where
                 let end = asks.another()?;
                 // Made here, since what a thread returns has to be of types that it captures.
                 let nobody_yet = Served::new();
+                let way = RouteTo::of(&end, feeds);
                 let begun = scope.spawn_with(
-                    ShareAt::<C, T>::of(shelves, &taker, &seat, form),
-                    move || -> Share<C, T::Seat>
+                    ShareAt::<C, T::Notice, T, F>::of(shelves, &taker, &seat, form, way),
+                    move || -> (Share<C, T::Seat>, UsedOrders<T::Notice>)
                         requires { T.Versions.fits shelves.now seat × (taker.taken ≡ []) × (nobody_yet ≡ [])
+                            × (end.orders ≡ [])
                             × MayClose form C.opens C.Reader.remaining C.Writer.contents C.closes }
-                        ensures { (result.taker.queue ≡ taker.queue)
-                            × T.Versions.fits shelves.entry.now result.seat
+                        ensures { (result.0.taker.queue ≡ taker.queue)
+                            × T.Versions.fits shelves.entry.now result.0.seat
                             × IsShare form C.opens C.Reader.remaining C.Writer.contents
-                            T.Versions.number T.Versions.value T.Versions.known seat
-                            result.taker.taken result.served result.seat }
+                            T.Versions.number T.Versions.value T.Versions.known
+                            T.Versions.noted (route_to (F.named feeds.entry.now) end.queue)
+                            seat result.0.taker.taken result.1 result.0.served result.0.seat }
                     {
                         let desk = Desk {
                             alloc,
@@ -167,7 +177,9 @@ where
                             form,
                         };
                         let orders = WorkerOrders::new(rt, alloc, feeds.names(), shelves, end);
-                        Worker { rt, desk }.work(taker, seat, orders, nobody_yet).0
+                        let worker = Worker { rt, desk };
+                        let (share, orders) = worker.work(taker, seat, orders, nobody_yet);
+                        (share, orders.into_used())
                     },
                 );
                 let Ok(worker) = begun else {
@@ -175,17 +187,18 @@ where
                 };
                 also(&mut workers, worker)?;
             }
-            let served = deal_and_join(rt, shelves, form, clients, dealer, workers, room);
+            let served = deal_and_join(rt, shelves, form, clients, dealer, workers, room, route);
             // No order is refused for want of a loader before all sessions have ended.
             drop(asks);
             let (orders, loader) = loading.join(rt);
             match served {
-                Ok((clients, served, seats)) => Ok(Ran {
+                Ok((clients, served, seats, asked)) => Ok(Ran {
                     served,
                     clients,
                     seats,
                     orders,
                     loader,
+                    asked,
                 }),
                 Err(fault) => Err(fault),
             }

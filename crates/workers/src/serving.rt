@@ -41,6 +41,7 @@ impl<'a, R: Wait, N: Drop, T: Versions<Notice = N>, G: Gate> Worker<'a, R, T, G>
         ensures learns { Learns (T.known seat.old) (T.value seat.old) (T.known seat.new) (T.value seat.new) }
         ensures profiles { TellPublished (T.known seat.new) (T.value seat.old) (T.value seat.new) }
         ensures idle { (T.value seat.old).held ≡ None → (T.value seat.new).held ≡ None }
+        ensures route { O.route orders.new ≡ O.route orders.old }
         ensures served { served.new ≡ served.old ++ result ∷ [] }
         ensures session { IsServed self.now.desk.form C.opens C.Reader.remaining C.Writer.contents
             (T.number seat.old) client
@@ -77,6 +78,7 @@ impl<'a, R: Wait, N: Drop, T: Versions<Notice = N>, G: Gate> Worker<'a, R, T, G>
         requires closes { MayClose self.now.desk.form C.opens C.Reader.remaining C.Writer.contents C.closes }
         ensures fits { T.fits self.now.desk.shelves.now result.0.seat }
         ensures queue { result.0.taker.queue ≡ taker.queue }
+        ensures route { O.route result.1 ≡ O.route orders }
         ensures learns { Learns (T.known seat) (T.value seat) (T.known result.0.seat) (T.value result.0.seat) }
         ensures served { AreServed self.now.desk.form C.opens C.Reader.remaining C.Writer.contents T.number T.value
             T.known

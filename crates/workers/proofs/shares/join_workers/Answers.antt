@@ -2,7 +2,12 @@ use Rattle.std.proofs.Common.{rules, ◌≡◌, ◌∙◌, ◌+◌, ◌-◌, All
 use Rattle.std.proofs.lemmas.List.Elements.{All-nil, All-push}
 use Rattle.std.specs.Prelude.{IsPermutation}
 use Rattle.client_queue.specs.Ends.{times}
+use Rattle.std.specs.Prelude.{String, List}
+use Rattle.std.specs.Global.{Global}
+use Rattle.load_orders.specs.Queue.{QueueId}
+use Rattle.workers.specs.Ordering.{GoesBy, route_to}
 use Rattle.workers.specs.Sessions.{AreAllServed, IsShare}
+use Rattle.answer_replies.specs.declared.point_form.PointForm.{PointForm}
 use Rattle.workers.proofs.Shared.{joined_none, joined_next, joined_all}
 use Rattle.workers.proofs.shares.join_workers.Goals as goal
 
@@ -21,6 +26,7 @@ loop-worker-init g c =
       fit = subst (λ seats. All (g.T.Versions.fits c.args.shelves.now) seats) (sym c.requires.room) (All-nil _);
       forms = subst (λ workers. All (λ worker. worker.promise.form ≡ c.args.form) workers) (sym items) c.requires.forms;
       queues = subst (λ workers. All (λ worker. worker.promise.taker.value.queue ≡ c.args.dealer.queue) workers) (sym items) c.requires.queues;
+      routes = subst (λ workers. All (λ worker. GoesBy worker.promise.route c.args.route) workers) (sym items) c.requires.routes;
       queue = refl;
       sent = refl;
       closings = ready.closings ∙ ap length (sym items);
@@ -28,7 +34,8 @@ loop-worker-init g c =
       ended = omega (arith, none, many, all);
       joined = joined_none c.args.form g.C.Client.opens g.C.Reader.Read.remaining g.C.Writer.Write.contents
           g.T.Versions.number g.T.Versions.value g.T.Versions.known
-          _ _ _ _ _ _ refl ready.nothing_back c.new-served.ensures c.requires.room;
+          g.T.Versions.noted (route_to (g.F.Feeds.named c.args.route.feeds.value) c.args.route.end.value.queue)
+          _ _ _ _ _ _ _ refl ready.nothing_back c.none-orders.ensures c.new-served.ensures c.requires.room;
     }
 
 -- one worker more is joined, whose taker came back because the queue was closed for it
@@ -40,10 +47,19 @@ loop-worker-preserved g c =
     let forms = subst (λ workers. All (λ worker. worker.promise.form ≡ c.args.form) workers) step.0 was.forms in
     let queues = subst (λ workers. All (λ worker. worker.promise.taker.value.queue ≡ c.args.dealer.queue) workers) step.0 was.queues in
     let at = subst (λ workers. All (λ worker. worker.promise.shelves.value ≡ c.args.shelves.now) workers) step.0 was.at in
-    let done = c.join-share.result in
-    let share = subst (λ form. IsShare form g.C.Client.opens g.C.Reader.Read.remaining g.C.Writer.Write.contents
-    g.T.Versions.number g.T.Versions.value g.T.Versions.known c.in-Some.worker.promise.seat.value done.taker.taken done.served done.seat)
-    (forms 0 c.in-Some.worker (omega arith)) c.join-share.ensures.2 in
+    let pair = c.join-share.result in
+    let done = pair.0 in
+    let routes = subst (λ workers. All (λ worker. GoesBy worker.promise.route c.args.route) workers) step.0 was.routes in
+    let route = routes 0 c.in-Some.worker (omega arith) in
+    let Share = λ (form : PointForm) (names : List (String Global)) (queue : QueueId).
+    IsShare form g.C.Client.opens g.C.Reader.Read.remaining g.C.Writer.Write.contents
+    g.T.Versions.number g.T.Versions.value g.T.Versions.known g.T.Versions.noted (route_to names queue)
+    c.in-Some.worker.promise.seat.value done.taker.taken pair.1 done.served done.seat in
+    let by_form = subst (λ (form : PointForm). Share form (g.F.Feeds.named c.in-Some.worker.promise.route.feeds.value)
+    c.in-Some.worker.promise.route.end.value.queue) (forms 0 c.in-Some.worker (omega arith)) c.join-share.ensures.2 in
+    let by_queue = subst (λ (queue : QueueId). Share c.args.form (g.F.Feeds.named c.in-Some.worker.promise.route.feeds.value) queue)
+    route.0 by_form in
+    let share = subst (λ feeds. Share c.args.form (g.F.Feeds.named feeds) c.args.route.end.value.queue) route.1 by_queue in
     let fits = subst (λ shelves. g.T.Versions.fits shelves done.seat) (at 0 c.in-Some.worker (omega arith)) c.join-share.ensures.1 in
     let back = c.take_back.ensures in
     let view = ap (λ dealer. dealer.view) back in
@@ -63,6 +79,7 @@ loop-worker-preserved g c =
           (All-push (g.T.Versions.fits c.args.shelves.now) _ done.seat was.fit fits);
       forms = λ k d small. forms (suc k) d (omega arith);
       queues = λ k d small. queues (suc k) d (omega arith);
+      routes = λ k d small. routes (suc k) d (omega arith);
       queue = ap (λ dealer. dealer.queue) back ∙ was.queue;
       sent = ap (λ v. v.sent) view ∙ was.sent;
       closings = closings ∙ was.closings;
@@ -70,8 +87,9 @@ loop-worker-preserved g c =
       ended = omega (arith, ended, once, had, short, closings);
       joined = joined_next c.args.form g.C.Client.opens g.C.Reader.Read.remaining g.C.Writer.Write.contents
           g.T.Versions.number g.T.Versions.value g.T.Versions.known
-          _ _ _ _ _ _ _ _ _ _ done.taker.taken done.served done.seat c.in-Some.worker was.joined step.0
-          (ap (λ v. v.taken) view) c.join.ensures c.in-Ok.ensures.items share;
+          g.T.Versions.noted (route_to (g.F.Feeds.named c.args.route.feeds.value) c.args.route.end.value.queue)
+          _ _ _ _ _ _ _ _ _ _ _ _ done.taker.taken pair.1 done.served done.seat c.in-Some.worker was.joined step.0
+          (ap (λ v. v.taken) view) c.note.ensures c.join.ensures c.in-Ok.ensures.items share;
     }
 
 -- all were
@@ -89,8 +107,10 @@ returns g c =
     let sent = subst (λ list. IsPermutation list c.loop-worker.dealer.view.taken) was.sent dealt in
     let served = joined_all c.args.form g.C.Client.opens g.C.Reader.Read.remaining g.C.Writer.Write.contents
     g.T.Versions.number g.T.Versions.value g.T.Versions.known
-    _ _ _ _ _ _ _ was.joined none sent in
+    g.T.Versions.noted (route_to (g.F.Feeds.named c.args.route.feeds.value) c.args.route.end.value.queue)
+    _ _ _ _ _ _ _ _ was.joined none sent in
     let shares = subst (λ workers. AreAllServed c.args.form g.C.Client.opens g.C.Reader.Read.remaining g.C.Writer.Write.contents
-    g.T.Versions.number g.T.Versions.value g.T.Versions.known c.args.dealer.view.sent
-    (map (λ worker. worker.promise.seat.value) workers) c.loop-worker.served c.loop-worker.seats.items) items served in
+    g.T.Versions.number g.T.Versions.value g.T.Versions.known
+    g.T.Versions.noted (route_to (g.F.Feeds.named c.args.route.feeds.value) c.args.route.end.value.queue) c.args.dealer.view.sent
+    (map (λ worker. worker.promise.seat.value) workers) c.loop-worker.orders c.loop-worker.served c.loop-worker.seats.items) items served in
     record { fits = was.fit; shares = shares }

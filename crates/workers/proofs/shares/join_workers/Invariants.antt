@@ -1,5 +1,6 @@
 use Rattle.std.proofs.Common.{◌≡◌, ◌+◌, All, length}
 use Rattle.std.specs.Vec.Iter.{into_iter_items, into_iter_len}
+use Rattle.workers.specs.Ordering.{GoesBy, route_to}
 use Rattle.workers.proofs.Shared.{Joined}
 use Rattle.workers.proofs.shares.join_workers.Given as goal
 
@@ -13,12 +14,14 @@ invariant-loop-worker g l = record {
   fit : All (g.T.Versions.fits l.fn.shelves) l.seats.items;
   forms : All (λ worker. worker.promise.form ≡ l.fn.form) (into_iter_items l.worker-iterator);
   queues : All (λ worker. worker.promise.taker.value.queue ≡ l.fn.dealer.queue) (into_iter_items l.worker-iterator);
+  routes : All (λ worker. GoesBy worker.promise.route l.fn.route) (into_iter_items l.worker-iterator);
   queue : l.dealer.queue ≡ l.fn.dealer.queue;
   sent : l.dealer.view.sent ≡ l.fn.dealer.view.sent;
   closings : l.dealer.view.closings ≡ length (into_iter_items l.initial.worker-iterator);
   out : l.dealer.view.out ≡ length (into_iter_items l.worker-iterator);
   ended : l.dealer.view.ended + length (into_iter_items l.worker-iterator) ≡ l.dealer.view.closings;
   joined : Joined l.fn.form g.C.Client.opens g.C.Reader.Read.remaining g.C.Writer.Write.contents g.T.Versions.number g.T.Versions.value g.T.Versions.known
+      g.T.Versions.noted (route_to (g.F.Feeds.named l.fn.route.feeds.value) l.fn.route.end.value.queue)
       (λ worker. worker.promise.seat.value) (into_iter_items l.initial.worker-iterator) (into_iter_items l.worker-iterator)
-      l.dealer.view.taken l.served l.seats.items;
+      l.dealer.view.taken l.orders l.served l.seats.items;
 }

@@ -11,6 +11,7 @@ pub loop-init : goal.loop-init
 loop-init g c = record {
   fits = c.requires.fits;
   number = refl;
+  route = refl;
   learns = learns_same _ _;
   reads = refl;
   writes =
@@ -50,6 +51,7 @@ loop-preserved g c =
     record {
       fits = c.in-Ok-answer_line.ensures.fits;
       number = c.in-Ok-answer_line.ensures.number ∙ c.loop.invariant.number;
+      route = c.in-Ok-answer_line.ensures.route ∙ c.loop.invariant.route;
       learns = learns_on _ _ _ _ _ _ c.loop.invariant.learns c.in-Ok-answer_line.ensures.learns;
       reads = e.2.1 ∙ c.loop.invariant.reads;
       writes = c.in-Ok-answer_line.ensures.failures ∙ c.loop.invariant.writes;

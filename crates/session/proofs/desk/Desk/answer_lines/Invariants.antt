@@ -9,6 +9,7 @@ abbrev pub invariant-loop : goal.invariant-loop
 invariant-loop g l = record {
   fits : g.T.Versions.fits l.self.shelves.now l.seat;
   number : g.T.Versions.number l.seat ≡ g.T.Versions.number l.fn.seat;
+  route : g.O.Orders.route l.orders ≡ g.O.Orders.route l.fn.orders;
   learns : Learns (g.T.Versions.known l.fn.seat) (g.T.Versions.value l.fn.seat) (g.T.Versions.known l.seat) (g.T.Versions.value l.seat);
   reads : failures_of l.reader ≡ failures_of l.fn.reader;
   writes : failures_of l.writer ≡ failures_of l.fn.writer;

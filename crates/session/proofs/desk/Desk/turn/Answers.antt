@@ -49,7 +49,7 @@ returns-in-Some-Profile-clause-turn g c = λ l shows.
 
 pub returns-in-Some-Load-default-false-clause-turn : goal.returns-in-Some-Load-default-false-clause-turn
 returns-in-Some-Load-default-false-clause-turn g c = λ l shows.
-    let put = c.order_feed.ensures in
+    let put = c.order_feed.ensures.put in
     let arm = c.in-Some-Load-default-false in
     let here = whole c.args.line c.in-Whole.bytes l c.in-Whole.is shows in
     let asked = waits_not (view c.in-Ok.value) _ arm.field-0-1 arm.field-0-1-test (asks_known (view c.in-Ok.value) _ _ arm.field-0-is arm.ensures) in

@@ -1,4 +1,4 @@
-use Rattle.std.proofs.Common.{length}
+use Rattle.std.proofs.Common.{◌∙◌, length, refl}
 use Rattle.load_orders.specs.Queue.{mark_of}
 use Rattle.workers.proofs.Carried.{all_carried, carries_also, carries_nothing}
 use Rattle.workers.proofs.carrying.Loading.load_all.Goals as goal
@@ -10,6 +10,7 @@ loop-init g c =
     record {
       next = tt;
       finite = tt;
+      queue = refl;
       loads = c.requires.loads;
       carried = carries_nothing g.T.Versions.noted (g.F.Feeds.are_files feeds) g.F.Files.FeedFiles.holds g.F.Files.FeedFiles.reads
           g.F.Files.FeedFiles.failures g.F.Files.FeedFiles.failed (g.F.Feeds.is_plan feeds)
@@ -24,6 +25,7 @@ loop-preserved g c =
     record {
       next = tt;
       finite = tt;
+      queue = one.queue ∙ c.in-Some-next.ensures.queue ∙ c.loop.invariant.queue;
       loads = one.loads;
       carried = carries_also g.T.Versions.noted (g.F.Feeds.are_files feeds) g.F.Files.FeedFiles.holds g.F.Files.FeedFiles.reads
           g.F.Files.FeedFiles.failures g.F.Files.FeedFiles.failed (g.F.Feeds.is_plan feeds)
@@ -42,4 +44,4 @@ returns-in-None-next g c =
     (length (g.F.Feeds.named feeds)) c.loop.orders c.next-in-loop.new.self
     (g.T.Loads.answers c.args.seat) (g.T.Loads.answers c.loop.seat)
     c.loop.invariant.carried last.taken last.answered last.over in
-    record { loads = c.loop.invariant.loads; carried = carried }
+    record { loads = c.loop.invariant.loads; queue = last.queue ∙ c.loop.invariant.queue; carried = carried }

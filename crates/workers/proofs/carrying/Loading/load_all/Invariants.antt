@@ -1,4 +1,4 @@
-use Rattle.std.proofs.Common.{length}
+use Rattle.std.proofs.Common.{◌≡◌, length}
 use Rattle.workers.specs.Carrying.{AreCarriedOut}
 use Rattle.workers.proofs.carrying.Loading.load_all.Given as goal
 
@@ -6,6 +6,7 @@ abbrev pub invariant-loop : goal.invariant-loop
 invariant-loop g l = record {
   next : (goal.iterator-loop g).can_next l.iterator';
   finite : (goal.iterator-loop g).is_finite l.iterator';
+  queue : l.orders.queue ≡ l.fn.orders.queue;
   loads : g.T.Loads.loads l.self.shelves.now l.seat;
   carried : AreCarriedOut g.T.Versions.noted (g.F.Feeds.are_files l.self.feeds.now) g.F.Files.FeedFiles.holds g.F.Files.FeedFiles.reads
       g.F.Files.FeedFiles.failures g.F.Files.FeedFiles.failed

@@ -1,11 +1,13 @@
-use Rattle.std.proofs.Common.{rules, ◌≡◌, All, ◌∷◌, ◌∙◌, ◌+◌, suc, subst, arith, ap, length, refl, map}
+use Rattle.std.proofs.Common.{rules, ◌≡◌, All, [], ◌∷◌, ◌∙◌, ◌+◌, suc, subst, arith, ap, length, refl, map}
 use Rattle.std.proofs.lemmas.List.Elements.{All-nil, All-push}
 use Rattle.std.specs.Vec.Iter.{into_iter_items}
 use Rattle.client_queue.specs.Ends.{nothing_put}
 use Rattle.workers.proofs.Shared.{one_more_out, seated_none, seated_next, seated_all}
 use mathlib.Core.Path.{sym}
+use Rattle.load_orders.specs.Queue.{QueueId}
 use Rattle.workers.specs.Carrying.{AllCarriedOut}
-use Rattle.workers.specs.Sessions.{AreServedSince}
+use Rattle.workers.specs.Ordering.{GoesBy, route_to}
+use Rattle.workers.specs.Sessions.{AreServedSince, MayClose}
 use Rattle.workers.proofs.running.fn.run_workers.scope.Goals as goal
 
 -- the next seat is one of those that are left
@@ -14,8 +16,14 @@ spawn_with-begun-requires-clause-runs g c =
     let left : All (g.T.Versions.fits c.captures.shelves.now) (c.in-Some.seat ∷ c.next.new.self.rest.items) =
     subst (λ items. All (g.T.Versions.fits c.captures.shelves.now) items) c.in-Some.ensures.steps.0 c.loop-seat.invariant.fit in
     let fits : g.T.Versions.fits c.captures.shelves.now c.in-Some.seat = left 0 c.in-Some.seat (omega arith) in
-    let closes = c.requires.15 in
-    search rules
+    let ready : g.T.Versions.fits c.captures.shelves.now c.in-Some.seat × (c.in_ok-taker.taker.taken ≡ []) × (c.new-nobody_yet.result ≡ [])
+    × (c.in_ok-end.end.orders ≡ [])
+    × MayClose c.captures.form g.C.Client.opens g.C.Reader.Read.remaining g.C.Writer.Write.contents g.C.Client.closes =
+    (fits, ap (λ taker. taker.taken) c.in_ok-taker.ensures.taker, c.new-nobody_yet.ensures, c.in_ok-end.ensures.another, c.requires.15) in
+    λ κs within. (
+      ready,
+      (search rules, search rules, search rules, search rules, search rules, search rules, search rules, search rules, search rules, search rules),
+    )
 
 pub loop-seat-preserved : goal.loop-seat-preserved
 loop-seat-preserved g c =
@@ -44,6 +52,14 @@ loop-seat-preserved g c =
           (All-push (λ worker. worker.promise.taker.value.queue ≡ c.taker.new.self.queue) _ worker
           (subst (λ queue. All (λ worker. worker.promise.taker.value.queue ≡ queue) c.loop-seat.workers.items) (sym queue) was.queues)
           (ap (λ promise. promise.taker.value.queue) promise ∙ ap (λ t. t.queue) c.of.ensures.taker ∙ ap (λ t. t.queue) taker ∙ sym queue));
+      routes = subst (λ workers. All (λ worker. GoesBy worker.promise.route c.of-route.result) workers) (sym items)
+          (All-push (λ worker. GoesBy worker.promise.route c.of-route.result) _ worker was.routes (
+            ap (λ promise. promise.route.end.value.queue) promise ∙ ap (λ route. route.end.value.queue) c.of.ensures.route
+                ∙ ap (λ end. end.queue) c.of-way.ensures.end ∙ c.in_ok-end.ensures.queue ∙ was.asks,
+            ap (λ promise. promise.route.feeds.value) promise ∙ ap (λ route. route.feeds.value) c.of.ensures.route ∙ c.of-way.ensures.feeds
+                ∙ sym c.of-route.ensures.feeds,
+          ));
+      asks = ap (λ end. end.queue) c.another.ensures.same ∙ was.asks;
       dealer = one_more_out _ _ _ _ _ out was.dealer items;
       seated = seated_next _ _ _ _ _ _ worker c.in-Some.seat was.seated step.0 items
           (ap (λ promise. promise.seat.value) promise ∙ c.of.ensures.seat);
@@ -62,6 +78,8 @@ loop-seat-init g c =
       at = subst (λ workers. All (λ worker. worker.promise.shelves.value ≡ c.captures.shelves.now) workers) (sym none) (All-nil _);
       forms = subst (λ workers. All (λ worker. worker.promise.form ≡ c.captures.form) workers) (sym none) (All-nil _);
       queues = subst (λ workers. All (λ worker. worker.promise.taker.value.queue ≡ c.in_ok-dealer.dealer.queue) workers) (sym none) (All-nil _);
+      routes = subst (λ workers. All (λ worker. GoesBy worker.promise.route c.of-route.result) workers) (sym none) (All-nil _);
+      asks = ap (λ end. end.queue) (sym c.of-route.ensures.end);
       dealer = c.in_ok-dealer.ensures ∙ ap (λ list. record nothing_put { out = length list }) (sym none);
       seated = seated_none _ _ _ none;
     }
@@ -73,17 +91,32 @@ returns-in-Ok-served g c =
     let none = sym was.len ∙ c.in-None.ensures.steps.0 in
     let seats = seated_all _ _ _ _ was.seated none ∙ c.into_iter-seat-iterator.ensures.into_iter_gives.0 in
     let ran = c.in-Ok-served in
-    let shares = subst (λ seats. AreServedSince c.captures.form g.C.Client.opens g.C.Reader.Read.remaining g.C.Writer.Write.contents
-    g.T.Versions.number g.T.Versions.value g.T.Versions.known (g.K.Clients.came c.captures.clients) (g.K.Clients.came ran.clients)
-    seats ran.served ran.seats.items) seats ran.ensures.shares in
     let done = c.join-orders.result in
     let promised = c.in-Ok.ensures.ok in
+    let queue : c.of-route.result.end.value.queue ≡ done.0.queue =
+    ap (λ end. end.queue) c.of-route.ensures.end ∙ c.in_ok-asks.ensures.queue
+    ∙ sym (ap (λ orders. orders.queue) (ap (λ promise. promise.orders.value) promised ∙ c.of-promise.ensures.orders))
+    ∙ sym c.join-orders.ensures.1 in
+    let at_seats = subst (λ seats. AreServedSince c.captures.form g.C.Client.opens g.C.Reader.Read.remaining g.C.Writer.Write.contents
+    g.T.Versions.number g.T.Versions.value g.T.Versions.known
+    g.T.Versions.noted (route_to (g.F.Feeds.named c.of-route.result.feeds.value) c.of-route.result.end.value.queue)
+    (g.K.Clients.came c.captures.clients) (g.K.Clients.came ran.clients) seats ran.asked ran.served ran.seats.items) seats ran.ensures.shares in
+    let of_feeds = subst (λ feeds. AreServedSince c.captures.form g.C.Client.opens g.C.Reader.Read.remaining g.C.Writer.Write.contents
+    g.T.Versions.number g.T.Versions.value g.T.Versions.known
+    g.T.Versions.noted (route_to (g.F.Feeds.named feeds) c.of-route.result.end.value.queue)
+    (g.K.Clients.came c.captures.clients) (g.K.Clients.came ran.clients) c.captures.seats.items ran.asked ran.served ran.seats.items)
+    c.of-route.ensures.feeds at_seats in
+    let shares = subst (λ (queue : QueueId). AreServedSince c.captures.form g.C.Client.opens g.C.Reader.Read.remaining g.C.Writer.Write.contents
+    g.T.Versions.number g.T.Versions.value g.T.Versions.known
+    g.T.Versions.noted (route_to (g.F.Feeds.named c.captures.feeds.now) queue)
+    (g.K.Clients.came c.captures.clients) (g.K.Clients.came ran.clients) c.captures.seats.items ran.asked ran.served ran.seats.items)
+    queue of_feeds in
     let feeds = ap (λ promise. promise.feeds.value) promised ∙ c.of-promise.ensures.feeds in
     let seat = ap (λ promise. promise.seat.value) promised ∙ c.of-promise.ensures.seat in
     let at_feeds = subst (λ feeds. AllCarriedOut g.T.Versions.noted (g.F.Feeds.are_files feeds) g.F.Files.FeedFiles.holds g.F.Files.FeedFiles.reads
     g.F.Files.FeedFiles.failures g.F.Files.FeedFiles.failed
     (g.F.Feeds.is_plan feeds) (length (g.F.Feeds.named feeds)) done.0
-    (g.T.Loads.answers c.in-Ok.loading.promise.seat.value) (g.T.Loads.answers done.1)) feeds c.join-orders.ensures.1 in
+    (g.T.Loads.answers c.in-Ok.loading.promise.seat.value) (g.T.Loads.answers done.1)) feeds c.join-orders.ensures.2 in
     let loader = subst (λ shelves. g.T.Loads.loads shelves done.1) (ap (λ promise. promise.shelves.value) promised ∙ c.of-promise.ensures.shelves)
     c.join-orders.ensures.0 in
     let loads = subst (λ seat. AllCarriedOut g.T.Versions.noted (g.F.Feeds.are_files c.captures.feeds.now)

@@ -1,0 +1,84 @@
+-- Orders that are asked for, one after the other.
+use Rattle.std.proofs.Common.{◌≡◌, ◌++◌, ◌∷◌, ℕ, List, [], Some, Ok, Err, Result, IfErr, IfOk, OnOk, ap, subst, sym, refl}
+use Rattle.orders.specs.Ordering.{OrderValue, version_told}
+use Rattle.orders.specs.declared.fault.OrderFault.{OrderFault}
+use Rattle.orders.specs.declared.ordered.Outcome.{Outcome}
+use Rattle.load_orders.specs.Asking.{AreAsked, Does, HasAsked, Hears, IsFirst, IsNoted, IsTurnedAway, OrderRoute, RefusesVersion, WorkerOrdersValue}
+use Rattle.load_orders.specs.Asking.{nothing_asked, order_of, route_of, unasked}
+use Rattle.load_orders.specs.Queue.{EndValue, QueueId}
+use Rattle.load_orders.specs.Ways.{WayValue}
+use Rattle.load_orders.specs.declared.queue.Known.{Known}
+use Rattle.load_orders.specs.declared.queue.Order.{Order}
+use Rattle.load_orders.specs.declared.ways.LoadAnswer.{LoadAnswer}
+
+module _ {N : Type 0} (holds : List (Order N) → List Known → Type 0) (noted : N → ℕ) where
+  one_more : (orders : List OrderValue) (order : OrderValue) (a b c : WorkerOrdersValue N) → AreAsked holds noted orders a b
+      → Does holds noted order.feed order.outcome b c → IsNoted order b c → AreAsked holds noted (orders ++ order ∷ []) a c
+  one_more [] order a b c is does same = (
+    c,
+    subst (λ (x : WorkerOrdersValue N). Does holds noted order.feed order.outcome x c) is does,
+    subst (λ (x : WorkerOrdersValue N). IsNoted order x c) is same,
+    refl,
+  )
+  one_more (first ∷ orders) order a b c is does same = (is.0, is.1, is.2, one_more orders order is.0 b c is.3 does same)
+
+  -- a further order is asked for
+  pub asked_once_more : (order : OrderValue) (b c : WorkerOrdersValue N) → HasAsked holds noted b → Does holds noted order.feed order.outcome b c
+      → IsNoted order b c → HasAsked holds noted c
+  asked_once_more order b c is does noted_so =
+      let all = one_more b.asked order (nothing_asked (route_of b)) b c is does noted_so in
+      let here = subst (λ (route : OrderRoute). AreAsked holds noted (b.asked ++ order ∷ []) (nothing_asked route) c) (sym noted_so.0) all in
+      subst (λ (orders : List OrderValue). AreAsked holds noted orders (nothing_asked (route_of c)) c) (sym noted_so.1) here
+
+  -- what an order did shows whatever was asked for before
+  does_so : (feed : List ℕ) (outcome : Outcome) (names : List (List ℕ)) (end end_then : EndValue) (asked asked_then : List OrderValue)
+      (heard heard_then : List (WayValue N))
+      → Does holds noted feed outcome (unasked names end heard) (unasked names end_then heard_then)
+      → Does holds noted feed outcome (record { names = names; end = end; asked = asked; heard = heard })
+      (record { names = names; end = end_then; asked = asked_then; heard = heard_then })
+  does_so feed (Outcome.Put (Ok u)) names end end_then asked asked_then heard heard_then does = does
+  does_so feed (Outcome.Put (Err OrderFault.UnknownFeed)) names end end_then asked asked_then heard heard_then does = does
+  does_so feed (Outcome.Put (Err OrderFault.OrdersFull)) names end end_then asked asked_then heard heard_then does = does
+  does_so feed (Outcome.Put (Err (OrderFault.LoadRefused refusal))) names end end_then asked asked_then heard heard_then does = absurd does.0
+  does_so feed (Outcome.Put (Err OrderFault.OutOfMemory)) names end end_then asked asked_then heard heard_then does = absurd does.0
+  does_so feed (Outcome.Put (Err OrderFault.LoaderGone)) names end end_then asked asked_then heard heard_then does = does
+  does_so feed (Outcome.Waited (Ok version)) names end end_then asked asked_then heard heard_then does = does
+  does_so feed (Outcome.Waited (Err OrderFault.UnknownFeed)) names end end_then asked asked_then heard heard_then does = does
+  does_so feed (Outcome.Waited (Err OrderFault.OrdersFull)) names end end_then asked asked_then heard heard_then does = does
+  does_so feed (Outcome.Waited (Err (OrderFault.LoadRefused refusal))) names end end_then asked asked_then heard heard_then does = does
+  does_so feed (Outcome.Waited (Err OrderFault.OutOfMemory)) names end end_then asked asked_then heard heard_then does = does
+  does_so feed (Outcome.Waited (Err OrderFault.LoaderGone)) names end end_then asked asked_then heard heard_then does = does
+
+  -- one order more, by what it did at the end of the queue and what was heard of it
+  pub asked_more : (order : OrderValue) (names : List (List ℕ)) (end end_then : EndValue) (asked asked_then : List OrderValue)
+      (heard heard_then : List (WayValue N)) → HasAsked holds noted (record { names = names; end = end; asked = asked; heard = heard })
+      → Does holds noted order.feed order.outcome (unasked names end heard) (unasked names end_then heard_then)
+      → end_then.queue ≡ end.queue → asked_then ≡ asked ++ order ∷ []
+      → HasAsked holds noted (record { names = names; end = end_then; asked = asked_then; heard = heard_then })
+  asked_more order names end end_then asked asked_then heard heard_then is does queue grows =
+      let To : QueueId → OrderRoute = λ q. record { names = names; queue = q } in
+      let before : WorkerOrdersValue N = record { names = names; end = end; asked = asked; heard = heard } in
+      let after : WorkerOrdersValue N = record { names = names; end = end_then; asked = asked_then; heard = heard_then } in
+      asked_once_more order before after is
+      (does_so order.feed order.outcome names end end_then asked asked_then heard heard_then does) (ap To queue, grows)
+
+  -- an order that was put, or for which there was no room
+  pub does_put : (feed : List ℕ) (place : ℕ) (outcome : Result (Unit {0}) OrderFault) (names : List (List ℕ)) (end end_then : EndValue)
+      (heard : List (WayValue N)) → IsFirst names feed place → OnOk outcome (end_then.orders ≡ end.orders ++ order_of place ∷ [])
+      → IfErr outcome (λ fault. IsTurnedAway holds end fault × (end_then ≡ end))
+      → Does holds noted feed (Outcome.Put outcome) (unasked names end heard) (unasked names end_then heard)
+  does_put feed place (Ok u) names end end_then heard first put refused = ((place, first, put), refl)
+  does_put feed place (Err OrderFault.UnknownFeed) names end end_then heard first put refused = absurd refused.0
+  does_put feed place (Err OrderFault.OrdersFull) names end end_then heard first put refused = (((place, first), refused.0), refused.1, refl)
+  does_put feed place (Err (OrderFault.LoadRefused refusal)) names end end_then heard first put refused = absurd refused.0
+  does_put feed place (Err OrderFault.OutOfMemory) names end end_then heard first put refused = absurd refused.0
+  does_put feed place (Err OrderFault.LoaderGone) names end end_then heard first put refused = ((place, first), refused.1, refl)
+
+  -- an order that was waited for
+  pub does_wait : (feed : List ℕ) (told : Result (ℕ × N) OrderFault) (names : List (List ℕ)) (end end_then : EndValue)
+      (heard heard_then : List (WayValue N)) → IfOk told (λ r. noted r.1 ≡ r.0)
+      → IfOk told (λ r. Hears feed (Some (LoadAnswer.Published r.1)) (unasked names end heard) (unasked names end_then heard_then))
+      → IfErr told (λ fault. RefusesVersion holds feed fault (unasked names end heard) (unasked names end_then heard_then))
+      → Does holds noted feed (Outcome.Waited (version_told told)) (unasked names end heard) (unasked names end_then heard_then)
+  does_wait feed (Ok r) names end end_then heard heard_then version hears refused = (r.1, version, hears)
+  does_wait feed (Err fault) names end end_then heard heard_then version hears refused = refused
