@@ -1,7 +1,7 @@
 //! `csa serve --image IMAGE --port P --workers W --sessions N [--legs] [--log] --first DAY --days N --zone ZONE
 //! [NAME=FOLDER]..`.
 
-ghost use Rattle.std.specs.Prelude.{◌≡◌, ◌≢◌, ◌≤◌, ◌⊎◌, true, false, [], All, length, map};
+ghost use Rattle.std.specs.Prelude.{◌≡◌, ◌≢◌, ◌≤◌, ◌⊎◌, [], All, length, map};
 ghost use Rattle.std.specs.Prelude.{slice_get, Some, string_bytes, IfOk};
 ghost use Rattle.std.specs.Io.KnownBytes.{Appends};
 ghost use Rattle.command_requests.specs.Ending.{status_of};
@@ -13,7 +13,7 @@ ghost use Rattle.epochs.specs.ShelfSeats.{NoticeValue, SeatsHanded};
 ghost use Rattle.load_orders.specs.Queue.{QueueId};
 ghost use Rattle.workers.specs.Carrying.{ComeOfOrders};
 ghost use Rattle.workers.specs.Ordering.{route_to};
-ghost use Rattle.workers.specs.Sessions.{AreServedBySome};
+ghost use Rattle.workers.specs.Sessions.{AreServedBySome, MayClose};
 ghost use Rattle.csa_program.specs.Serving.{IsServerEnd, counts_of, form_with, port_text, served_text};
 ghost use Rattle.feed_plans.specs.Planning.{IsPlanNow};
 
@@ -22,8 +22,7 @@ use crate::explaining::Explains;
 use crate::folders::warn_of_folders;
 use crate::logging::{LoaderErrors, SessionLog, SharedErrors, log_load};
 use crate::machine::Machine;
-use crate::requests::Requests;
-use crate::sockets::{Door, Visit, Visitor};
+use crate::sockets::{Door, Visitor};
 use clock_days::instant;
 use command_requests::{Ends, NamedFolder, PlanText, ServeRequest};
 use csa_commands::{
@@ -46,7 +45,8 @@ use std::thread::Threads;
 use std::time::{Clock, Instant};
 use text_pieces::{put_number, put_text};
 use workers::{
-    Client, Feeds, LoadRefusal, Loaded, PointForm, Served, ShelvesRan, WorkersFault, run_shelves,
+    Client, Clients, Feeds, LoadRefusal, Loaded, PointForm, Served, ShelvesRan, WorkersFault,
+    run_shelves,
 };
 
 /// The folders of the feeds that may be loaded.
@@ -278,36 +278,36 @@ fn end_of<'d, L: SessionLog + Sync>(ran: &ShelvesRan<Visitor<'d, L>, Door<'d, L>
     (ends_of(&ran.served), ran.clients.has_failed())
 }
 
-// Serves whoever comes to the door at these shelves, until nobody is left.
+// Serves whoever comes at these shelves, until nobody is left. Whose bytes they bring makes no difference: what is said
+// of clients whose bytes are known is of the very code that serves sockets.
 fn serve_all<
-    'd,
     'f,
+    C: Client + Drop + Send,
+    K: Clients<C> + Drop,
     H: Disk + Explains + Clock + Threads + Wait + Sync,
-    L: SessionLog + Sync,
     E: Write + Send + Drop,
 >(
     rt: &H,
-    door: Door<'d, L>,
+    clients: K,
     made: (Shelves, ShelfLoader, Vec<ShelfSeat>),
     folders: &Folders<'f, H>,
     form: PointForm,
     errors: E,
-) -> Result<ShelvesRan<Visitor<'d, L>, Door<'d, L>>, WorkersFault>
+) -> Result<ShelvesRan<C, K>, WorkersFault>
     requires loader { made.1.table ≡ made.0 }
     requires seats { All (λ seat. seat.table ≡ made.0) made.2.items }
     requires new { SeatsHanded made.0 (length made.2.items) made.2.items }
     requires some { 1 ≤ length made.2.items }
     requires few { length made.2.items ≤ 16 }
-    ensures none_left { IfOk result (λ ran. (ran.clients.failed ≡ true)
-        ⊎ ((ran.clients.is_endless ≡ false) × (ran.clients.left ≡ 0))) }
+    requires closes { MayClose form C.opens C.Reader.remaining C.Writer.contents C.closes }
+    ensures none_left { IfOk result (λ ran. K.none_left ran.clients) }
     ensures seats { IfOk result (λ ran. All (λ seat. seat.table ≡ made.0) ran.seats.items) }
     ensures loader { IfOk result (λ ran. ran.loader.table ≡ made.0) }
     ensures served { IfOk result (λ ran. (queue : QueueId)
-        × AreServedBySome form ⟦<Visitor<'d, L> as Client>⟧.opens
-        ⟦<Requests<TcpStream, Option<Visit<'d, L>>> as Read>⟧.remaining ⟦<TcpStream as Write>⟧.contents
+        × AreServedBySome form C.opens C.Reader.remaining C.Writer.contents
         (λ seat. seat.number) (λ seat. seat.shown) (λ seat. known_of seat.view)
         (λ (notice : NoticeValue). notice.version) (route_to folders.now.names.items queue)
-        door.entry.came ran.clients.came made.2.items ran.served ran.seats.items
+        (K.came clients) (K.came ran.clients) made.2.items ran.served ran.seats.items
         × ComeOfOrders (λ (notice : NoticeValue). notice.version)
         (⟦<Folders<'f, H> as Feeds>⟧.are_files folders.now) ⟦<FolderFiles<'f, H> as FeedFiles>⟧.holds
         ⟦<FolderFiles<'f, H> as FeedFiles>⟧.reads ⟦<FolderFiles<'f, H> as FeedFiles>⟧.failures
@@ -319,7 +319,7 @@ fn serve_all<
     run_shelves::<Brand, _, _, _, _, _, _>(
         rt,
         folders.alloc,
-        door,
+        clients,
         shelves,
         seats,
         loader,
