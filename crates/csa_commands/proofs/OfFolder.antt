@@ -1,5 +1,5 @@
 -- What a command read of a folder is of that folder.
-use Rattle.std.proofs.Common.{◌≡◌, ◌∙◌, ◌∷◌, ℕ, List, subst}
+use Rattle.std.proofs.Common.{◌≡◌, ◌∷◌, ℕ, List, subst, sym}
 use Rattle.std.specs.Prelude.{All}
 use Rattle.connections.specs.declared.report.Report.{Report}
 use Rattle.command_requests.specs.declared.plans.PlanText.{PlanText}
@@ -41,3 +41,11 @@ module _ {D : Type 0} (gives : D → List ℕ → MayGive) (disk : D) (folder be
       → IsBuiltFrom gives folder asked t names report
   built_of asked bytes plan t names report same planned given (content, read, loaded) =
       (bytes, plan, content, planned, may_be_of content same read given, loaded)
+
+-- all files were read by some moment, and after that none
+pub whole_of : {X : Type 0} (reads : X → List FileRead) (old : List FileRead) (then files : X)
+    (IsIt : Content → Type 0) → files ≡ then → AllWereRead old (reads then)
+    → ((content : Content) → AreRead content all_tables old (reads then) → IsIt content)
+    → (content : Content) × AreRead content all_tables old (reads files) × IsIt content
+whole_of reads old then files IsIt same (content, read) made =
+    (content, subst (λ at. AreRead content all_tables old (reads at)) (sym same) read, made content read)

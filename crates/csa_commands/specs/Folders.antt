@@ -25,7 +25,7 @@ module _ {D : Type 0} (gives : D → List ℕ → MayGive) (folder : List ℕ) w
   abbrev pub AreTablesOf : Tables → Type 0
   AreTablesOf t = (content : Content) × MayBeOf content × HoldsTables content t
 
-  -- the feed is that of the folder's files, whose transfers may name what isn't there
+  -- the feed is that of the folder's files, whose hops may take no time
   abbrev pub IsFeedOf : Feed → Type 0
   IsFeedOf feed = (t : Tables) × AreTablesOf t × IsJoined false t feed
 

@@ -11,7 +11,7 @@ pub struct Separator {
 impl Separator {
     /// Nothing is listed yet; this text is ahead of the first thing.
     pub fn new(first: &'static str) -> Separator
-        ensures { result.first ≡ Some first }
+        ensures { result.first ≡ Some first.entry }
     {
         Separator { first: Some(first) }
     }

@@ -1,4 +1,5 @@
 -- The feed is that of the folder.
+use Rattle.feed_files.specs.Reads.{all_tables}
 use Rattle.csa_commands.proofs.OfFolder.{tables_of}
 use Rattle.csa_commands.proofs.days.read_feed.Goals as goal
 
@@ -10,6 +11,6 @@ returns g c =
     let read = c.in_ok-tables.ensures in (
       tables,
       tables_of g.H.Disk.gives then.disk.now c.args.folder.now began.folder.now then.folder.now began.reads then.reads
-          tables c.new-files.ensures.folder read.all_read then.given (λ content is. read.read_ok content _ is),
+          tables c.new-files.ensures.folder read.all_read then.given (λ content is. read.read_ok content all_tables is),
       c.in_ok-feed.ensures.ok,
     )
