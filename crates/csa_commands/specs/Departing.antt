@@ -63,8 +63,9 @@ ArePrinted criterion form image d wanted before after =
 -- those of what is asked, which can be asked
 abbrev pub AreAllPrinted : ImageValue → DeparturesRequest → Option (List ℕ) → Option (List ℕ) → Type 0
 AreAllPrinted image request before after =
-    (d : Destination) × (wanted : Wanted) × CanBeAsked image.timetable.stops d × AsksAll image.names request.to.now (window_asked request) d
-    × IsWantedFrom image.names request.from wanted × ArePrinted request.criterion request.form image d wanted before after
+    (d : Destination) × (wanted : Wanted) × CanBeAsked image.timetable.stops d
+    × AsksAll image.names request.to.now (window_asked request) d × IsWantedFrom image.names request.from wanted
+    × ArePrinted request.criterion request.form image d wanted before after
 
 -- nothing is asked of the image, for a fault; or else a file is given that has a line that is no stop_id
 abbrev pub IsNoneAsked : ImageValue → DeparturesRequest → Type 0
