@@ -3,6 +3,7 @@
 #![tactic(auto)]
 
 mod ends;
+pub mod laws;
 mod plans;
 mod requests;
 pub mod statuses;

@@ -7,6 +7,7 @@ use Rattle.criteria.specs.declared.name.CriterionName.{CriterionName}
 use Rattle.criteria.specs.declared.told.ToldValue.{ToldValue}
 use Rattle.timetable.specs.declared.query.Query.{Query}
 use Rattle.timetable.specs.declared.query.QueryFault.{QueryFault}
+use Rattle.timetable.specs.Queries.{IsAskable}
 use Rattle.image_layout.specs.Image.{ImageValue}
 use Rattle.profile_scan.specs.Kept.{IsWay}
 use Rattle.profile_scan.specs.Points.{IsAnswer}
@@ -39,10 +40,11 @@ IsShownBy CriterionName.Arrival form image q printed = IsShown arrival_told by_a
 IsShownBy CriterionName.ArrivalTrips form image q printed = IsShown trips_told by_trips form image q printed
 IsShownBy CriterionName.ArrivalTripsWalk form image q printed = IsShown walking_told by_walking form image q printed
 
--- the text answers the question that is asked of the image
+-- the question asks a query of the image, which can be asked, and the text answers it
 abbrev pub AnswersRequest : ImageValue → ProfileRequest → List ℕ → Type 0
 AnswersRequest image request printed =
-    (q : Query) × Asks image.names request.question.from.now request.question.to.now (window_of request.question) q
+    (q : Query) × IsAskable image.timetable.stops q
+    × Asks image.names request.question.from.now request.question.to.now (window_of request.question) q
     × IsShownBy request.criterion request.form image q printed
 
 -- the question asks no query of the image, for the fault

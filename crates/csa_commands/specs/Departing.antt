@@ -6,6 +6,7 @@ use Rattle.criteria.specs.declared.name.CriterionName.{CriterionName}
 use Rattle.timetable.specs.NamesValue.{NamesValue}
 use Rattle.timetable.specs.declared.query.QueryFault.{QueryFault}
 use Rattle.image_layout.specs.Image.{ImageValue}
+use Rattle.profile_scan.specs.Destinations.{CanBeAsked}
 use Rattle.profile_scan.specs.declared.destination.Destination.{Destination}
 use Rattle.journeys.specs.Questions.{AsksAll, IsRefusedOfAll}
 use Rattle.journeys.specs.declared.question.Window.{Window}
@@ -59,10 +60,11 @@ abbrev pub ArePrinted : CriterionName → DeparturesForm → ImageValue → Dest
 ArePrinted criterion form image d wanted before after =
     (printed : List ℕ) × AreShownBy criterion form image d wanted printed × Appends before after printed
 
--- those of what is asked
+-- those of what is asked, which can be asked
 abbrev pub AreAllPrinted : ImageValue → DeparturesRequest → Option (List ℕ) → Option (List ℕ) → Type 0
 AreAllPrinted image request before after =
-    (d : Destination) × (wanted : Wanted) × AsksAll image.names request.to.now (window_asked request) d × IsWantedFrom image.names request.from wanted
+    (d : Destination) × (wanted : Wanted) × CanBeAsked image.timetable.stops d
+    × AsksAll image.names request.to.now (window_asked request) d × IsWantedFrom image.names request.from wanted
     × ArePrinted request.criterion request.form image d wanted before after
 
 -- nothing is asked of the image, for a fault; or else a file is given that has a line that is no stop_id

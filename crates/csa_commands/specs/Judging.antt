@@ -5,6 +5,7 @@ use Rattle.timetable.specs.declared.journey.Times.{Times}
 use Rattle.timetable.specs.declared.query.Query.{Query}
 use Rattle.timetable.specs.JourneyValue.{JourneyValue}
 use Rattle.timetable.specs.Journeys.{Counts, arrival}
+use Rattle.timetable.specs.Queries.{IsAskable}
 use Rattle.image_layout.specs.Image.{ImageValue}
 use Rattle.journeys.specs.Faults.{first_fault}
 use Rattle.journeys.specs.Questions.{Asks, IsRefused}
@@ -15,9 +16,14 @@ use Rattle.departure_lines.specs.Words.{times_text}
 use Rattle.csa_commands.specs.declared.journey.Failure.{Failure}
 use Rattle.csa_commands.specs.declared.journey.Failure.TheVariants.{BadQuery, BadText, Faulty, OutOfMemory}
 
--- the question asks this query of the image, and the text is that of this journey
+-- the question asks this query of the image, which can be asked
+abbrev pub IsQueried : ImageValue → Question → Query → Type 0
+IsQueried image question q =
+    IsAskable image.timetable.stops q × Asks image.names question.from.now question.to.now (window_of question) q
+
+-- the question asks this query, and the text is that of this journey
 pub record IsPosed (image : ImageValue) (question : Question) (text : List ℕ) (q : Query) (j : JourneyValue) : Type 0 where
-  pub asks : Asks image.names question.from.now question.to.now (window_of question) q
+  pub queried : IsQueried image question q
   pub has_text : HasText j
   pub spells : text ≡ text_of j
 
@@ -27,7 +33,7 @@ IsVerdict image question text (Ok times) =
     (q : Query) × (j : JourneyValue) × IsPosed image question text q j × Counts image.timetable q times.dep j × (times.arr ≡ arrival image.timetable j)
 IsVerdict image question text (Err (BadQuery fault)) = IsRefused image question.from.now question.to.now (window_of question) fault
 IsVerdict image question text (Err BadText) =
-    ((q : Query) × Asks image.names question.from.now question.to.now (window_of question) q) × ((j : JourneyValue) → HasText j → ¬ (text ≡ text_of j))
+    ((q : Query) × IsQueried image question q) × ((j : JourneyValue) → HasText j → ¬ (text ≡ text_of j))
 IsVerdict image question text (Err (Faulty fault)) =
     (q : Query) × (j : JourneyValue) × IsPosed image question text q j × (first_fault image.timetable q j ≡ Some fault)
 IsVerdict image question text (Err OutOfMemory) = Unit {0}

@@ -1,15 +1,13 @@
 -- What bytes that are an image show, and which are none.
 use Rattle.std.specs.Prelude.{◌≡◌, ◌≢◌, ◌⊎◌, ◌%◌, ℕ, List, Some, length}
-use Rattle.timetable.specs.TimetableValue.{TimetableValue}
-use Rattle.timetable.specs.NamesValue.{NamesValue}
-use Rattle.image_layout.specs.Image.{IsImage}
+use Rattle.image_layout.specs.Image.{ImageValue, Spells}
 use Rattle.image_layout.specs.Text.{bytes_of}
 use Rattle.image_verifier.specs.FirstFault.{first_fault}
 use Rattle.image_verifier.specs.declared.fault.ImageFault.{ImageFault}
 
--- the bytes spell words that are the image of a timetable and its names
-abbrev pub SpellsImage : TimetableValue → NamesValue → List ℕ → Type 0
-SpellsImage t n bytes = (words : List ℕ) × (bytes_of words ≡ bytes) × IsImage words t n
+-- the bytes spell the image's words, in its layout
+abbrev pub SpellsImage : ImageValue → List ℕ → Type 0
+SpellsImage image bytes = (words : List ℕ) × (bytes_of words ≡ bytes) × Spells words image
 
 -- the bytes are no whole words, or spell words that have a first fault
 abbrev pub IsNoImage : List ℕ → Type 0

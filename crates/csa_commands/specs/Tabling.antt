@@ -1,6 +1,8 @@
 -- The line that `csa tables` prints of a feed's tables.
-use Rattle.std.specs.Prelude.{◌≡◌, ℕ, List, Option, ◌++◌, codes, decimal, length}
+use Rattle.std.specs.Prelude.{◌≡◌, ℕ, List, Option, ◌++◌, codes, decimal, false, length}
 use Rattle.std.specs.Io.KnownBytes.{Appends}
+use Rattle.gtfs_tables.specs.Feeds.{IsJoined}
+use Rattle.gtfs_tables.specs.declared.tables.Feed.{Feed}
 use Rattle.gtfs_tables.specs.declared.tables.Tables.{Tables}
 use Rattle.feed_files.specs.Files.{MayGive}
 use Rattle.csa_commands.specs.Folders.{AreTablesOf}
@@ -34,9 +36,13 @@ services_text counts =
 abbrev pub counts_text : Counts → List ℕ
 counts_text counts = trips_text counts ++ services_text counts ++ codes "\n"
 
+-- the tables join, so nothing is wrong with them, and have so many records
+abbrev pub AreCountsOfJoined : Tables → Counts → Type 0
+AreCountsOfJoined t counts = (feed : Feed) × IsJoined false t feed × (counts ≡ counts_of t)
+
 -- the tables of the folder's files have so many records
 abbrev pub AreCountsOf : {D : Type 0} → (D → List ℕ → MayGive) → List ℕ → Counts → Type 0
-AreCountsOf gives folder counts = (t : Tables) × AreTablesOf gives folder t × (counts ≡ counts_of t)
+AreCountsOf gives folder counts = (t : Tables) × AreTablesOf gives folder t × AreCountsOfJoined t counts
 
 -- the line of these tables was added to what was printed before, and nothing else
 abbrev pub AreCounted : {D : Type 0} → (D → List ℕ → MayGive) → List ℕ

@@ -1,7 +1,7 @@
 //! What is asked of an image.
 
 ghost use Rattle.std.specs.Prelude.{◌≡◌};
-ghost use Rattle.command_requests.specs.declared.statuses.TheConstants.{ACCEPTED, REFUSED};
+ghost use Rattle.command_requests.specs.declared.statuses.TheConstants.{ACCEPTED, OUT_OF_MEMORY, REFUSED};
 ghost use Rattle.csa_commands.specs.Commands.{IsDone, IsRefusedAs};
 
 use crate::windows::{Departures, warn_of_window};
@@ -82,6 +82,7 @@ pub fn answer<H: Files + AllocGlobal, O: Write, E: Write>(
     ensures printed { result ≡ ACCEPTED
         → IsDone image.now asked.entry (O.contents output.old) (O.contents output.new) }
     ensures refused { result ≡ REFUSED → IsRefusedAs image.now asked.entry }
+    ensures silent { result ≡ OUT_OF_MEMORY → O.contents output.new ≡ O.contents output.old }
 {
     let status = do_asked(rt, image, asked, output, errors);
     if warnings && status == status::ACCEPTED {
@@ -101,6 +102,7 @@ fn do_asked<H: Files + AllocGlobal, O: Write, E: Write>(
     ensures printed { result ≡ ACCEPTED
         → IsDone image.now asked.entry (O.contents output.old) (O.contents output.new) }
     ensures refused { result ≡ REFUSED → IsRefusedAs image.now asked.entry }
+    ensures silent { result ≡ OUT_OF_MEMORY → O.contents output.new ≡ O.contents output.old }
 {
     match asked {
         Asked::Verify(_) => verify::run(rt.alloc(), image, output),

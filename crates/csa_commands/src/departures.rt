@@ -4,7 +4,7 @@
 ghost use Rattle.std.specs.Prelude.{◌≡◌, ◌≢◌, ℕ, IfOk, MatchResult, string_bytes};
 ghost use Rattle.profile_scan.specs.Destinations.{CanBeAsked};
 ghost use Rattle.journeys.specs.Questions.{AsksAll, IsRefusedOfAll};
-ghost use Rattle.command_requests.specs.declared.statuses.TheConstants.{ACCEPTED, REFUSED};
+ghost use Rattle.command_requests.specs.declared.statuses.TheConstants.{ACCEPTED, OUT_OF_MEMORY, REFUSED};
 ghost use Rattle.departure_lines.specs.declared.form.LineForm.{LineForm};
 ghost use Rattle.csa_commands.specs.declared.wanted_stops.NoList.TheVariants.{UnknownStop};
 ghost use Rattle.csa_commands.specs.Departing.{AreAllPrinted, ArePrinted, AreShownBy, IsNoneAsked};
@@ -39,6 +39,7 @@ pub fn run<H: Files + AllocGlobal, O: Write, E: Write>(
     ensures printed { result ≡ ACCEPTED
         → AreAllPrinted image.now request.entry (O.contents output.old) (O.contents output.new) }
     ensures refused { result ≡ REFUSED → IsNoneAsked image.now request.entry }
+    ensures silent { result ≡ OUT_OF_MEMORY → O.contents output.new ≡ O.contents output.old }
 {
     let destination = match destination_asked(image, &request) {
         Ok(destination) => destination,
@@ -71,6 +72,7 @@ fn print_all<O: Write>(
         wanted.now
         (O.contents output.old) (O.contents output.new) }
     ensures not_refused { result ≢ REFUSED }
+    ensures silent { result ≡ OUT_OF_MEMORY → O.contents output.new ≡ O.contents output.old }
 {
     match text_by_name(alloc, image, destination, request, wanted) {
         Ok(text) => status::write_text(output, text.as_str(), status::ACCEPTED),

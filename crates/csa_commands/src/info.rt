@@ -1,7 +1,7 @@
 //! `csa info IMAGE`.
 
 ghost use Rattle.std.specs.Prelude.{◌≡◌, ◌≢◌};
-ghost use Rattle.command_requests.specs.declared.statuses.TheConstants.{ACCEPTED, REFUSED};
+ghost use Rattle.command_requests.specs.declared.statuses.TheConstants.{ACCEPTED, OUT_OF_MEMORY, REFUSED};
 ghost use Rattle.csa_commands.specs.Informing.{IsInformed};
 
 use crate::status;
@@ -14,6 +14,7 @@ use std::io::Write;
 pub fn run<O: Write>(alloc: Global, image: &Verified, output: &mut O) -> u8
     ensures printed { result ≡ ACCEPTED → IsInformed image.now (O.contents output.old) (O.contents output.new) }
     ensures refused { result ≢ REFUSED }
+    ensures silent { result ≡ OUT_OF_MEMORY → O.contents output.new ≡ O.contents output.old }
 {
     match facts_of(alloc, image) {
         Ok(lines) => status::write_text(output, lines.as_str(), status::ACCEPTED),

@@ -41,6 +41,7 @@ pub fn run<O: Write, E: Write>(
     ensures accepted { result ≡ ACCEPTED → IsAccepted image.now request.entry.question request.entry.text.now
         (O.contents output.old) (O.contents output.new) }
     ensures refused { result ≡ REFUSED → IsFaulty image.now request.entry.question request.entry.text.now }
+    ensures silent { result ≡ OUT_OF_MEMORY → O.contents output.new ≡ O.contents output.old }
 {
     match judge(alloc, image, &request) {
         Ok(times) => match line_of(alloc, times) {
@@ -74,7 +75,8 @@ fn refuse<O: Write, E: Write>(
     output: &mut O,
     errors: &mut E,
 ) -> u8
-    ensures { (result ≡ REFUSED) ⊎ (result ≡ INPUT_OUTPUT) ⊎ (result ≡ OUT_OF_MEMORY) }
+    ensures status { (result ≡ REFUSED) ⊎ (result ≡ INPUT_OUTPUT) ⊎ (result ≡ OUT_OF_MEMORY) }
+    ensures silent { result ≡ OUT_OF_MEMORY → O.contents output.new ≡ O.contents output.old }
 {
     let status = status::print_refusal(alloc, output, refusal);
     if status == status::REFUSED {

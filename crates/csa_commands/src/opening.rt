@@ -24,7 +24,7 @@ pub fn open_image<H: Files + AllocGlobal, I: Read, O: Write, E: Write>(
     errors: &mut E,
 ) -> Result<Verified, u8>
     ensures image { IfOk result (λ image. path.now ≡ codes "-"
-        → IfSome (I.remaining input.old) (SpellsImage image.timetable image.names)) }
+        → IfSome (I.remaining input.old) (SpellsImage image)) }
     ensures status { IfErr result (λ status. (status ≡ REFUSED) ⊎ (status ≡ INPUT_OUTPUT) ⊎ (status ≡ OUT_OF_MEMORY)) }
     ensures silent { OnOk result (O.contents output.new ≡ O.contents output.old) }
     ensures refused { IfErr result (λ status. status ≡ REFUSED → path.now ≡ codes "-"

@@ -2,7 +2,7 @@
 
 ghost use Rattle.std.specs.Prelude.{◌≡◌, IfOk, string_bytes};
 ghost use Rattle.timetable.specs.Queries.{IsAskable};
-ghost use Rattle.command_requests.specs.declared.statuses.TheConstants.{ACCEPTED, REFUSED};
+ghost use Rattle.command_requests.specs.declared.statuses.TheConstants.{ACCEPTED, OUT_OF_MEMORY, REFUSED};
 ghost use Rattle.csa_commands.specs.Answering.{IsNoRequest, IsPrinted, IsProfile, IsShown, IsShownBy};
 ghost use Rattle.csa_commands.specs.Listing.{form_text};
 
@@ -45,6 +45,7 @@ pub fn run<H: Files + AllocGlobal, O: Write, E: Write>(
     ensures printed { result ≡ ACCEPTED → IsPrinted image.now request.entry (O.contents output.old)
         (O.contents output.new) }
     ensures refused { result ≡ REFUSED → IsNoRequest image.now request.entry }
+    ensures silent { result ≡ OUT_OF_MEMORY → O.contents output.new ≡ O.contents output.old }
 {
     match profile_text(rt, image, request) {
         Ok(text) => status::write_text(output, text.as_str(), status::ACCEPTED),

@@ -33,6 +33,7 @@ pub fn write_line<W: Write>(writer: &mut W, line: Result<String, AllocError>, st
         → Appends (W.contents writer.old) (W.contents writer.new) (string_bytes text)) }
     ensures memory { IfErr line (λ _. result ≡ OUT_OF_MEMORY) }
     ensures unwritten { IfErr line (λ _. W.contents writer.new ≡ W.contents writer.old) }
+    ensures silent { status ≢ OUT_OF_MEMORY → result ≡ OUT_OF_MEMORY → W.contents writer.new ≡ W.contents writer.old }
 {
     match line {
         Ok(text) => write_text(writer, text.as_str(), status),
@@ -42,7 +43,8 @@ pub fn write_line<W: Write>(writer: &mut W, line: Result<String, AllocError>, st
 
 /// Prints a refusal.
 pub(crate) fn print_refusal<O: Write>(alloc: Global, output: &mut O, refusal: &Refusal) -> u8
-    ensures { (result ≡ REFUSED) ⊎ (result ≡ INPUT_OUTPUT) ⊎ (result ≡ OUT_OF_MEMORY) }
+    ensures status { (result ≡ REFUSED) ⊎ (result ≡ INPUT_OUTPUT) ⊎ (result ≡ OUT_OF_MEMORY) }
+    ensures silent { result ≡ OUT_OF_MEMORY → O.contents output.new ≡ O.contents output.old }
 {
     write_line(output, format!(in alloc; "{refusal}\n"), REFUSED)
 }

@@ -1,7 +1,7 @@
 //! `csa stops IMAGE [TEXT]`.
 
 ghost use Rattle.std.specs.Prelude.{◌≡◌, ◌≢◌, ◌+◌, ◌++◌, ℕ, List, decimal, IfOk, MatchBool, OnOk, string_bytes};
-ghost use Rattle.command_requests.specs.declared.statuses.TheConstants.{ACCEPTED, REFUSED};
+ghost use Rattle.command_requests.specs.declared.statuses.TheConstants.{ACCEPTED, OUT_OF_MEMORY, REFUSED};
 ghost use Rattle.csa_commands.specs.StopLines.{AreStopLines, AreStopsPrinted, IsFound, IsIn, stop_line};
 
 use crate::status;
@@ -22,6 +22,7 @@ pub fn run<O: Write>(
     ensures printed { result ≡ ACCEPTED
         → AreStopsPrinted image.now request.entry.text.now (O.contents output.old) (O.contents output.new) }
     ensures refused { result ≢ REFUSED }
+    ensures silent { result ≡ OUT_OF_MEMORY → O.contents output.new ≡ O.contents output.old }
 {
     match lines_of(alloc, image, request.text) {
         Ok(lines) => status::write_text(output, lines.as_str(), status::ACCEPTED),

@@ -3,7 +3,7 @@
 ghost use Rattle.std.specs.Prelude.{◌≡◌, ◌≢◌, ◌++◌, IfOk, OnOk, string_bytes};
 ghost use Rattle.std.specs.Io.KnownBytes.{Appends};
 ghost use Rattle.command_requests.specs.declared.statuses.TheConstants.{ACCEPTED, REFUSED};
-ghost use Rattle.csa_commands.specs.Tabling.{AreCounted, AreCountsOf, counts_of, counts_text};
+ghost use Rattle.csa_commands.specs.Tabling.{AreCounted, AreCountsOf, AreCountsOfJoined, counts_of, counts_text};
 ghost use Rattle.csa_commands.specs.Tabling.{services_text, trips_text};
 
 use crate::explaining::explain_refused;
@@ -57,6 +57,14 @@ fn count_records<H: Disk + AllocGlobal>(rt: &H, folder: &str) -> Result<Counts, 
     let alloc = rt.alloc();
     let mut files = FolderFiles::new(rt, folder);
     let tables = read_tables(alloc, &mut files)?;
+    let counts = count_joined(alloc, tables)?;
+    Ok(counts)
+}
+
+// How many records there are in tables that can be joined.
+fn count_joined(alloc: Global, tables: Tables) -> Result<Counts, LoadFault>
+    ensures { IfOk result (AreCountsOfJoined tables) }
+{
     let counts = counts_of(&tables);
     let _feed = join(alloc, tables, false)?;
     Ok(counts)

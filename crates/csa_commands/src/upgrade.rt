@@ -2,7 +2,7 @@
 
 ghost use Rattle.std.specs.Prelude.{◌≡◌, ◌≢◌, IfOk};
 ghost use Rattle.std.specs.Io.KnownBytes.{Appends};
-ghost use Rattle.command_requests.specs.declared.statuses.TheConstants.{ACCEPTED, REFUSED};
+ghost use Rattle.command_requests.specs.declared.statuses.TheConstants.{ACCEPTED, OUT_OF_MEMORY, REFUSED};
 ghost use Rattle.csa_commands.specs.Counting.{counts_line};
 ghost use Rattle.image_layout.specs.declared.layout.TheConstants.{LAYOUT};
 ghost use Rattle.image_layout.specs.Fields.{layout_of};
@@ -29,6 +29,7 @@ pub fn run<H: Files + AllocGlobal, O: Write, E: Write>(
     ensures printed { result ≡ ACCEPTED
         → Appends (O.contents output.old) (O.contents output.new) (counts_line image.now) }
     ensures refused { result ≢ REFUSED }
+    ensures silent { result ≡ OUT_OF_MEMORY → O.contents output.new ≡ O.contents output.old }
 {
     let Ok(words) = upgraded(rt.alloc(), image) else {
         return status::OUT_OF_MEMORY;

@@ -2,7 +2,7 @@
 
 ghost use Rattle.std.specs.Prelude.{◌≡◌, ◌≢◌, ◌++◌, IfOk, OnOk, string_bytes};
 ghost use Rattle.std.specs.Io.KnownBytes.{Appends};
-ghost use Rattle.command_requests.specs.declared.statuses.TheConstants.{ACCEPTED, REFUSED};
+ghost use Rattle.command_requests.specs.declared.statuses.TheConstants.{ACCEPTED, OUT_OF_MEMORY, REFUSED};
 ghost use Rattle.csa_commands.specs.Counting.{counts_line, numbers_text};
 
 use crate::status;
@@ -16,6 +16,7 @@ pub fn run<O: Write>(alloc: Global, image: &Verified, output: &mut O) -> u8
     ensures printed { result ≡ ACCEPTED
         → Appends (O.contents output.old) (O.contents output.new) (counts_line image.now) }
     ensures refused { result ≢ REFUSED }
+    ensures silent { result ≡ OUT_OF_MEMORY → O.contents output.new ≡ O.contents output.old }
 {
     match counts(alloc, image) {
         Ok(line) => status::write_text(output, line.as_str(), status::ACCEPTED),

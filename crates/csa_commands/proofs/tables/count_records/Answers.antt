@@ -12,5 +12,5 @@ returns g c =
       tables,
       tables_of g.H.Disk.gives then.disk.now c.args.folder.now began.folder.now then.folder.now began.reads then.reads
           tables c.new-files.ensures.folder read.all_read then.given (λ content is. read.read_ok content all_tables is),
-      c.counts_of-counts.ensures,
+      c.in_ok-counts.ensures,
     )
