@@ -259,7 +259,7 @@ fn serve_at<H: Disk + Explains + Clock + Threads + Wait + Sync, E: Write + Send>
     let log = if request.log { Some(&shared) } else { None };
     let door = Door::new(listener, request.sessions, log);
     let loader_errors = LoaderErrors::of(shared.another());
-    let ran = serve_all(
+    let ran = serve_door(
         rt,
         door,
         made,
@@ -276,6 +276,30 @@ fn end_of<'d, L: SessionLog + Sync>(ran: &ShelvesRan<Visitor<'d, L>, Door<'d, L>
     ensures deaf { result.1 ≡ ran.now.clients.failed }
 {
     (ends_of(&ran.served), ran.clients.has_failed())
+}
+
+// Serves whoever comes to the door.
+fn serve_door<
+    'd,
+    'f,
+    H: Disk + Explains + Clock + Threads + Wait + Sync,
+    L: SessionLog + Sync,
+    E: Write + Send + Drop,
+>(
+    rt: &H,
+    door: Door<'d, L>,
+    made: (Shelves, ShelfLoader, Vec<ShelfSeat>),
+    folders: &Folders<'f, H>,
+    form: PointForm,
+    errors: E,
+) -> Result<ShelvesRan<Visitor<'d, L>, Door<'d, L>>, WorkersFault>
+    requires loader { made.1.table ≡ made.0 }
+    requires seats { All (λ seat. seat.table ≡ made.0) made.2.items }
+    requires new { SeatsHanded made.0 (length made.2.items) made.2.items }
+    requires some { 1 ≤ length made.2.items }
+    requires few { length made.2.items ≤ 16 }
+{
+    serve_all(rt, door, made, folders, form, errors)
 }
 
 // Serves whoever comes at these shelves, until nobody is left. Whose bytes they bring makes no difference: what is said
