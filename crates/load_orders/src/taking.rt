@@ -6,7 +6,7 @@ ghost use Rattle.orders.specs.Ordering.{IsNotTaken, order_value, version_told, w
 ghost use Rattle.load_orders.specs.Asking.{Hears, IsNotAwaited, IsPut, IsTurnedAway, RefusesOrder, RefusesVersion};
 ghost use Rattle.load_orders.specs.Asking.{HasAsked, OrderRoute, awaited_order, fault_told, route_of, unasked};
 ghost use Rattle.load_orders.specs.Queue.{Held, mark_of};
-ghost use Rattle.load_orders.specs.Telling.{IsToldBack};
+ghost use Rattle.load_orders.specs.Telling.{AllAnswered, IsToldBack};
 ghost use Rattle.load_orders.specs.Ways.{WayId, WayValue, heard_at};
 ghost use Rattle.load_orders.specs.declared.ways.LoadAnswer.{LoadAnswer};
 
@@ -380,9 +380,11 @@ impl<'a, R: Wait, N: Drop, T: Versions<Notice = N>, P: OrderRule<N>> Orders
 }
 
 impl<N: Drop, P: OrderRule<N>> LoaderOrders<N, P> {
-    /// Takes the order that waits longest, or waits for one. None comes where the queue was empty at one
-    /// moment, and the workers' ends are gone; this tests show, and no contract.
+    /// Takes the order that waits longest, or waits for one, once each order taken before was answered. None
+    /// comes where the queue was empty at one moment, and the workers' ends are gone; this tests show, and no
+    /// contract.
     pub fn next<R: Wait>(&mut self, rt: &R) -> Option<Order<N>>
+        requires { AllAnswered self.old }
         ensures queue { self.new.queue ≡ self.old.queue }
         ensures taken { MatchOption result (self.new.taken ≡ self.old.taken) (λ order. self.new.taken
             ≡ self.old.taken ++ mark_of order ∷ []) }
