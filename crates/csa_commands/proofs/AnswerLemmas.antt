@@ -1,5 +1,5 @@
 -- A query's answer, printed.
-use Rattle.std.proofs.Common.{◌≡◌, ℕ, List, Option, Contains, length, map, ap, ◌∙◌, subst}
+use Rattle.std.proofs.Common.{◌≡◌, ℕ, List, Option, Contains, length, map, ap, string_bytes, ◌∙◌, subst}
 use Rattle.criteria.specs.Laws.{Rules}
 use Rattle.criteria.specs.declared.told.ToldValue.{ToldValue}
 use Rattle.timetable.specs.TimetableValue.{TimetableValue}
@@ -11,21 +11,25 @@ use Rattle.profile_scan.specs.Window.{window}
 use Rattle.journeys.specs.Answer.{point_of}
 use Rattle.journeys.specs.Extracted.{Attains}
 use Rattle.journeys.specs.declared.answering.Departure.{Departure}
-use Rattle.command_requests.specs.declared.requests.AnswerForm.{AnswerForm}
+use Rattle.command_requests.specs.declared.requests.ProfileRequest.{ProfileRequest}
 use Rattle.csa_commands.specs.Answering.{IsShown}
 use Rattle.csa_commands.specs.Listing.{form_text}
+use Rattle.csa_commands.specs.Picturing.{IsDrawn}
+use Rattle.csa_commands.specs.declared.profile.Profile.{Profile}
 
-pub answer_shown : {V : Type 0} (told : V → ToldValue) (rules : Rules V) (form : AnswerForm) (image : ImageValue) (t : TimetableValue) (q : Query)
-    (departures : List (Departure V)) (read : ℕ) (walk : Option ℕ) (printed : List ℕ)
+pub answer_shown : {V : Type 0} (told : V → ToldValue) (rules : Rules V) (request : ProfileRequest) (image : ImageValue) (t : TimetableValue)
+    (q : Query) (departures : List (Departure V)) (read : ℕ) (walk : Option ℕ) (profile : Profile)
     → t ≡ image.timetable → IsAnswer rules t q (map point_of departures)
     → ((d : Departure V) → Contains departures d → Attains rules t q (point_of d) d.journey) → IsWay t q.target q.source walk
-    → read ≡ length (window t q) → printed ≡ form_text told image form departures read walk → IsShown told rules form image q printed
-answer_shown {V} told rules form image t q departures read walk printed same answer attained direct all printed_is =
+    → read ≡ length (window t q) → string_bytes profile.text ≡ form_text told image request.form departures read walk
+    → IsDrawn told image request q departures walk profile.picture → IsShown told rules request image q profile
+answer_shown {V} told rules request image t q departures read walk profile same answer attained direct all text_is drawn =
     let of_image = all ∙ ap (λ (x : TimetableValue). length (window x q)) same in record {
       departures = departures;
       walk = walk;
       answer = subst (λ (x : TimetableValue). IsAnswer rules x q (map point_of departures)) same answer;
       attained = λ d has. subst (λ (x : TimetableValue). Attains rules x q (point_of d) d.journey) same (attained d has);
       direct = subst (λ (x : TimetableValue). IsWay x q.target q.source walk) same direct;
-      printed_is = printed_is ∙ ap (λ (n : ℕ). form_text told image form departures n walk) of_image;
+      text_is = text_is ∙ ap (λ (n : ℕ). form_text told image request.form departures n walk) of_image;
+      drawn = drawn;
     }

@@ -1,19 +1,41 @@
 -- What a command read of a folder is of that folder.
-use Rattle.std.proofs.Common.{◌≡◌, ◌∷◌, ℕ, List, subst, sym}
-use Rattle.std.specs.Prelude.{All}
+use Rattle.std.proofs.Common.{◌≡◌, ◌∷◌, ◌++◌, ◌∙◌, [], ℕ, List, Result, Ok, Err, OnOk, ap, map, subst, sym, take}
+use Rattle.std.specs.Prelude.{All, IfErr, IfOk}
 use Rattle.connections.specs.declared.report.Report.{Report}
 use Rattle.command_requests.specs.declared.plans.PlanText.{PlanText}
-use Rattle.feed_files.proofs.FolderReads.{may_hold}
+use Rattle.feed_files.proofs.FolderReads.{may_hold, same_folder}
 use Rattle.feed_files.specs.Files.{FileRead, MayBeRead, MayGive, opened}
-use Rattle.feed_files.specs.Reading.{Content, HoldsTables}
-use Rattle.feed_files.specs.Reads.{AllWereRead, AreRead, all_tables}
+use Rattle.feed_files.specs.Reading.{Content, HoldsTables, NoTables}
+use Rattle.feed_files.specs.Reads.{AllWereRead, AreRead, SomeWereRead, all_tables, read_of}
+use Rattle.feed_files.specs.declared.reading.ReadFault.{ReadFault}
 use Rattle.feed_loader.specs.Refused.{IsLoaded}
 use Rattle.feed_loader.specs.declared.plan.Plan.{Plan}
 use Rattle.feed_plans.specs.Planning.{IsPlanNow}
+use Rattle.gtfs_rows.specs.declared.fault.Table.{Table}
 use Rattle.gtfs_tables.specs.declared.tables.Tables.{Tables}
 use Rattle.timetable.specs.NamesValue.{NamesValue}
 use Rattle.timetable.specs.TimetableValue.{TimetableValue}
-use Rattle.csa_commands.specs.Folders.{AreTablesOf, IsBuiltFrom, MayBeOf}
+use Rattle.csa_commands.specs.Folders.{AreTablesOf, HoldsOfRead, IsBuiltFrom, MayBeOf}
+
+-- what was read in all was read since nothing had been
+read_since : (content : Content) (ts : List Table) {began then : List ℕ} {old new : List FileRead} → then ≡ began → old ≡ []
+    → AreRead content ts [] new → AreRead content ts (opened began ∷ old) (opened then ∷ new)
+read_since content ts {began} {then} {old} {new} at none read =
+    let grown : new ≡ old ++ map (read_of content) ts =
+    subst (λ (before : List FileRead). new ≡ before ++ map (read_of content) ts) (sym none) read in
+    let first : opened then ≡ opened began = ap opened at in cc
+
+-- what holds of all that agrees with what was read, and what follows from it
+pub of_read_weaker : {D : Type 0} (gives : D → List ℕ → MayGive) (folder : List ℕ) (A B : Content → Type 0)
+    → ((content : Content) → A content → B content) → HoldsOfRead gives folder A → HoldsOfRead gives folder B
+of_read_weaker gives folder A B follows read =
+    record {
+      disk = read.disk;
+      reads = read.reads;
+      first = read.first;
+      given = read.given;
+      holds = λ content ts agrees. follows content (read.holds content ts agrees);
+    }
 
 -- over files of a folder, as they began and as they are then
 module _ {D : Type 0} (gives : D → List ℕ → MayGive) (disk : D) (folder began then : List ℕ)
@@ -41,6 +63,48 @@ module _ {D : Type 0} (gives : D → List ℕ → MayGive) (disk : D) (folder be
       → IsBuiltFrom gives folder asked t names report
   built_of asked bytes plan t names report same planned given (content, read, loaded) =
       (bytes, plan, content, planned, may_be_of content same read given, loaded)
+
+  -- of files of which nothing was read, and then the first were
+  pub of_read : (Is : Content → Type 0) → began ≡ folder → old ≡ [] → SomeWereRead (opened began ∷ old) (opened then ∷ new)
+      → ∥ All (MayBeRead (gives disk then)) new ∥₁
+      → ((content : Content) (ts : List Table) → AreRead content ts (opened began ∷ old) (opened then ∷ new) → Is content)
+      → HoldsOfRead gives folder Is
+  of_read Is same none (count, content, read) given holds =
+      let ts = take count all_tables in
+      let at : then ≡ began = same_folder content ts began then old new read in
+      let grown : new ≡ old ++ map (read_of content) ts = cc in record {
+        disk = disk;
+        reads = new;
+        first = (count, content, subst (λ (before : List FileRead). new ≡ before ++ map (read_of content) ts) none grown);
+        given = subst (λ (path : List ℕ). ∥ All (MayBeRead (gives disk path)) new ∥₁) (at ∙ same) given;
+        holds = λ content ts read. holds content ts (read_since content ts at none read);
+      }
+
+  -- what reading the tables came to
+  pub tables_known : (result : Result Tables ReadFault) → began ≡ folder
+      → OnOk result (AllWereRead (opened began ∷ old) (opened then ∷ new)) → ∥ All (MayBeRead (gives disk then)) new ∥₁
+      → ((content : Content) (ts : List Table) → AreRead content ts (opened began ∷ old) (opened then ∷ new)
+      → IfOk result (HoldsTables content))
+      → IfOk result (AreTablesOf gives folder)
+  tables_known (Ok t) same read given held = tables_of t same read given (λ content is. held content all_tables is)
+  tables_known (Err fault) same read given held = tt
+
+  pub held_known : (result : Result Tables ReadFault) → began ≡ folder → old ≡ []
+      → SomeWereRead (opened began ∷ old) (opened then ∷ new) → ∥ All (MayBeRead (gives disk then)) new ∥₁
+      → ((content : Content) (ts : List Table) → AreRead content ts (opened began ∷ old) (opened then ∷ new)
+      → IfOk result (HoldsTables content))
+      → IfOk result (λ t. HoldsOfRead gives folder (λ content. HoldsTables content t))
+  held_known (Ok t) same none first given held = of_read (λ content. HoldsTables content t) same none first given held
+  held_known (Err fault) same none first given held = tt
+
+  pub refused_known : (result : Result Tables ReadFault) → began ≡ folder → old ≡ []
+      → SomeWereRead (opened began ∷ old) (opened then ∷ new) → ∥ All (MayBeRead (gives disk then)) new ∥₁
+      → ((content : Content) (ts : List Table) → AreRead content ts (opened began ∷ old) (opened then ∷ new)
+      → IfErr result (NoTables content))
+      → IfErr result (λ fault. HoldsOfRead gives folder (λ content. NoTables content fault))
+  refused_known (Ok t) same none first given refused = tt
+  refused_known (Err fault) same none first given refused =
+      of_read (λ content. NoTables content fault) same none first given refused
 
 -- all files were read by some moment, and after that none
 pub whole_of : {X : Type 0} (reads : X → List FileRead) (old : List FileRead) (then files : X)

@@ -31,12 +31,12 @@ IsDone image (Departures request) before after = AreAllPrinted image request bef
 IsDone image (Stops request) before after = AreStopsPrinted image request.text.now before after
 IsDone image (Upgrade request) before after = Appends before after (counts_line image)
 
--- a journey or a question is refused for its first fault, and nothing else is
-abbrev pub IsRefusedAs : ImageValue → Asked → Type 0
-IsRefusedAs image (Verify path) = ⊥
-IsRefusedAs image (Info path) = ⊥
-IsRefusedAs image (Journey request) = IsFaulty image request.question request.text.now
-IsRefusedAs image (Profile request) = IsNoRequest image request
-IsRefusedAs image (Departures request) = IsNoneAsked image request
-IsRefusedAs image (Stops request) = ⊥
-IsRefusedAs image (Upgrade request) = ⊥
+-- a journey or a question is refused for its first fault, whose line was added to what was printed before, and nothing else is refused
+abbrev pub IsRefusedAs : ImageValue → Asked → Option (List ℕ) → Option (List ℕ) → Type 0
+IsRefusedAs image (Verify path) before after = ⊥
+IsRefusedAs image (Info path) before after = ⊥
+IsRefusedAs image (Journey request) before after = IsFaulty image request.question request.text.now before after
+IsRefusedAs image (Profile request) before after = IsNoRequest image request before after
+IsRefusedAs image (Departures request) before after = IsNoneAsked image request before after
+IsRefusedAs image (Stops request) before after = ⊥
+IsRefusedAs image (Upgrade request) before after = ⊥

@@ -18,6 +18,8 @@ use Rattle.departure_lines.specs.Showing.{AreShown}
 use Rattle.departure_lines.specs.declared.form.LineForm.{LineForm}
 use Rattle.departure_lines.specs.declared.stop_lists.Wanted.{Wanted}
 use Rattle.departure_lines.specs.declared.stop_lists.Wanted.TheVariants.{All}
+use Rattle.csa_commands.specs.Refusing.{refusal_line}
+use Rattle.csa_commands.specs.declared.refusal.Refusal.TheVariants.{Query}
 use Rattle.csa_commands.specs.declared.wanted_stops.NoList.{NoList}
 use Rattle.csa_commands.specs.declared.wanted_stops.NoList.TheVariants.{NotText, UnknownStop, Unreadable, OutOfMemory}
 
@@ -67,8 +69,14 @@ AreAllPrinted image request before after =
     × AsksAll image.names request.to.now (window_asked request) d × IsWantedFrom image.names request.from wanted
     × ArePrinted request.criterion request.form image d wanted before after
 
--- nothing is asked of the image, for a fault; or else a file is given that has a line that is no stop_id
-abbrev pub IsNoneAsked : ImageValue → DeparturesRequest → Type 0
-IsNoneAsked image request =
-    ((fault : QueryFault) × IsRefusedOfAll image request.to.now (window_asked request) fault)
-    ⊎ ((request.from ≢ None) × (list : List ℕ) × (number : ℕ) × IsUnknownLine image.names (lines list) number)
+-- nothing is asked of the image, for a fault, whose line was printed
+abbrev pub IsBadQueryOfAll : ImageValue → DeparturesRequest → Option (List ℕ) → Option (List ℕ) → Type 0
+IsBadQueryOfAll image request before after =
+    (fault : QueryFault) × IsRefusedOfAll image request.to.now (window_asked request) fault
+    × Appends before after (refusal_line (Query fault))
+
+-- nothing is asked, or else a file is given that has a line that is no stop_id, and nothing was printed
+abbrev pub IsNoneAsked : ImageValue → DeparturesRequest → Option (List ℕ) → Option (List ℕ) → Type 0
+IsNoneAsked image request before after =
+    IsBadQueryOfAll image request before after
+    ⊎ ((request.from ≢ None) × (list : List ℕ) × (number : ℕ) × IsUnknownLine image.names (lines list) number × (after ≡ before))

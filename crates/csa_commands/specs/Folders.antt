@@ -1,19 +1,35 @@
 -- What a command reads of a folder.
-use Rattle.std.specs.Prelude.{◌≡◌, ℕ, List, false}
+use Rattle.std.specs.Prelude.{◌≡◌, ◌⊎◌, ℕ, List, [], Option, All, false}
 use Rattle.std.specs.Io.KnownBytes.{Appends}
 use Rattle.connections.specs.declared.report.Report.{Report}
-use Rattle.feed_files.specs.Files.{MayGive}
+use Rattle.feed_files.specs.Files.{FileRead, MayBeRead, MayGive}
 use Rattle.feed_files.specs.Reading.{Content, HoldsTables}
-use Rattle.feed_files.specs.Reads.{MayHold, all_tables}
-use Rattle.feed_loader.specs.Refused.{IsLoaded}
+use Rattle.feed_files.specs.Reads.{AreRead, MayHold, SomeWereRead, all_tables}
+use Rattle.feed_loader.specs.Refused.{AreFilesRefused, AreTablesRefused, IsLoaded}
+use Rattle.feed_loader.specs.declared.fault.LoadFault.{LoadFault}
 use Rattle.feed_loader.specs.declared.plan.Plan.{Plan}
 use Rattle.feed_plans.specs.Planning.{IsPlanNow}
+use Rattle.gtfs_rows.specs.declared.fault.Table.{Table}
 use Rattle.command_requests.specs.declared.plans.PlanText.{PlanText}
 use Rattle.gtfs_tables.specs.Feeds.{IsJoined}
 use Rattle.gtfs_tables.specs.declared.tables.Feed.{Feed}
 use Rattle.gtfs_tables.specs.declared.tables.Tables.{Tables}
 use Rattle.timetable.specs.NamesValue.{NamesValue}
 use Rattle.timetable.specs.TimetableValue.{TimetableValue}
+use Rattle.csa_commands.specs.Refusing.{refusal_line}
+use Rattle.csa_commands.specs.declared.refusal.Refusal.TheVariants.{Feed as OfFeed}
+
+-- the first of a folder's files were read, each of which may have given what was read; and of every content that agrees with it this holds
+pub record HoldsOfRead {D : Type 0} (gives : D → List ℕ → MayGive) (folder : List ℕ) (Is : Content → Type 0) : Type 0 where
+  pub disk : D
+  pub reads : List FileRead
+  pub first : SomeWereRead [] reads
+  pub given : ∥ All (MayBeRead (gives disk folder)) reads ∥₁
+  pub holds : (content : Content) (ts : List Table) → AreRead content ts [] reads → Is content
+
+-- the first thing that is wrong with a feed's tables: as its files are read, or as they are joined
+abbrev pub IsTablesRefusal : LoadFault → Content → Type 0
+IsTablesRefusal fault content = AreFilesRefused content fault ⊎ AreTablesRefused content false fault
 
 -- over what the disks of a kind may give: of a disk, for a folder, for the file of a name
 module _ {D : Type 0} (gives : D → List ℕ → MayGive) (folder : List ℕ) where
@@ -34,3 +50,8 @@ module _ {D : Type 0} (gives : D → List ℕ → MayGive) (folder : List ℕ) w
   IsBuiltFrom asked t names report =
       (bytes : List ℕ) × (plan : Plan) × (content : Content) × IsPlanNow asked bytes plan × MayBeOf content
       × IsLoaded content plan t names report
+
+  -- the fault is the first of the folder's tables, and its line was added to what was printed before, and nothing else
+  abbrev pub AreTablesRefusedOf : Option (List ℕ) → Option (List ℕ) → Type 0
+  AreTablesRefusedOf before after =
+      (fault : LoadFault) × HoldsOfRead gives folder (IsTablesRefusal fault) × Appends before after (refusal_line (OfFeed fault))

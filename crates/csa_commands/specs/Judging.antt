@@ -1,5 +1,5 @@
 -- What `csa journey` finds of a journey's text and a question.
-use Rattle.std.specs.Prelude.{◌≡◌, ◌≢◌, ◌++◌, ℕ, List, Option, Some, Result, Ok, Err, codes}
+use Rattle.std.specs.Prelude.{◌≡◌, ◌++◌, ℕ, List, Option, Some, Result, Ok, Err, codes}
 use Rattle.std.specs.Io.KnownBytes.{Appends}
 use Rattle.timetable.specs.declared.journey.Times.{Times}
 use Rattle.timetable.specs.declared.query.Query.{Query}
@@ -12,9 +12,12 @@ use Rattle.journeys.specs.Questions.{Asks, IsRefused}
 use Rattle.journeys.specs.Texts.{HasText, text_of}
 use Rattle.command_requests.specs.declared.requests.Question.{Question}
 use Rattle.csa_commands.specs.Asking.{window_of}
+use Rattle.csa_commands.specs.Refusing.{refusal_line}
 use Rattle.departure_lines.specs.Words.{times_text}
 use Rattle.csa_commands.specs.declared.journey.Failure.{Failure}
 use Rattle.csa_commands.specs.declared.journey.Failure.TheVariants.{BadQuery, BadText, Faulty, OutOfMemory}
+use Rattle.csa_commands.specs.declared.refusal.Refusal.{Refusal}
+use Rattle.csa_commands.specs.declared.refusal.Refusal.TheVariants.{BadText as OfText, Journey as OfJourney, Query as OfQuery}
 
 -- the question asks this query of the image, which can be asked
 abbrev pub IsQueried : ImageValue → Question → Query → Type 0
@@ -47,6 +50,15 @@ abbrev pub IsAccepted : ImageValue → Question → List ℕ → Option (List �
 IsAccepted image question text before after =
     (times : Times) × IsVerdict image question text (Ok times) × Appends before after (times_line times)
 
--- there is a first fault, of the query, of the text or of the journey
-abbrev pub IsFaulty : ImageValue → Question → List ℕ → Type 0
-IsFaulty image question text = (failure : Failure) × (failure ≢ OutOfMemory) × IsVerdict image question text (Err failure)
+-- why a journey isn't accepted, as a refusal; that memory ran out is none
+abbrev pub IsRefusedFor : Failure → Refusal → Type 0
+IsRefusedFor (BadQuery fault) refusal = refusal ≡ OfQuery fault
+IsRefusedFor BadText refusal = refusal ≡ OfText
+IsRefusedFor (Faulty fault) refusal = refusal ≡ OfJourney fault
+IsRefusedFor OutOfMemory refusal = ⊥
+
+-- there is a first fault, of the query, of the text or of the journey, and its line was added to what was printed before, and nothing else
+abbrev pub IsFaulty : ImageValue → Question → List ℕ → Option (List ℕ) → Option (List ℕ) → Type 0
+IsFaulty image question text before after =
+    (failure : Failure) × (refusal : Refusal) × IsVerdict image question text (Err failure) × IsRefusedFor failure refusal
+    × Appends before after (refusal_line refusal)

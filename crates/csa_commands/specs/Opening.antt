@@ -1,15 +1,27 @@
 -- What bytes that are an image show, and which are none.
-use Rattle.std.specs.Prelude.{◌≡◌, ◌≢◌, ◌⊎◌, ◌%◌, ℕ, List, Some, length}
+use Rattle.std.specs.Prelude.{◌≡◌, ◌≢◌, ◌%◌, ℕ, List, Option, Some, IfSome, codes, length}
+use Rattle.std.specs.Io.KnownBytes.{Appends}
 use Rattle.image_layout.specs.Image.{ImageValue, Spells}
 use Rattle.image_layout.specs.Text.{bytes_of}
 use Rattle.image_verifier.specs.FirstFault.{first_fault}
-use Rattle.image_verifier.specs.declared.fault.ImageFault.{ImageFault}
+use Rattle.csa_commands.specs.Refusing.{refusal_line}
+use Rattle.csa_commands.specs.declared.refusal.Refusal.{Refusal}
+use Rattle.csa_commands.specs.declared.refusal.Refusal.TheVariants.{OddLength, Image, Feed, Query, BadText, Journey}
 
 -- the bytes spell the image's words, in its layout
 abbrev pub SpellsImage : ImageValue → List ℕ → Type 0
 SpellsImage image bytes = (words : List ℕ) × (bytes_of words ≡ bytes) × Spells words image
 
--- the bytes are no whole words, or spell words that have a first fault
-abbrev pub IsNoImage : List ℕ → Type 0
-IsNoImage bytes = (length bytes % 4 ≢ 0)
-    ⊎ ((words : List ℕ) × (fault : ImageFault) × (bytes_of words ≡ bytes) × (first_fault words ≡ Some fault))
+-- the bytes are no whole words, or spell words that have this first fault
+abbrev pub IsNoImage : Refusal → List ℕ → Type 0
+IsNoImage OddLength bytes = length bytes % 4 ≢ 0
+IsNoImage (Image fault) bytes = (words : List ℕ) × (bytes_of words ≡ bytes) × (first_fault words ≡ Some fault)
+IsNoImage (Feed fault) bytes = ⊥
+IsNoImage (Query fault) bytes = ⊥
+IsNoImage BadText bytes = ⊥
+IsNoImage (Journey fault) bytes = ⊥
+
+-- the line of a refusal was added to what was printed before, and nothing else; the standard input is no image for that refusal
+abbrev pub IsRefusedImage : List ℕ → Option (List ℕ) → Option (List ℕ) → Option (List ℕ) → Type 0
+IsRefusedImage path input before after =
+    (refusal : Refusal) × Appends before after (refusal_line refusal) × (path ≡ codes "-" → IfSome input (IsNoImage refusal))

@@ -1,5 +1,6 @@
 -- The picture of an answer.
-use Rattle.std.specs.Prelude.{◌-◌, ℕ, List, Option, length, take}
+use Rattle.std.specs.Prelude.{◌-◌, ℕ, List, Option, None, Some, String, length, string_bytes, take}
+use Rattle.std.specs.Global.{Global}
 use Rattle.std.specs.List.{All, AllZip}
 use Rattle.criteria.specs.declared.name.CriterionName.{CriterionName}
 use Rattle.criteria.specs.declared.told.ToldValue.{ToldValue}
@@ -9,6 +10,7 @@ use Rattle.answer_pictures.specs.declared.axis.Axis.{Axis}
 use Rattle.answer_pictures.specs.LineValue.{HeadingValue, LineValue}
 use Rattle.answer_pictures.specs.Pictures.{IsPicture, LiesOn}
 use Rattle.answer_pictures.specs.Told.{IsHeadingOf, IsLineOf}
+use Rattle.command_requests.specs.declared.requests.ProfileRequest.{ProfileRequest}
 use Rattle.journeys.specs.declared.answering.Departure.{Departure}
 
 -- the line of a departure: its times, and all rides and walks of its journey
@@ -27,3 +29,16 @@ pub record IsPictureOf {V : Type 0} (told : V → ToldValue) (image : ImageValue
   pub drawn : AllZip (IsDrawnAs told image) (take rows departures) lines
   pub covered : All (LiesOn axis) lines
   pub is : IsPicture heading axis walk lines (length departures - rows) text
+
+-- if a picture is asked for there is one, of these departures, else there is none
+abbrev pub IsDrawnIf : {V P : Type 0} → (V → ToldValue) → ImageValue → CriterionName → ℕ → Query → List (Departure V) → Option ℕ
+    → Option P → Option (String Global) → Type 0
+IsDrawnIf told image criterion rows q departures walk None None = Unit {0}
+IsDrawnIf told image criterion rows q departures walk (Some path) (Some text) =
+    IsPictureOf told image criterion rows q departures walk (string_bytes text)
+IsDrawnIf told image criterion rows q departures walk _ _ = ⊥
+
+abbrev pub IsDrawn : {V : Type 0} → (V → ToldValue) → ImageValue → ProfileRequest → Query → List (Departure V) → Option ℕ
+    → Option (String Global) → Type 0
+IsDrawn told image request q departures walk picture =
+    IsDrawnIf told image request.criterion request.rows.number q departures walk request.picture picture

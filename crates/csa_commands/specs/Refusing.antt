@@ -1,13 +1,89 @@
--- With which status a feed is refused.
-use Rattle.std.specs.Prelude.{ℕ}
+-- How a refusal is printed, and with which status a feed is refused.
+use Rattle.std.specs.Prelude.{ℕ, List, [], ◌++◌, codes, decimal}
 use Rattle.command_requests.specs.declared.statuses.TheConstants.{INPUT_OUTPUT, REFUSED}
+use Rattle.feed_loader.specs.Faults.{fault_name as feed_name, fault_number as feed_number}
 use Rattle.feed_loader.specs.declared.fault.LoadFault.{LoadFault}
-use Rattle.feed_loader.specs.declared.fault.LoadFault.TheVariants.{Table, Day, Footpaths, Image, FileFailed}
+use Rattle.feed_loader.specs.declared.fault.LoadFault.TheVariants as feeds
+use Rattle.gtfs_rows.specs.Told.{file_name}
+use Rattle.image_layout.specs.FaultNumber.{fault_told as words_told}
+use Rattle.image_layout.specs.declared.words.WordsFault.{WordsFault}
+use Rattle.image_verifier.specs.FaultNumber.{fault_told as image_told}
+use Rattle.image_verifier.specs.declared.fault.ImageFault.{ImageFault}
+use Rattle.image_verifier.specs.declared.fault.ImageFault.TheVariants as images
+use Rattle.journeys.specs.Numbers.{name_of, number_of}
+use Rattle.journeys.specs.Texts.{number_text}
+use Rattle.journeys.specs.declared.fault.JourneyFault.{JourneyFault}
+use Rattle.journeys.specs.declared.fault.JourneyFault.TheVariants as journeys
+use Rattle.timetable.specs.Queries.{fault_told as query_told}
+use Rattle.csa_commands.specs.Listing.{word_text}
+use Rattle.csa_commands.specs.declared.refusal.Refusal.{Refusal}
+use Rattle.csa_commands.specs.declared.refusal.Refusal.TheVariants.{OddLength, Image, Feed, Query, BadText, Journey}
 
--- that of a refusal, or of a file that can't be read
+-- the number and the name by which a refusal is told
+abbrev pub refusal_told : Refusal → ℕ × List ℕ
+refusal_told OddLength = words_told WordsFault.OddLength
+refusal_told (Image fault) = image_told fault
+refusal_told (Feed fault) = (feed_number fault, feed_name fault)
+refusal_told (Query fault) = query_told fault
+refusal_told BadText = (80, codes "BadText")
+refusal_told (Journey fault) = (number_of fault, name_of fault)
+
+-- where an image is wrong: which connection, stop or name it is, or which three stops
+abbrev pub image_places : ImageFault → List ℕ
+image_places images.BadMagic = []
+image_places images.BadLayout = []
+image_places images.BadLength = []
+image_places (images.StopRange i) = number_text i
+image_places (images.TripRange i) = number_text i
+image_places (images.HopWithoutDuration i) = number_text i
+image_places (images.Unsorted i) = number_text i
+image_places (images.TripBroken i) = number_text i
+image_places (images.TimeRange i) = number_text i
+image_places (images.BadFlags i) = number_text i
+image_places (images.FootRange i) = number_text i
+image_places (images.FootUnsorted i) = number_text i
+image_places (images.NoLoop i) = number_text i
+image_places (images.NotClosed a b c) = number_text a ++ number_text b ++ number_text c
+image_places (images.BadNames i) = number_text i
+image_places images.OutOfMemory = []
+
+-- where a feed is wrong: the file, and of a table's fault the record
+abbrev pub feed_places : LoadFault → List ℕ
+feed_places (feeds.Table fault) = word_text (file_name fault.table) ++ number_text fault.row
+feed_places (feeds.Day fault) = []
+feed_places (feeds.Footpaths fault) = []
+feed_places (feeds.Image fault) = []
+feed_places (feeds.FileFailed table) = word_text (file_name table)
+
+-- where a journey is wrong: which leg or walk it is
+abbrev pub journey_places : JourneyFault → List ℕ
+journey_places (journeys.LegRange leg) = number_text leg
+journey_places (journeys.TwoTrips leg) = number_text leg
+journey_places (journeys.NoBoarding leg) = number_text leg
+journey_places (journeys.NoAlighting leg) = number_text leg
+journey_places (journeys.NoFootpath walk) = number_text walk
+journey_places (journeys.WalkBroken walk) = number_text walk
+journey_places (journeys.TooEarly leg) = number_text leg
+journey_places journeys.WrongEnds = []
+journey_places journeys.OutsideWindow = []
+
+abbrev pub refusal_places : Refusal → List ℕ
+refusal_places OddLength = []
+refusal_places (Image fault) = image_places fault
+refusal_places (Feed fault) = feed_places fault
+refusal_places (Query fault) = []
+refusal_places BadText = []
+refusal_places (Journey fault) = journey_places fault
+
+-- the line of a refusal: its number, its name, and where something is wrong
+unfoldable pub refusal_line : Refusal → List ℕ
+refusal_line refusal =
+    (codes "refused " ++ decimal (refusal_told refusal).0) ++ word_text (refusal_told refusal).1 ++ refusal_places refusal ++ codes "\n"
+
+-- the status of a feed that is refused, or of which a file can't be read
 abbrev pub refusal_status : LoadFault → ℕ
-refusal_status (Table fault) = REFUSED
-refusal_status (Day fault) = REFUSED
-refusal_status (Footpaths fault) = REFUSED
-refusal_status (Image fault) = REFUSED
-refusal_status (FileFailed table) = INPUT_OUTPUT
+refusal_status (feeds.Table fault) = REFUSED
+refusal_status (feeds.Day fault) = REFUSED
+refusal_status (feeds.Footpaths fault) = REFUSED
+refusal_status (feeds.Image fault) = REFUSED
+refusal_status (feeds.FileFailed table) = INPUT_OUTPUT

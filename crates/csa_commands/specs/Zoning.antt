@@ -1,9 +1,14 @@
--- The bytes of a zone's file.
+-- The bytes of a zone's file, and why there is no zone.
 use Rattle.std.specs.Prelude.{◌≡◌, ℕ, List, []}
+use Rattle.command_requests.specs.declared.plans.PlanText.{PlanText}
 use Rattle.command_requests.specs.declared.plans.ZoneText.{ZoneText}
 use Rattle.command_requests.specs.declared.plans.ZoneText.TheVariants.{Fixed, Posix, File}
+use Rattle.feed_loader.specs.declared.fault.LoadFault.{LoadFault}
+use Rattle.feed_loader.specs.declared.fault.LoadFault.TheVariants.{Day}
+use Rattle.feed_plans.specs.Planning.{IsZoneFault}
+use Rattle.service_days.specs.declared.fault.DayFault.{DayFault}
 use Rattle.csa_commands.specs.declared.planning.PlanFailure.{PlanFailure}
-use Rattle.csa_commands.specs.declared.planning.PlanFailure.TheVariants.{Unreadable, OutOfMemory}
+use Rattle.csa_commands.specs.declared.planning.PlanFailure.TheVariants.{Refused, Unreadable, OutOfMemory}
 
 -- of a zone that is no file there are none. No clause says which bytes a file has
 abbrev pub AreZoneBytes : ZoneText → List ℕ → Type 0
@@ -16,3 +21,14 @@ abbrev pub IsZoneUnread : ZoneText → PlanFailure → Type 0
 IsZoneUnread (File path) (Unreadable unread) = unread.now ≡ path.now
 IsZoneUnread (File path) OutOfMemory = Unit {0}
 IsZoneUnread _ _ = ⊥
+
+-- there is no zone of what was asked for, over some bytes of its file
+abbrev pub IsNoZoneOf : PlanText → LoadFault → Type 0
+IsNoZoneOf asked fault =
+    (bytes : List ℕ) × (wrong : DayFault) × (fault ≡ Day wrong) × IsZoneFault asked.zone bytes wrong
+
+-- a plan is refused only for its zone
+abbrev pub IsNoPlan : PlanText → PlanFailure → Type 0
+IsNoPlan asked (Refused fault) = IsNoZoneOf asked fault
+IsNoPlan asked (Unreadable path) = Unit {0}
+IsNoPlan asked OutOfMemory = Unit {0}

@@ -81,7 +81,8 @@ pub fn answer<H: Files + AllocGlobal, O: Write, E: Write>(
 ) -> u8
     ensures printed { result ≡ ACCEPTED
         → IsDone image.now asked.entry (O.contents output.old) (O.contents output.new) }
-    ensures refused { result ≡ REFUSED → IsRefusedAs image.now asked.entry }
+    ensures refused { result ≡ REFUSED
+        → IsRefusedAs image.now asked.entry (O.contents output.old) (O.contents output.new) }
     ensures silent { result ≡ OUT_OF_MEMORY → O.contents output.new ≡ O.contents output.old }
 {
     let status = do_asked(rt, image, asked, output, errors);
@@ -101,7 +102,8 @@ fn do_asked<H: Files + AllocGlobal, O: Write, E: Write>(
 ) -> u8
     ensures printed { result ≡ ACCEPTED
         → IsDone image.now asked.entry (O.contents output.old) (O.contents output.new) }
-    ensures refused { result ≡ REFUSED → IsRefusedAs image.now asked.entry }
+    ensures refused { result ≡ REFUSED
+        → IsRefusedAs image.now asked.entry (O.contents output.old) (O.contents output.new) }
     ensures silent { result ≡ OUT_OF_MEMORY → O.contents output.new ≡ O.contents output.old }
 {
     match asked {

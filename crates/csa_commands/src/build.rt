@@ -3,7 +3,7 @@
 ghost use Rattle.std.specs.Prelude.{◌≡◌, ◌≢◌, ◌≤◌, ◌<◌, ◌-◌, ◌^◌, ◌++◌, IfOk, OnOk, string_bytes};
 ghost use Rattle.std.specs.Io.KnownBytes.{Appends};
 ghost use Rattle.connections.specs.declared.days.TheConstants.{MAX_DAYS};
-ghost use Rattle.command_requests.specs.declared.statuses.TheConstants.{ACCEPTED, REFUSED};
+ghost use Rattle.command_requests.specs.declared.statuses.TheConstants.{ACCEPTED, OUT_OF_MEMORY, REFUSED};
 ghost use Rattle.feed_files.specs.Reading.{Content};
 ghost use Rattle.feed_files.specs.Reads.{AreRead, all_tables};
 ghost use Rattle.feed_loader.specs.Refused.{IsLoaded};
@@ -66,8 +66,9 @@ pub fn run<H: Files + Disk + AllocGlobal + Clock, O: Write, E: Write>(
     is_terminal: bool,
     warnings: bool,
 ) -> u8
-    ensures { result ≡ ACCEPTED → IsReported H.gives request.entry.folder.now request.entry.plan
+    ensures printed { result ≡ ACCEPTED → IsReported H.gives request.entry.folder.now request.entry.plan
         (O.contents output.old) (O.contents output.new) }
+    ensures silent { result ≡ OUT_OF_MEMORY → O.contents output.new ≡ O.contents output.old }
 {
     let alloc = rt.alloc();
     let folder = request.folder;
@@ -152,6 +153,7 @@ fn print_counts<O: Write>(alloc: Global, report: &Report, output: &mut O) -> u8
     ensures printed { result ≡ ACCEPTED
         → Appends (O.contents output.old) (O.contents output.new) (report_line report.now) }
     ensures refused { result ≢ REFUSED }
+    ensures silent { result ≡ OUT_OF_MEMORY → O.contents output.new ≡ O.contents output.old }
 {
     match counts(alloc, report) {
         Ok(line) => status::write_text(output, line.as_str(), status::ACCEPTED),

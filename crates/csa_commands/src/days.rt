@@ -1,16 +1,18 @@
 //! `csa days FOLDER`.
 
-ghost use Rattle.std.specs.Prelude.{◌≡◌, ◌≢◌, IfOk};
-ghost use Rattle.command_requests.specs.declared.statuses.TheConstants.{ACCEPTED, REFUSED};
+ghost use Rattle.std.specs.Prelude.{◌≡◌, ◌≢◌, IfErr, IfOk};
+ghost use Rattle.command_requests.specs.declared.statuses.TheConstants.{ACCEPTED, OUT_OF_MEMORY, REFUSED};
+ghost use Rattle.feed_loader.specs.Refused.{IsWantOfMemory};
 ghost use Rattle.gtfs_tables.specs.declared.tables.Feed.{Feed};
-ghost use Rattle.csa_commands.specs.Folders.{IsFeedOf};
+ghost use Rattle.csa_commands.specs.Folders.{AreTablesRefusedOf, HoldsOfRead, IsFeedOf, IsTablesRefusal};
 ghost use Rattle.csa_commands.specs.Informing.{IsInformedOfDays};
 
 use crate::explaining::explain_refused;
+use crate::reading::tables_in;
 use crate::refusal::refuse_feed;
 use crate::status;
 use feed_days::days_text;
-use feed_files::{Disk, FolderFiles, read_tables};
+use feed_files::Disk;
 use feed_loader::LoadFault;
 use gtfs_tables::{Feed, join};
 use std::alloc::Global;
@@ -26,8 +28,11 @@ pub fn run<H: Files + Disk + AllocGlobal, O: Write, E: Write>(
     output: &mut O,
     errors: &mut E,
 ) -> u8
-    ensures { result ≡ ACCEPTED → (feed : Feed) × IsFeedOf H.gives folder.now feed
+    ensures printed { result ≡ ACCEPTED → (feed : Feed) × IsFeedOf H.gives folder.now feed
         × IsInformedOfDays feed (O.contents output.old) (O.contents output.new) }
+    ensures refused { result ≡ REFUSED
+        → AreTablesRefusedOf H.gives folder.now (O.contents output.old) (O.contents output.new) }
+    ensures silent { result ≡ OUT_OF_MEMORY → O.contents output.new ≡ O.contents output.old }
 {
     let alloc = rt.alloc();
     match read_feed(rt, folder) {
@@ -41,12 +46,12 @@ pub fn run<H: Files + Disk + AllocGlobal, O: Write, E: Write>(
 
 // The feed of the folder's files.
 fn read_feed<H: Disk + AllocGlobal>(rt: &H, folder: &str) -> Result<Feed, LoadFault>
-    ensures { IfOk result (IsFeedOf H.gives folder.now) }
+    ensures feed { IfOk result (IsFeedOf H.gives folder.now) }
+    ensures refused { IfErr result (λ fault. ¬ (IsWantOfMemory fault)
+        → HoldsOfRead H.gives folder.now (IsTablesRefusal fault)) }
 {
-    let alloc = rt.alloc();
-    let mut files = FolderFiles::new(rt, folder);
-    let tables = read_tables(alloc, &mut files)?;
-    let feed = join(alloc, tables, false)?;
+    let tables = tables_in(rt, folder)?;
+    let feed = join(rt.alloc(), tables, false)?;
     Ok(feed)
 }
 
@@ -54,6 +59,7 @@ fn read_feed<H: Disk + AllocGlobal>(rt: &H, folder: &str) -> Result<Feed, LoadFa
 fn print_days<O: Write>(alloc: Global, feed: &Feed, output: &mut O) -> u8
     ensures printed { result ≡ ACCEPTED → IsInformedOfDays feed.now (O.contents output.old) (O.contents output.new) }
     ensures refused { result ≢ REFUSED }
+    ensures silent { result ≡ OUT_OF_MEMORY → O.contents output.new ≡ O.contents output.old }
 {
     match days_text(alloc, feed) {
         Ok(lines) => status::write_text(output, lines.as_str(), status::ACCEPTED),

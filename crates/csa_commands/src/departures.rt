@@ -38,13 +38,14 @@ pub fn run<H: Files + AllocGlobal, O: Write, E: Write>(
 ) -> u8
     ensures printed { result ≡ ACCEPTED
         → AreAllPrinted image.now request.entry (O.contents output.old) (O.contents output.new) }
-    ensures refused { result ≡ REFUSED → IsNoneAsked image.now request.entry }
+    ensures refused { result ≡ REFUSED
+        → IsNoneAsked image.now request.entry (O.contents output.old) (O.contents output.new) }
     ensures silent { result ≡ OUT_OF_MEMORY → O.contents output.new ≡ O.contents output.old }
 {
     let destination = match destination_asked(image, &request) {
         Ok(destination) => destination,
         Err(fault) => {
-            let status = status::print_refusal(rt.alloc(), output, &Refusal::Query(fault));
+            let status = status::print_refusal(rt.alloc(), output, Refusal::Query(fault));
             if status == status::REFUSED {
                 explain_fault(image, &request, fault, errors);
             }

@@ -1,8 +1,10 @@
 //! `csa journey IMAGE TEXT QUERY`.
 
 ghost use Rattle.std.specs.Prelude.{◌≡◌, ◌⊎◌, IfOk, string_bytes};
+ghost use Rattle.std.specs.Io.KnownBytes.{Appends};
 ghost use Rattle.command_requests.specs.declared.statuses.TheConstants.{ACCEPTED, INPUT_OUTPUT, OUT_OF_MEMORY, REFUSED};
 ghost use Rattle.csa_commands.specs.Judging.{IsAccepted, IsFaulty, IsVerdict, times_line};
+ghost use Rattle.csa_commands.specs.Refusing.{refusal_line};
 
 use crate::explaining::explain;
 use crate::question::{query_asked, refuse_question};
@@ -40,7 +42,8 @@ pub fn run<O: Write, E: Write>(
 ) -> u8
     ensures accepted { result ≡ ACCEPTED → IsAccepted image.now request.entry.question request.entry.text.now
         (O.contents output.old) (O.contents output.new) }
-    ensures refused { result ≡ REFUSED → IsFaulty image.now request.entry.question request.entry.text.now }
+    ensures refused { result ≡ REFUSED → IsFaulty image.now request.entry.question request.entry.text.now
+        (O.contents output.old) (O.contents output.new) }
     ensures silent { result ≡ OUT_OF_MEMORY → O.contents output.new ≡ O.contents output.old }
 {
     match judge(alloc, image, &request) {
@@ -51,8 +54,8 @@ pub fn run<O: Write, E: Write>(
         Err(Failure::BadQuery(fault)) => {
             refuse_question(alloc, image, &request.question, fault, output, errors)
         }
-        Err(Failure::BadText) => refuse(alloc, &Refusal::BadText, output, errors),
-        Err(Failure::Faulty(fault)) => refuse(alloc, &Refusal::Journey(fault), output, errors),
+        Err(Failure::BadText) => refuse(alloc, Refusal::BadText, output, errors),
+        Err(Failure::Faulty(fault)) => refuse(alloc, Refusal::Journey(fault), output, errors),
         Err(Failure::OutOfMemory) => status::OUT_OF_MEMORY,
     }
 }
@@ -69,13 +72,10 @@ fn line_of(alloc: Global, times: Times) -> Result<String, AllocError>
 }
 
 /// Prints why a journey is refused, and explains it.
-fn refuse<O: Write, E: Write>(
-    alloc: Global,
-    refusal: &Refusal,
-    output: &mut O,
-    errors: &mut E,
-) -> u8
+fn refuse<O: Write, E: Write>(alloc: Global, refusal: Refusal, output: &mut O, errors: &mut E) -> u8
     ensures status { (result ≡ REFUSED) ⊎ (result ≡ INPUT_OUTPUT) ⊎ (result ≡ OUT_OF_MEMORY) }
+    ensures printed { result ≡ REFUSED
+        → Appends (O.contents output.old) (O.contents output.new) (refusal_line refusal) }
     ensures silent { result ≡ OUT_OF_MEMORY → O.contents output.new ≡ O.contents output.old }
 {
     let status = status::print_refusal(alloc, output, refusal);
@@ -85,7 +85,7 @@ fn refuse<O: Write, E: Write>(
     status
 }
 
-fn explain_refusal<E: Write>(refusal: &Refusal, errors: &mut E) {
+fn explain_refusal<E: Write>(refusal: Refusal, errors: &mut E) {
     match refusal {
         Refusal::BadText => explain(
             errors,
@@ -93,7 +93,7 @@ fn explain_refusal<E: Write>(refusal: &Refusal, errors: &mut E) {
                 "csa: a journey is `ride FIRST LAST` and `walk FROM TO SECS`, with one space between words",
             ],
         ),
-        Refusal::Journey(fault) => explain_fault(*fault, errors),
+        Refusal::Journey(fault) => explain_fault(fault, errors),
         _ => {}
     }
 }

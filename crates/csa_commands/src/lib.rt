@@ -21,6 +21,7 @@ mod planning;
 mod profile;
 mod progress;
 mod question;
+mod reading;
 mod records;
 mod refusal;
 mod replying;

@@ -1,9 +1,12 @@
 //! What every command over an image begins with.
 
 ghost use Rattle.std.specs.Prelude.{◌≡◌, ◌≢◌, ◌⊎◌, codes, IfErr, IfOk, IfSome, OnOk};
+ghost use Rattle.std.specs.Io.KnownBytes.{Appends};
 ghost use Rattle.command_requests.specs.declared.statuses.TheConstants.{INPUT_OUTPUT, OUT_OF_MEMORY, REFUSED};
 ghost use Rattle.image_verifier.specs.declared.fault.ImageFault.TheVariants.{OutOfMemory as WasOutOfMemory};
-ghost use Rattle.csa_commands.specs.Opening.{IsNoImage, SpellsImage};
+ghost use Rattle.csa_commands.specs.Opening.{IsRefusedImage, SpellsImage};
+ghost use Rattle.csa_commands.specs.Refusing.{refusal_line};
+ghost use Rattle.csa_commands.specs.declared.refusal.Refusal.TheVariants.{Image as OfImage};
 
 use crate::refusal::Refusal;
 use crate::status;
@@ -15,7 +18,8 @@ use std::io::{Read, Write};
 use std::rt::Files;
 
 /// The verified image at the path, of the input for `-`; or the status of a command that has said why there is none:
-/// that of a refusal, of a file that can't be read or a line that can't be written, or of memory that ran out.
+/// that of a refusal, of a file that can't be read or a line that can't be written, or of memory that ran out, in which
+/// case nothing was printed.
 pub fn open_image<H: Files + AllocGlobal, I: Read, O: Write, E: Write>(
     rt: &H,
     path: &str,
@@ -27,20 +31,23 @@ pub fn open_image<H: Files + AllocGlobal, I: Read, O: Write, E: Write>(
         → IfSome (I.remaining input.old) (SpellsImage image)) }
     ensures status { IfErr result (λ status. (status ≡ REFUSED) ⊎ (status ≡ INPUT_OUTPUT) ⊎ (status ≡ OUT_OF_MEMORY)) }
     ensures silent { OnOk result (O.contents output.new ≡ O.contents output.old) }
-    ensures refused { IfErr result (λ status. status ≡ REFUSED → path.now ≡ codes "-"
-        → IfSome (I.remaining input.old) IsNoImage) }
+    ensures memory { IfErr result (λ status. status ≡ OUT_OF_MEMORY
+        → O.contents output.new ≡ O.contents output.old) }
+    ensures refused { IfErr result (λ status. status ≡ REFUSED
+        → IsRefusedImage path.now (I.remaining input.old) (O.contents output.old) (O.contents output.new)) }
 {
     let words = match image_words(rt, path, input) {
         Ok(words) => words,
         Err(ImageFileFault::OddLength) => {
-            let status = status::print_refusal(rt.alloc(), output, &Refusal::OddLength);
-            explain(
-                status,
+            let reason = "its size isn't a multiple of four bytes";
+            return Err(refuse(
+                rt.alloc(),
                 path,
-                &"its size isn't a multiple of four bytes",
+                Refusal::OddLength,
+                &reason,
+                output,
                 errors,
-            );
-            return Err(status);
+            ));
         }
         Err(ImageFileFault::Unreadable) => {
             return Err(status::report_unreadable(rt, errors, path));
@@ -63,12 +70,32 @@ fn refuse_words<O: Write, E: Write>(
 ) -> u8
     ensures status { (result ≡ REFUSED) ⊎ (result ≡ INPUT_OUTPUT) ⊎ (result ≡ OUT_OF_MEMORY) }
     ensures refused { result ≡ REFUSED → fault ≢ WasOutOfMemory }
+    ensures printed { result ≡ REFUSED
+        → Appends (O.contents output.old) (O.contents output.new) (refusal_line (OfImage fault)) }
+    ensures silent { result ≡ OUT_OF_MEMORY → O.contents output.new ≡ O.contents output.old }
 {
     if fault == ImageFault::OutOfMemory {
         return status::OUT_OF_MEMORY;
     }
-    let status = status::print_refusal(alloc, output, &Refusal::Image(fault));
-    explain(status, path, &fault, errors);
+    refuse(alloc, path, Refusal::Image(fault), &fault, output, errors)
+}
+
+// Prints why the image at a path is refused, and says what is wrong.
+fn refuse<F: fmt::Display, O: Write, E: Write>(
+    alloc: Global,
+    path: &str,
+    refusal: Refusal,
+    reason: &F,
+    output: &mut O,
+    errors: &mut E,
+) -> u8
+    ensures status { (result ≡ REFUSED) ⊎ (result ≡ INPUT_OUTPUT) ⊎ (result ≡ OUT_OF_MEMORY) }
+    ensures printed { result ≡ REFUSED
+        → Appends (O.contents output.old) (O.contents output.new) (refusal_line refusal) }
+    ensures silent { result ≡ OUT_OF_MEMORY → O.contents output.new ≡ O.contents output.old }
+{
+    let status = status::print_refusal(alloc, output, refusal);
+    explain(status, path, reason, errors);
     status
 }
 

@@ -1,8 +1,9 @@
 //! The picture of an answer, as an SVG file.
 
-ghost use Rattle.std.specs.Prelude.{◌≡◌, ◌-◌, IfOk, length, take, string_bytes};
+ghost use Rattle.std.specs.Prelude.{◌≡◌, ◌-◌, IfOk, OnOk, length, take, string_bytes};
+ghost use Rattle.std.specs.Io.KnownBytes.{Appends};
 ghost use Rattle.std.specs.List.{AllZip};
-ghost use Rattle.csa_commands.specs.Picturing.{IsDrawnAs, IsPictureOf};
+ghost use Rattle.csa_commands.specs.Picturing.{IsDrawn, IsDrawnAs, IsPictureOf};
 
 use crate::explaining::reason_of;
 use answer_pictures::{Axis, JourneyLine, heading_of, journey_line, picture};
@@ -17,21 +18,29 @@ use std::io::Write;
 use std::rt::Files;
 use timetable::Query;
 
-/// Why there is no picture.
-pub enum PictureFailure<'a> {
-    /// The file at the path can't be written, for this reason.
-    Unwritable(&'a str, &'static str),
-    OutOfMemory,
-}
-
-impl<'a> From<AllocError> for PictureFailure<'a> {
-    fn from(_error: AllocError) -> PictureFailure<'a> {
-        PictureFailure::OutOfMemory
+/// The picture of an answer, if one is asked for.
+pub fn picture_asked<C: Told>(
+    alloc: Global,
+    image: &Verified,
+    criterion: &C,
+    request: ProfileRequest<'_>,
+    query: &Query,
+    answer: &Answer<C>,
+) -> Result<Option<String>, AllocError>
+    ensures { IfOk result (IsDrawn C.told image.now request.entry query.now
+        answer.now.departures.items answer.now.walk) }
+{
+    match request.picture {
+        Some(_) => {
+            let text = picture_text(alloc, image, criterion, request, query, answer)?;
+            Ok(Some(text))
+        }
+        None => Ok(None),
     }
 }
 
 /// The picture of an answer, with as many of its departures as are asked for.
-pub fn picture_text<C: Told>(
+fn picture_text<C: Told>(
     alloc: Global,
     image: &Verified,
     criterion: &C,
@@ -100,21 +109,23 @@ fn line_of<C: Told>(
     journey_line(alloc, image, departure.time, told, &departure.journey)
 }
 
-/// Writes a picture into the file at the path.
-pub fn write_picture<'a, H: Files>(
-    rt: &H,
-    text: &str,
-    path: &'a str,
-) -> Result<(), PictureFailure<'a>> {
+/// Writes a picture into the file at the path; why it can't be written, if it can't.
+pub fn write_picture<H: Files>(rt: &H, path: &str, text: &str) -> Result<(), &'static str> {
     match write_file(rt, path, text) {
         Ok(()) => Ok(()),
-        Err(error) => Err(PictureFailure::Unwritable(path, reason_of(error.kind()))),
+        Err(error) => Err(reason_of(error.kind())),
     }
 }
 
-// Writes the text into the file at the path.
 fn write_file<H: Files>(rt: &H, path: &str, text: &str) -> io::Result<()> {
     let mut file = File::create(rt, path)?;
+    write_whole(&mut file, text)
+}
+
+// Writes the text, and nothing else.
+fn write_whole<W: Write>(file: &mut W, text: &str) -> io::Result<()>
+    ensures { OnOk result (Appends (W.contents file.old) (W.contents file.new) text.now) }
+{
     file.write_all(text.as_bytes())?;
     file.flush()
 }

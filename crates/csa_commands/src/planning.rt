@@ -3,7 +3,7 @@
 ghost use Rattle.std.specs.Prelude.{◌≡◌, ◌≤◌, ℕ, List, IfErr, IfOk};
 ghost use Rattle.connections.specs.declared.days.TheConstants.{MAX_DAYS};
 ghost use Rattle.feed_plans.specs.Planning.{IsPlanNow};
-ghost use Rattle.csa_commands.specs.Zoning.{AreZoneBytes, IsZoneUnread};
+ghost use Rattle.csa_commands.specs.Zoning.{AreZoneBytes, IsNoPlan, IsZoneUnread};
 
 use clock_days::instant;
 use command_requests::{PlanText, ZoneText};
@@ -39,6 +39,7 @@ pub fn plan_of<'a, H: Files + AllocGlobal + Clock>(
     ensures plan { IfOk result (λ plan. (bytes : List ℕ) × IsPlanNow asked.now bytes plan) }
     ensures some { IfOk result (λ plan. 1 ≤ plan.days) }
     ensures few { IfOk result (λ plan. plan.days ≤ MAX_DAYS) }
+    ensures refused { IfErr result (IsNoPlan asked.now) }
 {
     let bytes = zone_bytes(rt, &asked.zone)?;
     match plan_at(rt.alloc(), asked, &bytes, instant(rt)) {

@@ -1,13 +1,14 @@
 //! `csa profile IMAGE QUERY --criterion NAME [--names | --json [--legs]] [--picture FILE [--rows N]]`.
 
-ghost use Rattle.std.specs.Prelude.{◌≡◌, IfOk, string_bytes};
+ghost use Rattle.std.specs.Prelude.{◌≡◌, ◌≢◌, IfOk, string_bytes};
+ghost use Rattle.std.specs.Io.KnownBytes.{Appends};
 ghost use Rattle.timetable.specs.Queries.{IsAskable};
 ghost use Rattle.command_requests.specs.declared.statuses.TheConstants.{ACCEPTED, OUT_OF_MEMORY, REFUSED};
 ghost use Rattle.csa_commands.specs.Answering.{IsNoRequest, IsPrinted, IsProfile, IsShown, IsShownBy};
 ghost use Rattle.csa_commands.specs.Listing.{form_text};
 
 use crate::listing::{named_lines, numbered_lines};
-use crate::pictured::{PictureFailure, picture_text, write_picture};
+use crate::pictured::{picture_asked, write_picture};
 use crate::question::{query_asked, refuse_question};
 use crate::replying::reply_line;
 use crate::status;
@@ -24,12 +25,17 @@ use timetable::{Query, QueryFault};
 
 /// Why nothing is printed.
 #[derive(Drop)]
-pub enum Failure<'a> {
+pub enum Failure {
     /// The question asks no query of the image.
     BadQuery(QueryFault),
-    /// The picture can't be written into the file at the path, for this reason.
-    Unwritable(&'a str, &'static str),
     OutOfMemory,
+}
+
+/// What answers a question: a text, and a picture if one is asked for.
+#[derive(Drop)]
+pub struct Profile {
+    text: String,
+    picture: Option<String>,
 }
 
 /// Prints each best departure with a journey, and then how many there are, how many connections
@@ -44,80 +50,95 @@ pub fn run<H: Files + AllocGlobal, O: Write, E: Write>(
 ) -> u8
     ensures printed { result ≡ ACCEPTED → IsPrinted image.now request.entry (O.contents output.old)
         (O.contents output.new) }
-    ensures refused { result ≡ REFUSED → IsNoRequest image.now request.entry }
+    ensures refused { result ≡ REFUSED → IsNoRequest image.now request.entry (O.contents output.old)
+        (O.contents output.new) }
     ensures silent { result ≡ OUT_OF_MEMORY → O.contents output.new ≡ O.contents output.old }
 {
-    match profile_text(rt, image, request) {
-        Ok(text) => status::write_text(output, text.as_str(), status::ACCEPTED),
+    match profile_asked(rt.alloc(), image, request) {
+        Ok(profile) => print_profile(rt, &profile, request, output, errors),
         Err(Failure::BadQuery(fault)) => {
             refuse_question(rt.alloc(), image, &request.question, fault, output, errors)
-        }
-        Err(Failure::Unwritable(path, reason)) => {
-            status::report_unwritten(rt.alloc(), errors, path, reason)
         }
         Err(Failure::OutOfMemory) => status::OUT_OF_MEMORY,
     }
 }
 
-/// The text that answers the question, or why there is none.
-fn profile_text<'a, H: Files + AllocGlobal>(
+/// Writes the picture, if there is one, and then prints the text.
+fn print_profile<H: Files + AllocGlobal, O: Write, E: Write>(
     rt: &H,
+    profile: &Profile,
+    request: ProfileRequest<'_>,
+    output: &mut O,
+    errors: &mut E,
+) -> u8
+    ensures printed { result ≡ ACCEPTED
+        → Appends (O.contents output.old) (O.contents output.new) (string_bytes profile.now.text) }
+    ensures not_refused { result ≢ REFUSED }
+    ensures silent { result ≡ OUT_OF_MEMORY → O.contents output.new ≡ O.contents output.old }
+{
+    if let (Some(path), Some(picture)) = (request.picture, &profile.picture)
+        && let Err(reason) = write_picture(rt, path, picture.as_str())
+    {
+        return status::report_unwritten(rt.alloc(), errors, path, reason);
+    }
+    status::write_text(output, profile.text.as_str(), status::ACCEPTED)
+}
+
+/// What answers the question, or why nothing does.
+fn profile_asked(
+    alloc: Global,
     image: &Verified,
-    request: ProfileRequest<'a>,
-) -> Result<String, Failure<'a>>
+    request: ProfileRequest<'_>,
+) -> Result<Profile, Failure>
     ensures { IsProfile image.now request.entry result }
 {
     let query = match query_asked(image, &request.question) {
         Ok(query) => query,
         Err(fault) => return Err(Failure::BadQuery(fault)),
     };
-    match text_by_name(rt, image, &query, request) {
-        Ok(text) => Ok(text),
-        Err(PictureFailure::Unwritable(path, reason)) => Err(Failure::Unwritable(path, reason)),
-        Err(PictureFailure::OutOfMemory) => Err(Failure::OutOfMemory),
+    match profile_by_name(alloc, image, &query, request) {
+        Ok(profile) => Ok(profile),
+        Err(AllocError) => Err(Failure::OutOfMemory),
     }
 }
 
-/// The text that answers a query, by the criterion of a name.
-fn text_by_name<'a, H: Files + AllocGlobal>(
-    rt: &H,
+/// What answers a query, by the criterion of a name.
+fn profile_by_name(
+    alloc: Global,
     image: &Verified,
     query: &Query,
-    request: ProfileRequest<'a>,
-) -> Result<String, PictureFailure<'a>>
+    request: ProfileRequest<'_>,
+) -> Result<Profile, AllocError>
     requires { IsAskable image.now.timetable.stops query.now }
-    ensures { IfOk result (λ text. IsShownBy request.entry.criterion request.entry.form image.now query.now
-        (string_bytes text)) }
+    ensures { IfOk result (λ profile. IsShownBy request.entry.criterion request.entry image.now query.now
+        profile) }
 {
     match request.criterion {
-        CriterionName::Arrival => answer_text(rt, image, &Arrival, query, request),
-        CriterionName::ArrivalTrips => answer_text(rt, image, &ArrivalTrips, query, request),
+        CriterionName::Arrival => profile_by(alloc, image, &Arrival, query, request),
+        CriterionName::ArrivalTrips => profile_by(alloc, image, &ArrivalTrips, query, request),
         CriterionName::ArrivalTripsWalk => {
-            answer_text(rt, image, &ArrivalTripsWalk, query, request)
+            profile_by(alloc, image, &ArrivalTripsWalk, query, request)
         }
     }
 }
 
-/// The text that answers a query, once the answer is drawn where that is asked for.
-fn answer_text<'a, H: Files + AllocGlobal, C: Told>(
-    rt: &H,
+/// What answers a query: the text and the picture of one answer.
+fn profile_by<C: Told>(
+    alloc: Global,
     image: &Verified,
     criterion: &C,
     query: &Query,
-    request: ProfileRequest<'a>,
-) -> Result<String, PictureFailure<'a>>
+    request: ProfileRequest<'_>,
+) -> Result<Profile, AllocError>
     requires { IsAskable image.now.timetable.stops query.now }
-    ensures { IfOk result (λ text. IsShown C.told (C.rules criterion.now) request.entry.form image.now query.now
-        (string_bytes text)) }
+    ensures { IfOk result (λ profile. IsShown C.told (C.rules criterion.now) request.entry image.now query.now
+        profile) }
 {
     let mut source = InPlace::new(image);
-    let answer = answer_query(rt.alloc(), &mut source, criterion, query)?;
-    if let Some(path) = request.picture {
-        let drawn = picture_text(rt.alloc(), image, criterion, request, query, &answer)?;
-        write_picture(rt, drawn.as_str(), path)?;
-    }
-    let text = text_in_form(rt.alloc(), image, criterion, &answer, request.form)?;
-    Ok(text)
+    let answer = answer_query(alloc, &mut source, criterion, query)?;
+    let picture = picture_asked(alloc, image, criterion, request, query, &answer)?;
+    let text = text_in_form(alloc, image, criterion, &answer, request.form)?;
+    Ok(Profile { text, picture })
 }
 
 // The text of an answer in a form.

@@ -1,10 +1,13 @@
 //! The query of an image that the command line asks, or what is wrong with it.
 
 ghost use Rattle.std.specs.Prelude.{◌≡◌, ◌⊎◌, MatchResult};
+ghost use Rattle.std.specs.Io.KnownBytes.{Appends};
 ghost use Rattle.timetable.specs.Queries.{IsAskable};
 ghost use Rattle.journeys.specs.Questions.{Asks, IsRefused};
 ghost use Rattle.command_requests.specs.declared.statuses.TheConstants.{INPUT_OUTPUT, OUT_OF_MEMORY, REFUSED};
 ghost use Rattle.csa_commands.specs.Asking.{window_of};
+ghost use Rattle.csa_commands.specs.Refusing.{refusal_line};
+ghost use Rattle.csa_commands.specs.declared.refusal.Refusal.TheVariants.{Query as OfQuery};
 
 use crate::explaining::explain;
 use crate::refusal::Refusal;
@@ -47,9 +50,11 @@ pub fn refuse_question<O: Write, E: Write>(
     errors: &mut E,
 ) -> u8
     ensures status { (result ≡ REFUSED) ⊎ (result ≡ INPUT_OUTPUT) ⊎ (result ≡ OUT_OF_MEMORY) }
+    ensures printed { result ≡ REFUSED
+        → Appends (O.contents output.old) (O.contents output.new) (refusal_line (OfQuery fault)) }
     ensures silent { result ≡ OUT_OF_MEMORY → O.contents output.new ≡ O.contents output.old }
 {
-    let status = status::print_refusal(alloc, output, &Refusal::Query(fault));
+    let status = status::print_refusal(alloc, output, Refusal::Query(fault));
     if status == status::REFUSED {
         explain_question(image, question, fault, errors);
     }

@@ -1,9 +1,14 @@
 //! Refusals as they are printed: a number, a name and the places, each after a space.
 
-ghost use Rattle.std.specs.Prelude.{◌≡◌, ◌⊎◌};
+ghost use Rattle.std.specs.Prelude.{◌≡◌, ◌⊎◌, ◌++◌, IfOk, OnOk, string_bytes};
+ghost use Rattle.std.specs.Io.KnownBytes.{Appends};
 ghost use Rattle.command_requests.specs.declared.statuses.TheConstants.{INPUT_OUTPUT, OUT_OF_MEMORY, REFUSED};
 ghost use Rattle.feed_loader.specs.Refused.{IsWantOfMemory};
-ghost use Rattle.csa_commands.specs.Refusing.{refusal_status};
+ghost use Rattle.journeys.specs.Texts.{number_text};
+ghost use Rattle.csa_commands.specs.Listing.{word_text};
+ghost use Rattle.csa_commands.specs.Refusing.{feed_places, image_places, journey_places, refusal_line, refusal_places};
+ghost use Rattle.csa_commands.specs.Refusing.{refusal_status, refusal_told};
+ghost use Rattle.csa_commands.specs.declared.refusal.Refusal.TheVariants.{Feed as OfFeed};
 
 use crate::status;
 use feed_loader::LoadFault;
@@ -11,12 +16,12 @@ use image_layout::WordsFault;
 use image_verifier::ImageFault;
 use journeys::{JourneyFault, TextFault};
 use std::alloc::{AllocError, Global};
-use std::fmt;
 use std::io::Write;
+use text_pieces::{put_number, put_text, put_word};
 use timetable::QueryFault;
 
 /// Why a request is refused.
-#[derive(Drop)]
+#[derive(Clone, Copy, Drop)]
 pub enum Refusal {
     /// The bytes of an image aren't whole words.
     OddLength,
@@ -29,25 +34,64 @@ pub enum Refusal {
     Journey(JourneyFault),
 }
 
-impl fmt::Display for Refusal {
-    fn fmt<W: fmt::Write>(&self, f: &mut fmt::Formatter<W>) -> fmt::Result {
+impl Refusal {
+    /// The number by which it is told, as 61.
+    fn number(self) -> u8
+        ensures { result ≡ (refusal_told self).0 }
+    {
         match self {
-            Refusal::OddLength => write_fault(
-                WordsFault::OddLength.number(),
-                WordsFault::OddLength.name(),
-                f,
-            ),
-            Refusal::Image(fault) => write_image_fault(*fault, f),
-            Refusal::Feed(fault) => write!(f, "refused {fault}"),
-            Refusal::Query(fault) => write_fault(fault.number(), fault.name(), f),
-            Refusal::BadText => write_text_fault(TextFault::BadText, f),
-            Refusal::Journey(fault) => write_journey_fault(*fault, f),
+            Refusal::OddLength => WordsFault::OddLength.number(),
+            Refusal::Image(fault) => fault.number(),
+            Refusal::Feed(fault) => fault.number(),
+            Refusal::Query(fault) => fault.number(),
+            Refusal::BadText => 80,
+            Refusal::Journey(fault) => fault.number(),
+        }
+    }
+
+    /// The name by which it is told, as `BadMagic`.
+    fn name(self) -> &'static str
+        ensures { result.now ≡ (refusal_told self).1 }
+    {
+        match self {
+            Refusal::OddLength => WordsFault::OddLength.name(),
+            Refusal::Image(fault) => fault.name(),
+            Refusal::Feed(fault) => fault.name(),
+            Refusal::Query(fault) => fault.name(),
+            Refusal::BadText => TextFault::BadText.name(),
+            Refusal::Journey(fault) => fault.name(),
         }
     }
 }
 
-fn write_image_fault<W: fmt::Write>(fault: ImageFault, f: &mut fmt::Formatter<W>) -> fmt::Result {
-    write_fault(fault.number(), fault.name(), f)?;
+/// The line of a refusal.
+pub fn refusal_line(alloc: Global, refusal: Refusal) -> Result<String, AllocError>
+    ensures { IfOk result (λ line. string_bytes line ≡ refusal_line refusal) }
+{
+    let mut line = String::new(alloc);
+    put_number(&mut line, "refused ", u64::from(refusal.number()))?;
+    put_word(&mut line, refusal.name())?;
+    put_places(&mut line, refusal)?;
+    put_text(&mut line, "\n")?;
+    Ok(line)
+}
+
+// Adds where something is wrong.
+fn put_places(line: &mut String, refusal: Refusal) -> Result<(), AllocError>
+    ensures { OnOk result (string_bytes line.new ≡ string_bytes line.old ++ refusal_places refusal) }
+{
+    match refusal {
+        Refusal::OddLength | Refusal::Query(_) | Refusal::BadText => Ok(()),
+        Refusal::Image(fault) => put_image_places(line, fault),
+        Refusal::Feed(fault) => put_feed_places(line, fault),
+        Refusal::Journey(fault) => put_journey_places(line, fault),
+    }
+}
+
+// Adds which connection, stop or name of an image is wrong, or which three stops.
+fn put_image_places(line: &mut String, fault: ImageFault) -> Result<(), AllocError>
+    ensures { OnOk result (string_bytes line.new ≡ string_bytes line.old ++ image_places fault) }
+{
     match fault {
         ImageFault::BadMagic
         | ImageFault::BadLayout
@@ -63,58 +107,80 @@ fn write_image_fault<W: fmt::Write>(fault: ImageFault, f: &mut fmt::Formatter<W>
         | ImageFault::FootRange(i)
         | ImageFault::FootUnsorted(i)
         | ImageFault::NoLoop(i)
-        | ImageFault::BadNames(i) => write!(f, " {i}"),
-        ImageFault::NotClosed(a, b, c) => write!(f, " {a} {b} {c}"),
+        | ImageFault::BadNames(i) => put_place(line, i),
+        ImageFault::NotClosed(a, b, c) => put_three(line, a, b, c),
     }
 }
 
-// A refusal without places.
-fn write_fault<W: fmt::Write>(number: u8, name: &str, f: &mut fmt::Formatter<W>) -> fmt::Result {
-    write!(f, "refused {number} {name}")
-}
-
-// A text's fault. That memory runs out has no number, and isn't a refusal.
-fn write_text_fault<W: fmt::Write>(fault: TextFault, f: &mut fmt::Formatter<W>) -> fmt::Result {
-    match fault.number() {
-        Some(number) => write_fault(number, fault.name(), f),
-        None => Ok(()),
+// Adds which file of a feed is wrong, and of a table's fault the record.
+fn put_feed_places(line: &mut String, fault: LoadFault) -> Result<(), AllocError>
+    ensures { OnOk result (string_bytes line.new ≡ string_bytes line.old ++ feed_places fault) }
+{
+    match fault {
+        LoadFault::Table(fault) => put_record(line, fault.table.file_name(), fault.row),
+        LoadFault::FileFailed(table) => put_word(line, table.file_name()),
+        LoadFault::Day(_) | LoadFault::Footpaths(_) | LoadFault::Image(_) => Ok(()),
     }
 }
 
-fn write_journey_fault<W: fmt::Write>(
-    fault: JourneyFault,
-    f: &mut fmt::Formatter<W>,
-) -> fmt::Result {
-    write_fault(fault.number(), fault.name(), f)?;
+// Adds which leg or walk of a journey is wrong.
+fn put_journey_places(line: &mut String, fault: JourneyFault) -> Result<(), AllocError>
+    ensures { OnOk result (string_bytes line.new ≡ string_bytes line.old ++ journey_places fault) }
+{
     match fault {
         JourneyFault::LegRange(leg)
         | JourneyFault::TwoTrips(leg)
         | JourneyFault::NoBoarding(leg)
         | JourneyFault::NoAlighting(leg)
-        | JourneyFault::TooEarly(leg) => write!(f, " {leg}"),
-        JourneyFault::NoFootpath(walk) | JourneyFault::WalkBroken(walk) => write!(f, " {walk}"),
+        | JourneyFault::TooEarly(leg) => put_place(line, leg),
+        JourneyFault::NoFootpath(walk) | JourneyFault::WalkBroken(walk) => put_place(line, walk),
         JourneyFault::WrongEnds | JourneyFault::OutsideWindow => Ok(()),
     }
 }
 
+fn put_place(line: &mut String, place: usize) -> Result<(), AllocError>
+    ensures { OnOk result (string_bytes line.new ≡ string_bytes line.old ++ number_text place) }
+{
+    put_number(line, " ", place as u64)
+}
+
+fn put_three(line: &mut String, a: usize, b: usize, c: usize) -> Result<(), AllocError>
+    ensures { OnOk result (string_bytes line.new
+        ≡ string_bytes line.old ++ (number_text a ++ number_text b ++ number_text c)) }
+{
+    put_place(line, a)?;
+    put_place(line, b)?;
+    put_place(line, c)?;
+    Ok(())
+}
+
+fn put_record(line: &mut String, file: &str, row: u64) -> Result<(), AllocError>
+    ensures { OnOk result (string_bytes line.new
+        ≡ string_bytes line.old ++ (word_text file.now ++ number_text row)) }
+{
+    put_word(line, file)?;
+    put_number(line, " ", row)?;
+    Ok(())
+}
+
 /// Prints why a feed isn't loaded. The status is that of a refusal, or of a file that can't be read, if that is why; or
-/// that of a failed write, or of memory that ran out. If it ran out while the feed was loaded, nothing is printed.
+/// that of a failed write, or of memory that ran out. If it ran out, nothing is printed.
 pub fn refuse_feed<O: Write>(alloc: Global, output: &mut O, fault: LoadFault) -> u8
     ensures status { (result ≡ REFUSED) ⊎ (result ≡ INPUT_OUTPUT) ⊎ (result ≡ OUT_OF_MEMORY) }
     ensures kind { (result ≡ refusal_status fault) ⊎ (result ≡ INPUT_OUTPUT) ⊎ (result ≡ OUT_OF_MEMORY) }
     ensures memory { IsWantOfMemory fault → result ≡ OUT_OF_MEMORY }
-    ensures silent { IsWantOfMemory fault → O.contents output.new ≡ O.contents output.old }
+    ensures refused { result ≡ REFUSED → ¬ (IsWantOfMemory fault) }
+    ensures printed { result ≡ REFUSED
+        → Appends (O.contents output.old) (O.contents output.new) (refusal_line (OfFeed fault)) }
+    ensures silent { result ≡ OUT_OF_MEMORY → O.contents output.new ≡ O.contents output.old }
 {
     if fault.is_want_of_memory() {
         return status::OUT_OF_MEMORY;
     }
-    let status = status_of(fault);
-    status::write_line(output, line_of(alloc, fault), status)
-}
-
-fn line_of(alloc: Global, fault: LoadFault) -> Result<String, AllocError> {
-    let refusal = Refusal::Feed(fault);
-    format!(in alloc; "{refusal}\n")
+    match refusal_line(alloc, Refusal::Feed(fault)) {
+        Ok(line) => status::write_text(output, line.as_str(), status_of(fault)),
+        Err(_) => status::OUT_OF_MEMORY,
+    }
 }
 
 // The status of a feed that isn't loaded, once that is printed.

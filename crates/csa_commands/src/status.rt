@@ -3,9 +3,10 @@
 ghost use Rattle.std.specs.Prelude.{◌≡◌, ◌≢◌, ◌⊎◌, IfErr, IfOk, string_bytes};
 ghost use Rattle.std.specs.Io.KnownBytes.{Appends};
 ghost use Rattle.command_requests.specs.declared.statuses.TheConstants.{INPUT_OUTPUT, OUT_OF_MEMORY, REFUSED};
+ghost use Rattle.csa_commands.specs.Refusing.{refusal_line};
 
 use crate::explaining::unread_reason;
-use crate::refusal::Refusal;
+use crate::refusal::{Refusal, refusal_line};
 pub use command_requests::statuses::{
     ACCEPTED, COMMAND_LINE, INPUT_OUTPUT, OUT_OF_MEMORY, REFUSED,
 };
@@ -41,12 +42,17 @@ pub fn write_line<W: Write>(writer: &mut W, line: Result<String, AllocError>, st
     }
 }
 
-/// Prints a refusal.
-pub(crate) fn print_refusal<O: Write>(alloc: Global, output: &mut O, refusal: &Refusal) -> u8
+/// Prints the line of a refusal.
+pub(crate) fn print_refusal<O: Write>(alloc: Global, output: &mut O, refusal: Refusal) -> u8
     ensures status { (result ≡ REFUSED) ⊎ (result ≡ INPUT_OUTPUT) ⊎ (result ≡ OUT_OF_MEMORY) }
+    ensures printed { result ≡ REFUSED
+        → Appends (O.contents output.old) (O.contents output.new) (refusal_line refusal) }
     ensures silent { result ≡ OUT_OF_MEMORY → O.contents output.new ≡ O.contents output.old }
 {
-    write_line(output, format!(in alloc; "{refusal}\n"), REFUSED)
+    match refusal_line(alloc, refusal) {
+        Ok(line) => write_text(output, line.as_str(), REFUSED),
+        Err(_) => OUT_OF_MEMORY,
+    }
 }
 
 /// Reports a file that can't be read, with the system's reason: the status of a file that can't be read, or of memory

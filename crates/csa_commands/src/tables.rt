@@ -1,16 +1,22 @@
 //! `csa tables FOLDER`.
 
-ghost use Rattle.std.specs.Prelude.{◌≡◌, ◌≢◌, ◌++◌, IfOk, OnOk, string_bytes};
+ghost use Rattle.std.specs.Prelude.{◌≡◌, ◌≢◌, ◌++◌, false, IfErr, IfOk, OnOk, string_bytes};
 ghost use Rattle.std.specs.Io.KnownBytes.{Appends};
-ghost use Rattle.command_requests.specs.declared.statuses.TheConstants.{ACCEPTED, REFUSED};
+ghost use Rattle.command_requests.specs.declared.statuses.TheConstants.{ACCEPTED, OUT_OF_MEMORY, REFUSED};
+ghost use Rattle.feed_loader.specs.Refused.{IsWantOfMemory};
+ghost use Rattle.gtfs_rows.specs.declared.fault.FaultKind.{FaultKind};
+ghost use Rattle.gtfs_tables.specs.Feeds.{IsFirstFault};
+ghost use Rattle.csa_commands.specs.Folders.{AreTablesRefusedOf, HoldsOfRead, IsTablesRefusal};
 ghost use Rattle.csa_commands.specs.Tabling.{AreCounted, AreCountsOf, AreCountsOfJoined, counts_of, counts_text};
 ghost use Rattle.csa_commands.specs.Tabling.{services_text, trips_text};
 
 use crate::explaining::explain_refused;
+use crate::reading::tables_in;
 use crate::refusal::refuse_feed;
 use crate::status;
-use feed_files::{Disk, FolderFiles, read_tables};
+use feed_files::Disk;
 use feed_loader::LoadFault;
+use gtfs_rows::TableFault;
 use gtfs_tables::{Tables, join};
 use std::alloc::{AllocError, Global};
 use std::io::Write;
@@ -38,7 +44,11 @@ pub fn run<H: Files + Disk + AllocGlobal, O: Write, E: Write>(
     output: &mut O,
     errors: &mut E,
 ) -> u8
-    ensures { result ≡ ACCEPTED → AreCounted H.gives folder.now (O.contents output.old) (O.contents output.new) }
+    ensures printed { result ≡ ACCEPTED
+        → AreCounted H.gives folder.now (O.contents output.old) (O.contents output.new) }
+    ensures refused { result ≡ REFUSED
+        → AreTablesRefusedOf H.gives folder.now (O.contents output.old) (O.contents output.new) }
+    ensures silent { result ≡ OUT_OF_MEMORY → O.contents output.new ≡ O.contents output.old }
 {
     let alloc = rt.alloc();
     match count_records(rt, folder) {
@@ -52,18 +62,19 @@ pub fn run<H: Files + Disk + AllocGlobal, O: Write, E: Write>(
 
 // How many records there are, if the tables can be read and joined.
 fn count_records<H: Disk + AllocGlobal>(rt: &H, folder: &str) -> Result<Counts, LoadFault>
-    ensures { IfOk result (AreCountsOf H.gives folder.now) }
+    ensures counts { IfOk result (AreCountsOf H.gives folder.now) }
+    ensures refused { IfErr result (λ fault. ¬ (IsWantOfMemory fault)
+        → HoldsOfRead H.gives folder.now (IsTablesRefusal fault)) }
 {
-    let alloc = rt.alloc();
-    let mut files = FolderFiles::new(rt, folder);
-    let tables = read_tables(alloc, &mut files)?;
-    let counts = count_joined(alloc, tables)?;
+    let tables = tables_in(rt, folder)?;
+    let counts = count_joined(rt.alloc(), tables)?;
     Ok(counts)
 }
 
 // How many records there are in tables that can be joined.
-fn count_joined(alloc: Global, tables: Tables) -> Result<Counts, LoadFault>
-    ensures { IfOk result (AreCountsOfJoined tables) }
+fn count_joined(alloc: Global, tables: Tables) -> Result<Counts, TableFault>
+    ensures counts { IfOk result (AreCountsOfJoined tables) }
+    ensures refused { IfErr result (λ fault. fault.kind ≢ FaultKind.OutOfMemory → IsFirstFault false tables fault) }
 {
     let counts = counts_of(&tables);
     let _feed = join(alloc, tables, false)?;
@@ -89,6 +100,7 @@ fn print_counts<O: Write>(alloc: Global, counts: Counts, output: &mut O) -> u8
     ensures printed { result ≡ ACCEPTED
         → Appends (O.contents output.old) (O.contents output.new) (counts_text counts) }
     ensures refused { result ≢ REFUSED }
+    ensures silent { result ≡ OUT_OF_MEMORY → O.contents output.new ≡ O.contents output.old }
 {
     match line_of(alloc, counts) {
         Ok(line) => status::write_text(output, line.as_str(), status::ACCEPTED),

@@ -33,7 +33,7 @@ pub struct Built {
     pub report: Report,
 }
 
-/// Warns of days without a trip, of transfers that were left out, and of a fixed zone that isn't the feed's.
+/// Warns of days without a trip, of transfers that were left out, and of a zone that isn't the feed's.
 pub fn warn<H: Files + AllocGlobal, E: Write>(
     rt: &H,
     folder: &str,
@@ -50,9 +50,7 @@ pub fn warn<H: Files + AllocGlobal, E: Write>(
     if built.report.skipped > 0 {
         warn_of_transfers(rt, folder, errors);
     }
-    if let ZoneText::Fixed(_) = zone
-        && let Some(line) = other_zone(rt, folder, &built.plan)
-    {
+    if let Some(line) = other_zone(rt, folder, zone, &built.plan) {
         warn_of(errors, line.as_str());
     }
 }
@@ -208,10 +206,19 @@ fn transfers_line(alloc: Global, left_out: &LeftOut) -> Result<String, AllocErro
     Ok(text)
 }
 
-/// What is said if days begin at other instants in the feed's own zone, by the system's file of it.
-fn other_zone<H: Files + AllocGlobal>(rt: &H, folder: &str, plan: &Plan) -> Option<String> {
+/// What is said if days begin at other instants in the feed's own zone, by the system's file of it. A file that has the
+/// name of that zone may be a newer one.
+fn other_zone<H: Files + AllocGlobal>(
+    rt: &H,
+    folder: &str,
+    asked: &ZoneText<'_>,
+    plan: &Plan,
+) -> Option<String> {
     let found = found_in(rt, folder, "agency.txt", Wanted::Number(1))?;
     let name = str::from_utf8(found.value("agency_timezone")).ok()?;
+    if is_file_of(asked, name) {
+        return None;
+    }
     let path = zone_path(rt, name)?;
     let bytes = fs::read(rt, path.as_str()).ok()?;
     let zone = Zone::file_bytes(rt.alloc(), &bytes).ok()?;
@@ -221,6 +228,18 @@ fn other_zone<H: Files + AllocGlobal>(rt: &H, folder: &str, plan: &Plan) -> Opti
     format!(in rt.alloc();
         "days begin at another time in the feed's agency_timezone, {name}: for that zone write --zone file:{path}"
     ).ok()
+}
+
+/// Whether a zone is a file that has this name, in whatever folder.
+fn is_file_of(asked: &ZoneText<'_>, name: &str) -> bool {
+    match asked {
+        ZoneText::File(path) => match path.strip_suffix(name) {
+            Some(folder) => folder.ends_with('/'),
+            None => false,
+        },
+        ZoneText::Fixed(_) => false,
+        ZoneText::Posix(_) => false,
+    }
 }
 
 /// The system's file of a zone, if it has one.

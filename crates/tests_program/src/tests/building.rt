@@ -121,7 +121,7 @@ fn the_base_feed_is_built(rt: HostRuntime) -> Result<(), Fail> {
 const FEEDS: &str = "
 # One trip that stands still for a while, as its times are told: each hop takes a second at least, or is refused.
 folder feed
-rows feed/agency.txt agency_timezone | Etc/UTC
+rows feed/agency.txt agency_timezone | Nowhere
 rows feed/stops.txt stop_id | A | B | C | D
 rows feed/trips.txt service_id,trip_id | S,T
 rows feed/stop_times.txt trip_id,arrival_time,departure_time,stop_id,stop_sequence | T,08:00:00,08:00:00,A,1 | T,08:00:00,08:00:00,B,2 | T,08:00:00,08:00:00,C,3 | T,08:01:00,08:01:00,D,4
@@ -259,7 +259,7 @@ TZif2\0\0\0\0\0\0\0\0\0\0\0\0\0\0\0\
 const ZONE_FILE: &str = "
 # One stop, and a day that begins an hour earlier in the east, by a zone file.
 folder east
-rows east/agency.txt agency_timezone | Etc/UTC
+rows east/agency.txt agency_timezone | Nowhere
 rows east/stops.txt stop_id | A
 rows east/trips.txt service_id,trip_id
 rows east/stop_times.txt trip_id,arrival_time,departure_time,stop_id,stop_sequence

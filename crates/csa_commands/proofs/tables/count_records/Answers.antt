@@ -1,16 +1,33 @@
--- The tables that are counted are those of the folder.
-use Rattle.feed_files.specs.Reads.{all_tables}
-use Rattle.csa_commands.proofs.OfFolder.{tables_of}
+-- The tables that are counted are those of the folder, and so is the first thing that is wrong with them.
+use Rattle.std.proofs.Common.{inl, inr, refl}
+use Rattle.std.proofs.lemmas.Result.{err_from_is_err_and}
+use Rattle.feed_files.specs.Reading.{HoldsTables, NoTables}
+use Rattle.csa_commands.proofs.OfFolder.{of_read_weaker}
 use Rattle.csa_commands.proofs.tables.count_records.Goals as goal
 
-pub returns : goal.returns
-returns g c =
-    let began = c.new-files.result in
-    let then = c.read_tables.new.files in
+pub returns-in_err-tables-clause-refused : goal.returns-in_err-tables-clause-refused
+returns-in_err-tables-clause-refused g c =
+    let refusal = c.in_err-tables.field-0.0 in
+    let told = err_from_is_err_and c.from_residual.result c.from_residual.ensures.1 in
+    rw (told.1, told.2) (λ unless. of_read_weaker g.H.Disk.gives c.args.folder.now (λ content. NoTables content refusal) _
+    (λ content first. inl (record {
+      refusal = refusal;
+      is = refl;
+      first = first;
+    })) c.in_err-tables.ensures.refused)
+
+pub returns-in_err-counts-clause-refused : goal.returns-in_err-counts-clause-refused
+returns-in_err-counts-clause-refused g c =
     let tables = c.in_ok-tables.tables in
-    let read = c.in_ok-tables.ensures in (
-      tables,
-      tables_of g.H.Disk.gives then.disk.now c.args.folder.now began.folder.now then.folder.now began.reads then.reads
-          tables c.new-files.ensures.folder read.all_read then.given (λ content is. read.read_ok content all_tables is),
-      c.in_ok-counts.ensures,
-    )
+    let told = err_from_is_err_and c.from_residual-in_err-counts.result c.from_residual-in_err-counts.ensures.1 in
+    rw (told.1, told.2) (λ unless. of_read_weaker g.H.Disk.gives c.args.folder.now (λ content. HoldsTables content tables) _
+    (λ content held. inr (record {
+      t = tables;
+      held = held;
+      refusal = c.in_err-counts.field-0.0;
+      is = refl;
+      first = c.in_err-counts.ensures.refused unless;
+    })) c.in_ok-tables.ensures.held)
+
+pub returns-clause-counts : goal.returns-clause-counts
+returns-clause-counts g c = (c.in_ok-tables.tables, c.in_ok-tables.ensures.tables, c.in_ok-counts.ensures.counts)
