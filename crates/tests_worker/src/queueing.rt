@@ -1,8 +1,11 @@
 //! The queue of load orders, and the way back to who waits.
 
+ghost use Rattle.std.specs.Prelude.{◌≡◌, []};
+
 use epochs::{Answer, Edition, PinFault, Versions};
 use load_orders::{LoadAnswer, LoaderOrders, OrderFault, Orders, WorkerOrders, order_queue};
 use std::alloc::{AllocError, Global};
+use std::marker::Model;
 use std::process::Abort;
 use std::sync::Wait;
 use std::test::*;
@@ -77,11 +80,61 @@ fn two_names(alloc: Global) -> Result<Vec<String>, AllocError> {
 
 type Worker<'a, R> = WorkerOrders<'a, R, u64, Numbers<'a, R>>;
 
+/// The loader's end of a queue, at which each order that was taken was answered.
+#[derive(Drop)]
+struct Loader {
+    orders: LoaderOrders<u64>,
+}
+
+impl Model for Loader {
+    ghost use Rattle.load_orders.specs.Telling.{AllAnswered};
+
+    ghost Value = { Unit {0} };
+
+    ghost view = { λ _. tt };
+
+    ghost invariant = { λ loader. AllAnswered loader.orders };
+}
+
+impl Loader {
+    /// The end of a new queue.
+    fn new(orders: LoaderOrders<u64>) -> Loader
+        requires { (orders.taken ≡ []) × (orders.answered ≡ []) }
+    {
+        Loader { orders }
+    }
+
+    /// Takes the next order, and answers it so, or not at all: then it takes no other.
+    fn answer_next<R: Wait>(self, rt: &R, answer: Option<LoadAnswer<u64>>) -> Option<usize> {
+        let mut orders = self.orders;
+        let order = orders.next(rt)?;
+        let feed = order.feed;
+        if let Some(answer) = answer {
+            orders.answer(rt, order, answer);
+        }
+        Some(feed)
+    }
+
+    /// The name of the next order's feed.
+    fn next_words<R: Wait>(&mut self, rt: &R) -> &'static str {
+        let Some(order) = self.orders.next(rt) else {
+            return "nothing";
+        };
+        let feed = order.feed;
+        self.orders.answer(rt, order, LoadAnswer::Unnoticed);
+        match feed {
+            0 => "slow",
+            1 => "fast",
+            _ => "another",
+        }
+    }
+}
+
 /// Two workers' ends of a queue and the loader's, while they are there.
 #[derive(Drop)]
 struct Ends<'a, R: Wait> {
     workers: Vec<Worker<'a, R>>,
-    loader: Option<LoaderOrders<u64>>,
+    loader: Option<Loader>,
 }
 
 /// The ends of a new queue.
@@ -97,7 +150,7 @@ fn new_ends<'a, R: Wait>(
     workers.push(WorkerOrders::new(rt, alloc, names, shelves, end))?;
     Ok(Ends {
         workers,
-        loader: Some(loader),
+        loader: Some(Loader::new(loader)),
     })
 }
 
@@ -121,16 +174,6 @@ fn awaits<R: Wait>(worker: &mut Worker<'_, R>, feed: &str) -> Result<(), OrderFa
     }
 }
 
-/// The name of the next order's feed.
-fn next_words<R: Wait>(rt: &R, loader: &mut LoaderOrders<u64>) -> &'static str {
-    match loader.next(rt) {
-        Some(order) if order.feed == 0 => "slow",
-        Some(order) if order.feed == 1 => "fast",
-        Some(_) => "another",
-        None => "nothing",
-    }
-}
-
 impl<'a, R: Wait> Ends<'a, R> {
     /// Does what a line of a script says, and tells what is answered.
     ///
@@ -138,7 +181,7 @@ impl<'a, R: Wait> Ends<'a, R> {
     /// |---|---|
     /// | `one orders FEED`, `other orders FEED` | the worker orders the feed |
     /// | `one awaits FEED`, `other awaits FEED` | the worker orders it and waits |
-    /// | `loader takes` | the loader takes an order: its feed |
+    /// | `loader takes` | the loader takes an order and answers it: its feed |
     /// | `loader goes`, `workers go` | their ends are let go |
     fn answer(&mut self, rt: &R, deed: &str) -> &'static str {
         match deed {
@@ -157,7 +200,7 @@ impl<'a, R: Wait> Ends<'a, R> {
 
     fn take(&mut self, rt: &R) -> &'static str {
         match &mut self.loader {
-            Some(loader) => next_words(rt, loader),
+            Some(loader) => loader.next_words(rt),
             None => "no loader",
         }
     }
@@ -233,31 +276,17 @@ fn play_at_new_ends<R: Wait + Abort>(
     Ok(())
 }
 
-/// The loader takes one order, and answers it so, or not at all.
-fn answer_next<R: Wait>(
-    rt: &R,
-    mut loader: LoaderOrders<u64>,
-    answer: Option<LoadAnswer<u64>>,
-) -> Option<usize> {
-    let order = loader.next(rt)?;
-    let feed = order.feed;
-    if let Some(answer) = answer {
-        loader.answer(rt, order, answer);
-    }
-    Some(feed)
-}
-
 /// What whoever waits for the feed `fast` is told, where the loader answers so; and which feed the loader was told.
 fn told<R: Threads + Wait + Sync>(
     rt: &R,
     worker: &mut Worker<'_, R>,
-    loader: LoaderOrders<u64>,
+    loader: Loader,
     answer: Option<LoadAnswer<u64>>,
 ) -> (Result<(u64, u64), OrderFault>, Option<usize>) {
     thread::join(
         rt,
         || worker.order_wait("fast"),
-        move || -> Option<usize> { answer_next(rt, loader, answer) },
+        move || -> Option<usize> { loader.answer_next(rt, answer) },
     )
 }
 
@@ -272,7 +301,7 @@ fn tells<'a, R: Threads + Wait + Sync + Abort>(
     let rt = shelves.rt;
     let (end, loader) = order_queue(alloc)?;
     let mut worker = WorkerOrders::new(rt, alloc, names, shelves, end);
-    let (version, feed) = told(rt, &mut worker, loader, answer);
+    let (version, feed) = told(rt, &mut worker, Loader::new(loader), answer);
     assert!(rt; version == expected && feed == Some(1));
     Ok(())
 }
