@@ -8,6 +8,7 @@ pub mod EndLemmas
 pub mod LabelLemmas
 pub mod StopLemmas
 pub mod RideLemmas
+pub mod OfferedLemmas
 pub mod TellingLemmas
 pub mod BoardLemmas
 pub mod LeaveLemmas

@@ -1,17 +1,19 @@
 -- What the vectors of a scan keep for each stop and each trip.
-use Rattle.std.specs.Prelude.{◌≡◌, ℕ, ◌<◌, List, length, vec_len, Contains, slice_index, slice_index_or, Option, Some}
+use Rattle.std.specs.Prelude.{◌≡◌, ℕ, ◌<◌, List, length, vec_len, Contains, slice_get, slice_index, slice_index_or, Option, Some}
 use Rattle.std.specs.Prelude.{None, Bool, true, false, nat_le, map}
 use Rattle.bags.specs.Bag.{criterion_of, points_of}
 use Rattle.bags.specs.declared.point.Point.{Point}
 use Rattle.timetable.specs.declared.network.Footpath.{Footpath}
 use Rattle.timetable.specs.declared.limits.TheConstants.{MAX_WALK_SECS}
 use Rattle.timetable.specs.TimetableValue.{TimetableValue}
-use Rattle.criteria.specs.Laws.{Rules}
+use Rattle.bags.specs.Dominance.{IsCovered}
+use Rattle.criteria.specs.Laws.{Rules, Admits}
 use Rattle.fronts.specs.Lists.{IsSound, lists_criterion, entries_of, steps_of, list_points}
 use Rattle.fronts.specs.Labels.{AreLabels, trips_of}
 use Rattle.profile_scan.specs.Adding.{trip_points}
 use Rattle.profile_scan.specs.Matching.{ScanValue}
 use Rattle.profile_scan.specs.Story.{Story, story}
+use Rattle.profile_scan.specs.declared.last_offers.Offered.{Offered}
 use Rattle.profile_scan.specs.declared.stops.Stops.{Stops}
 use Rattle.profile_scan.specs.Bound.{AreBounds}
 use Rattle.profile_scan.specs.declared.scan.Scan.{Scan}
@@ -22,13 +24,21 @@ use Rattle.profile_scan.specs.declared.ways.Ways.{Ways}
 abbrev pub points_at : {K V : Type 0} → Stops K V → ℕ → List (Point V)
 points_at stops stop = list_points stops.lists (slice_index stops.heads.items stop)
 
--- so many lists under a criterion
+-- what a stop was offered: its points have one, for whoever is there before a time, that is no worse than a value
+pub record IsOffered {V : Type 0} (rules : Rules V) (points : List (Point V)) (offered : Offered V) : Type 0 where
+  pub admitted : Admits rules offered.value
+  pub covers : (time : ℕ) → time < offered.before → IsCovered rules points time offered.value
+
+-- so many lists under a criterion, and what each was offered
 pub record AreStops {K V : Type 0} (rules_of : K → Rules V) (criterion : K) (count : ℕ)
     (stops : Stops K V) : Type 0 where
   pub under : lists_criterion stops.lists ≡ criterion
   pub sound : IsSound rules_of stops.lists
   pub long : vec_len stops.heads ≡ count
   pub within : (stop : ℕ) → slice_index stops.heads.items stop < length (entries_of stops.lists)
+  pub many : length stops.offers.items ≡ count
+  pub offered : (stop : ℕ) (offered : Offered V) → slice_get stops.offers.items stop ≡ Some offered
+      → IsOffered (rules_of criterion) (points_at stops stop) offered
 
 -- the seconds of the footpath from a stop to the target, if there is one
 abbrev pub IsWay : TimetableValue → ℕ → ℕ → Option ℕ → Type 0

@@ -15,6 +15,7 @@ mod destination;
 mod everywhere;
 mod found;
 mod hop;
+mod last_offers;
 pub mod laws;
 mod nodes;
 mod origin;

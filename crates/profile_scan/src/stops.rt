@@ -4,6 +4,7 @@ ghost use Rattle.std.specs.Prelude.{◌≡◌, ℕ, IfOk, replicate};
 
 use crate::bound::is_bettered;
 use crate::hop::{Asked, Hop};
+use crate::last_offers::{Offered, none_offered};
 use crate::riding::{number_of, ride_labels};
 use criteria::Criterion;
 use fronts::{FrontLists, Label, Ridden};
@@ -12,11 +13,12 @@ use std::alloc::{AllocError, Global};
 use std::ops::Range;
 use timetable::Footpath;
 
-/// A list of points for each stop, by its head.
+/// A list of points for each stop, by its head, and what each was offered last.
 #[derive(Drop)]
 pub struct Stops<C: Criterion> {
     pub lists: FrontLists<C>,
     pub heads: Vec<u32>,
+    pub offers: Vec<Offered<C::V>>,
     // scratch memory: the values of a trip's labels after the ride, if it has several, overwritten by each boarding
     pub ridden: Vec<Ridden<C::V>>,
 }
@@ -25,7 +27,7 @@ impl<C: Criterion> Stops<C> {
     ghost use Rattle.std.specs.Prelude.{◌≡◌, ◌<◌, [], ◌∷◌, ℕ, List, true, IfOk, OnOk, Contains, vec_len, slice_index};
     ghost use Rattle.criteria.specs.Laws.{Admits, IsSecs};
     ghost use Rattle.bags.specs.declared.point.Point.{Point};
-    ghost use Rattle.fronts.specs.Lists.{lists_criterion};
+    ghost use Rattle.bags.specs.Dominance.{IsCovered};
     ghost use Rattle.profile_scan.specs.Adding.{label_points, AreWalksInto};
     ghost use Rattle.profile_scan.specs.Bound.{carried};
     ghost use Rattle.profile_scan.specs.Steps.{boardings};
@@ -42,9 +44,11 @@ impl<C: Criterion> Stops<C> {
     {
         let lists = FrontLists::new(alloc, *criterion)?;
         let heads = no_heads(alloc, count as usize)?;
+        let offers = none_offered(alloc, criterion, count as usize)?;
         Ok(Stops {
             lists,
             heads,
+            offers,
             ridden: Vec::new(alloc),
         })
     }
@@ -55,6 +59,21 @@ impl<C: Criterion> Stops<C> {
         ensures { result ≡ slice_index self.now.heads.items stop }
     {
         self.heads[stop as usize]
+    }
+
+    // Whether what a stop was offered last shows that its list has a point, at a time or later, no worse than a value.
+    #[inline(always)]
+    fn was_offered(&self, criterion: &C, stop: u32, time: u32, value: &C::V) -> bool
+        requires stop { stop < vec_len self.now.heads }
+        requires stops { AreStops C.rules criterion.now (vec_len self.now.heads) self.now }
+        requires value { Admits (C.rules criterion.now) value.now }
+        ensures { result ≡ true → IsCovered (C.rules criterion.now) (points_at self.now stop) time value.now }
+    {
+        let offered = self.offers[stop as usize];
+        if time >= offered.before {
+            return false;
+        }
+        criterion.no_worse(&offered.value, value)
     }
 
     // Offers the list of the stop where a footpath begins each ridden value, boarded after it. `place` is the index of
@@ -117,11 +136,12 @@ impl<C: Criterion> Stops<C> {
         Ok(())
     }
 
-    // Offers the list of the stop where a footpath begins one ridden value, boarded after it. `place` is the index of
-    // the footpath.
+    // Offers the list of the stop where a footpath begins one ridden value, boarded after it, unless what the stop was
+    // offered last is as good. `place` is the index of the footpath.
     #[inline(always)]
     fn board_one_after(
         &mut self,
+        asked: &Asked<C>,
         hop: &Hop<C::V>,
         place: usize,
         walk: Footpath,
@@ -129,15 +149,19 @@ impl<C: Criterion> Stops<C> {
     ) -> Result<(), AllocError>
         requires secs { IsSecs walk.secs }
         requires stop { walk.from < vec_len self.old.heads }
-        requires stops { AreStops C.rules (lists_criterion self.old.lists) (vec_len self.old.heads) self.old }
-        requires ride { Admits (C.rules (lists_criterion self.old.lists)) ride.value }
+        requires stops { AreStops C.rules asked.now.criterion (vec_len self.old.heads) self.old }
+        requires ride { Admits (C.rules asked.now.criterion) ride.value }
         ensures stops { OnOk result
-            (ChangesLists C.rules (lists_criterion self.old.lists) (vec_len self.old.heads) self.old self.new) }
+            (ChangesLists C.rules asked.now.criterion (vec_len self.old.heads) self.old self.new) }
         ensures takes { OnOk result
-            (BoardsAfter (C.rules (lists_criterion self.old.lists)) hop.now place walk (ride ∷ []) self.old self.new) }
+            (BoardsAfter (C.rules asked.now.criterion) hop.now place walk (ride ∷ []) self.old self.new) }
     {
         let dep = hop.connection.dep;
         if walk.secs > dep {
+            return Ok(());
+        }
+        let value = asked.criterion.walk(walk.secs, &ride.value);
+        if self.was_offered(&asked.criterion, walk.from, dep - walk.secs, &value) {
             return Ok(());
         }
         let number = number_of(place)?;
@@ -146,6 +170,10 @@ impl<C: Criterion> Stops<C> {
             .lists
             .insert_one(head, dep - walk.secs, hop.place, number, walk.secs, ride)?;
         self.heads[walk.from as usize] = new;
+        self.offers[walk.from as usize] = Offered {
+            before: (dep - walk.secs).saturating_add(1),
+            value,
+        };
         Ok(())
     }
 
@@ -153,22 +181,23 @@ impl<C: Criterion> Stops<C> {
     #[inline(always)]
     fn board_one<S: ConnSource>(
         &mut self,
+        asked: &Asked<C>,
         source: &S,
         hop: &Hop<C::V>,
         walks: Range<usize>,
         ride: Ridden<C::V>,
     ) -> Result<(), AllocError>
         requires walks { AreWalksInto (S.timetable source.now) hop.now.connection.from walks.start walks.end }
-        requires stops { AreStops C.rules (lists_criterion self.old.lists) (S.timetable source.now).stops self.old }
-        requires ride { Admits (C.rules (lists_criterion self.old.lists)) ride.value }
-        ensures stops { OnOk result (ChangesLists C.rules (lists_criterion self.old.lists)
-            (S.timetable source.now).stops self.old self.new) }
-        ensures takes { OnOk result (BoardsAfterEach (C.rules (lists_criterion self.old.lists))
+        requires stops { AreStops C.rules asked.now.criterion (S.timetable source.now).stops self.old }
+        requires ride { Admits (C.rules asked.now.criterion) ride.value }
+        ensures stops { OnOk result
+            (ChangesLists C.rules asked.now.criterion (S.timetable source.now).stops self.old self.new) }
+        ensures takes { OnOk result (BoardsAfterEach (C.rules asked.now.criterion)
             (S.timetable source.now).footpaths walks.start walks.end hop.now (ride ∷ []) self.old self.new) }
     {
         for place in walks.start..walks.end {
             let walk = source.footpath_into(hop.connection.from as usize, place);
-            self.board_one_after(hop, place, walk, ride)?;
+            self.board_one_after(asked, hop, place, walk, ride)?;
         }
         Ok(())
     }
@@ -203,7 +232,7 @@ impl<C: Criterion> Stops<C> {
             label: label.tag,
         };
         let (begin, end) = source.walks_into(hop.connection.from as usize);
-        self.board_one(source, hop, begin..end, ride)?;
+        self.board_one(asked, source, hop, begin..end, ride)?;
         Ok(())
     }
 

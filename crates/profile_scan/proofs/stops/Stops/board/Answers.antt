@@ -43,7 +43,14 @@ board_walks-requires-clause-ready g c =
     let labels = label_points c.args.labels.now in
     let values = c.args.hop.now.bound.now in
     record {
-      stops = record { under = c.requires.stops.under; sound = c.requires.stops.sound; long = c.requires.stops.long; within = c.requires.stops.within };
+      stops = record {
+        under = c.requires.stops.under;
+        sound = c.requires.stops.sound;
+        long = c.requires.stops.long;
+        within = c.requires.stops.within;
+        many = c.requires.stops.many;
+        offered = c.requires.stops.offered;
+      };
       ridden = ridden_admitted rules (carried rules values labels) laws
           (λ p h. c.requires.labels p (from_carried rules values labels p h).0) c.ride_labels.new.ridden.items
           c.in_ok-ride_labels.ensures;
@@ -83,8 +90,9 @@ returns-then-len-eq0-clause-stops g c = record {
         under = c.requires.stops.under;
         sound = c.requires.stops.sound;
         long = c.requires.stops.long;
-        within =
-            c.requires.stops.within;
+        within = c.requires.stops.within;
+        many = c.requires.stops.many;
+        offered = c.requires.stops.offered;
       };
   steps = extends_none (steps_of c.args.self.now.lists);
 }

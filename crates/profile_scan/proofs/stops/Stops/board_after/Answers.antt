@@ -1,8 +1,10 @@
-use Rattle.std.proofs.Common.{◌≡◌, ◌<◌, ◌-◌, List, length, slice_get, slice_index, Some, subst, sym}
+use Rattle.std.proofs.Common.{◌≡◌, ◌<◌, ◌-◌, ◌∙◌, List, length, slice_get, slice_index, Some, refl, subst, sym}
 use Rattle.fronts.specs.Lists.{lists_criterion, entries_of, list_points, steps_of, TakesRidden}
 use Rattle.fronts.specs.declared.entry.Ridden.{Ridden}
 use Rattle.profile_scan.specs.Story.{story}
 use Rattle.profile_scan.proofs.StoryLemmas.{grows_on, steps_grow}
+use Rattle.profile_scan.proofs.StopLemmas.{heads_within}
+use Rattle.profile_scan.proofs.OfferedLemmas.{kept_under, offered_on}
 use Rattle.profile_scan.proofs.RideLemmas.{boarded_at}
 use Rattle.profile_scan.proofs.stops.Stops.board_after.Goals as goal
 
@@ -30,3 +32,33 @@ returns-clause-takes g c labels are walks at stop exits set_outs before all ext_
     stop before all (grows_on before was all ext_before
     (grows_on was now all (steps_grow exits (steps_of lists) (steps_of c.insert.new.self) set_outs
     c.insert.ensures.more_steps) ext)) ext.steps
+
+-- what the stops were offered stays good
+pub returns-clause-stops : goal.returns-clause-stops
+returns-clause-stops g c =
+    let rules_of = g.C.Criterion.rules in
+    let criterion = c.args.asked.now.criterion in
+    let are = c.requires.ready.stops in
+    let lists = c.args.self.now.lists in
+    let new = c.insert.new.self in
+    let heads = c.args.self.now.heads in
+    let from = c.args.walk.from in
+    let within : from < length heads.items = subst (λ n. from < n) heads.ok.0 c.requires.stop in
+    let kept = kept_under rules_of (lists_criterion lists) criterion are.under (list_points lists c.head-head.result)
+    (list_points new c.in_ok-new.new) c.in_ok-new.ensures.takes.kept in
+    record {
+      stops = record {
+        under = c.insert.ensures.criterion ∙ are.under;
+        sound = c.insert.ensures.sound;
+        long = refl;
+        within = heads_within heads.items from c.in_ok-new.new (length (entries_of lists)) (length (entries_of new))
+            are.within c.insert.ensures.grows c.in_ok-new.ensures.within;
+        many = are.many;
+        offered = λ stop offered at.
+            offered_on (rules_of criterion) (list_points lists) (list_points new) heads.items (length (entries_of lists))
+            are.within c.insert.ensures.same from c.head-head.result c.in_ok-new.new c.head-head.ensures within kept stop
+            offered (are.offered stop offered at);
+      };
+      steps = c.insert.ensures.more_steps;
+      ridden = refl;
+    }

@@ -9,7 +9,6 @@ use Rattle.profile_scan.specs.Steps.{boardings}
 use Rattle.profile_scan.specs.Adding.{label_points}
 use Rattle.profile_scan.specs.Bound.{carried}
 use Rattle.profile_scan.specs.Kept.{points_at}
-use Rattle.profile_scan.specs.Parts.{BoardsAfterEach, ChangesLists}
 use Rattle.profile_scan.proofs.Offers.{takes_none}
 use Rattle.profile_scan.proofs.LabelLemmas.{as_point}
 use Rattle.profile_scan.proofs.RideLemmas.{alone_ridden, alone_bettered, alone_admitted, no_ridden}
@@ -41,16 +40,10 @@ board_one-requires-clause-walks g c =
     (begins g (goal.at.board_one-requires-clause-walks g c).Start)
     c.walks_into-begin.ensures.order c.walks_into-begin.ensures.within c.walks_into-begin.ensures.exact
 
-pub board_one-requires-clause-stops : goal.board_one-requires-clause-stops
-board_one-requires-clause-stops g c =
-    let are = c.requires.stops in
-    record { under = refl; sound = are.sound; long = are.long; within = are.within }
-
 pub board_one-requires-clause-ride : goal.board_one-requires-clause-ride
 board_one-requires-clause-ride g c =
-    subst (λ k. Admits (g.C.Criterion.rules k) c.ride-value.result) (sym c.requires.stops.under)
-    (subst (Admits (g.C.Criterion.rules c.args.asked.now.criterion)) (sym c.ride-value.ensures)
-    ((g.met.C.Criterion.laws c.args.asked.now.criterion).ride_admits c.args.label.now.value c.requires.label))
+    subst (Admits (g.C.Criterion.rules c.args.asked.now.criterion)) (sym c.ride-value.ensures)
+    ((g.met.C.Criterion.laws c.args.asked.now.criterion).ride_admits c.args.label.now.value c.requires.label)
 
 -- the label is bettered
 pub returns-then-is_bettered-clause-stops : goal.returns-then-is_bettered-clause-stops
@@ -69,8 +62,7 @@ returns-then-is_bettered-clause-takes g c stop exits set_outs before all ext_bef
 
 pub returns-clause-stops : goal.returns-clause-stops
 returns-clause-stops g c =
-    let changes = subst (λ k. ChangesLists g.C.Criterion.rules k (g.S.ConnSource.timetable c.args.source.now).stops
-    c.args.self.now c.board_one.new.self) c.requires.stops.under c.in_ok-board_one.ensures.stops in
+    let changes = c.in_ok-board_one.ensures.stops in
     record { stops = changes.stops; steps = changes.steps }
 
 pub returns-clause-takes : goal.returns-clause-takes
@@ -83,9 +75,7 @@ returns-clause-takes g c stop exits set_outs before all ext_before ext =
     let ride : Ridden g.row.C-V.Denot = record { value = c.ride-value.result; label = c.args.label.now.tag } in
     let are = alone_ridden rules values label ride (sym c.is_bettered.ensures ∙ c.if-is_bettered.false)
     c.ride-value.ensures refl in
-    let boards = subst (λ k. BoardsAfterEach (g.C.Criterion.rules k) t.footpaths c.walks_into-begin.result.0
-    c.walks_into-begin.result.1 c.args.hop.now (ride ∷ []) c.args.self.now c.board_one.new.self)
-    c.requires.stops.under c.in_ok-board_one.ensures.takes in
+    let boards = c.in_ok-board_one.ensures.takes in
     boardings_taken rules t (from_to (told t.footpaths before) (told t.footpaths all)) c.args.hop.now.place
     c.args.hop.now.connection c.requires.hop.stands.is c.requires.boards c.walks_into-begin.result.0
     c.walks_into-begin.result.1 c.walks_into-begin.ensures.exact labels stop (points_at c.args.self.now stop)

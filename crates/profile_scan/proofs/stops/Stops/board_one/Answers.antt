@@ -1,12 +1,10 @@
-use Rattle.std.proofs.Common.{◌≡◌, ◌<◌, ℕ, [], ◌∷◌, vec_len, refl, sym, subst, arith}
-use Rattle.criteria.specs.Laws.{Admits}
-use Rattle.fronts.specs.Lists.{lists_criterion, steps_of}
+use Rattle.std.proofs.Common.{◌≡◌, ◌<◌, ℕ, sym, subst, arith}
+use Rattle.fronts.specs.Lists.{steps_of}
 use Rattle.profile_scan.specs.Matching.{from_to}
 use Rattle.profile_scan.specs.Story.{story, told}
 use Rattle.profile_scan.specs.Steps.{TakesIn}
-use Rattle.profile_scan.specs.Parts.{BoardsAfter, ChangesLists}
 use Rattle.profile_scan.specs.Adding.{each_of, StandsBetween, boardings_by}
-use Rattle.profile_scan.specs.Kept.{points_at}
+use Rattle.profile_scan.specs.Kept.{AreStops, points_at}
 use Rattle.profile_scan.proofs.PartLemmas.{lists_none, lists_on}
 use Rattle.profile_scan.proofs.StoryLemmas.{grows_on, steps_grow}
 use Rattle.profile_scan.proofs.BoardLemmas.{walks_first, walks_next}
@@ -14,7 +12,7 @@ use Rattle.profile_scan.proofs.stops.Stops.board_one.Goals as goal
 
 pub loop-place-init : goal.loop-place-init
 loop-place-init g c =
-    let criterion = lists_criterion c.args.self.now.lists in
+    let criterion = c.args.asked.now.criterion in
     let walks = (g.S.ConnSource.timetable c.args.source.now).footpaths in
     record {
       stops = lists_none g.C.Criterion.rules criterion (g.S.ConnSource.timetable c.args.source.now).stops
@@ -34,17 +32,12 @@ board_one_after-requires-clause-stop g c =
 
 pub board_one_after-requires-clause-stops : goal.board_one_after-requires-clause-stops
 board_one_after-requires-clause-stops g c =
-    let are = c.loop-place.invariant.stops.stops in
-    record { under = refl; sound = are.sound; long = refl; within = are.within }
-
-pub board_one_after-requires-clause-ride : goal.board_one_after-requires-clause-ride
-board_one_after-requires-clause-ride g c =
-    subst (λ k. Admits (g.C.Criterion.rules k) c.args.ride.value) (sym c.loop-place.invariant.stops.stops.under)
-    c.requires.ride
+    let inv = c.loop-place.invariant.stops in
+    subst (λ (n : ℕ). AreStops g.C.Criterion.rules c.args.asked.now.criterion n c.loop-place.self) (sym inv.stops.long) inv.stops
 
 pub loop-place-preserved : goal.loop-place-preserved
 loop-place-preserved g c =
-    let criterion = lists_criterion c.args.self.now.lists in
+    let criterion = c.args.asked.now.criterion in
     let t = g.S.ConnSource.timetable c.args.source.now in
     let inv = c.loop-place.invariant in
     let walk = c.footpath_into-walk.result in
@@ -53,10 +46,8 @@ loop-place-preserved g c =
     let old_steps = steps_of c.args.self.now.lists in
     let mid_steps = steps_of mid.lists in
     let new_steps = steps_of new.lists in
-    let changes = subst (λ k. ChangesLists g.C.Criterion.rules k (vec_len mid.heads) mid new) inv.stops.stops.under
-    c.in_ok-board_one_after.ensures.stops in
-    let boards = subst (λ k. BoardsAfter (g.C.Criterion.rules k) c.args.hop.now c.loop-place.place walk
-    (c.args.ride ∷ []) mid new) inv.stops.stops.under c.in_ok-board_one_after.ensures.takes in
+    let changes = c.in_ok-board_one_after.ensures.stops in
+    let boards = c.in_ok-board_one_after.ensures.takes in
     record {
       stops = lists_on g.C.Criterion.rules criterion t.stops c.args.self.now mid new inv.stops changes;
       takes = λ labels are admitted stop exits set_outs before all ext_before ext.
@@ -76,7 +67,7 @@ loop-place-preserved g c =
 
 pub returns-clause-takes : goal.returns-clause-takes
 returns-clause-takes g c labels are admitted stop exits set_outs before all ext_before ext =
-    let rules = g.C.Criterion.rules (lists_criterion c.args.self.now.lists) in
+    let rules = g.C.Criterion.rules c.args.asked.now.criterion in
     let t = g.S.ConnSource.timetable c.args.source.now in
     let over = c.loop-place-test.false in
     let within = c.loop-place.auto.place-end c.requires.walks.order in

@@ -1,12 +1,11 @@
 use Rattle.std.proofs.Common.{[], ◌∷◌}
-use Rattle.fronts.specs.Lists.{lists_criterion}
 use Rattle.profile_scan.specs.Parts.{BoardsAfterEach, ChangesLists}
 use Rattle.profile_scan.proofs.stops.Stops.board_one.Given as goal
 
 abbrev pub invariant-loop-place : goal.invariant-loop-place
 invariant-loop-place g l =
     let t = g.S.ConnSource.timetable l.source in
-    let criterion = lists_criterion l.fn.self.lists in
+    let criterion = l.asked.criterion in
     record {
       stops : ChangesLists g.C.Criterion.rules criterion t.stops l.fn.self l.self;
       takes : BoardsAfterEach (g.C.Criterion.rules criterion) t.footpaths l.fn.walks.start l.place l.hop (l.ride ∷ [])

@@ -1,4 +1,4 @@
-use Rattle.std.proofs.Common.{◌<◌, ℕ, length, slice_index, sym, ◌∙◌, ap, subst}
+use Rattle.std.proofs.Common.{◌<◌, ℕ, length, slice_index, sym, ◌∙◌, ap, subst, arith}
 use Rattle.std.proofs.lemmas.List.{length-replicate}
 use Rattle.reasoning.proofs.ListLemmas.{slice_index-replicate}
 use Rattle.fronts.specs.Lists.{entries_of, list_points}
@@ -13,6 +13,9 @@ returns-clause-stops g c = record {
       ∙ slice_index-replicate c.args.count stop in
       subst (λ n. n < length (entries_of c.in_ok-lists.lists)) (sym none)
       c.in_ok-lists.ensures.sound.some;
+  many = c.in_ok-offers.ensures.long;
+  offered = λ stop offered at. let none = c.in_ok-offers.ensures.none stop offered at in
+      record { admitted = none.1; covers = λ time early. let nobody = none.0 in absurd (omega (arith, early, nobody)) };
 }
 
 pub returns-clause-none : goal.returns-clause-none
