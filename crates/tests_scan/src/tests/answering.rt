@@ -14,7 +14,7 @@ use image_verifier::Verified;
 use journeys::{Answer, Window, answer_query, check, extract, journey_text, query_of};
 use profile_scan::{Found, laws, profile};
 use sources::{ConnSource, Decoded, InPlace};
-use std::alloc::Global;
+use std::alloc::{AllocError, Global};
 use std::process::Abort;
 use std::test::*;
 use timetable::{Journey, Query, QueryFault, Times};
@@ -82,12 +82,13 @@ fn told_at<C: Told>(criterion: &C, found: &Found<C>, place: usize) -> (u32, Told
     (point.departure, criterion.tell(&point.value))
 }
 
-/// What is told of a journey's value: its arrival, and the number of its rides where trips are counted.
-fn assert_told(rt: &impl Abort, told: ToldValue, arrival: u32, rides: usize) {
-    assert_eq!(rt; told.arrival, arrival);
-    if let Some(trips) = told.trips {
-        assert_eq!(rt; trips as usize, rides);
-    }
+/// Whether a journey with so many rides that arrives then has this value: trips are told where they are counted.
+pub fn is_worth(journey: &Journey, arrival: u32, told: ToldValue) -> bool {
+    let are_told = match told.trips {
+        Some(trips) => trips as usize == journey.rides.len(),
+        None => true,
+    };
+    told.arrival == arrival && are_told
 }
 
 /// A journey departs and is over so, and has this text.
@@ -99,10 +100,11 @@ fn assert_journey(
     expected: (u32, u32, &str),
 ) -> Result<(), Fail> {
     let (departure, arrival, text) = expected;
-    assert_eq!(rt; times.dep, departure);
-    assert_eq!(rt; times.arr, arrival);
-    let told = journey_text(alloc, journey)?;
-    assert_eq!(rt; told.as_slice(), text.as_bytes());
+    assert!(rt; times.dep == departure && times.arr == arrival, "{text}");
+    assert!(rt;
+        journey_text(alloc, journey)?.as_slice() == text.as_bytes(),
+        "{text}"
+    );
     Ok(())
 }
 
@@ -123,8 +125,7 @@ fn assert_point<C: Told>(
     let (departure, told) = told_at(criterion, found, place);
     let journey = journey_at(alloc, found, place)?;
     let times = times_of(image, query, &journey)?;
-    assert_eq!(rt; times.dep, departure);
-    assert_told(rt, told, times.arr, journey.rides.len());
+    assert!(rt; times.dep == departure && is_worth(&journey, times.arr, told));
     assert_journey(rt, alloc, &journey, times, expected)
 }
 
@@ -141,7 +142,7 @@ fn assert_answer<S: ConnSource, C: Told>(
     let stops = source.stops();
     query.check(stops).ok().ok_or("the query can be asked")?;
     let found = profile(alloc, source, criterion, query)?;
-    assert_eq!(rt; found.len(), expected.len());
+    assert!(rt; found.len() == expected.len());
     for (place, point) in expected.iter().enumerate() {
         assert_point(rt, alloc, image, query, criterion, &found, place, *point)?;
     }
@@ -291,26 +292,31 @@ fn on_foot_from_the_last_trip(rt: HostRuntime) -> Result<(), Fail> {
     assert_arrivals(&rt, rt.alloc(), &WITH_CHAIN, &ASKED, &walks)
 }
 
+/// Whether both answers have two points, each with the same departure.
+fn depart_together(found: &Found<ArrivalTrips>, others: &Found<ArrivalTrips>) -> bool {
+    let (points, others) = (found.points(), others.points());
+    if points.len() != 2 || others.len() != 2 {
+        return false;
+    }
+    points[0].departure == others[0].departure && points[1].departure == others[1].departure
+}
+
+/// Whether an image in place and its lists decoded do.
+fn give_one_answer(alloc: Global, words: &[u32]) -> Result<bool, Fail> {
+    let image = image(alloc, words)?;
+    if ASKED.check(image.stops()).is_err() {
+        return Ok(false);
+    }
+    let (in_place, decoded) = laws::both_sources(alloc, &image, &ArrivalTrips, &ASKED)?;
+    laws::found_answers(&in_place);
+    Ok(depart_together(&in_place, &decoded))
+}
+
 /// The image in place and its lists decoded: as many points, each with the same departure.
 #[test]
 fn both_sources_give_one_answer(rt: HostRuntime) -> Result<(), Fail> {
-    let alloc = rt.alloc();
-    for words in [sample_words().as_slice(), WITH_CHAIN.as_slice()] {
-        let image = image(alloc, words)?;
-        ASKED
-            .check(image.stops())
-            .ok()
-            .ok_or("the query can be asked")?;
-        let (in_place, decoded) = laws::both_sources(alloc, &image, &ArrivalTrips, &ASKED)?;
-        laws::found_answers(&in_place);
-        let points = in_place.points();
-        let others = decoded.points();
-        assert_eq!(rt; points.len(), 2);
-        assert_eq!(rt; others.len(), 2);
-        for i in 0..2 {
-            assert_eq!(rt; points[i].departure, others[i].departure);
-        }
-    }
+    assert!(rt; give_one_answer(rt.alloc(), &sample_words())?);
+    assert!(rt; give_one_answer(rt.alloc(), &WITH_CHAIN)?);
     Ok(())
 }
 
@@ -333,30 +339,39 @@ fn walk_beside(alloc: Global, words: &[u32]) -> Result<Option<u32>, Fail> {
 
 #[test]
 fn a_walk_stands_beside(rt: HostRuntime) -> Result<(), Fail> {
-    assert_eq!(rt; walk_beside(rt.alloc(), &sample_words())?, None);
-    assert_eq!(rt; walk_beside(rt.alloc(), &WITH_CHAIN)?, Some(120));
+    assert!(rt; walk_beside(rt.alloc(), &sample_words())? == None);
+    assert!(rt; walk_beside(rt.alloc(), &WITH_CHAIN)? == Some(120));
     Ok(())
 }
 
-/// A query by the names of stops.
-#[test]
-fn by_names(rt: HostRuntime) -> Result<(), Fail> {
-    let image = image(rt.alloc(), &sample_words())?;
+fn assert_named(rt: &impl Abort, image: &Verified) {
     let window = Window {
         from: 25200,
         until: 32400,
         by: 36000,
     };
-    assert_eq!(rt;
-        query_of(&image, b"A", b"D", window),
-        Err(QueryFault::UnknownStop)
-    );
-    assert_eq!(rt;
-        query_of(&image, b"A", b"A", window),
-        Err(QueryFault::SameStop)
-    );
-    assert_eq!(rt; query_of(&image, b"A", b"C", window), Ok(ASKED));
+    assert!(rt; query_of(image, b"A", b"D", window) == Err(QueryFault::UnknownStop));
+    assert!(rt; query_of(image, b"A", b"A", window) == Err(QueryFault::SameStop));
+    assert!(rt; query_of(image, b"A", b"C", window) == Ok(ASKED));
+}
+
+/// A query by the names of stops.
+#[test]
+fn by_names(rt: HostRuntime) -> Result<(), Fail> {
+    assert_named(&rt, &image(rt.alloc(), &sample_words())?);
     Ok(())
+}
+
+/// Whether an answer to the sample read its three connections, and its second of two departures is that of the trip
+/// without a change.
+fn is_answered(alloc: Global, answer: &Answer<ArrivalTrips>) -> Result<bool, AllocError> {
+    if answer.read != 3 || answer.departures.len() != 2 {
+        return Ok(false);
+    }
+    let direct = &answer.departures[1];
+    let text = journey_text(alloc, &direct.journey)?;
+    let is_worth = direct.value.time == 30600 && direct.value.trips == 1;
+    Ok(direct.time == 28800 && is_worth && text.as_slice() == b"ride 0 1".as_slice())
 }
 
 /// The answer at one call: each departure with its value and its journey, and how many connections
@@ -370,14 +385,6 @@ fn refused_growth_is_told(rt: HostRuntime) -> Result<(), Fail> {
     let answer = answered(alloc, &mut source, &ArrivalTrips);
     assert!(rt; source.in_turn);
     let answer = answer?;
-    assert_eq!(rt; source.left, 0);
-    assert_eq!(rt; answer.read, 3);
-    assert_eq!(rt; answer.departures.len(), 2);
-    let direct = &answer.departures[1];
-    assert_eq!(rt; direct.time, 28800);
-    assert_eq!(rt; direct.value.time, 30600);
-    assert_eq!(rt; direct.value.trips, 1);
-    let text = journey_text(alloc, &direct.journey)?;
-    assert!(rt; text.as_slice() == b"ride 0 1".as_slice());
+    assert!(rt; source.left == 0 && is_answered(alloc, &answer)?);
     Ok(())
 }

@@ -103,13 +103,14 @@ fn assert_departures<C: Criterion<V = u32>>(
     answer: &Answer<C>,
     expected: &[(u32, u32, &str)],
 ) -> Result<(), Fail> {
-    assert_eq!(rt; answer.read, 4);
-    assert_eq!(rt; answer.departures.len(), expected.len());
+    assert!(rt; answer.read == 4 && answer.departures.len() == expected.len());
     for (departure, (time, value, text)) in answer.departures.iter().zip(expected) {
-        assert_eq!(rt; departure.time, *time);
-        assert_eq!(rt; departure.value, *value);
+        assert!(rt;
+            departure.time == *time && departure.value == *value,
+            "{text}"
+        );
         let told = journey_text(alloc, &departure.journey)?;
-        assert_eq!(rt; told.as_slice(), text.as_bytes());
+        assert!(rt; told.as_slice() == text.as_bytes(), "{text}");
     }
     Ok(())
 }

@@ -66,15 +66,14 @@ fn assert_stands(rt: &impl Abort, bag: &Bag<ArrivalTrips>, history: &[Point<Time
     let mut standing = 0usize;
     for point in history {
         let expected = if stands(history, point) { 1 } else { 0 };
-        assert_eq!(rt;
-            count(bag, point),
-            expected,
+        assert!(rt;
+            count(bag, point) == expected,
             "after {} points",
             history.len()
         );
         standing = standing.saturating_add(expected);
     }
-    assert_eq!(rt; bag.len(), standing, "after {} points", history.len());
+    assert!(rt; bag.len() == standing, "after {} points", history.len());
 }
 
 // Whether the point at a place departs at a time or later, and no such point of the bag is better.
@@ -127,6 +126,15 @@ fn assert_order(rt: &impl Abort, bag: &Bag<ArrivalTrips>) {
     }
 }
 
+// What a bag keeps of a history, in which order, and what is best of it at each time.
+fn assert_bag(rt: &impl Abort, bag: &Bag<ArrivalTrips>, history: &[Point<TimeTrips>]) {
+    assert_stands(rt, bag, history);
+    assert_order(rt, bag);
+    for time in 0..18 {
+        assert_best(rt, bag, time);
+    }
+}
+
 fn check_run(rt: &impl Abort, alloc: Global, seed: u32) -> Result<(), AllocError> {
     let mut state = seed;
     let mut history = Vec::new(alloc);
@@ -135,18 +143,14 @@ fn check_run(rt: &impl Abort, alloc: Global, seed: u32) -> Result<(), AllocError
         let point = draw_point(&mut state, tag);
         history.push(point)?;
         match bag.insert(point.departure, point.value, point.tag) {
-            Ok(newly) => assert_eq!(rt; newly, stands(&history, &point), "point {tag}"),
+            Ok(newly) => assert!(rt; newly == stands(&history, &point), "point {tag}"),
             Err(AllocError) => {
                 history.pop();
                 assert_stands(rt, &bag, &history);
                 return Err(AllocError);
             }
         }
-        assert_stands(rt, &bag, &history);
-        assert_order(rt, &bag);
-        for time in 0..18 {
-            assert_best(rt, &bag, time);
-        }
+        assert_bag(rt, &bag, &history);
     }
     Ok(())
 }
@@ -170,38 +174,58 @@ fn of_two_equal_points_the_first_keeps_its_tag(rt: HostRuntime) -> Result<(), Fa
     let mut bag = Bag::new(rt.alloc(), Arrival);
     assert!(rt; bag.insert(28_800, 30_000, 1)?);
     assert!(rt; !bag.insert(28_800, 30_000, 2)?);
-    assert_eq!(rt; bag.len(), 1);
-    assert_eq!(rt; bag.point(0).tag, 1);
+    assert!(rt; bag.len() == 1);
+    assert!(rt; bag.point(0).tag == 1);
     Ok(())
+}
+
+// Whether the points of a departure are new, the first only once: one that takes 50 minutes, and one that takes 10, but
+// two trips.
+fn are_new(bag: &mut Bag<ArrivalTrips>, departure: u32, tag: usize) -> Result<bool, AllocError>
+    requires { departure ≤ 36000 }
+{
+    let direct = TimeTrips {
+        time: departure + 3_000,
+        trips: 1,
+    };
+    let fast = TimeTrips {
+        time: departure + 600,
+        trips: 2,
+    };
+    let is_new = bag.insert(departure, direct, tag)?;
+    let is_other = bag.insert(departure, fast, tag)?;
+    let is_again = bag.insert(departure, direct, 99)?;
+    Ok(is_new && is_other && !is_again)
+}
+
+// Where the first two points that are best from a time on stand, and that there is no third.
+fn are_two_best(bag: &Bag<ArrivalTrips>, time: u32, first: usize, second: usize) -> bool {
+    let mut best = bag.best_from(time);
+    best.next() == Some(first) && best.next() == Some(second) && best.next().is_none()
+}
+
+fn assert_later(rt: &impl Abort, bag: &Bag<ArrivalTrips>) {
+    assert!(rt; bag.len() == 80);
+    assert_order(rt, bag);
+    assert!(rt; are_two_best(bag, 34_000, 66, 67));
+    assert!(rt; bag.best_from(33_660).next() == Some(78));
+    assert!(rt; bag.best_from(36_001).next().is_none());
+    assert_best(rt, bag, 34_000);
 }
 
 #[test]
 fn of_points_that_depart_later_the_best_are_told(rt: HostRuntime) -> Result<(), Fail> {
     let mut bag = Bag::new(rt.alloc(), ArrivalTrips);
     for tag in 0..40 {
-        let departure = 36_000 - tag as u32 * 60;
-        let direct = TimeTrips {
-            time: departure + 3_000,
-            trips: 1,
-        };
-        let fast = TimeTrips {
-            time: departure + 600,
-            trips: 2,
-        };
-        assert!(rt; bag.insert(departure, direct, tag)?);
-        assert!(rt; bag.insert(departure, fast, tag)?);
-        assert!(rt; !bag.insert(departure, direct, 99)?);
+        assert!(rt; are_new(&mut bag, 36_000 - tag as u32 * 60, tag)?);
     }
-    assert_eq!(rt; bag.len(), 80);
-    assert_order(&rt, &bag);
-    let mut best = bag.best_from(34_000);
-    assert_eq!(rt; best.next(), Some(66));
-    assert_eq!(rt; best.next(), Some(67));
-    assert_eq!(rt; best.next(), None);
-    assert_eq!(rt; bag.best_from(33_660).next(), Some(78));
-    assert_eq!(rt; bag.best_from(36_001).next(), None);
-    assert_best(&rt, &bag, 34_000);
+    assert_later(&rt, &bag);
     Ok(())
+}
+
+// Whether a bag has a point that is best from a time on.
+fn has_best(bag: &Bag<Arrival>, time: u32) -> bool {
+    bag.best_from(time).next().is_some()
 }
 
 #[test]
@@ -209,11 +233,9 @@ fn a_later_departure_with_an_earlier_arrival_drops_the_rest(rt: HostRuntime) -> 
     let mut bag = Bag::new(rt.alloc(), Arrival);
     assert!(rt; bag.insert(28_800, 30_000, 1)?);
     assert!(rt; bag.insert(29_400, 30_600, 2)?);
-    assert!(rt; bag.best_from(28_800).next().is_some());
-    assert!(rt; bag.best_from(29_400).next().is_some());
-    assert!(rt; bag.best_from(29_401).next().is_none());
+    assert!(rt; has_best(&bag, 28_800) && has_best(&bag, 29_400) && !has_best(&bag, 29_401));
     assert!(rt; bag.insert(29_400, 29_900, 3)?);
-    assert_eq!(rt; bag.len(), 1);
-    assert_eq!(rt; bag.point(0).tag, 3);
+    assert!(rt; bag.len() == 1);
+    assert!(rt; bag.point(0).tag == 3);
     Ok(())
 }

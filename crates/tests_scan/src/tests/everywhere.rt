@@ -4,10 +4,11 @@ ghost use Rattle.std.specs.Prelude.{◌≢◌, ◌<◌, IfOk, length};
 ghost use Rattle.profile_scan.specs.Found.{listed};
 ghost use Rattle.profile_scan.specs.Everywhere.{AnswerAll, destination_of};
 
-use super::answering::{WITH_CHAIN, WITH_DIRECT_TRIP, WITH_WALK};
+use super::answering::{WITH_CHAIN, WITH_DIRECT_TRIP, WITH_WALK, is_worth};
 use super::images::{REPEATED, image};
 use super::in_turn::InTurn;
 use super::random_images::{Dice, random_words};
+use bags::Point;
 use criteria::{Arrival, ArrivalTrips, ArrivalTripsWalk, Told};
 use image_layout::{sample_words, second_sample_words};
 use image_verifier::Verified;
@@ -44,13 +45,15 @@ fn assert_attained<C: Told>(
         .ok()
         .ok_or("the journey counts")?;
     let point = found.point(place);
-    assert_eq!(rt; times.dep, point.departure);
     let told = criterion.tell(&point.value);
-    assert_eq!(rt; times.arr, told.arrival);
-    if let Some(trips) = told.trips {
-        assert_eq!(rt; trips as usize, journey.rides.len());
-    }
+    assert!(rt; times.dep == point.departure && is_worth(&journey, times.arr, told));
     Ok(())
+}
+
+/// Whether two points depart together and are told alike.
+fn are_alike<C: Told>(criterion: &C, point: &Point<C::V>, other: &Point<C::V>) -> bool {
+    point.departure == other.departure
+        && criterion.tell(&point.value) == criterion.tell(&other.value)
 }
 
 /// Two answers have the same points, tags aside, and the same walk; each point of the first has a journey.
@@ -63,14 +66,12 @@ fn assert_same<C: Told>(
     alone: &Found<C>,
     asked: &Query,
 ) -> Result<(), Fail> {
-    assert_eq!(rt; found.len(), alone.len());
+    assert!(rt; found.len() == alone.len());
     for place in 0..found.len() {
-        let (point, other) = (found.point(place), alone.point(place));
-        assert_eq!(rt; point.departure, other.departure);
-        assert_eq!(rt; criterion.tell(&point.value), criterion.tell(&other.value));
+        assert!(rt; are_alike(criterion, &found.point(place), &alone.point(place)));
         assert_attained(rt, alloc, image, criterion, found, asked, place)?;
     }
-    assert_eq!(rt; found.direct_walk(), alone.direct_walk());
+    assert!(rt; found.direct_walk() == alone.direct_walk());
     Ok(())
 }
 
@@ -87,13 +88,11 @@ fn assert_listed<C: Told>(
     requires answered { AnswerAll C.rules image.now.timetable profiles.now }
 {
     let points = profiles.points(stop);
-    assert_eq!(rt; points.len(), alone.len());
+    assert!(rt; points.len() == alone.len());
     for place in 0..points.len() {
-        let (point, other) = (points[place], alone.point(place));
-        assert_eq!(rt; point.departure, other.departure);
-        assert_eq!(rt; criterion.tell(&point.value), criterion.tell(&other.value));
+        assert!(rt; are_alike(criterion, &points[place], &alone.point(place)));
     }
-    assert_eq!(rt; profiles.direct_walk(stop), alone.direct_walk());
+    assert!(rt; profiles.direct_walk(stop) == alone.direct_walk());
 }
 
 /// What one scan for all finds from a stop, with its journeys, is what the query from there finds.
@@ -144,8 +143,7 @@ fn assert_stop<C: Told>(
     let asked = profiles.destination().query_from(stop);
     let mut source = InTurn::before(InPlace::new(image), asked.by);
     let alone = answer_from(alloc, &mut source, criterion, &asked)?;
-    assert!(rt; source.in_turn);
-    assert_eq!(rt; source.left, left);
+    assert!(rt; source.in_turn && source.left == left);
     assert_listed(rt, image, criterion, profiles, &alone, stop);
     assert_found(rt, alloc, image, criterion, profiles, &alone, &asked)
 }
@@ -198,7 +196,19 @@ fn assert_answers<C: Told>(
     assert_stops(rt, alloc, image, criterion, &profiles, source.left)
 }
 
-/// The same of every target and criterion.
+/// The same of every criterion.
+fn assert_criteria(
+    rt: &impl Abort,
+    alloc: Global,
+    image: &Verified,
+    asked: &Destination,
+) -> Result<(), Fail> {
+    assert_answers(rt, alloc, image, &Arrival, asked)?;
+    assert_answers(rt, alloc, image, &ArrivalTrips, asked)?;
+    assert_answers(rt, alloc, image, &ArrivalTripsWalk, asked)
+}
+
+/// The same of every target.
 fn assert_targets(
     rt: &impl Abort,
     alloc: Global,
@@ -207,10 +217,7 @@ fn assert_targets(
 ) -> Result<(), Fail> {
     let image = image(alloc, words)?;
     for target in 0..image.stops() {
-        let asked = Destination { target, ..window };
-        assert_answers(rt, alloc, &image, &Arrival, &asked)?;
-        assert_answers(rt, alloc, &image, &ArrivalTrips, &asked)?;
-        assert_answers(rt, alloc, &image, &ArrivalTripsWalk, &asked)?;
+        assert_criteria(rt, alloc, &image, &Destination { target, ..window })?;
     }
     Ok(())
 }

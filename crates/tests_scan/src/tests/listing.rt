@@ -68,6 +68,19 @@ fn count(lists: &FrontLists<ArrivalTrips>, head: u32, time: u32) -> usize
     lists.front_len(lists.front_from(head, time))
 }
 
+// The same of the times from 37,000 back to 34,000.
+fn counts(lists: &FrontLists<ArrivalTrips>, head: u32) -> [usize; 4]
+    requires sound { IsSound ⟦<ArrivalTrips as Criterion>⟧.rules lists.now }
+    requires head { head < length (entries_of lists.now) }
+{
+    [
+        count(lists, head, 37_000),
+        count(lists, head, 36_000),
+        count(lists, head, 35_000),
+        count(lists, head, 34_000),
+    ]
+}
+
 #[test]
 fn a_list_stays_when_another_is_made_of_it(rt: HostRuntime) -> Result<(), AllocError> {
     let mut lists = FrontLists::new(rt.alloc(), ArrivalTrips)?;
@@ -76,13 +89,9 @@ fn a_list_stays_when_another_is_made_of_it(rt: HostRuntime) -> Result<(), AllocE
     let same = take(&mut lists, both, 35_000, 3, 41_000, 0)?;
     let earlier = take(&mut lists, same, 34_000, 4, 42_000, 3)?;
     let all = take(&mut lists, earlier, 37_000, 5, 38_000, 2)?;
-    assert_eq!(rt; count(&lists, same, 36_001), 0);
-    assert_eq!(rt; count(&lists, same, 36_000), 1);
-    assert_eq!(rt; count(&lists, same, 35_000), 3);
-    assert_eq!(rt; count(&lists, all, 37_000), 1);
-    assert_eq!(rt; count(&lists, all, 36_000), 2);
-    assert_eq!(rt; count(&lists, all, 35_000), 3);
-    assert_eq!(rt; count(&lists, all, 34_000), 3);
+    assert!(rt; counts(&lists, same) == [0, 1, 3, 3]);
+    assert!(rt; count(&lists, same, 36_001) == 0);
+    assert!(rt; counts(&lists, all) == [1, 2, 3, 3]);
     Ok(())
 }
 
@@ -141,12 +150,10 @@ fn a_point_tells_its_step(rt: HostRuntime) -> Result<(), AllocError> {
     let front = lists.front_from(one, 36_000);
     assert!(rt; lists.front_len(front) == 1);
     let point = lists.front_point(front, 0);
-    assert_eq!(rt; point.departure, 36_000);
-    assert_eq!(rt; point.value.time, 40_000);
+    assert!(rt; point.departure == 36_000 && point.value.time == 40_000);
     let Some(step) = lists.step(point.tag) else {
         return Err(AllocError);
     };
-    assert_eq!(rt; step.first, 7);
-    assert_eq!(rt; step.label, 5);
+    assert!(rt; step.first == 7 && step.label == 5);
     Ok(())
 }

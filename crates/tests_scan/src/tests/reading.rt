@@ -58,16 +58,15 @@ fn seconds<S: ConnSource>(source: &S, from: u32, to: usize) -> Option<u32>
 
 // The sample, as a source tells of it.
 fn assert_sample<S: ConnSource>(rt: &impl Abort, source: &mut S) {
-    assert_eq!(rt; source.stops(), 3);
-    assert_eq!(rt; source.trips(), 2);
-    assert_eq!(rt; source.len(), 3);
-    assert_eq!(rt; source.connection(1), SECOND);
+    assert!(rt; source.stops() == 3);
+    assert!(rt; source.trips() == 2);
+    assert!(rt; source.len() == 3);
+    assert!(rt; source.connection(1) == SECOND);
     let (first, end) = source.walks_into(2);
-    assert_eq!(rt; first, 2);
-    assert_eq!(rt; end, 3);
-    assert_eq!(rt; source.footpath(2), footpath(2, 2, 0));
-    assert_eq!(rt; seconds(source, 2, 2), Some(0));
-    assert_eq!(rt; last_departure(source), Some(29520));
+    assert!(rt; first == 2);
+    assert!(rt; end == 3);
+    assert!(rt; source.footpath(2) == footpath(2, 2, 0));
+    assert!(rt; seconds(source, 2, 2) == Some(0) && last_departure(source) == Some(29520));
 }
 
 #[test]
@@ -88,12 +87,11 @@ fn a_log_takes_no_bytes(rt: HostRuntime) {
 
 // The footpaths between two stops, and the first places from which on connections depart at a time or later.
 fn assert_early<S: ConnSource>(rt: &impl Abort, source: &S) {
-    assert_eq!(rt; source.stops(), 2);
-    assert_eq!(rt; source.walks_into(0), (0, 2));
-    assert_eq!(rt; seconds(source, 1, 0), Some(300));
-    assert_eq!(rt; seconds(source, 0, 1), Some(240));
+    assert!(rt; source.stops() == 2);
+    assert!(rt; source.walks_into(0) == (0, 2));
+    assert!(rt; seconds(source, 1, 0) == Some(300) && seconds(source, 0, 1) == Some(240));
     for (time, first) in [(0, 0), (10, 0), (11, 1), (30, 1), (31, 2), (40, 2), (41, 3)] {
-        assert_eq!(rt; source.first_at(time), first);
+        assert!(rt; source.first_at(time) == first, "at {time}");
     }
 }
 
@@ -102,8 +100,7 @@ fn footpaths_and_departures(rt: HostRuntime) -> Result<(), Fail> {
     let image = image(rt.alloc(), &EARLY)?;
     assert_early(&rt, &InPlace::new(&image));
     assert_early(&rt, &Decoded::of(rt.alloc(), &image)?);
-    let mut departures = Departures::of(&image);
-    assert_eq!(rt; first_departure(&mut departures, 31), 2);
+    assert!(rt; first_departure(&mut Departures::of(&image), 31) == 2);
     Ok(())
 }
 
@@ -113,7 +110,6 @@ fn footpaths_and_departures(rt: HostRuntime) -> Result<(), Fail> {
 fn refused_growth_is_told(rt: HostRuntime) -> Result<(), Fail> {
     let image = image(rt.alloc(), &EARLY)?;
     let mut source = Decoded::of(rt.alloc(), &image)?;
-    assert_eq!(rt; source.len(), 3);
-    assert_eq!(rt; last_departure(&mut source), Some(40));
+    assert!(rt; source.len() == 3 && last_departure(&mut source) == Some(40));
     Ok(())
 }

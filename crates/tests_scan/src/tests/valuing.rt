@@ -38,29 +38,26 @@ fn two_legs<C: Criterion>(criterion: &C, time: u32, secs: u32) -> C::V
 
 #[test]
 fn a_value_is_folded_from_the_end(rt: HostRuntime) {
-    assert_eq!(rt; two_legs(&Arrival, 30_000, 120), 30_000);
-    assert_eq!(rt; two_legs(&ArrivalTrips, 30_000, 120), trips(30_000, 2));
-    assert_eq!(rt;
-        two_legs(&ArrivalTripsWalk, 30_000, 120),
-        walking(30_000, 2, 120)
-    );
+    assert!(rt; two_legs(&Arrival, 30_000, 120) == 30_000);
+    assert!(rt; two_legs(&ArrivalTrips, 30_000, 120) == trips(30_000, 2));
+    assert!(rt; two_legs(&ArrivalTripsWalk, 30_000, 120) == walking(30_000, 2, 120));
 }
 
 #[test]
 fn the_number_of_trips_stays_at_the_greatest(rt: HostRuntime) {
     let before = trips(30_000, 65_534);
     let most = trips(30_000, 65_535);
-    assert_eq!(rt; ArrivalTrips.ride(&before), most);
-    assert_eq!(rt; ArrivalTrips.ride(&most), most);
+    assert!(rt; ArrivalTrips.ride(&before) == most);
+    assert!(rt; ArrivalTrips.ride(&most) == most);
 }
 
 #[test]
 fn the_seconds_of_walking_stay_at_the_greatest(rt: HostRuntime) {
     let far = walking(30_000, 65_535, 4_294_967_200);
     let farthest = walking(30_000, 65_535, 4_294_967_295);
-    assert_eq!(rt; ArrivalTripsWalk.walk(95, &far), farthest);
-    assert_eq!(rt; ArrivalTripsWalk.walk(96, &far), farthest);
-    assert_eq!(rt; ArrivalTripsWalk.ride(&far), far);
+    assert!(rt; ArrivalTripsWalk.walk(95, &far) == farthest);
+    assert!(rt; ArrivalTripsWalk.walk(96, &far) == farthest);
+    assert!(rt; ArrivalTripsWalk.ride(&far) == far);
 }
 
 #[test]
@@ -76,26 +73,17 @@ fn more_trips_with_less_walking_are_neither_worse_nor_better(rt: HostRuntime) {
 #[test]
 fn values_are_told(rt: HostRuntime) {
     let told = ArrivalTripsWalk.tell(&walking(30_000, 2, 60));
-    assert_eq!(rt; told.arrival, 30_000);
-    assert_eq!(rt; told.trips, Some(2));
-    assert_eq!(rt; told.walked, Some(60));
+    assert!(rt; told.arrival == 30_000 && told.trips == Some(2) && told.walked == Some(60));
     let told = Arrival.tell(&30_000);
-    assert_eq!(rt; told.trips, None);
-    assert_eq!(rt; told.walked, None);
-    assert_eq!(rt; ArrivalTrips.tell(&trips(1, 2)).walked, None);
+    assert!(rt; told.trips == None && told.walked == None);
+    assert!(rt; ArrivalTrips.tell(&trips(1, 2)).walked == None);
 }
 
 #[test]
 fn criteria_are_named(rt: HostRuntime) {
-    assert_eq!(rt;
-        CriterionName::of("arrival+trips"),
-        Some(CriterionName::ArrivalTrips)
-    );
-    assert_eq!(rt; CriterionName::of("trips"), None);
-    assert_eq!(rt;
-        CriterionName::ArrivalTripsWalk.name(),
-        "arrival+trips+walk"
-    );
+    assert!(rt; CriterionName::of("arrival+trips") == Some(CriterionName::ArrivalTrips));
+    assert!(rt; CriterionName::of("trips") == None);
+    assert!(rt; CriterionName::ArrivalTripsWalk.name() == "arrival+trips+walk");
     for name in CriterionName::NAMES {
         assert!(rt; CriterionName::of(name).is_some(), "{name}");
     }
