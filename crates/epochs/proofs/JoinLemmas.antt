@@ -94,7 +94,7 @@ still_rests current current_shelf shelves l r = record {
 loading_so : (current current_shelf : ℕ) (shelves : List Shelf) (u : View) → RestsHere current current_shelf shelves (u, []) → IsLoading u
     × (new_notice u ≡ View.Noting current) × RestsHere current current_shelf shelves (gives_notice u, [])
 loading_so current current_shelf shelves (View.Loading l) h =
-    (tt, ap (λ n. View.Noting n) h.0.current_is, (still_rests current current_shelf shelves l h.0, refl))
+    (tt, ap (λ n. View.Noting n) h.0.current_is, (still_rests current current_shelf shelves l h.0, refl, h.2))
 loading_so current current_shelf shelves (View.Working v) h = absurd h.0
 loading_so current current_shelf shelves (View.Noting n) h = absurd h.0
 loading_so current current_shelf shelves View.Spent h = absurd h.0
@@ -102,14 +102,14 @@ loading_so current current_shelf shelves View.Spent h = absurd h.0
 -- what a loader gives out between two calls is a notice of its current version
 pub loader_notes : (current current_shelf : ℕ) (shelves : List Shelf) (m : Mine) → RestsHere current current_shelf shelves m → IsLoading m.0
     × (new_notice m.0 ≡ View.Noting current)
-loader_notes current current_shelf shelves m h = let l = loading_so current current_shelf shelves m.0 (h.0, refl) in (l.0, l.1)
+loader_notes current current_shelf shelves m h = let l = loading_so current current_shelf shelves m.0 (h.0, refl, h.2) in (l.0, l.1)
 
 -- and the loader rests as it did
 pub loader_rests : (current current_shelf : ℕ) (shelves : List Shelf) (m m' : Mine) → RestsHere current current_shelf shelves m
     → m' ≡ (gives_notice m.0, m.1) → RestsHere current current_shelf shelves m'
 loader_rests current current_shelf shelves m m' h is =
-    let l = loading_so current current_shelf shelves m.0 (h.0, refl) in
-    subst (λ (x : Mine). RestsHere current current_shelf shelves x) (sym is) (l.2.0, h.1)
+    let l = loading_so current current_shelf shelves m.0 (h.0, refl, h.2) in
+    subst (λ (x : Mine). RestsHere current current_shelf shelves x) (sym is) (l.2.0, h.1, l.2.2)
 
 pin_rises : (a b : SeatValue) (r : Result (Unit {0}) PinFault) → PinStep a r b → a.seen ≤ b.seen
 pin_rises a b (Ok u) h = let is = ap (λ (s : SeatValue). s.seen) h.1.3 in let up = h.1.2 in omega arith

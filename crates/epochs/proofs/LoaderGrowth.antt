@@ -19,9 +19,10 @@ use Rattle.shelf_steps.specs.Plays.{OfLoader, gives_notice, newest_of}
 use Rattle.epochs.specs.declared.collected.Collected.{Collected}
 use Rattle.epochs.specs.declared.faults.PublishFault.{PublishFault}
 use Rattle.epochs.specs.SeatHistory.{Grows, IsPublished, EndsPublish, IsTried, FindsByTries, IsFullByTries}
-use Rattle.epochs.specs.SeatHistory.{AreTries, IsReported, OnlyTries, IsTriedOnce, EndsRefused}
+use Rattle.epochs.specs.SeatHistory.{AreTries, IsReported, OnlyTries, IsTriedOnce, IsTriedFirst, EndsRefused}
 use Rattle.epochs.specs.ShelfLoads.{Rests, TriedShelf, TriesBelow, shelf_of, CollectsBySteps, MakesRoomBySteps, PublishesBySteps, RefusesBySteps}
 use Rattle.epochs.proofs.GrowthLemmas.{grows_same, growths_join, happened_grows, same_grows}
+use Rattle.epochs.proofs.ShelfFull.{freed_is_free}
 
 -- what holds of what two loader's views know holds of what the views know
 both_load : (P : LoaderView → LoaderView → Type 0) (Q : Known → Known → Type 0) (u u' : View) → ((a b : LoaderView) → P a b → Q a.known b.known)
@@ -35,12 +36,12 @@ both_load P Q (View.Noting v) u' each h = absurd h
 both_load P Q View.Spent u' each h = absurd h
 
 -- a reported value is no default
-was_freed : (xs : List Bool) (k : ℕ) → get_or xs k false ≡ true → slice_get xs k ≡ Some true
+pub was_freed : (xs : List Bool) (k : ℕ) → get_or xs k false ≡ true → slice_get xs k ≡ Some true
 was_freed [] k is = absurd (cc)
 was_freed (z ∷ xs) zero is = ap (λ (x : Bool). Some x) is
 was_freed (z ∷ xs) (suc k) is = was_freed xs k is
 
-was_busy : (xs : List ℕ) (k : ℕ) → 0 < get_or xs k 0 → slice_get xs k ≡ Some (get_or xs k 0)
+pub was_busy : (xs : List ℕ) (k : ℕ) → 0 < get_or xs k 0 → slice_get xs k ≡ Some (get_or xs k 0)
 was_busy [] k some = absurd (omega arith)
 was_busy (z ∷ xs) zero some = refl
 was_busy (z ∷ xs) (suc k) some = was_busy xs k some
@@ -189,33 +190,29 @@ tries_grow zero u freed busy u' t = same_grows u u' t
 tries_grow (suc n) u freed busy u' t = growths_join (known_of u) (known_of t.0) (known_of u') (tries_grow n u freed busy t.0 t.1)
     (try_grows n (shelf_of t.0 n) t.0 (get_or freed n false) (get_or busy n 0) u' t.2)
 
--- what a report of one try tells
-abbrev Reported : ℕ → Bool → ℕ → Known → Known → Type 0
-Reported k f b before after = (f ≡ true → IsTried before k Reply.Freed after) × (0 < b → IsTried before k (Reply.Busy b) after)
+-- a count that is reported was found by a try
+one_found : (k : ℕ) (s : Option Shelf) (u : View) (f : Bool) (b : ℕ) (u' : View) → 0 < b → TriedShelf k s u f b u'
+    → IsTried (known_of u) k (Reply.Busy b) (known_of u')
+one_found k (Some (Shelf.Closing v)) u true b u' some t = absurd (let z = t.0 in omega arith)
+one_found k (Some (Shelf.Closing v)) u false b u' some t = busy_tried k b u u' t
+one_found k (Some (Shelf.Open v)) u f b u' some t = absurd (let z = t.1 in omega arith)
+one_found k (Some Shelf.Free) u f b u' some t = absurd (let z = t.1 in omega arith)
+one_found k None u f b u' some t = absurd (let z = t.1 in omega arith)
 
-one_reported : (k : ℕ) (s : Option Shelf) (u : View) (f : Bool) (b : ℕ) (u' : View) → TriedShelf k s u f b u' → Reported k f b (known_of u) (known_of u')
-one_reported k (Some (Shelf.Closing v)) u true b u' t = ((λ e. frees_tried k u u' t.1), (λ some. absurd (let z = t.0 in omega arith)))
-one_reported k (Some (Shelf.Closing v)) u false b u' t = ((λ e. absurd (cc)), (λ some. busy_tried k b u u' t))
-one_reported k (Some (Shelf.Open v)) u f b u' t = ((λ e. absurd (let z = t.0 in cc)), (λ some. absurd (let z = t.1 in omega arith)))
-one_reported k (Some Shelf.Free) u f b u' t = ((λ e. absurd (let z = t.0 in cc)), (λ some. absurd (let z = t.1 in omega arith)))
-one_reported k None u f b u' t = ((λ e. absurd (let z = t.0 in cc)), (λ some. absurd (let z = t.1 in omega arith)))
-
-tries_reported : (n : ℕ) (u : View) (freed : List Bool) (busy : List ℕ) (u' : View) → TriesBelow n u freed busy u'
-    → (k : ℕ) → k < n → Reported k (get_or freed k false) (get_or busy k 0) (known_of u) (known_of u')
-tries_reported zero u freed busy u' t k less = absurd (omega arith)
-tries_reported (suc n) u freed busy u' t k less =
-    let last = one_reported n (shelf_of t.0 n) t.0 (get_or freed n false) (get_or busy n 0) u' t.2 in
+tries_found : (n : ℕ) (u : View) (freed : List Bool) (busy : List ℕ) (u' : View) → TriesBelow n u freed busy u'
+    → (k : ℕ) → k < n → 0 < get_or busy k 0 → IsTried (known_of u) k (Reply.Busy (get_or busy k 0)) (known_of u')
+tries_found zero u freed busy u' t k less some = absurd (omega arith)
+tries_found (suc n) u freed busy u' t k less some =
     let grown = tries_grow n u freed busy t.0 t.1 in
     let grows = try_grows n (shelf_of t.0 n) t.0 (get_or freed n false) (get_or busy n 0) u' t.2 in
     dite (ℕ_discrete k n)
-    (λ e. subst (λ m. Reported m (get_or freed m false) (get_or busy m 0) (known_of u) (known_of u')) (sym e) (
-      (λ is. tried_since (known_of u) (known_of t.0) (known_of u') n Reply.Freed grown (last.0 is)),
-      (λ some. tried_since (known_of u) (known_of t.0) (known_of u') n (Reply.Busy (get_or busy n 0)) grown (last.1 some)),
-    ))
-    (λ ne. let r = tries_reported n u freed busy t.0 t.1 k (omega arith) in (
-      (λ is. tried_until (known_of u) (known_of t.0) (known_of u') k Reply.Freed grows (r.0 is)),
-      (λ some. tried_until (known_of u) (known_of t.0) (known_of u') k (Reply.Busy (get_or busy k 0)) grows (r.1 some)),
-    ))
+    (λ e.
+    let here : 0 < get_or busy n 0 = subst (λ m. 0 < get_or busy m 0) e some in
+    subst (λ m. IsTried (known_of u) m (Reply.Busy (get_or busy m 0)) (known_of u')) (sym e)
+    (tried_since (known_of u) (known_of t.0) (known_of u') n (Reply.Busy (get_or busy n 0)) grown
+    (one_found n (shelf_of t.0 n) t.0 (get_or freed n false) (get_or busy n 0) u' here t.2)))
+    (λ ne. tried_until (known_of u) (known_of t.0) (known_of u') k (Reply.Busy (get_or busy k 0)) grows
+    (tries_found n u freed busy t.0 t.1 k (omega arith) some))
 
 got_bool : (xs : List Bool) (k : ℕ) (x y : Bool) → slice_get xs k ≡ Some x → get_or xs k y ≡ x
 got_bool [] k x y is = absurd (cc)
@@ -228,7 +225,7 @@ got_count (z ∷ xs) zero x y is = cc
 got_count (z ∷ xs) (suc k) x y is = got_count xs k x y is
 
 pub collects_grow : (u u' : View) (found : Collected) → CollectsBySteps u found u' → Grows (known_of u) (known_of u')
-collects_grow u u' found h = tries_grow 8 u found.freed found.busy u' h
+collects_grow u u' found h = tries_grow 8 u found.freed found.busy u' h.0
 
 frees_only : (P : ℕ → Type 0) (k : ℕ) (u u' : View) → P k → Frees k u u' → OnlyThose P (known_of u) (known_of u')
 frees_only P k u u' is h = both_load (λ a b. Freed a k b) (λ x y. OnlyThose P x y) u u'
@@ -242,7 +239,7 @@ busy_only : (P : ℕ → Type 0) (k count : ℕ) (u u' : View) → P k → Finds
 busy_only P k count u u' is h = both_load (λ a b. FoundBusy a k count b) (λ x y. OnlyThose P x y) u u'
     (λ a b f. (one_try P k a.known (Reply.Busy count) b.known is f.collect, f.images)) h
 
-found_some : (k count : ℕ) (u u' : View) → FindsBusy k count u u' → 0 < count
+pub found_some : (k count : ℕ) (u u' : View) → FindsBusy k count u u' → 0 < count
 found_some k count u u' h = both_load (λ a b. FoundBusy a k count b) (λ x y. 0 < count) u u' (λ a b f. f.some_one) h
 
 one_only : (P : ℕ → Type 0) (k : ℕ) (s : Option Shelf) (u : View) (f : Bool) (b : ℕ) (u' : View)
@@ -307,26 +304,64 @@ tries_once (suc n) u freed busy u' t k less some =
     (other_tried k n (shelf_of t.0 n) t.0 (get_or freed n false) (get_or busy n 0) u' (λ e. ne (sym e)) t.2)
     (tries_once n u freed busy t.0 t.1 k (omega arith) some))
 
+-- where the shelf was freed, the first try there freed it
+first_freed : (k : ℕ) (s : Option Shelf) (u : View) (f : Bool) (b : ℕ) (u' : View) → f ≡ true → TriedShelf k s u f b u'
+    → IsTriedFirst (known_of u) k Reply.Freed (known_of u')
+first_freed k (Some (Shelf.Closing v)) u true b u' is t = both_load (λ x y. Freed x k y) (λ x y. IsTriedFirst x k Reply.Freed y) u u'
+    (λ x y f. (x.known, f.freed, grows_same x.known, only_none (λ i. i ≢ k) x.known, f.collect, happened_grows f.freed y.known _ _ f.put_back)) t.1
+first_freed k (Some (Shelf.Closing v)) u false b u' is t = absurd (cc)
+first_freed k (Some (Shelf.Open v)) u f b u' is t = absurd (let z = t.0 in cc)
+first_freed k (Some Shelf.Free) u f b u' is t = absurd (let z = t.0 in cc)
+first_freed k None u f b u' is t = absurd (let z = t.0 in cc)
+
+first_since : (first before after : Known) (k : ℕ) (reply : Reply) → Grows first before → OnlyTries (λ i. i ≢ k) first before
+    → IsTriedFirst before k reply after → IsTriedFirst first k reply after
+first_since first before after k reply grows tried h =
+    (h.0, h.1, growths_join first before h.0 grows h.2, only_join (λ i. i ≢ k) first before h.0 tried h.3, h.4, h.5)
+
+first_until : (before after last : Known) (k : ℕ) (reply : Reply) → Grows after last → IsTriedFirst before k reply after → IsTriedFirst before k reply last
+first_until before after last k reply grows h = (h.0, h.1, h.2, h.3, h.4, growths_join h.1 after last h.5 grows)
+
+tries_first : (n : ℕ) (u : View) (freed : List Bool) (busy : List ℕ) (u' : View) → TriesBelow n u freed busy u'
+    → (k : ℕ) → k < n → get_or freed k false ≡ true → IsTriedFirst (known_of u) k Reply.Freed (known_of u')
+tries_first zero u freed busy u' t k less is = absurd (omega arith)
+tries_first (suc n) u freed busy u' t k less is =
+    dite (ℕ_discrete k n)
+    (λ e.
+    let here : get_or freed n false ≡ true = subst (λ m. get_or freed m false ≡ true) e is in
+    subst (λ m. IsTriedFirst (known_of u) m Reply.Freed (known_of u')) (sym e)
+    (first_since (known_of u) (known_of t.0) (known_of u') n Reply.Freed (tries_grow n u freed busy t.0 t.1)
+    (others_below n n u freed busy t.0 (omega arith) t.1)
+    (first_freed n (shelf_of t.0 n) t.0 (get_or freed n false) (get_or busy n 0) u' here t.2)))
+    (λ ne. first_until (known_of u) (known_of t.0) (known_of u') k Reply.Freed
+    (try_grows n (shelf_of t.0 n) t.0 (get_or freed n false) (get_or busy n 0) u' t.2)
+    (tries_first n u freed busy t.0 t.1 k (omega arith) is))
+
 pub collects_find : (u u' : View) (found : Collected) → CollectsBySteps u found u' → FindsByTries (known_of u) found (known_of u')
 collects_find u u' found h = record {
-  freed = λ k less is. (tries_reported 8 u found.freed found.busy u' h k less).0 (got_bool found.freed k true false is);
+  freed = λ k less is. tries_first 8 u found.freed found.busy u' h.0 k less (got_bool found.freed k true false is);
   busy = λ k count less some is.
       let same : get_or found.busy k 0 ≡ count = got_count found.busy k count 0 is in
       subst (λ n. IsTried (known_of u) k (Reply.Busy n) (known_of u')) same
-      ((tries_reported 8 u found.freed found.busy u' h k less).1 (omega arith));
+      (tries_found 8 u found.freed found.busy u' h.0 k less (omega arith));
   once = λ k count less some is.
       let same : get_or found.busy k 0 ≡ count = got_count found.busy k count 0 is in
       subst (λ n. IsTriedOnce (known_of u) k (Reply.Busy n) (known_of u')) same
-      (tries_once 8 u found.freed found.busy u' h k less (omega arith));
-  only = (tries_only 8 u found u' h).0;
-  images = (tries_only 8 u found u' h).1;
+      (tries_once 8 u found.freed found.busy u' h.0 k less (omega arith));
+  only = (tries_only 8 u found u' h.0).0;
+  images = (tries_only 8 u found u' h.0).1;
 }
 
 pub full_by_tries : (u u' : View) (fault : PublishFault) → RefusesBySteps u fault u' → IsFullByTries (known_of u) fault (known_of u')
 full_by_tries u u' (PublishFault.ShelvesFull counts) h =
     let found = h.2.0 in
-    let finds = collects_find u u' found h.2.1 in
-    λ k count less some is. finds.busy k count less some (ap (λ (xs : List ℕ). slice_get xs k) (sym h.2.2) ∙ is)
+    record {
+      found = found;
+      told = h.2.2;
+      tries = collects_find u u' found h.2.1;
+      all = h.2.1.1;
+      none_freed = λ k less is. h.3 (k, freed_is_free 8 u found.freed found.busy u' h.2.1.0 k less (got_bool found.freed k true false is));
+    }
 full_by_tries u u' PublishFault.VersionsSpent h = tt
 full_by_tries u u' PublishFault.OutOfMemory h = tt
 

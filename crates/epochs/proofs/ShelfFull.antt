@@ -53,10 +53,28 @@ tried_here k (Some (Shelf.Open v)) u f b u' t is = inr (ap (λ x. shelf_of x k) 
 tried_here k (Some Shelf.Free) u f b u' t is = inr (ap (λ x. shelf_of x k) t.2 ∙ is, (λ x e. absurd (cc)), (λ x e. absurd (cc)))
 tried_here k None u f b u' t is = inr (ap (λ x. shelf_of x k) t.2 ∙ is, (λ x e. absurd (cc)), (λ x e. absurd (cc)))
 
-untried : (n : ℕ) (u : View) (freed : List Bool) (busy : List ℕ) (u' : View) → TriesBelow n u freed busy u' → (j : ℕ) → n ≤ j → shelf_of u' j ≡ shelf_of u j
+pub untried : (n : ℕ) (u : View) (freed : List Bool) (busy : List ℕ) (u' : View) → TriesBelow n u freed busy u' → (j : ℕ) → n ≤ j → shelf_of u' j ≡ shelf_of u j
 untried zero u freed busy u' t j past = ap (λ x. shelf_of x j) t
 untried (suc n) u freed busy u' t j past =
     tried_other n j (shelf_of t.0 n) t.0 (get_or freed n false) (get_or busy n 0) u' t.2 (λ e. omega arith) ∙ untried n u freed busy t.0 t.1 j (omega arith)
+
+-- a shelf that is reported as freed is free
+free_now : (k : ℕ) (s : Option Shelf) (u : View) (f : Bool) (b : ℕ) (u' : View) → f ≡ true → shelf_of u k ≡ s → TriedShelf k s u f b u'
+    → shelf_of u' k ≡ Some Shelf.Free
+free_now k (Some (Shelf.Closing v)) u true b u' is at t = free_here k (Shelf.Closing v) u u' t.1 at
+free_now k (Some (Shelf.Closing v)) u false b u' is at t = absurd (cc)
+free_now k (Some (Shelf.Open v)) u f b u' is at t = absurd (let z = t.0 in cc)
+free_now k (Some Shelf.Free) u f b u' is at t = absurd (let z = t.0 in cc)
+free_now k None u f b u' is at t = absurd (let z = t.0 in cc)
+
+pub freed_is_free : (n : ℕ) (u : View) (freed : List Bool) (busy : List ℕ) (u' : View) → TriesBelow n u freed busy u' → (k : ℕ) → k < n
+    → get_or freed k false ≡ true → shelf_of u' k ≡ Some Shelf.Free
+freed_is_free zero u freed busy u' t k less is = absurd (omega arith)
+freed_is_free (suc n) u freed busy u' t k less is = dite (ℕ_discrete k n)
+    (λ e. subst (λ m. shelf_of u' m ≡ Some Shelf.Free) (sym e) (free_now n (shelf_of t.0 n) t.0 (get_or freed n false) (get_or busy n 0) u'
+    (subst (λ m. get_or freed m false ≡ true) e is) refl t.2))
+    (λ ne. tried_other n k (shelf_of t.0 n) t.0 (get_or freed n false) (get_or busy n 0) u' t.2 ne
+    ∙ freed_is_free n u freed busy t.0 t.1 k (omega arith) is)
 
 tried_all : (n : ℕ) (u : View) (freed : List Bool) (busy : List ℕ) (u' : View) → TriesBelow n u freed busy u' → (j : ℕ)
     → j < n → Told (shelf_of u j) (get_or busy j 0) (shelf_of u' j)

@@ -10,7 +10,7 @@ use Rattle.shelf_steps.specs.declared.views.LoaderView.{LoaderView}
 use Rattle.shelf_steps.specs.declared.views.View.{View}
 use Rattle.image_layout.specs.Image.{ImageValue}
 use Rattle.shelf_steps.specs.Plays.{OfLoader, newest_of}
-use Rattle.shelf_steps.specs.Loading.{Loaded, Loads}
+use Rattle.shelf_steps.specs.Loading.{Loaded, Loads, Freed, Frees}
 use Rattle.epochs.specs.ShelfLoads.{Rests, TriedShelf, TriesBelow, shelf_of}
 
 rests_loaded : (a b : LoaderView) (current current_shelf : ℕ) (shelves : List Shelf) (image : ImageValue)
@@ -65,6 +65,50 @@ rests_after current current_shelf shelves image shelf version (View.Loading a) (
 rests_after current current_shelf shelves image shelf version (View.Loading a) View.Spent rest free next few loaded = absurd loaded
 rests_after current current_shelf shelves image shelf version (View.Loading a) (View.Loading b) rest free next few
     loaded = rests_loaded a b current current_shelf shelves image shelf version rest free next few loaded
+
+-- a closing shelf is no default
+pub closing_at : (shelves : List Shelf) (k v : ℕ) → get_or shelves k Shelf.Free ≡ Shelf.Closing v → slice_get shelves k ≡ Some (Shelf.Closing v)
+closing_at [] k v is = absurd (cc)
+closing_at (x ∷ xs) zero v is = ap (λ (y : Shelf). Some y) is
+closing_at (x ∷ xs) (suc k) v is = closing_at xs k v is
+
+-- a closing shelf that was freed leaves the rest as it was
+rests_freed : (a b : LoaderView) (current current_shelf : ℕ) (shelves : List Shelf) (k v : ℕ) → Rests current current_shelf shelves a
+    → slice_get shelves k ≡ Some (Shelf.Closing v) → Freed a k b → Rests current current_shelf (set shelves k Shelf.Free) b
+rests_freed a b current current_shelf shelves k v rest closing f =
+    let within = slice_get_within shelves k _ closing in
+    let other : current_shelf ≢ k = λ e. let z : Some (Shelf.Open current) ≡ Some (Shelf.Closing v) =
+    sym rest.stands ∙ (ap (λ n. slice_get shelves n) e ∙ closing) in cc in
+    record {
+      empty = f.hand;
+      newest = f.current.0 ∙ (rest.newest ∙ ap (λ (l : List ImageValue). length l) (sym f.images));
+      current_is = f.current.0 ∙ rest.current_is;
+      current_shelf_is = f.current.1 ∙ rest.current_shelf_is;
+      shelves_are = f.shelves ∙ ap (λ (xs : List Shelf). set xs k Shelf.Free) rest.shelves_are;
+      few = rest.few;
+      small = (rest.small.0, length-set shelves k Shelf.Free ∙ rest.small.1);
+      stands = slice_get-set_other shelves k current_shelf Shelf.Free other ∙ rest.stands;
+      one_open = λ j w is. elim (slice_get-set shelves k j Shelf.Free (Shelf.Open w) within is) [
+        | inl p ↦ absurd (let z = p.1 in cc)
+        | inr p ↦ rest.one_open j w p.1
+      ];
+      closing = λ j w is. elim (slice_get-set shelves k j Shelf.Free (Shelf.Closing w) within is) [
+        | inl p ↦ absurd (let z = p.1 in cc)
+        | inr p ↦ rest.closing j w p.1
+      ];
+    }
+
+pub rests_free : (current current_shelf : ℕ) (shelves : List Shelf) (k v : ℕ) (u u' : View)
+    → OfLoader u (λ l. Rests current current_shelf shelves l) → slice_get shelves k ≡ Some (Shelf.Closing v) → Frees k u u'
+    → OfLoader u' (λ l. Rests current current_shelf (set shelves k Shelf.Free) l)
+rests_free current current_shelf shelves k v (View.Working x) u' rest closing f = absurd rest
+rests_free current current_shelf shelves k v (View.Noting x) u' rest closing f = absurd rest
+rests_free current current_shelf shelves k v View.Spent u' rest closing f = absurd rest
+rests_free current current_shelf shelves k v (View.Loading a) (View.Working x) rest closing f = absurd f
+rests_free current current_shelf shelves k v (View.Loading a) (View.Noting x) rest closing f = absurd f
+rests_free current current_shelf shelves k v (View.Loading a) View.Spent rest closing f = absurd f
+rests_free current current_shelf shelves k v (View.Loading a) (View.Loading b) rest closing f =
+    rests_freed a b current current_shelf shelves k v rest closing f
 
 -- what was found below k stays found
 tries_stay : (k n : ℕ) (u u' : View) (freed : List Bool) (busy : List ℕ) (f : Bool) (b : ℕ) → k ≤ n

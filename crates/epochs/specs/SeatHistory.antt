@@ -6,7 +6,7 @@ use Rattle.version_core.specs.declared.event.Event.{Event}
 use Rattle.version_core.specs.declared.event.Reply.{Reply}
 use Rattle.version_core.specs.Actors.{actor}
 use Rattle.version_core.specs.State.{State}
-use Rattle.version_core.specs.Steps.{Holds}
+use Rattle.version_core.specs.Steps.{Holds, IsClosing}
 use Rattle.shelf_steps.specs.declared.views.Known.{Known}
 use Rattle.shelf_steps.specs.Course.{Goes, leading_to, image_of, Happened}
 use Rattle.epochs.specs.declared.faults.PinFault.{PinFault}
@@ -97,14 +97,19 @@ abbrev pub IsTriedOnce : Known → ℕ → Reply → Known → Type 0
 IsTriedOnce before shelf reply after = (first : Known) × (tried : Known) × OnlyTries (λ k. k ≢ shelf) before first
     × Happened first (Event.Collect shelf) reply tried × OnlyTries (λ k. k ≢ shelf) tried after
 
+-- between what was known before and what is known after, the first try at the shelf was answered so
+abbrev pub IsTriedFirst : Known → ℕ → Reply → Known → Type 0
+IsTriedFirst before shelf reply after = (first : Known) × (tried : Known) × Grows before first × OnlyTries (λ k. k ≢ shelf) before first
+    × Happened first (Event.Collect shelf) reply tried × Grows tried after
+
 -- the shelf is reported as freed, or as in use
 abbrev pub IsReported : Collected → ℕ → Type 0
 IsReported found k = (slice_get found.freed k ≡ Some true) ⊎ ((count : ℕ) × (0 < count) × (slice_get found.busy k ≡ Some count))
 
--- what a collection reports was found by tries in the history since then: of each shelf that it reports as freed, a try freed it; and each
--- count above 0 that it reports, a try found at that shelf, the only one there. The loader did nothing else, and published no image
+-- what a collection reports was found by tries in the history since then: of each shelf that it reports as freed, the first try there freed
+-- it; and each count above 0 that it reports, a try found at that shelf, the only one there. The loader did nothing else, and published no image
 pub record FindsByTries (before : Known) (found : Collected) (after : Known) : Type 0 where
-  pub freed : (k : ℕ) → k < 8 → slice_get found.freed k ≡ Some true → IsTried before k Reply.Freed after
+  pub freed : (k : ℕ) → k < 8 → slice_get found.freed k ≡ Some true → IsTriedFirst before k Reply.Freed after
   pub busy : (k count : ℕ) → k < 8 → 0 < count → slice_get found.busy k ≡ Some count → IsTried before k (Reply.Busy count) after
   pub once : (k count : ℕ) → k < 8 → 0 < count → slice_get found.busy k ≡ Some count → IsTriedOnce before k (Reply.Busy count) after
   pub only : OnlyTries (IsReported found) before after
@@ -114,10 +119,23 @@ pub record FindsByTries (before : Known) (found : Collected) (after : Known) : T
 abbrev pub EndsRefused : Known → Known → Type 0
 EndsRefused before after = OnlyTries (λ k. Unit {0}) before after × (after.images ≡ before.images)
 
--- where a publish is refused since all shelves are in use, each count above 0 that it tells was found by a try at that shelf since then
+-- what was known before led to a state, and each shelf that is closing there is reported: so it was tried
+pub record EachClosingIsTried (before : Known) (found : Collected) : Type 0 where
+  pub state : State
+  pub history : Goes (leading_to state before)
+  pub each : (k v : ℕ) → IsClosing state k v → IsReported found k
+
+-- each closing shelf was tried and found in use, by so many workers
+pub record AreInUse (before : Known) (counts : List ℕ) (after : Known) : Type 0 where
+  pub found : Collected
+  pub told : counts ≡ found.busy
+  pub tries : FindsByTries before found after
+  pub all : EachClosingIsTried before found
+  pub none_freed : (k : ℕ) → k < 8 → slice_get found.freed k ≢ Some true
+
+-- where a publish is refused since all shelves are in use, each closing one was tried since then and found in use
 abbrev pub IsFullByTries : Known → PublishFault → Known → Type 0
-IsFullByTries before (PublishFault.ShelvesFull counts) after =
-    (k count : ℕ) → k < 8 → 0 < count → slice_get counts k ≡ Some count → IsTried before k (Reply.Busy count) after
+IsFullByTries before (PublishFault.ShelvesFull counts) after = AreInUse before counts after
 IsFullByTries before _ after = Unit {0}
 
 -- a version that was published with one image is never published with another

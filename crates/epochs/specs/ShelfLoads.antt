@@ -2,6 +2,9 @@
 use Rattle.std.specs.Prelude.{◌≡◌, ◌≢◌, ℕ, zero, suc, ◌<◌, ◌≤◌, ◌⊎◌, Bool, true, false, List, [], length, slice_get, slice_index_or, Option, Some, None}
 use Rattle.atomic_table.specs.Seated.{TableId}
 use Rattle.version_core.specs.declared.state.Shelf.{Shelf}
+use Rattle.version_core.specs.State.{State, start}
+use Rattle.version_core.specs.Runs.{Run}
+use Rattle.shelf_steps.specs.declared.views.Known.{Known}
 use Rattle.shelf_steps.specs.declared.views.LoaderView.{LoaderView}
 use Rattle.shelf_steps.specs.declared.views.View.{View}
 use Rattle.epochs.specs.declared.faults.PublishFault.{PublishFault}
@@ -10,6 +13,9 @@ use Rattle.image_layout.specs.Image.{ImageValue}
 use Rattle.epochs.specs.declared.seats.LoaderAnswer.{LoaderAnswer}
 use Rattle.shelf_steps.specs.Plays.{OfLoader, Mine, newest_of, gives_notice}
 use Rattle.shelf_steps.specs.Loading.{Loads, Frees, FindsBusy}
+use Rattle.shelf_steps.specs.Course.{Goes, leading_to}
+use Rattle.shelf_steps.specs.Events.{known_of}
+use Rattle.epochs.specs.SeatHistory.{EachClosingIsTried}
 
 -- the shelves that the seat is at, what it knows, the current version, and what it was answered
 pub record ShelfLoaderValue : Type 0 where
@@ -31,8 +37,18 @@ pub record Rests (current current_shelf : ℕ) (shelves : List Shelf) (l : Loade
   pub one_open : (k v : ℕ) → slice_get shelves k ≡ Some (Shelf.Open v) → k ≡ current_shelf
   pub closing : (k v : ℕ) → slice_get shelves k ≡ Some (Shelf.Closing v) → v ≤ 1000000000
 
+-- what is known leads to a state, and each state to which it leads has these shelves
+pub record LeadsToShelves (known : Known) (shelves : List Shelf) : Type 0 where
+  pub state : State
+  pub history : Goes (leading_to state known)
+  pub each : (s : State) → Run start known.events known.replies s → s.shelves ≡ shelves
+
+-- the shelves are those to which all that the loader knows leads
+abbrev pub KnowsShelves : View → Type 0
+KnowsShelves u = OfLoader u (λ l. LeadsToShelves l.known l.shelves)
+
 abbrev pub RestsHere : ℕ → ℕ → List Shelf → Mine → Type 0
-RestsHere current current_shelf shelves m = OfLoader m.0 (λ l. Rests current current_shelf shelves l) × (m.1 ≡ [])
+RestsHere current current_shelf shelves m = OfLoader m.0 (λ l. Rests current current_shelf shelves l) × (m.1 ≡ []) × KnowsShelves m.0
 
 -- a try at the shelf, where it is closing, and what it found
 abbrev pub TriedShelf : ℕ → Option Shelf → View → Bool → ℕ → View → Type 0
@@ -50,8 +66,9 @@ TriesBelow zero u freed busy u' = u' ≡ u
 TriesBelow (suc k) u freed busy u' = (mid : View) × TriesBelow k u freed busy mid
     × TriedShelf k (shelf_of mid k) mid (slice_index_or freed k false) (slice_index_or busy k 0) u'
 
+-- a try at each of the eight shelves that is closing, by what the loader knows and by the history that it knows
 abbrev pub CollectsBySteps : View → Collected → View → Type 0
-CollectsBySteps u found u' = TriesBelow 8 u found.freed found.busy u'
+CollectsBySteps u found u' = TriesBelow 8 u found.freed found.busy u' × EachClosingIsTried (known_of u) found
 
 abbrev pub IsFreeIn : View → ℕ → Type 0
 IsFreeIn u k = shelf_of u k ≡ Some Shelf.Free

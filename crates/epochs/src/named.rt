@@ -4,7 +4,7 @@ ghost use Rattle.std.specs.Prelude.{◌≡◌, ◌+◌, ◌<◌, Some, None, IfO
 ghost use Rattle.std.specs.Arc.{arc_value};
 ghost use Rattle.shelf_steps.specs.declared.views.View.{View};
 ghost use Rattle.epochs.specs.SeatHistory.{Grows, HoldsAsKnown, EndsPin, EndsRelease, IsPublished, EndsPublish};
-ghost use Rattle.epochs.specs.SeatHistory.{FindsByTries, IsFullByTries, EndsRefused};
+ghost use Rattle.epochs.specs.SeatHistory.{FindsByTries, EachClosingIsTried, IsFullByTries, EndsRefused};
 ghost use Rattle.shelf_steps.specs.Events.{known_of};
 ghost use Rattle.epochs.specs.Seats.{PinStep, ReleaseStep, JoinStep, PublishStep, RefuseStep, CollectStep};
 ghost use Rattle.epochs.specs.Seats.{KnowsItsSeats};
@@ -309,6 +309,7 @@ impl<B: Named, K> Loads for NamedShelves<B, K> {
         ensures steps { CollectsBySteps loader.old.view result loader.new.view }
         ensures grows { Grows (known_of loader.old.view) (known_of loader.new.view) }
         ensures tries { FindsByTries (known_of loader.old.view) result (known_of loader.new.view) }
+        ensures all { EachClosingIsTried (known_of loader.old.view) result }
     {
         self.shelves.collect(&mut loader.inner)
     }

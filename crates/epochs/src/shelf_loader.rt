@@ -10,7 +10,7 @@ ghost use Rattle.shelf_steps.specs.Loading.{Loads};
 ghost use Rattle.shelf_steps.specs.Plays.{gives_notice};
 ghost use Rattle.shelf_steps.specs.declared.views.View.{View};
 ghost use Rattle.shelf_steps.specs.Events.{known_of};
-ghost use Rattle.epochs.specs.SeatHistory.{Grows, IsPublished, EndsPublish, FindsByTries};
+ghost use Rattle.epochs.specs.SeatHistory.{Grows, IsPublished, EndsPublish, FindsByTries, EachClosingIsTried};
 ghost use Rattle.epochs.specs.Seats.{PublishStep, RefuseStep, CollectStep};
 ghost use Rattle.epochs.specs.ShelfLoads.{CollectsBySteps, TriedShelf, shelf_of, IsFreeIn, HasFree, IsLeastFree};
 ghost use Rattle.epochs.specs.ShelfLoads.{MakesRoomBySteps, PublishesBySteps, RefusesBySteps, IsUnspent, IsSpentAt};
@@ -81,6 +81,7 @@ impl ShelfLoader {
         ensures steps { CollectsBySteps self.old.view result self.new.view }
         ensures grows { Grows (known_of self.old.view) (known_of self.new.view) }
         ensures tries { FindsByTries (known_of self.old.view) result (known_of self.new.view) }
+        ensures all { EachClosingIsTried (known_of self.old.view) result }
     {
         let found = self.try_all(table);
         self.tell(LoaderAnswer::Collected { found });
@@ -260,6 +261,7 @@ impl ShelfLoader {
             × (self.new.answers ≡ self.old.answers) }
         ensures steps { CollectsBySteps self.old.view result self.new.view }
     {
+        let _ = &self.current;
         let mut found = Collected {
             freed: [false; 8],
             busy: [0; 8],

@@ -6,7 +6,7 @@ ghost use Rattle.std.specs.Arc.{arc_value};
 ghost use Rattle.shelf_steps.specs.Handed.{handed};
 ghost use Rattle.shelf_steps.specs.declared.views.View.{View};
 ghost use Rattle.epochs.specs.SeatHistory.{Grows, HoldsAsKnown, EndsPin, EndsRelease, IsPublished, EndsPublish};
-ghost use Rattle.epochs.specs.SeatHistory.{FindsByTries};
+ghost use Rattle.epochs.specs.SeatHistory.{FindsByTries, EachClosingIsTried};
 ghost use Rattle.shelf_steps.specs.Events.{known_of};
 ghost use Rattle.epochs.specs.Seats.{PinStep, ReleaseStep, JoinStep, PublishStep, RefuseStep, CollectStep};
 ghost use Rattle.epochs.specs.ShelfSeats.{PinsBySteps, ReleasesBySteps, JoinsByStep, SeatsHanded};
@@ -160,6 +160,7 @@ impl Shelves {
         ensures steps { CollectsBySteps loader.old.view result loader.new.view }
         ensures grows { Grows (known_of loader.old.view) (known_of loader.new.view) }
         ensures tries { FindsByTries (known_of loader.old.view) result (known_of loader.new.view) }
+        ensures all { EachClosingIsTried (known_of loader.old.view) result }
     {
         loader.collect_at(&self.table)
     }

@@ -1,11 +1,11 @@
 //! What a session needs of shelves, and what a loader does.
 
-ghost use Rattle.std.specs.Prelude.{◌≡◌, ◌+◌, ℕ, List, None, Some, MatchOption, MatchResult, IfErr, IfOk, IfSome};
+ghost use Rattle.std.specs.Prelude.{◌≡◌, ◌+◌, ℕ, List, None, Some, MatchOption, MatchResult, IfErr, IfOk};
 ghost use Rattle.std.specs.Arc.{arc_value};
 ghost use Rattle.epochs.specs.Seats.{SeatValue, PinStep, ReleaseStep, JoinStep, PublishStep, RefuseStep, CollectStep};
 ghost use Rattle.epochs.specs.Seats.{KnowsItsSeats};
 ghost use Rattle.epochs.specs.SeatHistory.{Grows, HoldsAsKnown, EndsPin, EndsRelease, IsPublished, EndsPublish};
-ghost use Rattle.epochs.specs.SeatHistory.{FindsByTries, IsFullByTries, EndsRefused};
+ghost use Rattle.epochs.specs.SeatHistory.{FindsByTries, EachClosingIsTried, IsFullByTries, EndsRefused};
 ghost use Rattle.epochs.specs.ShelfLoads.{IsSpentAt};
 ghost use Rattle.shelf_steps.specs.declared.views.Known.{Known};
 ghost use Rattle.epochs.specs.declared.seats.LoaderAnswer.{LoaderAnswer};
@@ -96,8 +96,7 @@ pub trait Loads: Versions {
     ghost learned: { Self.Loader → Known };
 
     /// Publishes the image as the next version, and gives a notice of it. A refusal gives the image
-    /// back; versions are spent only at the last one. No notice comes only where there was no memory
-    /// for one.
+    /// back; versions are spent only at the last one.
     fn publish(
         &self,
         loader: &mut Self::Loader,
@@ -115,17 +114,18 @@ pub trait Loads: Versions {
         ensures spent { IfErr result (λ e. IsSpentAt (current loader.old) e.1) }
         ensures full { IfErr result (λ e. IsFullByTries (learned loader.old) e.1 (learned loader.new)) }
         ensures refused { IfErr result (λ _. EndsRefused (learned loader.old) (learned loader.new)) }
-        ensures notice { IfOk result (λ r. IfSome r.1 (λ n. Self.Versions.noted n ≡ r.0)) }
+        ensures notice { IfOk result (λ r. MatchOption r.1 ⊥ (λ n. Self.Versions.noted n ≡ r.0)) }
         ensures published { IfOk result (λ r. IsPublished (learned loader.new) r.0 (arc_value image)) }
         ensures grows { Grows (learned loader.old) (learned loader.new) }
         ensures ends { IfOk result (λ r. EndsPublish (learned loader.old) r.0 (learned loader.new)) };
 
-    /// Tries each closing shelf: it is freed, if no worker is there.
+    /// Tries each closing shelf, once: it is freed, if no worker is there.
     fn collect(&self, loader: &mut Self::Loader) -> Collected
         requires { loads self.now loader.old }
         ensures loads { loads self.now loader.new }
         ensures current { current loader.new ≡ current loader.old }
         ensures loader { CollectStep (answers loader.old) result (answers loader.new) }
         ensures grows { Grows (learned loader.old) (learned loader.new) }
-        ensures tries { FindsByTries (learned loader.old) result (learned loader.new) };
+        ensures tries { FindsByTries (learned loader.old) result (learned loader.new) }
+        ensures all { EachClosingIsTried (learned loader.old) result };
 }

@@ -4,7 +4,7 @@ use Rattle.orders.specs.Ordering.{OrderValue, version_told}
 use Rattle.orders.specs.declared.fault.OrderFault.{OrderFault}
 use Rattle.orders.specs.declared.ordered.Outcome.{Outcome}
 use Rattle.load_orders.specs.Asking.{AreAsked, Does, HasAsked, Hears, IsFirst, IsNoted, IsTurnedAway, OrderRoute, RefusesVersion, WorkerOrdersValue}
-use Rattle.load_orders.specs.Asking.{nothing_asked, order_of, route_of, unasked}
+use Rattle.load_orders.specs.Asking.{IsPutAt, nothing_asked, once_tried, order_of, route_of, unasked}
 use Rattle.load_orders.specs.Queue.{EndValue, QueueId}
 use Rattle.load_orders.specs.Ways.{WayValue}
 use Rattle.load_orders.specs.declared.queue.Known.{Known}
@@ -26,9 +26,9 @@ module _ {N : Type 0} (holds : List (Order N) → List Known → Type 0) (noted 
   pub asked_once_more : (order : OrderValue) (b c : WorkerOrdersValue N) → HasAsked holds noted b → Does holds noted order.feed order.outcome b c
       → IsNoted order b c → HasAsked holds noted c
   asked_once_more order b c is does noted_so =
-      let all = one_more b.asked order (nothing_asked (route_of b)) b c is does noted_so in
-      let here = subst (λ (route : OrderRoute). AreAsked holds noted (b.asked ++ order ∷ []) (nothing_asked route) c) (sym noted_so.0) all in
-      subst (λ (orders : List OrderValue). AreAsked holds noted orders (nothing_asked (route_of c)) c) (sym noted_so.1) here
+      let all = one_more b.asked order (nothing_asked (route_of b) is.0) b c is.1 does noted_so in
+      let here = subst (λ (route : OrderRoute). AreAsked holds noted (b.asked ++ order ∷ []) (nothing_asked route is.0) c) (sym noted_so.0) all in
+      (is.0, subst (λ (orders : List OrderValue). AreAsked holds noted orders (nothing_asked (route_of c) is.0) c) (sym noted_so.1) here)
 
   -- what an order did shows whatever was asked for before
   does_so : (feed : List ℕ) (outcome : Outcome) (names : List (List ℕ)) (end end_then : EndValue) (asked asked_then : List OrderValue)
@@ -39,8 +39,8 @@ module _ {N : Type 0} (holds : List (Order N) → List Known → Type 0) (noted 
   does_so feed (Outcome.Put (Ok u)) names end end_then asked asked_then heard heard_then does = does
   does_so feed (Outcome.Put (Err OrderFault.UnknownFeed)) names end end_then asked asked_then heard heard_then does = does
   does_so feed (Outcome.Put (Err OrderFault.OrdersFull)) names end end_then asked asked_then heard heard_then does = does
-  does_so feed (Outcome.Put (Err (OrderFault.LoadRefused refusal))) names end end_then asked asked_then heard heard_then does = absurd does.0
-  does_so feed (Outcome.Put (Err OrderFault.OutOfMemory)) names end end_then asked asked_then heard heard_then does = absurd does.0
+  does_so feed (Outcome.Put (Err (OrderFault.LoadRefused refusal))) names end end_then asked asked_then heard heard_then does = absurd does
+  does_so feed (Outcome.Put (Err OrderFault.OutOfMemory)) names end end_then asked asked_then heard heard_then does = absurd does
   does_so feed (Outcome.Put (Err OrderFault.LoaderGone)) names end end_then asked asked_then heard heard_then does = does
   does_so feed (Outcome.Waited (Ok version)) names end end_then asked asked_then heard heard_then does = does
   does_so feed (Outcome.Waited (Err OrderFault.UnknownFeed)) names end end_then asked asked_then heard heard_then does = does
@@ -64,12 +64,12 @@ module _ {N : Type 0} (holds : List (Order N) → List Known → Type 0) (noted 
 
   -- an order that was put, or for which there was no room
   pub does_put : (feed : List ℕ) (place : ℕ) (outcome : Result (Unit {0}) OrderFault) (names : List (List ℕ)) (end end_then : EndValue)
-      (heard : List (WayValue N)) → IsFirst names feed place → OnOk outcome (end_then.orders ≡ end.orders ++ order_of place ∷ [])
-      → IfErr outcome (λ fault. IsTurnedAway holds end fault × (end_then ≡ end))
+      (heard : List (WayValue N)) → IsFirst names feed place → OnOk outcome (IsPutAt end (order_of place) end_then)
+      → IfErr outcome (λ fault. IsTurnedAway holds end fault × (end_then ≡ once_tried end))
       → Does holds noted feed (Outcome.Put outcome) (unasked names end heard) (unasked names end_then heard)
   does_put feed place (Ok u) names end end_then heard first put refused = ((place, first, put), refl)
   does_put feed place (Err OrderFault.UnknownFeed) names end end_then heard first put refused = absurd refused.0
-  does_put feed place (Err OrderFault.OrdersFull) names end end_then heard first put refused = (((place, first), refused.0), refused.1, refl)
+  does_put feed place (Err OrderFault.OrdersFull) names end end_then heard first put refused = (((place, first), refused.1, refl), refused.0)
   does_put feed place (Err (OrderFault.LoadRefused refusal)) names end end_then heard first put refused = absurd refused.0
   does_put feed place (Err OrderFault.OutOfMemory) names end end_then heard first put refused = absurd refused.0
   does_put feed place (Err OrderFault.LoaderGone) names end end_then heard first put refused = ((place, first), refused.1, refl)

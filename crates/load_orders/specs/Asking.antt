@@ -1,5 +1,5 @@
 -- What a worker's end of the queue shows, and why it refuses an order.
-use Rattle.std.specs.Prelude.{◌≡◌, ◌<◌, ◌⊎◌, ◌++◌, ◌∷◌, ℕ, List, [], slice_get, Option, Some, None, Ok, Err, ⊤}
+use Rattle.std.specs.Prelude.{◌≡◌, ◌+◌, ◌<◌, ◌⊎◌, ◌++◌, ◌∷◌, ℕ, List, [], slice_get, Option, Some, None, Ok, Err, ⊤}
 use Rattle.orders.specs.Ordering.{OrderValue}
 use Rattle.orders.specs.declared.fault.OrderFault.{OrderFault}
 use Rattle.orders.specs.declared.ordered.Outcome.{Outcome}
@@ -24,9 +24,10 @@ pub record OrderRoute : Type 0 where
 abbrev pub route_of : {N : Type 0} → WorkerOrdersValue N → OrderRoute
 route_of orders = record { names = orders.names; queue = orders.end.queue }
 
--- nothing was asked for yet
-abbrev pub nothing_asked : {N : Type 0} → OrderRoute → WorkerOrdersValue N
-nothing_asked route = record { names = route.names; end = record { queue = route.queue; orders = [] }; asked = []; heard = [] }
+-- nothing was asked for yet, by an end that may have tried to put orders
+abbrev pub nothing_asked : {N : Type 0} → OrderRoute → ℕ → WorkerOrdersValue N
+nothing_asked route tries =
+    record { names = route.names; end = record { queue = route.queue; orders = []; tries = tries }; asked = []; heard = [] }
 
 -- what is asked for isn't looked at
 abbrev pub unasked : {N : Type 0} → List (List ℕ) → EndValue → List (WayValue N) → WorkerOrdersValue N
@@ -54,19 +55,31 @@ order_of place = record { feed = place; way = None }
 abbrev pub awaited_order : ℕ → WayId → OrderMark
 awaited_order place way = record { feed = place; way = Some way }
 
+-- the end, once it has tried to put an order, and none was put
+abbrev pub once_tried : EndValue → EndValue
+once_tried end = record end { tries = end.tries + 1 }
+
+-- this order is put, by one try
+abbrev pub IsPutAt : EndValue → OrderMark → EndValue → Type 0
+IsPutAt before order after = (after.orders ≡ before.orders ++ order ∷ []) × (after.tries ≡ before.tries + 1)
+
 -- an order of the first feed of this name is put
 abbrev pub IsPut : {N : Type 0} → List ℕ → WorkerOrdersValue N → WorkerOrdersValue N → Type 0
-IsPut name before after = (place : ℕ) × IsFirst before.names name place × (after.end.orders ≡ before.end.orders ++ order_of place ∷ [])
+IsPut name before after = (place : ℕ) × IsFirst before.names name place × IsPutAt before.end (order_of place) after.end
 
 -- one with a way back is put, and this is heard there, by its one hearing end, or nothing is
 abbrev pub Hears : {N : Type 0} → List ℕ → Option (LoadAnswer N) → WorkerOrdersValue N → WorkerOrdersValue N → Type 0
 Hears name answer before after =
     (place : ℕ) × (way : WayId) × IsFirst before.names name place
-    × (after.end.orders ≡ before.end.orders ++ awaited_order place way ∷ []) × (after.heard ≡ before.heard ++ heard_at way answer ∷ [])
+    × IsPutAt before.end (awaited_order place way) after.end × (after.heard ≡ before.heard ++ heard_at way answer ∷ [])
 
--- a feed of this name is there, and nothing was put
+-- a feed of this name is there, and nothing was put, or tried to be
 abbrev pub IsNotPut : {N : Type 0} → List ℕ → WorkerOrdersValue N → WorkerOrdersValue N → Type 0
 IsNotPut name before after = ((place : ℕ) × IsFirst before.names name place) × (after.end ≡ before.end) × (after.heard ≡ before.heard)
+
+-- one try to put an order of the feed put nothing
+abbrev pub IsTriedInVain : {N : Type 0} → List ℕ → WorkerOrdersValue N → WorkerOrdersValue N → Type 0
+IsTriedInVain name before after = ((place : ℕ) × IsFirst before.names name place) × (after.end ≡ once_tried before.end) × (after.heard ≡ before.heard)
 
 -- the order was asked for, and the orders go by the same
 abbrev pub IsNoted : {N : Type 0} → OrderValue → WorkerOrdersValue N → WorkerOrdersValue N → Type 0
@@ -74,31 +87,31 @@ IsNoted order before after = (route_of after ≡ route_of before) × (after.aske
 
 -- over the rule of the queue: what it holds, and what its ends know
 module _ {N : Type 0} (holds : List (Order N) → List Known → Type 0) where
-  -- why the queue takes no order: it held four at one moment
+  -- why the queue takes no order: it held four at one moment since this try began
   abbrev pub IsTurnedAway : EndValue → OrderFault → Type 0
-  IsTurnedAway end OrderFault.OrdersFull = Held holds 4 end.orders
+  IsTurnedAway end OrderFault.OrdersFull = Held holds 4 (λ known. (known.orders ≡ end.orders) × (known.tries ≡ end.tries + 1))
   IsTurnedAway end OrderFault.LoaderGone = ⊤
   IsTurnedAway end _ = ⊥
 
-  -- why no order is put that would be waited for
-  abbrev pub IsNotAwaited : EndValue → OrderFault → Type 0
-  IsNotAwaited end OrderFault.OutOfMemory = ⊤
-  IsNotAwaited end fault = IsTurnedAway end fault
+  -- why no order is put that would be waited for: nothing was tried where there was no memory for a way back
+  abbrev pub IsNotAwaited : EndValue → OrderFault → EndValue → Type 0
+  IsNotAwaited end OrderFault.OutOfMemory end_then = end_then ≡ end
+  IsNotAwaited end fault end_then = IsTurnedAway end fault × (end_then ≡ once_tried end)
 
-  -- why an order of a feed of this name is refused
-  abbrev pub RefusesOrder : WorkerOrdersValue N → List ℕ → OrderFault → Type 0
-  RefusesOrder before name OrderFault.UnknownFeed = IsNoName before.names name
-  RefusesOrder before name OrderFault.OrdersFull = ((place : ℕ) × IsFirst before.names name place) × IsTurnedAway before.end OrderFault.OrdersFull
-  RefusesOrder before name OrderFault.LoaderGone = (place : ℕ) × IsFirst before.names name place
-  RefusesOrder before name _ = ⊥
+  -- why an order of a feed of this name is refused, and what that did
+  abbrev pub RefusesOrder : List ℕ → OrderFault → WorkerOrdersValue N → WorkerOrdersValue N → Type 0
+  RefusesOrder name OrderFault.UnknownFeed before after = IsNoName before.names name × (after.end ≡ before.end) × (after.heard ≡ before.heard)
+  RefusesOrder name OrderFault.OrdersFull before after = IsTriedInVain name before after × IsTurnedAway before.end OrderFault.OrdersFull
+  RefusesOrder name OrderFault.LoaderGone before after = IsTriedInVain name before after
+  RefusesOrder name _ before after = ⊥
 
   -- why no version came of an order that was waited for
   abbrev pub RefusesVersion : List ℕ → OrderFault → WorkerOrdersValue N → WorkerOrdersValue N → Type 0
   RefusesVersion name OrderFault.UnknownFeed before after = IsNoName before.names name × (after.end ≡ before.end) × (after.heard ≡ before.heard)
-  RefusesVersion name OrderFault.OrdersFull before after = IsNotPut name before after × IsTurnedAway before.end OrderFault.OrdersFull
+  RefusesVersion name OrderFault.OrdersFull before after = IsTriedInVain name before after × IsTurnedAway before.end OrderFault.OrdersFull
   RefusesVersion name (OrderFault.LoadRefused refusal) before after = Hears name (Some (LoadAnswer.Refused refusal)) before after
   RefusesVersion name OrderFault.OutOfMemory before after = Hears name (Some LoadAnswer.Unnoticed) before after ⊎ IsNotPut name before after
-  RefusesVersion name OrderFault.LoaderGone before after = Hears name None before after ⊎ IsNotPut name before after
+  RefusesVersion name OrderFault.LoaderGone before after = Hears name None before after ⊎ IsTriedInVain name before after
 
   -- over notices of these versions
   module _ (noted : N → ℕ) where
@@ -106,8 +119,7 @@ module _ {N : Type 0} (holds : List (Order N) → List Known → Type 0) where
     -- of the notice that was heard, by the order's own way back
     abbrev pub Does : List ℕ → Outcome → WorkerOrdersValue N → WorkerOrdersValue N → Type 0
     Does feed (Outcome.Put (Ok u)) before after = IsPut feed before after × (after.heard ≡ before.heard)
-    Does feed (Outcome.Put (Err fault)) before after =
-        RefusesOrder before feed fault × (after.end ≡ before.end) × (after.heard ≡ before.heard)
+    Does feed (Outcome.Put (Err fault)) before after = RefusesOrder feed fault before after
     Does feed (Outcome.Waited (Ok version)) before after =
         (notice : N) × (noted notice ≡ version) × Hears feed (Some (LoadAnswer.Published notice)) before after
     Does feed (Outcome.Waited (Err fault)) before after = RefusesVersion feed fault before after
@@ -120,4 +132,4 @@ module _ {N : Type 0} (holds : List (Order N) → List Known → Type 0) where
 
     -- all orders that were asked for here did so, from the first on: what was put at the queue and heard of it comes of them alone
     abbrev pub HasAsked : WorkerOrdersValue N → Type 0
-    HasAsked orders = AreAsked orders.asked (nothing_asked (route_of orders)) orders
+    HasAsked orders = (tries : ℕ) × AreAsked orders.asked (nothing_asked (route_of orders) tries) orders

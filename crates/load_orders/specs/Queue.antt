@@ -1,5 +1,5 @@
 -- The queue of orders.
-use Rattle.std.specs.Prelude.{◌≡◌, ◌≤◌, ◌++◌, ◌∷◌, ℕ, List, [], length}
+use Rattle.std.specs.Prelude.{◌≡◌, ◌≤◌, ◌+◌, ◌++◌, ◌∷◌, ℕ, List, [], length}
 use mathlib.Core.Option.{some}
 use lib.ListN.{get_elem?}
 use Rattle.crossbeam_channel.specs.Fifo.{Forks, Pops, Pushes}
@@ -18,7 +18,11 @@ waiting items views = AtMostFour items
 
 -- an end that has put and taken nothing
 abbrev pub nothing : Known
-nothing = record { orders = [] }
+nothing = record { orders = []; tries = 0 }
+
+-- an end that has tried once more to put an order
+abbrev pub tried : Known → Known
+tried before = record before { tries = before.tries + 1 }
 
 -- what an end notes of an order
 abbrev pub mark_of : {N : Type 0} → Order N → OrderMark
@@ -26,20 +30,22 @@ mark_of order = record { feed = order.feed; way = order.way_back }
 
 -- an end puts an order, or takes one
 abbrev pub IsOneMore : {N : Type 0} → Known → Order N → Known → Type 0
-IsOneMore before order after = after ≡ record { orders = before.orders ++ mark_of order ∷ [] }
+IsOneMore before order after = after ≡ record { orders = before.orders ++ mark_of order ∷ []; tries = before.tries }
 
 -- over a rule of what a queue holds, oldest first, and of what each of its ends knows
 module _ {N : Type 0} (holds : List (Order N) → List Known → Type 0) where
-  -- each step at a queue for four orders keeps the rule: an order is put where fewer wait, or is taken, or there is one end more
+  -- each step at a queue for four orders keeps the rule: an order is put where fewer wait, or is taken, or is tried to be put, or there is one
+  -- end more
   pub record IsKept : Type 0 where
     pub puts : (pass : ℕ) (v : Known) (order : Order N) → Pushes holds 4 pass v order (IsOneMore v order)
     pub takes : (pass : ℕ) (v : Known) → Pops holds pass v (IsOneMore v)
     pub splits : (pass : ℕ) (v : Known) → Forks holds pass v v nothing
+    pub tries : (pass : ℕ) (v : Known) → Forks holds pass v (tried v) nothing
 
-  -- at one moment the queue held so many orders, and one of its ends knew of these: the rule held then
-  abbrev pub Held : ℕ → List OrderMark → Type 0
-  Held count orders = (items : List (Order N)) × (views : List Known) × (pass : ℕ) × (length items ≡ count) × holds items views
-      × (get_elem? views pass ≡ some (record { orders = orders }))
+  -- at one moment the queue held so many orders, and one of its ends knew this: the rule held then
+  abbrev pub Held : ℕ → (Known → Type 0) → Type 0
+  Held count knows = (items : List (Order N)) × (views : List Known) × (pass : ℕ) × (known : Known) × (length items ≡ count) × holds items views
+      × (get_elem? views pass ≡ some known) × knows known
 
 -- which queue, of all that there are
 abbrev pub QueueId : Type 0
@@ -49,3 +55,4 @@ QueueId = TableId
 pub record EndValue : Type 0 where
   pub queue : QueueId
   pub orders : List OrderMark  -- that were put or taken here, in order
+  pub tries : ℕ  -- how often an order was tried to be put here

@@ -1,5 +1,5 @@
 -- What the loader tells of the orders that it took.
-use Rattle.std.specs.Prelude.{◌≡◌, ◌⊎◌, ◌∷◌, Bool, List, [], Option, Some, None}
+use Rattle.std.specs.Prelude.{◌≡◌, ◌⊎◌, ◌∷◌, Bool, List, [], length, Option, Some, None}
 use Rattle.load_orders.specs.Queue.{QueueId}
 use Rattle.load_orders.specs.Ways.{WayId, WayValue}
 use Rattle.load_orders.specs.declared.queue.OrderMark.{OrderMark}
@@ -16,6 +16,10 @@ pub record LoaderOrdersValue (N : Type 0) : Type 0 where
   pub taken : List OrderMark  -- in order
   pub answered : List (AnsweredValue N)  -- in order
   pub over : Bool  -- it asked for another one, and none came
+
+-- each order that was taken was answered
+abbrev pub AllAnswered : {N : Type 0} → LoaderOrdersValue N → Type 0
+AllAnswered end = length end.answered ≡ length end.taken
 
 -- at this way back alone the answer is told, once; or nobody waits there any more, and nothing is
 abbrev pub IsToldAt : {N : Type 0} → WayId → LoadAnswer N → WayValue N → Type 0

@@ -34,9 +34,11 @@ impl Model for OrderMark {
     ghost also_owns = { λ _. ftrue };
 }
 
-/// What an end of the queue knows: the orders that it put or took, in order. No value of it is made.
+/// What an end of the queue knows: the orders that it put or took, in order, and how often it tried
+/// to put one. No value of it is made.
 pub struct Known {
     pub orders: LinkedList<OrderMark>,
+    pub tries: u64,
 }
 
 /// A rule of queues of orders, which each step at a queue keeps. Of how it begins nothing is said here: so that it held
@@ -83,6 +85,17 @@ impl<N: Drop, P: OrderRule<N>> Lesson<Order<N>, Known> for Moves<P> {
 
     ghost fact = { λ view items. (views : List Known) × (pass : ℕ) × P.Protocol.holds items views
         × (get_elem? views pass ≡ some view) };
+}
+
+/// An end tries to put an order. What is split from it for that knows nothing, and is let go.
+pub struct Tries;
+
+impl Split<Known> for Tries {
+    ghost use Rattle.load_orders.specs.Queue.{nothing, tried};
+
+    ghost left = { λ view. tried view };
+
+    ghost right = { λ view. nothing };
 }
 
 /// One end more, which has put and taken nothing.

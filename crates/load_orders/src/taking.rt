@@ -4,16 +4,18 @@ ghost use Rattle.std.specs.Prelude.{◌≡◌, ◌++◌, ◌∷◌, [], map, str
 ghost use Rattle.std.specs.Prelude.{IfNone, Option, false, is_none};
 ghost use Rattle.orders.specs.Ordering.{IsNotTaken, order_value, version_told, waited_value};
 ghost use Rattle.load_orders.specs.Asking.{Hears, IsNotAwaited, IsPut, IsTurnedAway, RefusesOrder, RefusesVersion};
-ghost use Rattle.load_orders.specs.Asking.{HasAsked, OrderRoute, awaited_order, fault_told, route_of, unasked};
+ghost use Rattle.load_orders.specs.Asking.{HasAsked, IsPutAt, OrderRoute, awaited_order, fault_told, once_tried};
+ghost use Rattle.load_orders.specs.Asking.{route_of, unasked};
 ghost use Rattle.load_orders.specs.Queue.{Held, mark_of};
-ghost use Rattle.load_orders.specs.Telling.{IsToldBack};
+ghost use Rattle.load_orders.specs.Telling.{AllAnswered, IsToldBack};
 ghost use Rattle.load_orders.specs.Ways.{WayId, WayValue, heard_at};
 ghost use Rattle.load_orders.specs.declared.ways.LoadAnswer.{LoadAnswer};
 
 use crate::names::place_of;
 use crate::notes::Notes;
 use crate::queue::{
-    Another, Known, MOST_WAITING, Moves, Order, OrderReceiver, OrderRule, OrderSender, Waiting,
+    Another, Known, MOST_WAITING, Moves, Order, OrderReceiver, OrderRule, OrderSender, Tries,
+    Waiting,
 };
 use crate::ways::{LoadAnswer, UsedWay, WayBack, way_back};
 use crossbeam_channel::{Pass, TrySendError, bounded_with};
@@ -40,7 +42,12 @@ impl<N: Drop, P: OrderRule<N>> Model for OrderEnd<N, P> {
 
     ghost Value = { EndValue };
 
-    ghost view = { λ s. record { queue = s.pass.table_id; orders = (view_of s.pass).orders } };
+    ghost view = { λ s. record {
+      queue = s.pass.table_id;
+      orders = (view_of s.pass).orders;
+      tries =
+          (view_of s.pass).tries;
+    } };
 
     ghost invariant = { λ s. IsSeatAt (sends_on s.sender) s.pass × (ruled_capacity (sends_on s.sender) ≡ 4) };
 }
@@ -99,7 +106,12 @@ impl<N: Drop> Model for UsedOrders<N> {
 
     ghost view = { λ u. record {
       names = u.names.value;
-      end = record { queue = u.pass.table_id; orders = (view_of u.pass).orders };
+      end = record {
+        queue = u.pass.table_id;
+        orders = (view_of u.pass).orders;
+        tries =
+            (view_of u.pass).tries;
+      };
       asked = u.asked;
       heard =
           u.heard;
@@ -183,10 +195,11 @@ impl<N: Drop, P: OrderRule<N>> OrderEnd<N, P> {
     // Puts an order, where there is room.
     fn put<R: Wait>(&mut self, rt: &R, order: Order<N>) -> Result<(), OrderFault>
         ensures queue { self.new.queue ≡ self.old.queue }
-        ensures put { OnOk result (self.new.orders ≡ self.old.orders ++ mark_of order ∷ []) }
+        ensures put { OnOk result (IsPutAt self.old (mark_of order) self.new) }
         ensures refused { IfErr result (λ fault. IsTurnedAway P.Protocol.holds self.old fault
-            × (self.new ≡ self.old)) }
+            × (self.new ≡ once_tried self.old)) }
     {
+        drop(self.sender.another::<Tries>(&mut self.pass));
         match self
             .sender
             .try_send_as::<Moves<P>, R>(rt, &mut self.pass, order)
@@ -282,10 +295,10 @@ fn put_awaited<R: Wait, N: Drop, P: OrderRule<N>>(
 ) -> Result<Option<LoadAnswer<N>>, OrderFault>
     ensures queue { end.new.queue ≡ end.old.queue }
     ensures heard { IfOk result (λ answer. (way : WayId)
-        × (end.new.orders ≡ end.old.orders ++ awaited_order place way ∷ [])
+        × IsPutAt end.old (awaited_order place way) end.new
         × (heard.new ≡ heard.old ++ heard_at way answer ∷ [])) }
-    ensures refused { IfErr result (λ fault. IsNotAwaited P.Protocol.holds end.old fault
-        × (end.new ≡ end.old) × (heard.new ≡ heard.old)) }
+    ensures refused { IfErr result (λ fault. IsNotAwaited P.Protocol.holds end.old fault end.new
+        × (heard.new ≡ heard.old)) }
 {
     let Ok((way_back, awaited)) = way_back(alloc) else {
         return Err(OrderFault::OutOfMemory);
@@ -339,8 +352,7 @@ impl<'a, R: Wait, N: Drop, T: Versions<Notice = N>, P: OrderRule<N>> Orders
         ensures route { route_of self.new ≡ route_of self.old }
         ensures heard { self.new.heard ≡ self.old.heard }
         ensures put { OnOk result (IsPut feed.now self.old self.new) }
-        ensures refused { IfErr result (λ fault. RefusesOrder P.Protocol.holds self.old feed.now fault
-            × (self.new.end ≡ self.old.end)) }
+        ensures refused { IfErr result (λ fault. RefusesOrder P.Protocol.holds feed.now fault self.old self.new) }
     {
         let outcome = match place_of(self.names, feed) {
             Some(place) => self.end.put(
@@ -380,15 +392,17 @@ impl<'a, R: Wait, N: Drop, T: Versions<Notice = N>, P: OrderRule<N>> Orders
 }
 
 impl<N: Drop, P: OrderRule<N>> LoaderOrders<N, P> {
-    /// Takes the order that waits longest, or waits for one. None comes where the queue was empty at one
-    /// moment, and the workers' ends are gone; this tests show, and no contract.
+    /// Takes the order that waits longest, or waits for one, once each order taken before was answered. None
+    /// comes where the queue was empty at one moment, and the workers' ends are gone; this tests show, and no
+    /// contract.
     pub fn next<R: Wait>(&mut self, rt: &R) -> Option<Order<N>>
+        requires { AllAnswered self.old }
         ensures queue { self.new.queue ≡ self.old.queue }
         ensures taken { MatchOption result (self.new.taken ≡ self.old.taken) (λ order. self.new.taken
             ≡ self.old.taken ++ mark_of order ∷ []) }
         ensures answered { self.new.answered ≡ self.old.answered }
         ensures over { self.new.over ≡ is_none result }
-        ensures none { IfNone result (Held P.Protocol.holds 0 self.old.taken) }
+        ensures none { IfNone result (Held P.Protocol.holds 0 (λ known. known.orders ≡ self.old.taken)) }
     {
         let came = self.receiver.recv_as::<Moves<P>, R>(rt, &mut self.pass);
         let order = came.ok();

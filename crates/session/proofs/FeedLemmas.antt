@@ -1,6 +1,6 @@
 -- The first feed of a name, and what is told of its load.
 use Rattle.std.proofs.Common.{◌≡◌, ◌<◌, ℕ, List, [], ◌∷◌, Option, Some, None, Result}
-use Rattle.std.proofs.Common.{Ok, Err, IfErr, IfOk, IfSome, length, refl, sym, bytes_eq, get_or, string_bytes}
+use Rattle.std.proofs.Common.{Ok, Err, IfErr, IfOk, MatchOption, length, refl, sym, bytes_eq, get_or, string_bytes}
 use Rattle.std.specs.List.{remove}
 use Rattle.std.proofs.lemmas.List.Quantifiers.{position-Some}
 use Rattle.std.proofs.lemmas.Option.{slice_get_read}
@@ -43,24 +43,28 @@ order_is_plain (Ok loaded) = tt
 order_is_plain (Err NotLoaded.UnknownFeed) = tt
 order_is_plain (Err (NotLoaded.Refused fault)) = tt
 
-notice_agrees : {N : Type 0} (name : List ℕ) (feeds others : List FeedImage) (answers answers_then : List LoaderAnswer) (version : ℕ) (notice : Option N)
-    → IsLoadedAs name feeds answers version others answers_then → WaitStep name feeds answers (notice_told version notice) others answers_then
-notice_agrees name feeds others answers answers_then version (Some notice) step = step
-notice_agrees name feeds others answers answers_then version None step = (version, step)
+notice_agrees : {N : Type 0} (noted : N → ℕ) (name : List ℕ) (feeds others : List FeedImage) (answers answers_then : List LoaderAnswer) (version : ℕ)
+    (notice : Option N) → MatchOption notice ⊥ (λ n. noted n ≡ version) → IsLoadedAs name feeds answers version others answers_then
+    → WaitStep name feeds answers (notice_told version notice) others answers_then
+notice_agrees noted name feeds others answers answers_then version (Some notice) came step = step
+notice_agrees noted name feeds others answers answers_then version None came step = absurd came
 
-pub wait_agrees : {N : Type 0} (name : List ℕ) (feeds others : List FeedImage) (answers answers_then : List LoaderAnswer) (r : Result (ℕ × Option N) NotLoaded)
+pub wait_agrees : {N : Type 0} (noted : N → ℕ) (name : List ℕ) (feeds others : List FeedImage) (answers answers_then : List LoaderAnswer)
+    (r : Result (ℕ × Option N) NotLoaded) → IfOk r (λ loaded. MatchOption loaded.1 ⊥ (λ n. noted n ≡ loaded.0))
     → LoadStep name feeds answers r others answers_then → WaitStep name feeds answers (wait_told r) others answers_then
-wait_agrees name feeds others answers answers_then (Ok loaded) step = notice_agrees name feeds others answers answers_then loaded.0 loaded.1 step
-wait_agrees name feeds others answers answers_then (Err NotLoaded.UnknownFeed) step = step
-wait_agrees name feeds others answers answers_then (Err (NotLoaded.Refused fault)) step = (fault, refl, step)
+wait_agrees noted name feeds others answers answers_then (Ok loaded) came step =
+    notice_agrees noted name feeds others answers answers_then loaded.0 loaded.1 came step
+wait_agrees noted name feeds others answers answers_then (Err NotLoaded.UnknownFeed) came step = step
+wait_agrees noted name feeds others answers answers_then (Err (NotLoaded.Refused fault)) came step = (fault, refl, step)
 
-notice_is_of : {N : Type 0} (noted : N → ℕ) (version : ℕ) (notice : Option N) → IfSome notice (λ n. noted n ≡ version)
+notice_is_of : {N : Type 0} (noted : N → ℕ) (version : ℕ) (notice : Option N) → MatchOption notice ⊥ (λ n. noted n ≡ version)
     → IfOk (notice_told version notice) (λ told. noted told.1 ≡ told.0)
 notice_is_of noted version (Some notice) same = same
-notice_is_of noted version None same = tt
+notice_is_of noted version None same = absurd same
 
 -- and a notice is of the version that is told
-pub wait_is_of : {N : Type 0} (noted : N → ℕ) (r : Result (ℕ × Option N) NotLoaded) → IfOk r (λ loaded. IfSome loaded.1 (λ n. noted n ≡ loaded.0))
+pub wait_is_of : {N : Type 0} (noted : N → ℕ) (r : Result (ℕ × Option N) NotLoaded)
+    → IfOk r (λ loaded. MatchOption loaded.1 ⊥ (λ n. noted n ≡ loaded.0))
     → IfOk (wait_told r) (λ told. noted told.1 ≡ told.0)
 wait_is_of noted (Ok loaded) same = notice_is_of noted loaded.0 loaded.1 same
 wait_is_of noted (Err NotLoaded.UnknownFeed) same = tt

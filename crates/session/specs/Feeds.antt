@@ -81,11 +81,10 @@ OrderStep name feeds answers (Err OrderFault.UnknownFeed) others answers_then = 
 OrderStep name feeds answers (Err OrderFault.OrdersFull) others answers_then = (fault : PublishFault) × IsRefusedSo name feeds answers fault others answers_then
 OrderStep name feeds answers (Err _) others answers_then = ⊥
 
--- and one that is waited for: want of memory tells that the version stands and no notice came of it
+-- and one that is waited for
 abbrev pub WaitStep : {N : Type 0} → List ℕ → List FeedImage → List LoaderAnswer → Result (ℕ × N) OrderFault → List FeedImage → List LoaderAnswer → Type 0
 WaitStep name feeds answers (Ok told) others answers_then = IsLoadedAs name feeds answers told.0 others answers_then
 WaitStep name feeds answers (Err OrderFault.UnknownFeed) others answers_then = IsUnknown name feeds answers others answers_then
 WaitStep name feeds answers (Err (OrderFault.LoadRefused refusal)) others answers_then =
     (fault : PublishFault) × (refusal ≡ publish_fault_number fault) × IsRefusedSo name feeds answers fault others answers_then
-WaitStep name feeds answers (Err OrderFault.OutOfMemory) others answers_then = (version : ℕ) × IsLoadedAs name feeds answers version others answers_then
 WaitStep name feeds answers (Err _) others answers_then = ⊥

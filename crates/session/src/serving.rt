@@ -62,7 +62,8 @@ pub fn serve<
 }
 
 impl<'a, N: Drop, T: Versions<Notice = N>, G: Gate> Desk<'a, T, G> {
-    /// Serves a session.
+    /// Answers the lines that the reader gives, until it ends, a stream fails or a million are
+    /// answered. Then it gives back what the seat holds.
     pub fn serve<In: Read, Out: Write, O: Orders<Notice = N>>(
         &self,
         streams: &mut Streams<In, Out>,

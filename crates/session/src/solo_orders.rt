@@ -1,6 +1,6 @@
 //! Orders that are met at once, by the loader's seat of some shelves.
 
-ghost use Rattle.std.specs.Prelude.{◌≡◌, ◌++◌, ◌∷◌, [], IfErr, IfOk, IfSome};
+ghost use Rattle.std.specs.Prelude.{◌≡◌, ◌++◌, ◌∷◌, [], IfErr, IfOk, MatchOption};
 ghost use Rattle.orders.specs.Ordering.{IsNotTaken, order_value, version_told, waited_value};
 ghost use Rattle.session.specs.Feeds.{LoadStep, OrderStep, WaitStep, order_told, place_of, wait_told};
 
@@ -68,7 +68,8 @@ impl<'a, N: Drop, L: Drop, T: Versions<Notice = N> + Loads<Loader = L>> SoloOrde
     fn load(&mut self, feed: &str) -> Result<(u64, Option<N>), NotLoaded>
         ensures asked { self.new.asked ≡ self.old.asked }
         ensures step { LoadStep feed.now self.old.feeds self.old.answers result self.new.feeds self.new.answers }
-        ensures notice { IfOk result (λ loaded. IfSome loaded.1 (λ notice. T.Versions.noted notice ≡ loaded.0)) }
+        ensures notice { IfOk result (λ loaded. MatchOption loaded.1 ⊥ (λ notice. T.Versions.noted notice
+            ≡ loaded.0)) }
     {
         publish_first(self.shelves, &mut self.loader, &mut self.feeds, feed)
     }
@@ -85,7 +86,8 @@ fn publish_first<N: Drop, T: Versions<Notice = N> + Loads>(
     ensures loads { T.Loads.loads shelves.now loader.new }
     ensures step { LoadStep feed.now feeds.old.items (T.Loads.answers loader.old) result feeds.new.items
         (T.Loads.answers loader.new) }
-    ensures notice { IfOk result (λ loaded. IfSome loaded.1 (λ notice. T.Versions.noted notice ≡ loaded.0)) }
+    ensures notice { IfOk result (λ loaded. MatchOption loaded.1 ⊥ (λ notice. T.Versions.noted notice
+        ≡ loaded.0)) }
 {
     let Some(place) = place_in(feeds, feed) else {
         return Err(NotLoaded::UnknownFeed);

@@ -4,6 +4,7 @@ use Rattle.version_core.specs.declared.state.Shelf.{Shelf}
 use Rattle.epochs.specs.ShelfLoads.{ShelfLoaderValue, shelf_of}
 use Rattle.epochs.proofs.LoaderGrowth.{loads_published}
 use Rattle.epochs.proofs.ShelfResting.{rests_after}
+use Rattle.epochs.proofs.ClosingLemmas.{loads_known}
 use Rattle.epochs.proofs.shelf_loader.ShelfLoader.load_on.Goals as goal
 
 pub invariant_of-self : goal.invariant_of-self
@@ -15,6 +16,10 @@ invariant_of-self c =
           (subst (λ (a : ShelfLoaderValue). shelf_of a.view c.args.shelf
           ≡ Some Shelf.Free) (sym c.self.view_is) c.requires.free.1) refl (omega arith) c.in-Ok.ensures.load,
       c.load.ensures.empty,
+      loads_known inside.current inside.current_shelf inside.shelves (arc_value c.args.image.now) c.args.shelf _
+          inside.place.me.0 c.load.new.loader.me.0 c.self.invariant.0
+          (subst (λ (a : ShelfLoaderValue). shelf_of a.view c.args.shelf
+          ≡ Some Shelf.Free) (sym c.self.view_is) c.requires.free.1) c.self.invariant.2 c.in-Ok.ensures.load,
     )
 
 pub returns-in-Ok-clause-known : goal.returns-in-Ok-clause-known

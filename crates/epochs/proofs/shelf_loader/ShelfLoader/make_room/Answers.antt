@@ -16,5 +16,5 @@ returns-in-None-clause-full c =
       (c.try_all-found.result, c.try_all-found.ensures.steps, refl),
       c.in-None.ensures,
       full_so inside.current inside.current_shelf inside.shelves c.args.self.now.view c.try_all-found.new.self.view
-          c.try_all-found.result rest c.in_default.ensures c.try_all-found.ensures.steps c.in-None.ensures,
+          c.try_all-found.result rest c.in_default.ensures c.try_all-found.ensures.steps.0 c.in-None.ensures,
     )

@@ -1,4 +1,7 @@
-use Rattle.std.proofs.Common.{arith, ◌∙◌, length-set}
+use Rattle.std.proofs.Common.{◌≡◌, arith, ◌∙◌, length-set, subst}
+use Rattle.shelf_steps.specs.Plays.{OfLoader}
+use Rattle.epochs.specs.ShelfLoads.{ShelfLoaderValue, KnowsShelves, Rests, TriesBelow}
+use Rattle.epochs.proofs.ClosingLemmas.{each_closing}
 use Rattle.epochs.proofs.ShelfResting.{one_more_try}
 use Rattle.epochs.proofs.shelf_loader.ShelfLoader.try_all.Goals as goal
 
@@ -17,3 +20,15 @@ loop-shelf-preserved c =
           c.loop-shelf.found.freed c.loop-shelf.found.busy c.try_at-freed.result.0 c.try_at-freed.result.1
           (let a = e.0 in omega arith) (let a = e.1 in omega arith) i.tried c.try_at-freed.ensures.tried;
     }
+
+-- all eight were tried, so each that was closing
+pub returns-clause-steps : goal.returns-clause-steps
+returns-clause-steps c =
+    let inside = c.self.inside in let view = c.args.self.now.view in let found = c.loop-shelf.found in
+    let eight : c.loop-shelf.shelf ≡ 8 = omega (arith, c.loop-shelf-test.false, c.loop-shelf.auto.shelf-end) in
+    let tried : TriesBelow 8 view found.freed found.busy c.loop-shelf.self.view =
+    subst (λ n. TriesBelow n view found.freed found.busy c.loop-shelf.self.view) eight c.loop-shelf.invariant.tried in
+    let rest = subst (λ (a : ShelfLoaderValue). OfLoader a.view (λ l. Rests inside.current inside.current_shelf inside.shelves l))
+    c.self.view_is c.self.invariant.0 in
+    let led = subst (λ (a : ShelfLoaderValue). KnowsShelves a.view) c.self.view_is c.self.invariant.2 in
+    (tried, each_closing inside.current inside.current_shelf inside.shelves view c.loop-shelf.self.view found rest led tried)

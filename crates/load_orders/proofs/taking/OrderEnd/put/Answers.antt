@@ -4,11 +4,14 @@ use Rattle.crossbeam_channel.specs.Fifo.{Pushes}
 use Rattle.load_orders.specs.Queue.{IsOneMore}
 use Rattle.load_orders.proofs.taking.OrderEnd.put.Goals as goal
 
+pub another-requires-clause-rule : goal.another-requires-clause-rule
+another-requires-clause-rule g c = g.met.P.OrderRule.kept.tries _ _
+
 pub try_send_as-requires-clause-rule : goal.try_send_as-requires-clause-rule
 try_send_as-requires-clause-rule g c =
-    let here = c.self.inside in
-    let v = view_of here.pass in (
-      subst (λ n. Pushes g.P.Protocol.holds n here.pass.id v c.args.order (IsOneMore v c.args.order)) (sym c.self.invariant.1)
-          (g.met.P.OrderRule.kept.puts here.pass.id v c.args.order),
-      λ items views holds at. (views, here.pass.id, holds, at),
+    let pass = c.another.new.pass in
+    let v = view_of pass in (
+      subst (λ n. Pushes g.P.Protocol.holds n pass.id v c.args.order (IsOneMore v c.args.order)) (sym c.self.invariant.1)
+          (g.met.P.OrderRule.kept.puts pass.id v c.args.order),
+      λ items views holds at. (views, pass.id, holds, at),
     )
