@@ -10,10 +10,9 @@ ghost use Rattle.shelf_steps.specs.Events.{known_of};
 ghost use Rattle.shelf_steps.specs.Handed.{handed};
 ghost use Rattle.shelf_steps.specs.declared.views.View.{View};
 ghost use Rattle.epochs.specs.ShelfSeats.{NoticeValue, SeatsHanded};
-ghost use Rattle.load_orders.specs.Queue.{QueueId};
-ghost use Rattle.workers.specs.Carrying.{ComeOfOrders};
+ghost use Rattle.workers.specs.Carrying.{AllCarriedOut};
 ghost use Rattle.workers.specs.Ordering.{route_to};
-ghost use Rattle.workers.specs.Sessions.{AreServedBySome, MayClose};
+ghost use Rattle.workers.specs.Sessions.{AreServedSince, MayClose};
 ghost use Rattle.csa_program.specs.Serving.{IsServerEnd, counts_of, form_with, port_text, served_text};
 ghost use Rattle.feed_plans.specs.Planning.{IsPlanNow};
 
@@ -22,13 +21,13 @@ use crate::explaining::Explains;
 use crate::folders::warn_of_folders;
 use crate::logging::{LoaderErrors, SessionLog, SharedErrors, log_load};
 use crate::machine::Machine;
-use crate::sockets::{Door, Visitor};
+use crate::sockets::Door;
 use clock_days::instant;
 use command_requests::{Ends, NamedFolder, PlanText, ServeRequest};
 use csa_commands::{
     Begun, PlanFailure, explain_load, open_image, reason_of, refuse_feed, status, zone_bytes,
 };
-use epochs::{ShelfLoader, ShelfSeat, Shelves};
+use epochs::{Named, NamedNotice, ShelfLoader, ShelfSeat, Shelves};
 use feed_files::{Disk, FeedFiles, FolderFiles};
 use feed_loader::Plan;
 use feed_plans::plan_at;
@@ -45,8 +44,7 @@ use std::thread::Threads;
 use std::time::{Clock, Instant};
 use text_pieces::{put_number, put_text};
 use workers::{
-    Client, Clients, Feeds, LoadRefusal, Loaded, PointForm, Served, ShelvesRan, WorkersFault,
-    run_shelves,
+    Client, Clients, Feeds, LoadRefusal, Loaded, PointForm, Ran, Served, WorkersFault, run_shelves,
 };
 
 /// The folders of the feeds that may be loaded.
@@ -73,9 +71,10 @@ impl<'a, H: Disk + Explains + Clock + Sync> Feeds for Folders<'a, H> {
 
     ghost named = { λ folders. folders.names.items };
 
-    // Those of the folder that goes with the feed's name.
+    // Those of the folder that goes with the feed's name, of which nothing was read yet.
     ghost are_files = { λ folders place files.
-        slice_get (map (λ feed. feed.folder.now) folders.feeds.now) place ≡ Some files.folder.now };
+        (slice_get (map (λ feed. feed.folder.now) folders.feeds.now) place ≡ Some files.folder.now)
+        × (files.reads ≡ []) };
 
     ghost is_plan = { λ folders plan. IsPlanNow folders.asked.now folders.zone_bytes.items plan };
 
@@ -259,29 +258,30 @@ fn serve_at<H: Disk + Explains + Clock + Threads + Wait + Sync, E: Write + Send>
     let log = if request.log { Some(&shared) } else { None };
     let door = Door::new(listener, request.sessions, log);
     let loader_errors = LoaderErrors::of(shared.another());
-    let ran = serve_door(
+    serve_door::<Brand, _, _, _>(
         rt,
         door,
         made,
         folders,
         form_of(request.legs),
         loader_errors,
-    )?;
-    Ok(end_of(&ran))
+    )
 }
 
 // How many sessions ended in each way, and whether accepting failed.
-fn end_of<'d, L: SessionLog + Sync>(ran: &ShelvesRan<Visitor<'d, L>, Door<'d, L>>) -> (Ends, bool)
-    ensures ends { result.0 ≡ counts_of ran.now.served }
-    ensures deaf { result.1 ≡ ran.now.clients.failed }
+fn end_of<'d, R, W, L: SessionLog + Sync>(served: &Served<R, W>, door: &Door<'d, L>) -> (Ends, bool)
+    ensures ends { result.0 ≡ counts_of served.now }
+    ensures deaf { result.1 ≡ door.now.failed }
 {
-    (ends_of(&ran.served), ran.clients.has_failed())
+    (ends_of(served), door.has_failed())
 }
 
-// Serves whoever comes to the door.
+// Serves whoever comes to the door, at shelves of a name: how many sessions ended in each way, and whether accepting
+// failed.
 fn serve_door<
     'd,
     'f,
+    B: Named + Send + Sync,
     H: Disk + Explains + Clock + Threads + Wait + Sync,
     L: SessionLog + Sync,
     E: Write + Send + Drop,
@@ -292,20 +292,23 @@ fn serve_door<
     folders: &Folders<'f, H>,
     form: PointForm,
     errors: E,
-) -> Result<ShelvesRan<Visitor<'d, L>, Door<'d, L>>, WorkersFault>
+) -> Result<(Ends, bool), WorkersFault>
+    requires named { made.0 ≡ B.table }
     requires loader { made.1.table ≡ made.0 }
     requires seats { All (λ seat. seat.table ≡ made.0) made.2.items }
     requires new { SeatsHanded made.0 (length made.2.items) made.2.items }
     requires some { 1 ≤ length made.2.items }
     requires few { length made.2.items ≤ 16 }
 {
-    serve_all(rt, door, made, folders, form, errors)
+    let ran = serve_all::<B, _, _, _, _>(rt, door, made, folders, form, errors)?;
+    Ok(end_of(&ran.served, &ran.clients))
 }
 
 // Serves whoever comes at these shelves, until nobody is left. Whose bytes they bring makes no difference: what is said
 // of clients whose bytes are known is of the very code that serves sockets.
 fn serve_all<
     'f,
+    B: Named + Send + Sync,
     C: Client + Drop + Send,
     K: Clients<C> + Drop,
     H: Disk + Explains + Clock + Threads + Wait + Sync,
@@ -317,7 +320,8 @@ fn serve_all<
     folders: &Folders<'f, H>,
     form: PointForm,
     errors: E,
-) -> Result<ShelvesRan<C, K>, WorkersFault>
+) -> Result<Ran<C, K, ShelfSeat, ShelfLoader, NamedNotice<B>, FolderFiles<'f, H>>, WorkersFault>
+    requires named { made.0 ≡ B.table }
     requires loader { made.1.table ≡ made.0 }
     requires seats { All (λ seat. seat.table ≡ made.0) made.2.items }
     requires new { SeatsHanded made.0 (length made.2.items) made.2.items }
@@ -327,20 +331,19 @@ fn serve_all<
     ensures none_left { IfOk result (λ ran. K.none_left ran.clients) }
     ensures seats { IfOk result (λ ran. All (λ seat. seat.table ≡ made.0) ran.seats.items) }
     ensures loader { IfOk result (λ ran. ran.loader.table ≡ made.0) }
-    ensures served { IfOk result (λ ran. (queue : QueueId)
-        × AreServedBySome form C.opens C.Reader.remaining C.Writer.contents
+    ensures shares { IfOk result (λ ran. AreServedSince form C.opens C.Reader.remaining C.Writer.contents
         (λ seat. seat.number) (λ seat. seat.shown) (λ seat. known_of seat.view)
-        (λ (notice : NoticeValue). notice.version) (route_to folders.now.names.items queue)
-        (K.came clients) (K.came ran.clients) made.2.items ran.served ran.seats.items
-        × ComeOfOrders (λ (notice : NoticeValue). notice.version)
+        (λ (notice : NoticeValue). notice.version) (route_to folders.now.names.items ran.orders.queue)
+        (K.came clients) (K.came ran.clients) made.2.items ran.asked ran.served ran.seats.items) }
+    ensures loads { IfOk result (λ ran. AllCarriedOut (λ (notice : NoticeValue). notice.version)
         (⟦<Folders<'f, H> as Feeds>⟧.are_files folders.now) ⟦<FolderFiles<'f, H> as FeedFiles>⟧.holds
         ⟦<FolderFiles<'f, H> as FeedFiles>⟧.reads ⟦<FolderFiles<'f, H> as FeedFiles>⟧.failures
         ⟦<FolderFiles<'f, H> as FeedFiles>⟧.failed
         (IsPlanNow folders.now.asked.now folders.now.zone_bytes.items) (length folders.now.names.items)
-        queue made.1.answers ran.loader.answers) }
+        ran.orders ran.used made.1.answers ran.loader.answers) }
 {
     let (shelves, loader, seats) = made;
-    run_shelves::<Brand, _, _, _, _, _, _>(
+    run_shelves::<B, _, _, _, _, _, _>(
         rt,
         folders.alloc,
         clients,

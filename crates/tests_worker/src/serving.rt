@@ -4,8 +4,9 @@ mod holding;
 mod spending;
 
 ghost use Rattle.std.specs.Prelude.{◌≡◌, ◌≤◌, [], All, length, IfOk};
+ghost use Rattle.workers.specs.Sessions.{MayClose};
 
-use epochs::{PublishFault, ShelfLoader, ShelfSeat, Shelves};
+use epochs::{Named, PublishFault, ShelfLoader, ShelfSeat, Shelves};
 use feed_files::MemoryFiles;
 use feed_loader::Plan;
 use gtfs_tables::Day;
@@ -271,6 +272,45 @@ struct Counts {
     spent: u64,
 }
 
+/// Serves clients at these shelves, under a name, with the two feeds; how their sessions ended.
+fn count_ends<
+    B: Named + Send + Sync,
+    C: Client + Drop + Send,
+    K: Clients<C> + Drop,
+    G: Gate + Sync,
+    E: Write + Send + Drop,
+    R: Threads + Wait + Sync,
+>(
+    rt: &R,
+    alloc: Global,
+    clients: K,
+    shelves: Shelves,
+    seats: Vec<ShelfSeat>,
+    loader: ShelfLoader,
+    gate: &G,
+    form: PointForm,
+    errors: E,
+) -> Result<Counts, AllocError>
+    requires shelves { shelves ≡ B.table }
+    requires seats { All (λ seat. seat.table ≡ B.table) seats.items }
+    requires loader { loader.table ≡ B.table }
+    requires some { 1 ≤ length seats.items }
+    requires few { length seats.items ≤ 16 }
+    requires closes { MayClose form C.opens C.Reader.remaining C.Writer.contents C.closes }
+{
+    let feeds = two_feeds(alloc)?;
+    let Ok(ran) = run_shelves::<B, _, _, _, _, _, _>(
+        rt, alloc, clients, shelves, seats, loader, &feeds, gate, form, errors,
+    ) else {
+        return Err(AllocError);
+    };
+    Ok(Counts {
+        ended: ran.served.ended(),
+        failed: ran.served.failed(),
+        spent: ran.served.spent(),
+    })
+}
+
 /// Serves the visitors; how their sessions ended, and what was written to the errors.
 fn serve_all<R: Threads + Wait + Sync + Abort, G: Gate + Sync>(
     rt: &R,
@@ -281,7 +321,6 @@ fn serve_all<R: Threads + Wait + Sync + Abort, G: Gate + Sync>(
     form: PointForm,
 ) -> Result<(Counts, Vec<u8>), Fail> {
     let (shelves, loader, seats) = shelves_for(alloc, two)?;
-    let feeds = two_feeds(alloc)?;
     let told = Mutex::new(Vec::new(alloc));
     let row = Row {
         visitors,
@@ -292,16 +331,9 @@ fn serve_all<R: Threads + Wait + Sync + Abort, G: Gate + Sync>(
         bytes: &told,
         is_gone: false,
     };
-    let Ok(ran) = run_shelves::<Brand, _, _, _, _, _, _>(
-        rt, alloc, row, shelves, seats, loader, &feeds, gate, form, errors,
-    ) else {
-        return Err(AllocError.into());
-    };
-    let counts = Counts {
-        ended: ran.served.ended(),
-        failed: ran.served.failed(),
-        spent: ran.served.spent(),
-    };
+    let counts = count_ends::<Brand, _, _, _, _, _>(
+        rt, alloc, row, shelves, seats, loader, gate, form, errors,
+    )?;
     Ok((counts, told.into_inner()))
 }
 

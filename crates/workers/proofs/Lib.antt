@@ -2,3 +2,4 @@ pub mod Ending
 pub mod Carried
 pub mod Reading
 pub mod Shared
+pub mod Told

@@ -1,5 +1,5 @@
 -- What the reads of a feed's files show.
-use Rattle.std.proofs.Common.{◌≡◌, List, [], refl, sym, inl, inr}
+use Rattle.std.proofs.Common.{List, sym, inl, inr}
 use Rattle.std.proofs.lemmas.List.{append-nil}
 use Rattle.std.specs.Prelude.{None}
 use Rattle.feed_files.specs.Files.{FileRead}

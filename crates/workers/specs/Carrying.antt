@@ -1,5 +1,5 @@
 -- Orders that are carried out.
-use Rattle.std.specs.Prelude.{◌≡◌, ◌≤◌, ◌+◌, ◌⊎◌, ◌∷◌, ℕ, true, List, [], Option, Result}
+use Rattle.std.specs.Prelude.{◌≡◌, ◌≤◌, ◌+◌, ◌++◌, ◌∷◌, ℕ, true, List, [], Option, Some, None, Result}
 use Rattle.epochs.specs.declared.seats.LoaderAnswer.{LoaderAnswer}
 use Rattle.feed_files.specs.Files.{FileRead}
 use Rattle.feed_loader.specs.Faults.{failed_by, failed_in}
@@ -10,7 +10,9 @@ use Rattle.load_orders.specs.declared.queue.OrderMark.{OrderMark}
 use Rattle.load_orders.specs.declared.ways.LoadAnswer.{LoadAnswer}
 use Rattle.orders.specs.Ordering.{order_fault_number}
 use Rattle.orders.specs.declared.fault.OrderFault.{OrderFault}
+use Rattle.workers.specs.Drawing.{IsDrawnAt}
 use Rattle.workers.specs.Loading.{Holds, IsOutcome, load_answer, reading}
+use Rattle.workers.specs.declared.drawing.DrawnFiles.{DrawnFiles}
 use Rattle.workers.specs.declared.loading.Loaded.{Loaded}
 use Rattle.workers.specs.declared.refusal.LoadRefusal.{LoadRefusal}
 
@@ -23,29 +25,32 @@ FailedAsTold failures failed files files_then outcome =
 -- these plans
 module _ {N D : Type 0} (noted : N → ℕ) (are_files : ℕ → D → Type 0) (holds : D → Holds) (reads : D → List FileRead) (failures : D → ℕ)
     (failed : D → List (List ℕ)) (is_plan : Plan → Type 0) (places : ℕ) where
-  -- the files of the feed at this place are loaded, and the answer is what came of that; or there is no such feed
-  abbrev pub IsLoadOf : ℕ → LoadAnswer N → List LoaderAnswer → List LoaderAnswer → Type 0
-  IsLoadOf feed answer before after =
-      ((files : D) × (files_then : D) × (plan : Plan) × (outcome : Result (Loaded × Option N) LoadRefusal) × are_files feed files × is_plan plan
-      × IsOutcome noted (holds files) (reads files) (reads files_then) plan before outcome after × FailedAsTold failures failed files files_then outcome
-      × (answer ≡ load_answer outcome))
-      ⊎ ((places ≤ feed) × (after ≡ before) × (answer ≡ LoadAnswer.Refused (order_fault_number OrderFault.UnknownFeed)))
+  -- the files of the feed at this place, drawn when just these orders had been taken from this queue, are loaded, and the answer is what came of
+  -- that; or there is no such feed, and none are drawn
+  abbrev pub IsLoadOf : QueueId → List OrderMark → ℕ → Option (DrawnFiles D N) → LoadAnswer N → List LoaderAnswer → List LoaderAnswer → Type 0
+  IsLoadOf queue taken feed (Some drawn) answer before after =
+      (plan : Plan) × (outcome : Result (Loaded × Option N) LoadRefusal) × IsDrawnAt queue taken drawn × are_files feed drawn.first.value × is_plan plan
+      × IsOutcome noted (holds drawn.first.value) (reads drawn.first.value) (reads drawn.files) plan before outcome after
+      × FailedAsTold failures failed drawn.first.value drawn.files outcome × (answer ≡ load_answer outcome)
+  IsLoadOf queue taken feed None answer before after =
+      (places ≤ feed) × (after ≡ before) × (answer ≡ LoadAnswer.Refused (order_fault_number OrderFault.UnknownFeed))
 
-  -- an order is carried out: its own feed is loaded, and by its own way back it is told what came of that very load
-  abbrev pub IsCarriedOut : OrderMark → AnsweredValue N → List LoaderAnswer → List LoaderAnswer → Type 0
-  IsCarriedOut order answered before after = IsToldBack order.way answered.answer answered.told × IsLoadOf order.feed answered.answer before after
+  -- the last of these orders is carried out: its own feed is loaded, of files that are drawn for it, and by its own way back it is told what came
+  -- of that very load
+  abbrev pub IsCarriedOut : QueueId → List OrderMark → OrderMark → Option (DrawnFiles D N) → AnsweredValue N
+      → List LoaderAnswer → List LoaderAnswer → Type 0
+  IsCarriedOut queue taken order files answered before after =
+      IsToldBack order.way answered.answer answered.told × IsLoadOf queue taken order.feed files answered.answer before after
 
-  -- orders are carried out in turn, each once
-  abbrev pub AreCarriedOut : List OrderMark → List (AnsweredValue N) → List LoaderAnswer → List LoaderAnswer → Type 0
-  AreCarriedOut [] [] before after = after ≡ before
-  AreCarriedOut (order ∷ orders) (answered ∷ rest) before after =
-      (between : List LoaderAnswer) × IsCarriedOut order answered before between × AreCarriedOut orders rest between after
-  AreCarriedOut _ _ before after = ⊥
+  -- behind earlier ones of this queue orders are carried out in turn, each once, and each has files of its own
+  abbrev pub AreCarriedOut : QueueId → List OrderMark → List OrderMark → List (Option (DrawnFiles D N)) → List (AnsweredValue N)
+      → List LoaderAnswer → List LoaderAnswer → Type 0
+  AreCarriedOut queue earlier [] [] [] before after = after ≡ before
+  AreCarriedOut queue earlier (order ∷ orders) (files ∷ others) (answered ∷ rest) before after =
+      (between : List LoaderAnswer) × IsCarriedOut queue (earlier ++ order ∷ []) order files answered before between
+      × AreCarriedOut queue (earlier ++ order ∷ []) orders others rest between after
+  AreCarriedOut _ _ _ _ _ before after = ⊥
 
-  -- at this end of the queue orders were taken until none came, and all were carried out in turn, each once
-  abbrev pub AllCarriedOut : LoaderOrdersValue N → List LoaderAnswer → List LoaderAnswer → Type 0
-  AllCarriedOut end before after = (end.over ≡ true) × AreCarriedOut end.taken end.answered before after
-
-  -- what the loader's seat has answered comes of orders that were taken from this queue until none came, and carried out in turn, each once
-  abbrev pub ComeOfOrders : QueueId → List LoaderAnswer → List LoaderAnswer → Type 0
-  ComeOfOrders queue before after = (end : LoaderOrdersValue N) × (end.queue ≡ queue) × AllCarriedOut end before after
+  -- at this end of the queue orders were taken until none came, and all were carried out in turn, each once, of these files
+  abbrev pub AllCarriedOut : LoaderOrdersValue N → List (Option (DrawnFiles D N)) → List LoaderAnswer → List LoaderAnswer → Type 0
+  AllCarriedOut end used before after = (end.over ≡ true) × AreCarriedOut end.queue [] end.taken used end.answered before after

@@ -4,3 +4,4 @@ pub mod Dealing
 pub mod Loading
 pub mod Carrying
 pub mod Ordering
+pub mod Drawing

@@ -1,5 +1,5 @@
 -- What comes of an order to load a feed.
-use Rattle.std.specs.Prelude.{◌≡◌, ◌⊎◌, ℕ, List, Option, Some, None, Result, Ok, Err, IfSome}
+use Rattle.std.specs.Prelude.{◌≡◌, ◌⊎◌, ℕ, List, Option, Some, None, Result, Ok, Err, MatchOption}
 use Rattle.image_layout.specs.Image.{ImageValue}
 use Rattle.connections.specs.declared.report.Report.{Report}
 use Rattle.feed_files.specs.Files.{FileRead}
@@ -53,13 +53,13 @@ Holds = List ℕ → Option (Option (List ℕ))
 abbrev pub ShowsContent : Holds → List FileRead → List FileRead → Content → Type 0
 ShowsContent holds old new content = Tells holds content ⊎ ((ts : List Table) × AreRead content ts old new)
 
--- what comes of files: each was read once, the image of what they show is published as the version that is told, with its counts, and a notice is
--- of that version; or the first of them were read, nothing is published, and the first refusal is told
+-- what comes of files: each was read once, the image of what they show is published as the version that is told, with its counts, and a notice of
+-- that version comes; or the first of them were read, nothing is published, and the first refusal is told
 abbrev pub IsOutcome : {N : Type 0} → (N → ℕ) → Holds → List FileRead → List FileRead → Plan
     → List LoaderAnswer → Result (Loaded × Option N) LoadRefusal → List LoaderAnswer → Type 0
 IsOutcome noted holds old new plan before (Ok loaded) after =
     (image : ImageValue) × AllWereRead old new × ((content : Content) → ShowsContent holds old new content → IsImageOf content plan image loaded.0.report)
-    × IsPublished before image loaded.0.version after × IfSome loaded.1 (λ notice. noted notice ≡ loaded.0.version)
+    × IsPublished before image loaded.0.version after × MatchOption loaded.1 ⊥ (λ notice. noted notice ≡ loaded.0.version)
 IsOutcome noted holds old new plan before (Err refusal) after =
     SomeWereRead old new × ((content : Content) → ShowsContent holds old new content → MayRefuse content plan refusal)
     × IsNotPublished before refusal after

@@ -65,12 +65,22 @@ module _ {C R W : Type 0} (form : PointForm) (opens : C → Result (R × W) Conn
         (m : S) × (between : List OrderValue) × IsServedAt client session a asked m between × AreServed clients sessions m between b asked_then
     AreServed _ _ _ _ _ _ = ⊥
 
+    -- so they are, and each profile in their sessions is told over the image that this history published as the version that is told
+    abbrev pub AreTold : Known → List C → List (Session R W) → S → List OrderValue → S → List OrderValue → Type 0
+    AreTold learned [] [] a asked b asked_then = (b ≡ a) × (asked_then ≡ asked)
+    AreTold learned (client ∷ clients) (session ∷ sessions) a asked b asked_then =
+        (m : S) × (between : List OrderValue)
+        × IsServed (number a) client session.0 session.1 (value a) asked (value m) between × TellPublished learned (value a) (value m)
+        × AreTold learned clients sessions m between b asked_then
+    AreTold learned _ _ a asked b asked_then = ⊥
+
     -- over notices of these versions, and what the workers' orders go by
     module _ {N : Type 0} (noted : N → ℕ) (route : OrderRoute) where
-      -- a worker's share: these are these clients' sessions at its seat, all that was asked for in them was asked for by these orders, which go
-      -- this way, and the seat is so then
+      -- a worker's share: these are these clients' sessions at its seat, told over what the seat knows in the end to be published, all that was
+      -- asked for in them was asked for by these orders, which go this way, and the seat is so then
       abbrev pub IsShare : S → List C → WorkerOrdersValue N → List (Session R W) → S → Type 0
-      IsShare seat clients orders sessions last = AreServed clients sessions seat [] last orders.asked × IsAskedBy noted route orders
+      IsShare seat clients orders sessions last = AreServed clients sessions seat [] last orders.asked
+          × AreTold (known last) clients sessions seat [] last orders.asked × IsAskedBy noted route orders
 
       -- the sessions are the workers' shares, one behind the other: at each of the seats one hand of clients was served, with these orders, and it
       -- is so then
@@ -91,11 +101,6 @@ module _ {C R W : Type 0} (form : PointForm) (opens : C → Result (R × W) Conn
       abbrev pub AreServedSince : List C → List C → List S → List (WorkerOrdersValue N) → List (Session R W) → List S → Type 0
       AreServedSince before after seats orders sessions lasts =
           (clients : List C) × (after ≡ before ++ clients) × AreAllServed clients seats orders sessions lasts
-
-      -- by some orders
-      abbrev pub AreServedBySome : List C → List C → List S → List (Session R W) → List S → Type 0
-      AreServedBySome before after seats sessions lasts =
-          (orders : List (WorkerOrdersValue N)) × AreServedSince before after seats orders sessions lasts
 
 -- so many workers are out, none is back, and the queue was closed for each
 pub record IsReadyToJoin {C : Type 0} (dealer : DealerView C) (workers : ℕ) : Type 0 where

@@ -6,9 +6,11 @@ ghost use Rattle.load_orders.specs.Queue.{mark_of};
 ghost use Rattle.load_orders.specs.Telling.{AnsweredValue};
 ghost use Rattle.workers.specs.Carrying.{AllCarriedOut, FailedAsTold, IsCarriedOut, IsLoadOf};
 ghost use Rattle.workers.specs.Loading.{IsOutcome, load_answer};
+ghost use Rattle.workers.specs.declared.drawing.DrawnFiles.{DrawnFiles};
 
+use crate::drawing::{DrawnFiles, UsedFiles};
 use crate::feeds::Feeds;
-use crate::loading::{Loaded, load_one};
+use crate::loading::Loaded;
 use crate::refusal::LoadRefusal;
 use epochs::{Loads, Versions};
 use feed_loader::LoadFault;
@@ -31,100 +33,119 @@ pub(crate) struct Loading<'a, R, T, F> {
 impl<'a, R: Wait, N: Drop, T: Versions<Notice = N> + Loads, F: Feeds> Loading<'a, R, T, F> {
     /// Carries out the orders that come to a new end of their queue, until no more come: the feed
     /// of each is loaded once, in turn, and by its own way back it is told what came of that. The
-    /// orders' end and the loader's seat come back.
+    /// orders' end, the loader's seat and the files that were used come back.
     pub(crate) fn load_all<E: Write>(
         &self,
         mut orders: LoaderOrders<N>,
         mut seat: T::Loader,
+        mut used: UsedFiles<F::Files, N>,
         mut errors: E,
-    ) -> (LoaderOrders<N>, T::Loader, E)
+    ) -> (LoaderOrders<N>, T::Loader, UsedFiles<F::Files, N>, E)
         requires loads { T.Loads.loads self.now.shelves.now seat }
-        requires none { (orders.taken ≡ []) × (orders.answered ≡ []) }
+        requires none { (orders.taken ≡ []) × (orders.answered ≡ []) × (used ≡ []) }
         ensures loads { T.Loads.loads self.now.shelves.now result.1 }
         ensures queue { result.0.queue ≡ orders.queue }
         ensures carried { AllCarriedOut T.Versions.noted (F.are_files self.now.feeds.now) F.Files.holds F.Files.reads
             F.Files.failures F.Files.failed
             (F.is_plan self.now.feeds.now) (length (F.named self.now.feeds.now))
-            result.0 (T.Loads.answers seat) (T.Loads.answers result.1) }
+            result.0 result.2 (T.Loads.answers seat) (T.Loads.answers result.1) }
     {
         for _ in self.rt.forever() {
             match orders.next(self.rt) {
-                Some(order) => self.load_feed(order, &mut orders, &mut seat, &mut errors),
-                None => return (orders, seat, errors),
+                Some(order) => {
+                    self.load_feed(order, &mut orders, &mut seat, &mut used, &mut errors)
+                }
+                None => return (orders, seat, used, errors),
             }
         }
         unreachable!()
     }
 
-    // Loads the feed that is ordered, and tells what came of it, also whoever waits for that.
+    // Loads the feed that is ordered, the last that was taken, and tells what came of it, also whoever waits for that.
     fn load_feed<E: Write>(
         &self,
         order: Order<N>,
         orders: &mut LoaderOrders<N>,
         seat: &mut T::Loader,
+        used: &mut UsedFiles<F::Files, N>,
         errors: &mut E,
     )
         requires { T.Loads.loads self.now.shelves.now seat.old }
         ensures loads { T.Loads.loads self.now.shelves.now seat.new }
         ensures queue { orders.new.queue ≡ orders.old.queue }
         ensures taken { orders.new.taken ≡ orders.old.taken }
-        ensures carried { (answer : AnsweredValue N) × (orders.new.answered ≡ orders.old.answered ++ answer ∷ [])
+        ensures carried { (answer : AnsweredValue N) × (files : Option (DrawnFiles F.Files N))
+            × (orders.new.answered ≡ orders.old.answered ++ answer ∷ []) × (used.new ≡ used.old ++ files ∷ [])
             × IsCarriedOut T.Versions.noted (F.are_files self.now.feeds.now) F.Files.holds F.Files.reads
             F.Files.failures F.Files.failed
             (F.is_plan self.now.feeds.now)
-            (length (F.named self.now.feeds.now)) (mark_of order) answer
+            (length (F.named self.now.feeds.now)) orders.old.queue orders.old.taken (mark_of order) files answer
             (T.Loads.answers seat.old) (T.Loads.answers seat.new) }
     {
-        let answer = self.load_place(order.feed, seat, errors);
+        let (answer, files) = self.load_place(order.feed, orders, seat, errors);
+        used.note(&files);
         orders.answer(self.rt, order, answer);
     }
 
-    // Loads the feed at the place: what came of it. Where there is none, it is refused as an unknown feed.
+    // Loads the feed at the place, of files that are drawn now: what came of it, and the files. Where there is none, it
+    // is refused as an unknown feed.
     fn load_place<E: Write>(
         &self,
         place: usize,
+        orders: &LoaderOrders<N>,
         seat: &mut T::Loader,
         errors: &mut E,
-    ) -> LoadAnswer<N>
+    ) -> (LoadAnswer<N>, Option<DrawnFiles<F::Files, N>>)
         requires { T.Loads.loads self.now.shelves.now seat.old }
         ensures loads { T.Loads.loads self.now.shelves.now seat.new }
         ensures load { IsLoadOf T.Versions.noted (F.are_files self.now.feeds.now) F.Files.holds F.Files.reads
             F.Files.failures F.Files.failed
             (F.is_plan self.now.feeds.now)
-            (length (F.named self.now.feeds.now)) place result (T.Loads.answers seat.old) (T.Loads.answers seat.new) }
+            (length (F.named self.now.feeds.now)) orders.now.queue orders.now.taken place result.1 result.0
+            (T.Loads.answers seat.old) (T.Loads.answers seat.new) }
     {
-        match (self.feeds.names().get(place), self.feeds.files(place)) {
-            (Some(name), Some(files)) => {
+        let names = self.feeds.names();
+        match (
+            names.get(place),
+            DrawnFiles::draw(self.feeds, place, orders),
+        ) {
+            (Some(name), Some(mut files)) => {
                 let begun = self.feeds.begin(place);
-                let outcome = self.load_planned(files, seat);
+                let outcome = self.load_planned(&mut files, seat);
                 let loaded = loaded_or_refusal(&outcome);
                 // The loader goes on where its line can't be written.
                 let _ = tell(errors, name.as_str(), loaded);
                 self.feeds.finish(errors, place, begun, loaded);
-                answer_of(outcome)
+                (answer_of(outcome), Some(files))
             }
-            _ => LoadAnswer::Refused {
-                refusal: OrderFault::UnknownFeed.number(),
-            },
+            _ => (
+                LoadAnswer::Refused {
+                    refusal: OrderFault::UnknownFeed.number(),
+                },
+                None,
+            ),
         }
     }
 
     // Loads these files by a plan that is made for this load; what came of it.
     fn load_planned(
         &self,
-        mut files: F::Files,
+        files: &mut DrawnFiles<F::Files, N>,
         seat: &mut T::Loader,
     ) -> Result<(Loaded, Option<N>), LoadRefusal>
         requires loads { T.Loads.loads self.now.shelves.now seat.old }
-        requires failures { F.Files.failures files ≡ 0 }
+        requires new { files.old.files ≡ files.old.first.value }
+        requires failures { F.Files.failures files.old.files ≡ 0 }
         ensures loads { T.Loads.loads self.now.shelves.now seat.new }
-        ensures outcome { (files_then : F.Files) × (plan : Plan) × F.is_plan self.now.feeds.now plan
-            × IsOutcome T.Versions.noted (F.Files.holds files) (F.Files.reads files) (F.Files.reads files_then) plan
-            (T.Loads.answers seat.old) result (T.Loads.answers seat.new)
-            × FailedAsTold F.Files.failures F.Files.failed files files_then result }
+        ensures first { files.new.first ≡ files.old.first }
+        ensures end { files.new.end ≡ files.old.end }
+        ensures outcome { (plan : Plan) × F.is_plan self.now.feeds.now plan
+            × IsOutcome T.Versions.noted (F.Files.holds files.new.first.value) (F.Files.reads files.new.first.value)
+            (F.Files.reads files.new.files) plan (T.Loads.answers seat.old) result (T.Loads.answers seat.new)
+            × FailedAsTold F.Files.failures F.Files.failed files.new.first.value files.new.files result }
     {
         match self.feeds.plan(self.alloc) {
-            Ok(plan) => load_one(self.alloc, &mut files, &plan, self.shelves, seat),
+            Ok(plan) => files.load(self.alloc, &plan, self.shelves, seat),
             Err(AllocError) => Err(LoadRefusal::Load(LoadFault::Day(DayFault::OutOfMemory))),
         }
     }

@@ -4,6 +4,7 @@
 mod carrying;
 mod clients;
 mod dealing;
+mod drawing;
 mod feeds;
 mod loading;
 mod naming;
@@ -14,10 +15,11 @@ mod serving;
 mod shares;
 
 pub use clients::{Client, Clients, ConnFault};
+pub use drawing::{DrawnFiles, UsedFiles};
 pub use feeds::Feeds;
 pub use load_orders::LoaderOrders;
 pub use loading::{Loaded, load_one};
-pub use naming::{ShelvesRan, run_shelves};
+pub use naming::run_shelves;
 pub use refusal::LoadRefusal;
 pub use running::{Ran, WorkersFault, run_workers};
 pub use served::{End, Served};

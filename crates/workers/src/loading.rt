@@ -1,6 +1,6 @@
 //! A feed is loaded and published.
 
-ghost use Rattle.std.specs.Prelude.{◌≡◌, ◌<◌, ◌≤◌, ◌+◌, ◌-◌, ◌^◌, IfOk, IfErr, IfSome, MatchResult, OnOk};
+ghost use Rattle.std.specs.Prelude.{◌≡◌, ◌<◌, ◌≤◌, ◌+◌, ◌-◌, ◌^◌, IfOk, IfErr, MatchOption, MatchResult, OnOk};
 ghost use Rattle.std.specs.Arc.{arc_value};
 ghost use Rattle.connections.specs.declared.days.TheConstants.{MAX_DAYS};
 ghost use Rattle.feed_files.specs.Reading.{Content};
@@ -24,8 +24,8 @@ pub struct Loaded {
     pub report: Report,
 }
 
-/// Loads a feed and publishes its image as the next version, which is told with a notice of it,
-/// where there was memory for one; then shelves that nobody needs are freed.
+/// Loads a feed and publishes its image as the next version, which is told with a notice of it; then
+/// shelves that nobody needs are freed.
 pub fn load_one<F: FeedFiles, N, T: Versions<Notice = N> + Loads>(
     alloc: Global,
     files: &mut F,
@@ -94,7 +94,7 @@ fn publish_image<N, T: Versions<Notice = N> + Loads>(
     ensures published { MatchResult result
         (λ loaded. IsPublished (T.Loads.answers loader.old) (arc_value image) loaded.0 (T.Loads.answers loader.new))
         (λ fault. RefuseStep (T.Loads.answers loader.old) fault (T.Loads.answers loader.new)) }
-    ensures notice { IfOk result (λ loaded. IfSome loaded.1 (λ notice. T.Versions.noted notice ≡ loaded.0)) }
+    ensures notice { IfOk result (λ loaded. MatchOption loaded.1 ⊥ (λ notice. T.Versions.noted notice ≡ loaded.0)) }
 {
     match shelves.publish(loader, image) {
         Ok(loaded) => {

@@ -3,16 +3,16 @@
 ghost use Rattle.std.specs.Prelude.{◌≡◌, ◌≤◌, [], All, length, IfOk};
 ghost use Rattle.epochs.specs.ShelfSeats.{NoticeValue};
 ghost use Rattle.shelf_steps.specs.Events.{known_of};
-ghost use Rattle.load_orders.specs.Queue.{QueueId};
-ghost use Rattle.workers.specs.Carrying.{ComeOfOrders};
+ghost use Rattle.workers.specs.Carrying.{AllCarriedOut};
 ghost use Rattle.workers.specs.Ordering.{route_to};
-ghost use Rattle.workers.specs.Sessions.{AreServedBySome, MayClose};
+ghost use Rattle.workers.specs.Sessions.{AreServedSince, MayClose};
 
 use crate::clients::{Client, Clients};
 use crate::feeds::Feeds;
-use crate::running::{WorkersFault, run_workers};
-use crate::served::Served;
-use epochs::{Named, NamedLoader, NamedSeat, NamedShelves, ShelfLoader, ShelfSeat, Shelves};
+use crate::running::{Ran, WorkersFault, run_workers};
+use epochs::{
+    Named, NamedLoader, NamedNotice, NamedSeat, NamedShelves, ShelfLoader, ShelfSeat, Shelves,
+};
 use orders::Gate;
 use session::PointForm;
 use std::alloc::{AllocError, Global};
@@ -20,20 +20,7 @@ use std::io::Write;
 use std::sync::Wait;
 use std::thread::Threads;
 
-/// What is left once all clients of shelves were served.
-#[derive(Drop)]
-pub struct ShelvesRan<C: Client, K> {
-    /// The sessions, seat after seat.
-    pub served: Served<C::Reader, C::Writer>,
-    /// The clients' source.
-    pub clients: K,
-    /// The workers' seats, in their order.
-    pub seats: Vec<ShelfSeat>,
-    /// The loader's seat.
-    pub loader: ShelfLoader,
-}
-
-/// `run_workers` at these shelves: their notices are of them by their type.
+/// `run_workers` at these shelves: their notices are of them by their type. The seats come back without the name.
 pub fn run_shelves<
     B: Named + Send + Sync,
     C: Client + Drop + Send,
@@ -53,7 +40,7 @@ pub fn run_shelves<
     gate: &G,
     form: PointForm,
     errors: E,
-) -> Result<ShelvesRan<C, K>, WorkersFault>
+) -> Result<Ran<C, K, ShelfSeat, ShelfLoader, NamedNotice<B>, F::Files>, WorkersFault>
     requires shelves { shelves ≡ B.table }
     requires seats { All (λ seat. seat.table ≡ B.table) seats.items }
     requires loader { loader.table ≡ B.table }
@@ -63,15 +50,14 @@ pub fn run_shelves<
     ensures none_left { IfOk result (λ ran. K.none_left ran.clients) }
     ensures seats { IfOk result (λ ran. All (λ seat. seat.table ≡ shelves) ran.seats.items) }
     ensures loader { IfOk result (λ ran. ran.loader.table ≡ shelves) }
-    ensures served { IfOk result (λ ran. (queue : QueueId)
-        × AreServedBySome form C.opens C.Reader.remaining C.Writer.contents
+    ensures shares { IfOk result (λ ran. AreServedSince form C.opens C.Reader.remaining C.Writer.contents
         (λ seat. seat.number) (λ seat. seat.shown) (λ seat. known_of seat.view)
-        (λ (notice : NoticeValue). notice.version) (route_to (F.named feeds.now) queue)
-        (K.came clients) (K.came ran.clients) seats.items ran.served ran.seats.items
-        × ComeOfOrders (λ (notice : NoticeValue). notice.version)
+        (λ (notice : NoticeValue). notice.version) (route_to (F.named feeds.now) ran.orders.queue)
+        (K.came clients) (K.came ran.clients) seats.items ran.asked ran.served ran.seats.items) }
+    ensures loads { IfOk result (λ ran. AllCarriedOut (λ (notice : NoticeValue). notice.version)
         (F.are_files feeds.now) F.Files.holds F.Files.reads
         F.Files.failures F.Files.failed (F.is_plan feeds.now) (length (F.named feeds.now))
-        queue loader.answers ran.loader.answers) }
+        ran.orders ran.used loader.answers ran.loader.answers) }
 {
     let room = Vec::with_capacity(alloc, seats.len())?;
     let seats = named_seats::<B>(alloc, seats)?;
@@ -80,11 +66,14 @@ pub fn run_shelves<
     let ran = run_workers(
         rt, alloc, clients, &shelves, seats, loader, feeds, gate, form, errors,
     )?;
-    Ok(ShelvesRan {
+    Ok(Ran {
         served: ran.served,
         clients: ran.clients,
         seats: unnamed_seats(ran.seats, room)?,
+        orders: ran.orders,
         loader: ran.loader.into_inner(),
+        asked: ran.asked,
+        used: ran.used,
     })
 }
 

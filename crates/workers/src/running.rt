@@ -8,6 +8,7 @@ ghost use Rattle.workers.specs.Sessions.{AreServedSince, IsShare, MayClose};
 
 use crate::carrying::Loading;
 use crate::clients::{Client, Clients};
+use crate::drawing::UsedFiles;
 use crate::feeds::Feeds;
 use crate::served::Served;
 use crate::serving::Worker;
@@ -37,7 +38,7 @@ impl From<AllocError> for WorkersFault {
 
 /// What is left once all clients were served.
 #[derive(Drop)]
-pub struct Ran<C: Client, K, S, L, N: Drop> {
+pub struct Ran<C: Client, K, S, L, N: Drop, D> {
     /// The sessions, seat after seat.
     pub served: Served<C::Reader, C::Writer>,
     /// The clients' source.
@@ -50,6 +51,8 @@ pub struct Ran<C: Client, K, S, L, N: Drop> {
     pub loader: L,
     /// The workers' orders, seat after seat: contracts alone see them.
     pub asked: Notes<UsedOrders<N>>,
+    /// The files that the loader used, order after order: contracts alone see them.
+    pub used: UsedFiles<D, N>,
 }
 
 /// Serves all clients, with a worker for each seat, and loads the feeds that they order. Profiles
@@ -75,7 +78,7 @@ pub fn run_workers<
     gate: &G,
     form: PointForm,
     errors: E,
-) -> Result<Ran<C, K, T::Seat, T::Loader, T::Notice>, WorkersFault>
+) -> Result<Ran<C, K, T::Seat, T::Loader, T::Notice, F::Files>, WorkersFault>
 where
     T::Seat: Send + Drop,
     T::Loader: Send + Drop,
@@ -94,12 +97,12 @@ where
         seats.items ran.asked ran.served ran.seats.items) }
     ensures loads { IfOk result (λ ran. AllCarriedOut T.Versions.noted (F.are_files feeds.now) F.Files.holds
         F.Files.reads F.Files.failures F.Files.failed (F.is_plan feeds.now) (length (F.named feeds.now)) ran.orders
-        (T.Loads.answers loader) (T.Loads.answers ran.loader)) }
+        ran.used (T.Loads.answers loader) (T.Loads.answers ran.loader)) }
 {
     thread::scope(
         thread::scope_env(),
         rt,
-        move |scope| -> Result<Ran<C, K, T::Seat, T::Loader, T::Notice>, WorkersFault>
+        move |scope| -> Result<Ran<C, K, T::Seat, T::Loader, T::Notice, F::Files>, WorkersFault>
             requires { IsSync R.row × IsSync T.row × IsSync F.row × IsSync G.row × IsSend T.Seat.row
                 × IsSend T.Loader.row
                 × IsSend T.Notice.row × IsSend C.row × IsSend C.Reader.row × IsSend C.Writer.row
@@ -118,7 +121,7 @@ where
             ensures loads { IfOk result (λ ran.
                 AllCarriedOut T.Versions.noted (F.are_files feeds.entry.now) F.Files.holds F.Files.reads
                 F.Files.failures F.Files.failed
-                (F.is_plan feeds.entry.now) (length (F.named feeds.entry.now)) ran.orders
+                (F.is_plan feeds.entry.now) (length (F.named feeds.entry.now)) ran.orders ran.used
                 (T.Loads.answers loader) (T.Loads.answers ran.loader)) }
         {
             let mut dealer = client_queue(alloc)?;
@@ -127,15 +130,22 @@ where
             let loader_seat = loader;
             let promise = LoadsAt::<T, F, T::Notice>::of(shelves, &loader_seat, feeds, &orders);
             let route = RouteTo::of(&asks, feeds);
+            // Made here, since what a thread returns has to be of types that it captures.
+            let unused = Notes::none();
             let started = scope.spawn_with(
                 promise,
-                move || -> (LoaderOrders<T::Notice>, T::Loader)
-                    requires { T.Loads.loads shelves.now loader_seat × (orders.taken ≡ []) × (orders.answered ≡ []) }
+                move || -> (
+                    LoaderOrders<T::Notice>,
+                    T::Loader,
+                    UsedFiles<F::Files, T::Notice>,
+                )
+                    requires { T.Loads.loads shelves.now loader_seat × (orders.taken ≡ []) × (orders.answered ≡ [])
+                        × (unused ≡ []) }
                     ensures { T.Loads.loads shelves.entry.now result.1 × (result.0.queue ≡ orders.queue)
                         × AllCarriedOut T.Versions.noted (F.are_files feeds.entry.now) F.Files.holds F.Files.reads
                         F.Files.failures F.Files.failed
                         (F.is_plan feeds.entry.now) (length (F.named feeds.entry.now))
-                        result.0 (T.Loads.answers loader_seat) (T.Loads.answers result.1) }
+                        result.0 result.2 (T.Loads.answers loader_seat) (T.Loads.answers result.1) }
                 {
                     let loading = Loading {
                         rt,
@@ -143,8 +153,13 @@ where
                         shelves,
                         feeds,
                     };
-                    let (orders, loader_seat, _) = loading.load_all(orders, loader_seat, errors);
-                    (orders, loader_seat)
+                    let (orders, loader_seat, used, _) = loading.load_all(
+                        orders,
+                        loader_seat,
+                        unused,
+                        errors,
+                    );
+                    (orders, loader_seat, used)
                 },
             );
             let Ok(loading) = started else {
@@ -154,7 +169,7 @@ where
             for seat in seats {
                 let taker = dealer.taker()?;
                 let end = asks.another()?;
-                // Made here, since what a thread returns has to be of types that it captures.
+                // Made here too.
                 let nobody_yet = Served::new();
                 let way = RouteTo::of(&end, feeds);
                 let begun = scope.spawn_with(
@@ -190,7 +205,7 @@ where
             let served = deal_and_join(rt, shelves, form, clients, dealer, workers, room, route);
             // No order is refused for want of a loader before all sessions have ended.
             drop(asks);
-            let (orders, loader) = loading.join(rt);
+            let (orders, loader, used) = loading.join(rt);
             match served {
                 Ok((clients, served, seats, asked)) => Ok(Ran {
                     served,
@@ -199,6 +214,7 @@ where
                     orders,
                     loader,
                     asked,
+                    used,
                 }),
                 Err(fault) => Err(fault),
             }

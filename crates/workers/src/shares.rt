@@ -7,11 +7,13 @@ ghost use Rattle.workers.specs.Sessions.{AreAllServed, AreServedSince, IsReadyTo
 
 use crate::clients::{Client, Clients};
 use crate::dealing::deal_all;
+use crate::drawing::UsedFiles;
 use crate::feeds::Feeds;
 use crate::running::WorkersFault;
 use crate::served::Served;
 use client_queue::{Dealer, Taker};
 use epochs::{Loads, Versions};
+use feed_loader::FeedFiles;
 use load_orders::{LoaderOrders, Notes, OrderEnd, UsedOrders};
 use session::PointForm;
 use std::snapshot::Snapshot;
@@ -129,17 +131,21 @@ impl<T: Loads, F, N: Drop> LoadsAt<T, F, N> {
     }
 }
 
-impl<L, N: Drop, T: Versions<Notice = N> + Loads<Loader = L>, F: Feeds> Promise<
-    (LoaderOrders<N>, L),
-> for LoadsAt<T, F, N> {
+impl<
+    L,
+    N: Drop,
+    D: FeedFiles,
+    T: Versions<Notice = N> + Loads<Loader = L>,
+    F: Feeds<Files = D>,
+> Promise<(LoaderOrders<N>, L, UsedFiles<D, N>)> for LoadsAt<T, F, N> {
     ghost use Rattle.std.specs.Prelude.{◌≡◌, length};
     ghost use Rattle.workers.specs.Carrying.{AllCarriedOut};
 
     ghost kept_by = { λ promise done. T.Loads.loads promise.shelves.value done.1
         × (done.0.queue ≡ promise.orders.value.queue)
-        × AllCarriedOut T.Versions.noted (F.are_files promise.feeds.value) F.Files.holds F.Files.reads
-        F.Files.failures F.Files.failed
-        (F.is_plan promise.feeds.value) (length (F.named promise.feeds.value)) done.0
+        × AllCarriedOut T.Versions.noted (F.are_files promise.feeds.value) D.holds D.reads
+        D.failures D.failed
+        (F.is_plan promise.feeds.value) (length (F.named promise.feeds.value)) done.0 done.2
         (T.Loads.answers promise.seat.value) (T.Loads.answers done.1) };
 }
 

@@ -3,7 +3,7 @@
 
 ghost use Rattle.std.specs.Prelude.{◌≡◌, All, IfOk};
 
-use super::{Counts, Manner, Row, Shared, Visitor, two_feeds, visitor_of};
+use super::{Counts, Manner, Row, Shared, Visitor, count_ends, visitor_of};
 use epochs::{ShelfLoader, ShelfSeat, Shelves};
 use image_layout::sample_words;
 use image_verifier::{Verified, verify};
@@ -15,7 +15,7 @@ use std::process::Abort;
 use std::sync::{Arc, Mutex, Wait};
 use std::test::Fail;
 use std::thread::Threads;
-use workers::{PointForm, run_shelves};
+use workers::PointForm;
 
 /// Shelves, the loader's seat and the workers' seats.
 #[derive(Drop)]
@@ -97,7 +97,6 @@ fn serve_at<R: Threads + Wait + Sync + Abort>(
     requires { (loader.table ≡ shelves) × (seat.table ≡ shelves) }
 {
     let seats = vec![in alloc; seat]?;
-    let feeds = two_feeds(alloc)?;
     let told = Mutex::new(Vec::new(alloc));
     let row = Row {
         visitors,
@@ -108,25 +107,17 @@ fn serve_at<R: Threads + Wait + Sync + Abort>(
         bytes: &told,
         is_gone: false,
     };
-    let Ok(ran) = run_shelves::<Brand, _, _, _, _, _, _>(
+    let counts = count_ends::<Brand, _, _, _, _, _>(
         rt,
         alloc,
         row,
         shelves,
         seats,
         loader,
-        &feeds,
         &OpenGate,
         PointForm::Bare,
         errors,
-    ) else {
-        return Err(AllocError.into());
-    };
-    let counts = Counts {
-        ended: ran.served.ended(),
-        failed: ran.served.failed(),
-        spent: ran.served.spent(),
-    };
+    )?;
     Ok((counts, told.into_inner()))
 }
 

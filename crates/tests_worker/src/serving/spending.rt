@@ -1,9 +1,9 @@
 //! A client that sends one request more than a session may have.
 
-use super::{Counts, Row, shelves_for, two_feeds};
+use super::{Counts, Row, count_ends, shelves_for};
 use load_orders::Notes;
 use orders::OpenGate;
-use std::alloc::{AllocError, Global};
+use std::alloc::Global;
 use std::io;
 use std::io::{Read, Write};
 use std::marker::Brand;
@@ -69,30 +69,22 @@ fn serve_senders<R: Threads + Wait + Sync + Abort>(
     visitors: Vec<Sender>,
 ) -> Result<Counts, Fail> {
     let (shelves, loader, seats) = shelves_for(alloc, false)?;
-    let feeds = two_feeds(alloc)?;
     let row = Row {
         visitors,
         came: Notes::none(),
     };
-    let Ok(ran) = run_shelves::<Brand, _, _, _, _, _, _>(
+    let counts = count_ends::<Brand, _, _, _, _, _>(
         rt,
         alloc,
         row,
         shelves,
         seats,
         loader,
-        &feeds,
         &OpenGate,
         PointForm::Bare,
         Sink,
-    ) else {
-        return Err(AllocError.into());
-    };
-    Ok(Counts {
-        ended: ran.served.ended(),
-        failed: ran.served.failed(),
-        spent: ran.served.spent(),
-    })
+    )?;
+    Ok(counts)
 }
 
 /// A million lines are answered, and one more is too many: the session counts as spent, and the next client is served.

@@ -1,4 +1,4 @@
-use Rattle.std.proofs.Common.{◌≡◌, ◌∷◌, ◌∙◌, All, ap, arith, length, suc, subst}
+use Rattle.std.proofs.Common.{◌≡◌, ◌∷◌, All, ap, arith, length, suc, subst}
 use Rattle.workers.proofs.Shared.{moved_next}
 use Rattle.workers.proofs.naming.named_seats.Goals as goal
 

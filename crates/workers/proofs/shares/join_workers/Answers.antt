@@ -1,4 +1,4 @@
-use Rattle.std.proofs.Common.{rules, ◌≡◌, ◌∙◌, ◌+◌, ◌-◌, All, true, suc, sym, subst, refl, map, ap, arith, length}
+use Rattle.std.proofs.Common.{rules, ◌≡◌, ◌∙◌, All, true, suc, sym, subst, refl, map, ap, arith, length}
 use Rattle.std.proofs.lemmas.List.Elements.{All-nil, All-push}
 use Rattle.std.specs.Prelude.{IsPermutation}
 use Rattle.client_queue.specs.Ends.{times}

@@ -1,4 +1,4 @@
-use Rattle.std.proofs.Common.{◌≡◌, length}
+use Rattle.std.proofs.Common.{◌≡◌, [], length}
 use Rattle.workers.specs.Carrying.{AreCarriedOut}
 use Rattle.workers.proofs.carrying.Loading.load_all.Given as goal
 
@@ -11,5 +11,6 @@ invariant-loop g l = record {
   carried : AreCarriedOut g.T.Versions.noted (g.F.Feeds.are_files l.self.feeds.now) g.F.Files.FeedFiles.holds g.F.Files.FeedFiles.reads
       g.F.Files.FeedFiles.failures g.F.Files.FeedFiles.failed
       (g.F.Feeds.is_plan l.self.feeds.now)
-      (length (g.F.Feeds.named l.self.feeds.now)) l.orders.taken l.orders.answered (g.T.Loads.answers l.fn.seat) (g.T.Loads.answers l.seat);
+      (length (g.F.Feeds.named l.self.feeds.now)) l.fn.orders.queue [] l.orders.taken l.used l.orders.answered
+      (g.T.Loads.answers l.fn.seat) (g.T.Loads.answers l.seat);
 }

@@ -1,14 +1,15 @@
-use Rattle.std.proofs.Common.{refl, arith}
+use Rattle.std.proofs.Common.{ap, refl, arith, sym, subst}
+use Rattle.feed_files.specs.Reads.{SomeWereRead}
 use Rattle.workers.proofs.Reading.{none_read}
 use Rattle.workers.proofs.carrying.Loading.load_planned.Goals as goal
 
-pub returns-in-Ok-clause-outcome : goal.returns-in-Ok-clause-outcome
-returns-in-Ok-clause-outcome g c =
-    let one = c.load_one.ensures in
-    (c.load_one.new.files, c.in-Ok.plan, c.in-Ok.ensures.plan, one.outcome, (one.failures, one.failed))
-
 -- without a plan nothing is read
-pub returns-clause-outcome : goal.returns-clause-outcome
-returns-clause-outcome g c =
+pub returns-in-Err-clause-outcome : goal.returns-in-Err-clause-outcome
+returns-in-Err-clause-outcome g c =
     let possible = c.in-Err.ensures.possible in
-    (c.args.files, possible.0, possible.1, (none_read _, λ content shows not. absurd (not refl), refl), (omega arith, refl))
+    let first = c.args.files.now.first.value in
+    let reads = g.F.Files.FeedFiles.reads in
+    let unread = subst (λ now. SomeWereRead (reads first) (reads now)) (sym c.requires.new) (none_read (reads first)) in
+    let failures = ap g.F.Files.FeedFiles.failures c.requires.new in
+    let failed = ap g.F.Files.FeedFiles.failed c.requires.new in
+    (possible.0, possible.1, (unread, λ content shows not. absurd (not refl), refl), (omega (arith, failures), failed))

@@ -1,6 +1,8 @@
-use Rattle.std.proofs.Common.{refl, ◌∙◌}
+use Rattle.std.proofs.Common.{refl, sym, subst, ◌∙◌}
 use Rattle.session.proofs.LearnLemmas.{learns_on, learns_same}
+use Rattle.workers.specs.Sessions.{AreServed}
 use Rattle.workers.proofs.Ending.{may_close, serves_next, serves_none}
+use Rattle.workers.proofs.Told.{told}
 use Rattle.workers.proofs.serving.Worker.work.Goals as goal
 
 pub loop-init : goal.loop-init
@@ -45,3 +47,14 @@ close-requires-clause-closes g c =
     λ lifetimes outlive. may_close c.args.self.now.desk.form g.C.Client.opens g.C.Reader.Read.remaining g.C.Writer.Write.contents
     g.T.Versions.number g.T.Versions.value g.T.Versions.known g.C.Client.closes
     _ _ one.result.0 one.result.1 _ _ _ _ c.requires.closes one.ensures.session
+
+-- what was told while a client was served is told still
+pub returns-in-None-next-clause-told : goal.returns-in-None-next-clause-told
+returns-in-None-next-clause-told g c =
+    let was = c.loop.invariant in
+    let asked = g.O.Orders.asked in
+    let served = subst (λ clients. AreServed c.args.self.now.desk.form g.C.Client.opens g.C.Reader.Read.remaining g.C.Writer.Write.contents
+    g.T.Versions.number g.T.Versions.value g.T.Versions.known clients c.loop.served
+    c.args.seat (asked c.args.orders) c.loop.seat (asked c.loop.orders)) (sym c.in-None-next.ensures.taken) was.served in
+    told c.args.self.now.desk.form g.C.Client.opens g.C.Reader.Read.remaining g.C.Writer.Write.contents
+    g.T.Versions.number g.T.Versions.value g.T.Versions.known _ c.loop.served c.args.seat c.loop.seat (asked c.args.orders) (asked c.loop.orders) served

@@ -1,6 +1,5 @@
-use Rattle.std.proofs.Common.{rules, ◌≡◌, All, [], ◌∷◌, ◌∙◌, ◌+◌, suc, subst, arith, ap, length, refl, map}
+use Rattle.std.proofs.Common.{rules, ◌≡◌, All, [], ◌∷◌, ◌∙◌, suc, subst, arith, ap, length}
 use Rattle.std.proofs.lemmas.List.Elements.{All-nil, All-push}
-use Rattle.std.specs.Vec.Iter.{into_iter_items}
 use Rattle.client_queue.specs.Ends.{nothing_put}
 use Rattle.workers.proofs.Shared.{one_more_out, seated_none, seated_next, seated_all}
 use mathlib.Core.Path.{sym}
@@ -115,12 +114,12 @@ returns-in-Ok-served g c =
     let seat = ap (λ promise. promise.seat.value) promised ∙ c.of-promise.ensures.seat in
     let at_feeds = subst (λ feeds. AllCarriedOut g.T.Versions.noted (g.F.Feeds.are_files feeds) g.F.Files.FeedFiles.holds g.F.Files.FeedFiles.reads
     g.F.Files.FeedFiles.failures g.F.Files.FeedFiles.failed
-    (g.F.Feeds.is_plan feeds) (length (g.F.Feeds.named feeds)) done.0
+    (g.F.Feeds.is_plan feeds) (length (g.F.Feeds.named feeds)) done.0 done.2
     (g.T.Loads.answers c.in-Ok.loading.promise.seat.value) (g.T.Loads.answers done.1)) feeds c.join-orders.ensures.2 in
     let loader = subst (λ shelves. g.T.Loads.loads shelves done.1) (ap (λ promise. promise.shelves.value) promised ∙ c.of-promise.ensures.shelves)
     c.join-orders.ensures.0 in
     let loads = subst (λ seat. AllCarriedOut g.T.Versions.noted (g.F.Feeds.are_files c.captures.feeds.now)
     g.F.Files.FeedFiles.holds g.F.Files.FeedFiles.reads g.F.Files.FeedFiles.failures g.F.Files.FeedFiles.failed
-    (g.F.Feeds.is_plan c.captures.feeds.now) (length (g.F.Feeds.named c.captures.feeds.now)) done.0
+    (g.F.Feeds.is_plan c.captures.feeds.now) (length (g.F.Feeds.named c.captures.feeds.now)) done.0 done.2
     (g.T.Loads.answers seat) (g.T.Loads.answers done.1)) seat at_feeds in
     record { none_left = ran.ensures.none_left; seats = ran.ensures.fits; loader = loader; shares = shares; loads = loads }

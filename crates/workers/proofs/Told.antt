@@ -1,0 +1,50 @@
+-- What sessions told, by the history that their seat knows in the end.
+use Rattle.std.proofs.Common.{◌∷◌, ℕ, List, [], Option, Result, sym, subst, append-nil}
+use Rattle.epochs.specs.SeatHistory.{Grows}
+use Rattle.epochs.specs.Seats.{SeatValue}
+use Rattle.orders.specs.Ordering.{OrderValue}
+use Rattle.shelf_steps.specs.declared.views.Known.{Known}
+use Rattle.answer_replies.specs.declared.point_form.PointForm.{PointForm}
+use Rattle.session.specs.Learning.{Learns}
+use Rattle.session.proofs.LearnLemmas.{learning_tells, learns_on, learns_same}
+use Rattle.workers.specs.Ends.{Session}
+use Rattle.workers.specs.Sessions.{AreServed, AreTold}
+use Rattle.workers.specs.declared.clients.ConnFault.{ConnFault}
+
+-- a seat that is left alone while its shelves' history goes on
+learns_later : (k later : Known) (a : SeatValue) → Grows k later → Learns k a later a
+learns_later k later a grows = record { grows = grows; answers = []; answers_are = sym (append-nil a.answers); published = tt }
+
+module _ {C R W S : Type 0} (form : PointForm) (opens : C → Result (R × W) ConnFault → Type 0)
+    (remaining : R → Option (List ℕ)) (contents : W → Option (List ℕ)) (number : S → ℕ) (value : S → SeatValue) (known : S → Known) where
+  -- what a seat knows only grows
+  knows_more : (clients : List C) (sessions : List (Session R W)) (a b : S) (asked asked_then : List OrderValue)
+      → AreServed form opens remaining contents number value known clients sessions a asked b asked_then
+      → Learns (known a) (value a) (known b) (value b)
+  knows_more [] [] a b asked asked_then served =
+      subst (λ (s : S). Learns (known a) (value a) (known s) (value s)) (sym served.0) (learns_same (known a) (value a))
+  knows_more [] (session ∷ sessions) a b asked asked_then served = absurd served
+  knows_more (client ∷ clients) [] a b asked asked_then served = absurd served
+  knows_more (client ∷ clients) (session ∷ sessions) a b asked asked_then served =
+      let m = served.0 in
+      learns_on (known a) (value a) (known m) (value m) (known b) (value b) served.2.2
+      (knows_more clients sessions m b served.1 asked_then served.3)
+
+  -- each session told what was published in the history that the seat knew then, so also what was published in that which it knows in the end
+  pub told : (clients : List C) (sessions : List (Session R W)) (a b : S) (asked asked_then : List OrderValue)
+      → AreServed form opens remaining contents number value known clients sessions a asked b asked_then
+      → AreTold form opens remaining contents number value known (known b) clients sessions a asked b asked_then
+  told [] [] a b asked asked_then served = served
+  told [] (session ∷ sessions) a b asked asked_then served = absurd served
+  told (client ∷ clients) [] a b asked asked_then served = absurd served
+  told (client ∷ clients) (session ∷ sessions) a b asked asked_then served =
+      let m = served.0 in
+      let rest = knows_more clients sessions m b served.1 asked_then served.3 in
+      let learns = learns_on (known a) (value a) (known m) (value m) (known b) (value m) served.2.2
+      (learns_later (known m) (known b) (value m) rest.grows) in (
+        m,
+        served.1,
+        served.2.0,
+        learning_tells (known a) (known b) (value a) (value m) learns,
+        told clients sessions m b served.1 asked_then served.3,
+      )

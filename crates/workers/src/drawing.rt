@@ -1,0 +1,75 @@
+//! A feed's files are drawn for an order, and used for that one alone.
+
+ghost use Rattle.std.specs.Prelude.{◌≡◌, ◌<◌, ◌≤◌, ◌-◌, ◌^◌, length, MatchOption};
+ghost use Rattle.connections.specs.declared.days.TheConstants.{MAX_DAYS};
+ghost use Rattle.workers.specs.Carrying.{FailedAsTold};
+ghost use Rattle.workers.specs.Drawing.{IsDrawnAt};
+ghost use Rattle.workers.specs.Loading.{IsOutcome};
+
+use crate::feeds::Feeds;
+use crate::loading::{Loaded, load_one};
+use crate::refusal::LoadRefusal;
+use epochs::{Loads, Versions};
+use feed_loader::{FeedFiles, Plan};
+use load_orders::{LoaderOrders, Notes};
+use std::alloc::Global;
+use std::snapshot::Snapshot;
+
+/// The files of a feed, drawn for the order that the loader took last. Contracts see them as they were then, and the
+/// loader's end of the queue as it was then: so what was read for one order can't stand for what is read for another.
+#[derive(Drop)]
+pub struct DrawnFiles<D, N: Drop> {
+    files: D,
+    first: Snapshot<D>,
+    end: Snapshot<LoaderOrders<N>>,
+}
+
+/// Of each order that was carried out its files, as they are then, or none if its place has no feed. Contracts alone
+/// see them.
+pub type UsedFiles<D, N> = Notes<Option<DrawnFiles<D, N>>>;
+
+impl<D: FeedFiles, N: Drop> DrawnFiles<D, N> {
+    /// The files of the feed at the place, drawn now that this end of the queue is so. None only where there is no such
+    /// place.
+    pub(crate) fn draw<F: Feeds<Files = D>>(
+        feeds: &F,
+        place: usize,
+        orders: &LoaderOrders<N>,
+    ) -> Option<DrawnFiles<D, N>>
+        ensures { MatchOption result (length (F.named feeds.now) ≤ place) (λ drawn. (drawn.files ≡ drawn.first.value)
+            × (D.failures drawn.files ≡ 0) × F.are_files feeds.now place drawn.first.value
+            × IsDrawnAt orders.now.queue orders.now.taken drawn) }
+    {
+        match feeds.files(place) {
+            Some(files) => Some(DrawnFiles {
+                first: Snapshot::of(&files),
+                files,
+                end: Snapshot::of(orders),
+            }),
+            None => None,
+        }
+    }
+
+    /// Loads them, and publishes their image as the next version, as `load_one` does.
+    pub(crate) fn load<T: Versions<Notice = N> + Loads>(
+        &mut self,
+        alloc: Global,
+        plan: &Plan,
+        shelves: &T,
+        loader: &mut T::Loader,
+    ) -> Result<(Loaded, Option<N>), LoadRefusal>
+        requires loads { T.Loads.loads shelves.now loader.old }
+        requires new { self.old.files ≡ self.old.first.value }
+        requires failures { D.failures self.old.files < 2 ^ 64 - 1 }
+        requires some { 1 ≤ plan.now.days }
+        requires few { plan.now.days ≤ MAX_DAYS }
+        ensures loads { T.Loads.loads shelves.now loader.new }
+        ensures first { self.new.first ≡ self.old.first }
+        ensures end { self.new.end ≡ self.old.end }
+        ensures outcome { IsOutcome T.Versions.noted (D.holds self.new.first.value) (D.reads self.new.first.value)
+            (D.reads self.new.files) plan.now (T.Loads.answers loader.old) result (T.Loads.answers loader.new) }
+        ensures told { FailedAsTold D.failures D.failed self.new.first.value self.new.files result }
+    {
+        load_one(alloc, &mut self.files, plan, shelves, loader)
+    }
+}
