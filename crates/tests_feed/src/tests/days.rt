@@ -62,19 +62,14 @@ impl Telling for Starts {
     fn told<R: Abort>(&self, _rt: &R, alloc: Global, case: Case<'_>) -> Result<String, Fail> {
         let zone = zone_of(alloc, case.head)?;
         let mut told = String::new(alloc);
-        add_starts(&mut told, &zone, case.wanted)?;
+        for line in case.wanted.split("\n> ") {
+            let (text, _) = line.split_once(' ').unwrap_or((line, ""));
+            let start = day_start(&zone, day(text)?)?;
+            add_line(&mut told)?;
+            write!(told, "{text} {start}")?;
+        }
         Ok(told)
     }
-}
-
-fn add_starts(told: &mut String, zone: &Zone, lines: &str) -> Result<(), Fail> {
-    for line in lines.split("\n> ") {
-        let (text, _) = line.split_once(' ').unwrap_or((line, ""));
-        let start = day_start(zone, day(text)?)?;
-        add_line(told)?;
-        write!(told, "{text} {start}")?;
-    }
-    Ok(())
 }
 
 #[test]
@@ -129,9 +124,9 @@ fn days_in_a_row(rt: HostRuntime) {
 
 #[test]
 fn numbers(rt: HostRuntime) {
-    assert!(rt; DayFault::BadZone.number() == 21);
-    assert!(rt; DayFault::DayOutOfRange.number() == 22);
-    assert!(rt; DayFault::OutOfMemory.number() == 23);
+    assert_eq!(rt; DayFault::BadZone.number(), 21);
+    assert_eq!(rt; DayFault::DayOutOfRange.number(), 22);
+    assert_eq!(rt; DayFault::OutOfMemory.number(), 23);
 }
 
 // Services by their weeks, and by days that are added and removed; and on which days they run. 2024-01-15 is a Monday.
@@ -224,30 +219,15 @@ fn services_of(alloc: Global, lines: &str) -> Result<Services, Fail> {
     Ok(Services::new(alloc, IdHash::of_key(1), &rows, &dates)?)
 }
 
-// Adds whether a service runs on each of some days, each behind a space.
-fn add_answers(
-    told: &mut String,
-    services: &Services,
-    service: &str,
-    days: &str,
-) -> Result<(), Fail> {
+// Whether a service runs on each of some days.
+fn answers(alloc: Global, services: &Services, service: &str, days: &str) -> Result<String, Fail> {
+    let mut told = String::new(alloc);
     for text in days.split(' ') {
+        let space = if told.is_empty() { "" } else { " " };
         let runs = active(services, service, day(text)?);
-        write!(told, " {runs}")?;
+        write!(told, "{space}{runs}")?;
     }
-    Ok(())
-}
-
-// Adds the services and the days of lines, with what is told of them.
-fn add_runs(told: &mut String, services: &Services, lines: &str) -> Result<(), Fail> {
-    for line in lines.split("\n> ") {
-        let (asked, _) = line.split_once(": ").unwrap_or((line, ""));
-        let (service, days) = asked.split_once(' ').unwrap_or((asked, ""));
-        add_line(told)?;
-        write!(told, "{asked}:")?;
-        add_answers(told, services, service, days)?;
-    }
-    Ok(())
+    Ok(told)
 }
 
 // The service and the days of each line, and whether it runs on them.
@@ -257,7 +237,13 @@ impl Telling for Runs {
     fn told<R: Abort>(&self, _rt: &R, alloc: Global, case: Case<'_>) -> Result<String, Fail> {
         let services = services_of(alloc, case.given)?;
         let mut told = String::new(alloc);
-        add_runs(&mut told, &services, case.wanted)?;
+        for line in case.wanted.split("\n> ") {
+            let (asked, _) = line.split_once(": ").unwrap_or((line, ""));
+            let (service, days) = asked.split_once(' ').unwrap_or((asked, ""));
+            let runs = answers(alloc, &services, service, days)?;
+            add_line(&mut told)?;
+            write!(told, "{asked}: {runs}")?;
+        }
         Ok(told)
     }
 }
@@ -294,9 +280,9 @@ S -20240112";
 // test with `AllocError`.
 #[test]
 fn refused_growth_of_services(rt: HostRuntime) -> Result<(), Fail> {
-    let (first, second) = (day("20240111")?, day("20240112")?);
     let services = services_of(rt.alloc(), ONE_DAY_OUT)?;
-    assert!(rt; active(&services, "S", first) && !active(&services, "S", second));
+    assert!(rt; active(&services, "S", day("20240111")?));
+    assert!(rt; !active(&services, "S", day("20240112")?));
     Ok(())
 }
 

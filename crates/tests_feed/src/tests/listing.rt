@@ -123,16 +123,12 @@ fn platforms(alloc: Global, count: u32) -> Result<String, Fail> {
     Ok(stops)
 }
 
-// A station of so many platforms with these transfers.
-fn station(alloc: Global, count: u32, transfers: &str) -> Result<Feed, Fail> {
+// How many footpaths a station of so many platforms lists with these transfers, if they may be as
+// many as the platforms.
+fn listed_at(alloc: Global, count: u32, transfers: &str) -> Result<Option<usize>, Fail> {
     let stops = platforms(alloc, count)?;
     let files = format!(in alloc; "transfers.txt: {transfers}\n{stops}")?;
-    Ok(joined(alloc, files.as_str(), BASE, true)?)
-}
-
-// How many footpaths it lists, if they may be as many as its platforms.
-fn listed_at(alloc: Global, count: u32, transfers: &str) -> Result<Option<usize>, Fail> {
-    let feed = station(alloc, count, transfers)?;
+    let feed = joined(alloc, files.as_str(), BASE, true)?;
     match listed_within(alloc, &feed, count as usize) {
         Ok(paths) => Ok(Some(paths.len())),
         Err(_) => Ok(None),

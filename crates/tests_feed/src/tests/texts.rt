@@ -194,17 +194,12 @@ pub(crate) fn file_of<'a>(alloc: Global, line: &'a str) -> Result<(&'a str, Stri
     Ok((file, lines_of(alloc, text)?))
 }
 
-/// Adds a file as [`file_of`] gives it: its name in a line, then its text, ended by a bar.
-fn add_file(alloc: Global, feed: &mut String, line: &str) -> Result<(), AllocError> {
-    let (file, text) = file_of(alloc, line)?;
-    write!(feed, "{file}\n{text}|")
-}
-
-/// The files of lines, as [`add_file`] adds them.
+/// The files of lines, each as [`file_of`] gives it: its name in a line, then its text, ended by a bar.
 pub(crate) fn feed_of(alloc: Global, changed: &str, base: &str) -> Result<String, AllocError> {
     let mut feed = String::new(alloc);
     for line in changed.split('\n').chain(base.split('\n')) {
-        add_file(alloc, &mut feed, line)?;
+        let (file, text) = file_of(alloc, line)?;
+        write!(feed, "{file}\n{text}|")?;
     }
     Ok(feed)
 }
