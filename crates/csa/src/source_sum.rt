@@ -2,4 +2,4 @@
 
 /// The sum of all sources but this file, as `release/sources --program` prints it. `release/stamp` writes it, and
 /// `.ci/run` compares it with the sources.
-pub const SOURCES: &str = "8d81d13de505b5b33f675be4d8a779e24074313c2426130c1c90826cf2f55454";
+pub const SOURCES: &str = "ec8f4fff38cc0e8496f3bc4232425a94b3c8f8cfba82eac7183584fe9f9cd9c0";
