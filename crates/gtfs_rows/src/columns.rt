@@ -1,20 +1,20 @@
-//! The columns of each table, and what its records have one beside another.
+//! The columns of each table, and which of them must differ, or agree, from record to record.
 
 ghost use Rattle.std.specs.Prelude.{◌≡◌, ◌≤◌, length, map};
 ghost use Rattle.gtfs_rows.specs.Tables.{columns_of, key_of, required_of};
 
 use crate::fault::Table;
 
-/// The columns whose texts say how the records of a table stand to one another.
+/// Which columns, by their indices, must differ between any two records of a table, or agree in all of them.
 #[derive(Clone, Copy)]
 pub enum Key {
-    // there are none
+    // records are free to repeat each other
     Nothing,
-    // no two records share the text
+    // no two records have the same text here
     Column(usize),
-    // no two records share the two texts, the one behind the other
+    // no two records have the same pair of texts here
     Columns(usize, usize),
-    // all records share the text
+    // all records have the same text here
     Shared(usize),
 }
 

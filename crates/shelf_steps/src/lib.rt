@@ -5,7 +5,7 @@
 //! for, its version, and how many workers are at it. For each shelf and worker there is a slot that
 //! has that worker's edition.
 //!
-//! The table's own type is closed to all others: steps are those of the module `laws`, and there is no other.
+//! No other crate reaches the table itself: whoever changes a word does so by a step of the module `laws`.
 #![tactic(auto)]
 
 mod blocks;
