@@ -1,12 +1,14 @@
 -- Rules that no criterion can have: each is close to right ones, and breaks a law.
-use Rattle.std.specs.Prelude.{◌==◌, ◌+◌, ◌&&◌, ℕ, if◌then◌else◌, nat_le, nat_lt}
+use Rattle.std.specs.Prelude.{◌==◌, ◌+◌, ◌&&◌, ℕ, if◌then◌else◌, min, nat_le, nat_lt}
 use Rattle.std.specs.Ordering.{nat_cmp}
 use Rattle.criteria.specs.Laws.{Rules}
 use Rattle.criteria.specs.declared.arrival_trips.TimeTrips.{TimeTrips}
 
--- riding makes two trips one: a discount for the third
+-- riding makes two trips one: a discount for the third; all other trips are counted as they should be
 abbrev pub discounted : Rules TimeTrips → Rules TimeTrips
-discounted rules = record rules { ride = λ v. record { time = v.time; trips = if v.trips == 2 then 1 else v.trips + 1 } }
+discounted rules = record rules {
+  ride = λ v. record { time = v.time; trips = if v.trips == 2 then 1 else min (v.trips + 1) 65535 };
+}
 
 -- only a better value is no worse
 abbrev pub strict : Rules TimeTrips → Rules TimeTrips
