@@ -10,7 +10,7 @@ discounted rules = record rules {
   ride = λ v. record { time = v.time; trips = if v.trips == 2 then 1 else min (v.trips + 1) 65535 };
 }
 
--- only a better value is no worse
+-- a value is no worse only if it arrives earlier
 abbrev pub strict : Rules TimeTrips → Rules TimeTrips
 strict rules = record rules { no_worse = λ v w. nat_lt v.time w.time && nat_le v.trips w.trips }
 

@@ -1,6 +1,6 @@
 //! Laws of the instances: what their values are, and that names tell criteria apart. The functions do nothing.
 //!
-//! Rules and code that slip together would show nowhere else.
+//! They catch a mistake that an instance's rules and its code share; nothing else does.
 
 ghost use Rattle.std.specs.Prelude.{◌≡◌, ◌+◌, ◌≤◌, ◌&&◌, ℕ, None, Some, min, nat_le};
 ghost use Rattle.std.specs.Ordering.{nat_cmp, ordering_then};

@@ -17,10 +17,10 @@ pub struct FrontLists<C: Criterion> {
     entries: Vec<Entry<C::V>>,
     items: Vec<Item<C::V>>,
     steps: Vec<Step>,
-    // room for an insertion
+    // scratch memory of an insertion
     passed: Vec<u32>,
     kept: Vec<Item<C::V>>,
-    // room for one ridden value that is taken in as several are
+    // scratch memory: one ridden value as a list, for the general insertion
     alone: Vec<Ridden<C::V>>,
 }
 
@@ -116,8 +116,8 @@ impl<C: Criterion> FrontLists<C> {
         self.steps.get(tag).copied()
     }
 
-    /// Takes the ridden values in after a footpath: the list that comes of it. The old one stays as
-    /// it was, and where memory is wanting there is no new one.
+    /// Takes the ridden values in after a footpath, and returns the new list. The old one stays as it was. If memory runs
+    /// out, no list is made.
     #[inline(always)]
     pub fn insert(
         &mut self,
@@ -239,7 +239,7 @@ impl<C: Criterion> FrontLists<C> {
         self.insert_behind(head, boarding, ride)
     }
 
-    // Takes one ridden value in as several are, wherever the list begins. Few insertions come here, so it is a call.
+    // The general insertion, for one value. It is rare, so it is a call and never inlined.
     #[inline(never)]
     fn insert_behind(
         &mut self,
@@ -363,7 +363,7 @@ impl<C: Criterion> FrontLists<C> {
 
 ghost use Rattle.std.specs.Prelude.{◌≡◌, ◌+◌, ◌<◌, length, slice_get, Some};
 
-// A point, with its tag as a number of words.
+// A point of a front as callers see it: its tag is a `usize`.
 fn point<V>(departure: u32, value: V, tag: u32) -> Point<V>
     ensures { result ≡ record { departure = departure; value = value; tag = tag } }
 {

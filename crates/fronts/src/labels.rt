@@ -1,4 +1,4 @@
-//! Labels of many trips: what one who sits in each may be worth.
+//! Labels of many trips: the values that a passenger aboard each trip can reach at the target.
 //!
 //! A criterion that is total needs one label a trip, which is in the trip's slot; of any other the labels of a trip are
 //! in a run. Which it is, is known when the program is compiled: each call asks the criterion, and not the labels.
@@ -13,7 +13,7 @@ use crate::slot_labels::{count_at, empty_slots, label_of, offer_slot};
 use criteria::Criterion;
 use std::alloc::{AllocError, Global};
 
-/// What one who sits in a trip may be worth at the target, and a tag that names how.
+/// A value that a passenger aboard a trip can reach at the target, and a tag that names how.
 #[derive(Clone, Copy, Debug, Drop)]
 pub struct Label<V> {
     pub value: V,
@@ -81,8 +81,8 @@ pub fn labels_of<'a, C: Criterion>(
     labels.runs.of(trip)
 }
 
-/// Offers the labels of a trip a value with its tag: unless one of them is no worse, it comes to
-/// stand among those that it isn't no worse than. The answer tells whether it stands.
+/// Adds a value with its tag to the labels of a trip, unless one of them is no worse, and drops those that it is no
+/// worse than. Returns whether it was added.
 #[inline(always)]
 pub fn offer_label<C: Criterion>(
     criterion: &C,

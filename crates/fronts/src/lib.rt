@@ -3,6 +3,7 @@
 //! Entries and items are only pushed, never changed, so a place names the same list for ever. Place 0 ends each list.
 #![tactic(auto)]
 
+mod copying;
 mod entry;
 mod front_lists;
 mod insertion;
@@ -14,6 +15,7 @@ mod search;
 mod slot_labels;
 mod valued;
 
+pub use copying::copies;
 pub use entry::{Entry, Item, Ridden, Step};
 pub use front_lists::FrontLists;
 pub use labels::{Label, Labels, label_count, labels_of, no_labels, offer_label};

@@ -12,7 +12,7 @@ use crate::valued::some_no_worse;
 use criteria::Criterion;
 use std::alloc::AllocError;
 
-/// A length as a place. Past 2^32 - 1 there is no room.
+/// A length as a 32-bit index. Past 2^32 - 1 there is none, as if memory had run out.
 pub fn place_of(len: usize) -> Result<u32, AllocError>
     ensures { IfOk result (λ place. place ≡ len) }
 {
@@ -22,7 +22,7 @@ pub fn place_of(len: usize) -> Result<u32, AllocError>
     Ok(len as u32)
 }
 
-// Pushes a point that none of some points betters.
+// Pushes a point unless one of some points is no worse.
 fn leave<C: Criterion>(
     criterion: &C,
     items: &mut Vec<Item<C::V>>,
@@ -41,7 +41,7 @@ fn leave<C: Criterion>(
     Ok(())
 }
 
-// Pushes those of so many items from a place on that none of some points betters.
+// Pushes each of so many items, from an index on, unless one of some points is no worse.
 fn leave_part<C: Criterion>(
     criterion: &C,
     items: &mut Vec<Item<C::V>>,
@@ -159,7 +159,7 @@ pub fn put<C: Criterion>(
     Ok(new)
 }
 
-/// Puts one point before a list, whose front has no other that it isn't no worse than: it is all of its own front.
+/// Puts one point before a list if it is no worse than all of that list's front: so it is the only point of the new one.
 #[inline(always)]
 pub fn put_alone<C: Criterion>(
     criterion: &C,

@@ -94,7 +94,7 @@ fn part<V>(labels: &[Label<V>], run: Run) -> &[Label<V>]
     &labels[run.first as usize..run.first as usize + run.count as usize]
 }
 
-// Keeps a label that a value isn't no worse than.
+// Keeps a label, unless a value is no worse.
 fn keep_other<C: Criterion>(
     criterion: &C,
     label: Label<C::V>,
@@ -111,7 +111,7 @@ fn keep_other<C: Criterion>(
     Ok(())
 }
 
-// Keeps the labels that a value isn't no worse than.
+// Keeps each label, unless a value is no worse.
 fn keep_others<C: Criterion>(
     criterion: &C,
     labels: &[Label<C::V>],
@@ -168,8 +168,8 @@ fn put<V: Copy>(labels: &mut Vec<Label<V>>, run: Run, new: &[Label<V>]) -> Resul
     Ok(Run { count, ..run })
 }
 
-/// Offers the labels of a trip a value with its tag: unless one of them is no worse, it comes to
-/// stand among those that it isn't no worse than. The answer tells whether it stands.
+/// Adds a value with its tag to the labels of a trip, unless one of them is no worse, and drops those that it is no
+/// worse than. Returns whether it was added.
 pub fn offer_run<C: Criterion>(
     criterion: &C,
     labels: &mut RunLabels<C::V>,

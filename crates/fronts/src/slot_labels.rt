@@ -2,13 +2,14 @@
 //!
 //! That one is enough where the criterion is total: of two labels the better one stays.
 
-ghost use Rattle.std.specs.Prelude.{◌≡◌, ◌++◌, ◌∷◌, [], ℕ, ◌<◌, ◌≤◌, cond, nat_eq, not, length, replicate};
+ghost use Rattle.std.specs.Prelude.{◌≡◌, ◌++◌, ◌∷◌, [], ℕ, ◌<◌, ◌≤◌, cond, nat_eq, not, length};
 ghost use Rattle.std.specs.Prelude.{IfOk, OnOk, slice_get, Some};
 ghost use Rattle.criteria.specs.Laws.{Admits, IsTotal};
 ghost use Rattle.fronts.specs.declared.labels.Label.{Label};
 ghost use Rattle.fronts.specs.Offered.{is_beaten, others};
 ghost use Rattle.fronts.specs.SlotLabels.{AreSlots, label_in, no_tag, slot_label};
 
+use crate::copying::copies;
 use crate::labels::Label;
 use crate::putting::place_of;
 use criteria::Criterion;
@@ -32,18 +33,7 @@ pub fn empty_slots<C: Criterion>(
         value: criterion.arrive(0),
         tag: NO_TAG,
     };
-    let slots = alike(alloc, none, count)?;
-    Ok(slots)
-}
-
-// So many slots of one content.
-fn alike<V: Copy>(alloc: Global, slot: Label<V>, count: usize) -> Result<Vec<Label<V>>, AllocError>
-    ensures { IfOk result (λ slots. slots.items ≡ replicate count slot) }
-{
-    let mut slots = Vec::with_capacity(alloc, count)?;
-    for k in 0..count {
-        slots.push(slot)?;
-    }
+    let slots = copies(alloc, none, count)?;
     Ok(slots)
 }
 
@@ -104,8 +94,8 @@ fn slot_tag(number: usize) -> Result<u32, AllocError>
     Ok(tag)
 }
 
-/// Offers a trip's slot a value with its tag: unless the label there is no worse, it is put in its
-/// place. The answer tells whether it stands.
+/// Replaces the label in a trip's slot by a value with its tag, unless the label there is no worse. Returns whether it
+/// did.
 #[inline(always)]
 pub fn offer_slot<C: Criterion>(
     criterion: &C,
