@@ -1,4 +1,4 @@
-//! Why a file or a reader gives no words.
+//! Why a file or a reader has no words of an image.
 
 use std::alloc::AllocError;
 use std::io;
@@ -25,15 +25,18 @@ impl From<AllocError> for ImageFileFault {
 }
 
 impl From<io::Error> for ImageFileFault {
-    ghost use Rattle.std.specs.Prelude.{◌≢◌};
-    ghost use Rattle.image_files.specs.declared.fault.ImageFileFault.TheVariants.{OddLength};
+    ghost use Rattle.std.specs.Prelude.{◌≡◌, ◌≢◌, ◌↔◌};
+    ghost use Rattle.std_io.specs.IoError.{error_kind};
+    ghost use Rattle.std_io.specs.declared.io.kind.ErrorKind.TheVariants.{OutOfMemory as NoMemory};
+    ghost use Rattle.image_files.specs.declared.fault.ImageFileFault.TheVariants.{OddLength, OutOfMemory};
 
-    ghost from_gives = { λ _ fault. fault ≢ OddLength };
+    // Memory ran out exactly if the error says so; else the bytes couldn't be read.
+    ghost from_gives = { λ error fault. (fault ≢ OddLength) × ((fault ≡ OutOfMemory) ↔ (error_kind error ≡ NoMemory)) };
 
     fn from(error: io::Error) -> ImageFileFault {
-        match error.kind() {
-            io::ErrorKind::OutOfMemory => ImageFileFault::OutOfMemory,
-            _ => ImageFileFault::Unreadable,
+        if error.kind() == io::ErrorKind::OutOfMemory {
+            return ImageFileFault::OutOfMemory;
         }
+        ImageFileFault::Unreadable
     }
 }
