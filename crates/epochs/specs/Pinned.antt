@@ -1,14 +1,16 @@
--- What is pinned at shelves without a lock is left alone.
+-- What is pinned at shelves without a lock is left alone, and what their seats know is of one history.
 use Rattle.std.specs.Prelude.{◌≡◌, ◌≢◌, ℕ, ◌+◌, ◌*◌, [], ◌∷◌, Some, slice_index}
 use mathlib.Core.Option.{some, none}
 use lib.ListN.{get_elem?}
 use Rattle.image_layout.specs.Image.{ImageValue}
 use Rattle.version_core.specs.Kept.{version_on}
 use Rattle.shelf_steps.specs.declared.views.LoaderView.{LoaderView}
-use Rattle.shelf_steps.specs.Course.{NeverFreedSince, image_of}
+use Rattle.shelf_steps.specs.declared.views.View.{View}
+use Rattle.shelf_steps.specs.Course.{NeverFreedSince, all_of, image_of}
 use Rattle.shelf_steps.specs.Events.{known_of}
 use Rattle.shelf_steps.specs.Ruled.{Ruled}
 use Rattle.shelf_steps.specs.Laws.{Shelved, IsLoader}
+use Rattle.epochs.specs.SeatHistory.{Grows, IsPublished}
 use Rattle.epochs.specs.ShelfSeats.{ShelfSeatValue, ShowsWhatItKnows}
 
 -- the version is on a shelf, open or closing, with the image that the loader's list has for it; the seat's slot of that shelf is out with the
@@ -30,3 +32,15 @@ PinnedAreLeftAlone =
     (seat : ShelfSeatValue) (version : ℕ) (image : ImageValue) (table : Shelved) (l : LoaderView) (i : ℕ) (r : Ruled table)
     → ShowsWhatItKnows seat → seat.shown.held ≡ Some (version, image)
     → IsLoader table l → get_elem? table.views i ≡ some seat.view → IsLeftAlone seat version image table l r
+
+-- what a seat knows, a worker's or the loader's, is a beginning of the one history, at each moment between two steps of any seats
+abbrev pub SeatsKnowBeginnings : Type 0
+SeatsKnowBeginnings =
+    (table : Shelved) (i : ℕ) (u : View) (r : Ruled table) → get_elem? table.views i ≡ some u → Grows (known_of u) (all_of r.course)
+
+-- so a version that two seats know to be published, as a worker and the loader do, has one image in what both know
+abbrev pub SeatsAgreeOnImages : Type 0
+SeatsAgreeOnImages =
+    (table : Shelved) (i j : ℕ) (u w : View) (version : ℕ) (image other : ImageValue) → Ruled table
+    → get_elem? table.views i ≡ some u → get_elem? table.views j ≡ some w
+    → IsPublished (known_of u) version image → IsPublished (known_of w) version other → other ≡ image

@@ -5,7 +5,7 @@ ghost use Rattle.epochs.specs.SeatLaws.{CollectsLeaveSeats};
 ghost use Rattle.epochs.specs.SeatHistory.{GrowthsJoin, OneImageEach, PublishedStay};
 ghost use Rattle.epochs.specs.SeatLaws.{PinsHoldPublished, CallsKeepPublished, JoinedVersionsStay};
 ghost use Rattle.epochs.specs.SeatLaws.{JoinedVersionsStayAtShelves};
-ghost use Rattle.epochs.specs.Pinned.{PinnedAreLeftAlone};
+ghost use Rattle.epochs.specs.Pinned.{PinnedAreLeftAlone, SeatsAgreeOnImages, SeatsKnowBeginnings};
 
 /// A new seat fits a new table, and what others do leaves it so. After its own pins and releases it
 /// fits by their contracts. So a seat that is used at the table that it was handed out with, and
@@ -38,6 +38,13 @@ pub fn versions_have_one_image()
     ensures one { OneImageEach }
     ensures stay { PublishedStay }
     ensures join { GrowthsJoin }
+{}
+
+/// What any seats of shelves without a lock know is of one history: so a version that a worker's seat knows to be
+/// published, and that the loader published, has one image.
+pub fn seats_know_one_history()
+    ensures beginnings { SeatsKnowBeginnings }
+    ensures agree { SeatsAgreeOnImages }
 {}
 
 /// Once a seat has taken in a notice of a version, each of its pins that isn't refused since it

@@ -210,7 +210,8 @@ impl<B: Named, K> Versions for NamedShelves<B, K> {
 
     type Notice = NamedNotice<B>;
 
-    ghost fits = { λ shelves seat. Unit {0} };
+    // The seat is of these shelves.
+    ghost fits = { λ shelves seat. seat.table ≡ shelves };
 
     ghost value = { λ seat. seat.shown };
 
@@ -221,6 +222,7 @@ impl<B: Named, K> Versions for NamedShelves<B, K> {
     ghost noted = { λ notice. notice.version };
 
     fn pin(&self, seat: &mut NamedSeat<B>) -> Result<(), PinFault>
+        ensures fits { seat.new.table ≡ self.now }
         ensures number { seat.new.number ≡ seat.old.number }
         ensures pin { PinStep seat.old.shown result seat.new.shown }
         ensures refused { IfErr result KnowsItsSeats }
@@ -238,6 +240,7 @@ impl<B: Named, K> Versions for NamedShelves<B, K> {
     }
 
     fn release(&self, seat: &mut NamedSeat<B>) -> Result<(), PinFault>
+        ensures fits { seat.new.table ≡ self.now }
         ensures number { seat.new.number ≡ seat.old.number }
         ensures release { ReleaseStep seat.old.shown result seat.new.shown }
         ensures refused { IfErr result KnowsItsSeats }
@@ -249,6 +252,7 @@ impl<B: Named, K> Versions for NamedShelves<B, K> {
     }
 
     fn join(&self, seat: &mut NamedSeat<B>, notice: NamedNotice<B>)
+        ensures fits { seat.new.table ≡ self.now }
         ensures number { seat.new.number ≡ seat.old.number }
         ensures join { JoinStep seat.old.shown notice.version seat.new.shown }
         ensures step { JoinsByStep seat.old notice.version seat.new }
@@ -265,7 +269,8 @@ impl<B: Named, K> Versions for NamedShelves<B, K> {
 impl<B: Named, K> Loads for NamedShelves<B, K> {
     type Loader = NamedLoader<B>;
 
-    ghost loads = { λ shelves loader. Unit {0} };
+    // The loader's seat is of these shelves.
+    ghost loads = { λ shelves loader. loader.table ≡ shelves };
 
     ghost answers = { λ loader. loader.answers };
 
@@ -278,6 +283,7 @@ impl<B: Named, K> Loads for NamedShelves<B, K> {
         loader: &mut NamedLoader<B>,
         image: Arc<Verified, Global>,
     ) -> Result<(u64, Option<NamedNotice<B>>), (Arc<Verified, Global>, PublishFault)>
+        ensures loads { loader.new.table ≡ self.now }
         ensures back { IfErr result (λ e. e.0 ≡ image) }
         ensures current { MatchResult result (λ r. loader.new.current ≡ r.0) (λ _. loader.new.current
             ≡ loader.old.current) }
@@ -304,6 +310,7 @@ impl<B: Named, K> Loads for NamedShelves<B, K> {
     }
 
     fn collect(&self, loader: &mut NamedLoader<B>) -> Collected
+        ensures loads { loader.new.table ≡ self.now }
         ensures current { loader.new.current ≡ loader.old.current }
         ensures loader { CollectStep loader.old.answers result loader.new.answers }
         ensures steps { CollectsBySteps loader.old.view result loader.new.view }

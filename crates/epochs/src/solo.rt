@@ -21,7 +21,8 @@ impl<B: Named> SoloShelves<B> {
         seat: ShelfSeat,
     ) -> (SoloShelves<B>, NamedLoader<B>, NamedSeat<B>)
         requires { (shelves ≡ B.table) × (loader.table ≡ B.table) × (seat.table ≡ B.table) }
-        ensures { (result.0 ≡ shelves) × (result.1 ≡ loader) × (result.2 ≡ seat) }
+        ensures same { (result.0 ≡ shelves) × (result.1 ≡ loader) × (result.2 ≡ seat) }
+        ensures table { (result.1.table ≡ result.0) × (result.2.table ≡ result.0) }
     {
         let solo = NamedShelves::under(shelves);
         (solo, NamedLoader::of(loader), NamedSeat::of(seat))
