@@ -1,2 +1,1 @@
 pub mod DealingLemmas
-pub mod TakerLemmas

@@ -1,6 +1,8 @@
 -- How clients come from the queue to those who take them.
 use Rattle.std.specs.Prelude.{◌≡◌, ◌<◌, ◌+◌, ◌-◌, ◌++◌, ◌∷◌, ℕ, zero, suc, List, [], map, IsPermutation, ⊤}
-use Rattle.atomic_table.specs.Seated.{TableId}
+use mathlib.Core.Option.{some}
+use lib.ListN.{get_elem?}
+use Rattle.crossbeam_channel.specs.Fifo.{Held, Pops}
 use Rattle.client_queue.specs.declared.queue.Arrival.{Arrival}
 use Rattle.client_queue.specs.declared.queue.DealerView.{DealerView}
 use Rattle.client_queue.specs.declared.queue.Side.{Side}
@@ -85,3 +87,17 @@ AllWereTaken d = d.out ≡ 0 → 0 < d.closings → d.ended ≡ d.closings → I
 abbrev pub KnowsAllTaken : {C : Type 0} → Side C → Type 0
 KnowsAllTaken (Side.Dealing d) = AllWereTaken d
 KnowsAllTaken _ = ⊤
+
+-- over a rule of what the queue holds, oldest first, and of what each of its ends knows
+module _ {C : Type 0} (holds : List (Arrival C) → List (Side C) → Type 0) where
+  -- each taking keeps the rule
+  abbrev pub IsKeptByTakers : Type 0
+  IsKeptByTakers = (pass : ℕ) (taken : List C) (ended : ℕ) → Pops holds pass (Side.Taking taken ended) (IsOneMore (Side.Taking taken ended))
+
+  -- the rule holds of these arrivals, where one end knows this
+  abbrev pub IsHeldBeside : Side C → List (Arrival C) → Type 0
+  IsHeldBeside side items = (views : List (Side C)) × (pass : ℕ) × holds items views × (get_elem? views pass ≡ some side)
+
+  -- at one moment the queue was empty, and one of its ends had taken these, and wasn't closed: the rule held then
+  abbrev pub WasEmpty : List C → Type 0
+  WasEmpty taken = Held 0 (IsHeldBeside (Side.Taking taken 0))

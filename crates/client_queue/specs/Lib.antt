@@ -1,2 +1,5 @@
 pub mod Dealing
 pub mod Ends
+pub mod TakerLemmas
+pub mod TakingLemmas
+pub mod Rules

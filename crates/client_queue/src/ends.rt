@@ -1,14 +1,16 @@
 //! The end of the queue where clients are put, and the ends where they are taken.
 
-ghost use Rattle.std.specs.Prelude.{◌≡◌, ◌+◌, ◌++◌, ◌∷◌, [], false, IfOk, OnErr, OnOk, MatchOption};
+ghost use Rattle.std.specs.Prelude.{◌≡◌, ◌+◌, ◌++◌, ◌∷◌, [], false, true, IfNone, IfOk, IfSome, OnErr, OnOk, MatchOption};
 ghost use Rattle.crossbeam_channel.specs.Claims.{IsSeatAt, view as view_of};
 ghost use Rattle.crossbeam_channel.specs.Ends.{ruled_capacity, sends_on};
 ghost use Rattle.crossbeam_channel.specs.Fifo.{Pushes};
-ghost use Rattle.client_queue.specs.Dealing.{AllWereTaken, IsDealing, IsOneMore};
+ghost use Rattle.client_queue.specs.Dealing.{AllWereTaken, IsDealing, IsOneMore, WasEmpty};
 ghost use Rattle.client_queue.specs.Ends.{DealerValue, TakerValue, closed_once_more, nothing_put, out_once_more};
 ghost use Rattle.client_queue.specs.Ends.{with_back, with_sent};
 
-use crate::queue::{AllBack, Arrival, ComesBack, EachOnce, GoesOut, Moves, Side};
+use crate::queue::{
+    AllBack, Arrival, ClientRule, ComesBack, EachOnce, GoesOut, Leaves, Moves, Side,
+};
 use crossbeam_channel::{Pass, RuledReceiver, RuledSender, bounded_with};
 use std::alloc::{AllocError, Global};
 use std::marker::Model;
@@ -40,13 +42,13 @@ impl<C: Drop> Model for Dealer<C> {
 /// Where clients are taken. Contracts see which queue, which clients were taken here, in order, and whether the queue
 /// was closed for this end.
 #[derive(Drop)]
-pub struct Taker<C: Drop> {
-    receiver: RuledReceiver<Arrival<C>, Side<C>, EachOnce, Global>,
+pub struct Taker<C: Drop, P: ClientRule<C> = EachOnce> {
+    receiver: RuledReceiver<Arrival<C>, Side<C>, P, Global>,
     pass: Pass<Arrival<C>, Side<C>>,
     closed: bool,
 }
 
-impl<C: Drop> Model for Taker<C> {
+impl<C: Drop, P: ClientRule<C>> Model for Taker<C, P> {
     ghost use Rattle.crossbeam_channel.specs.Claims.{IsSeatAt, view as view_of};
     ghost use Rattle.crossbeam_channel.specs.Ends.{receives_on};
     ghost use Rattle.client_queue.specs.Ends.{IsTakerSide, TakerValue, taken_of};
@@ -124,7 +126,8 @@ impl<C: Drop> Dealer<C> {
     }
 }
 
-// Sends once there is room. What comes back unsent is sent again: this end of the queue lives.
+// Sends once there is room. What comes back unsent is sent again: that none does while the dealer keeps a receiver of its
+// own, no clause says.
 fn send<R: Wait, C: Drop>(
     rt: &R,
     sender: &RuledSender<Arrival<C>, Side<C>, EachOnce, Global>,
@@ -146,18 +149,22 @@ fn send<R: Wait, C: Drop>(
     unreachable!()
 }
 
-impl<C: Drop> Taker<C> {
-    /// Takes the client that waits longest, or waits for one. None comes once the queue was closed for this end, or
-    /// the end is gone where clients are put.
+impl<C: Drop, P: ClientRule<C>> Taker<C, P> {
+    /// Takes the client that waits longest, or waits for one. None comes if the queue was closed for this end, and then
+    /// none ever comes; or if it was empty at one moment of the call, and the end is gone where clients are put: that it
+    /// is gone, tests show, and no contract.
     pub fn next<R: Wait>(&mut self, rt: &R) -> Option<C>
         ensures queue { self.new.queue ≡ self.old.queue }
         ensures taken { MatchOption result (self.new.taken ≡ self.old.taken)
             (λ client. (self.new.taken ≡ self.old.taken ++ client ∷ [])) }
+        ensures open { IfSome result (λ client. self.new.closed ≡ false) }
+        ensures none { IfNone result (self.new.closed ≡ false → WasEmpty P.Protocol.holds self.old.taken) }
+        ensures closed { self.old.closed ≡ true → self.new ≡ self.old }
     {
         if self.closed {
             return None;
         }
-        match self.receiver.recv_as::<Moves, R>(rt, &mut self.pass) {
+        match self.receiver.recv_as::<Leaves<P>, R>(rt, &mut self.pass) {
             Ok(Arrival::Client { client }) => Some(client),
             Ok(Arrival::Closing) => {
                 self.closed = true;

@@ -2,6 +2,7 @@
 
 use crossbeam_channel::protocol::{Join, Lesson, Outcome, Protocol, Split};
 use std::collections::LinkedList;
+use std::marker::PhantomData;
 
 /// What waits in the queue.
 #[derive(Drop)]
@@ -36,6 +37,14 @@ pub enum Side<C> {
     Back,
 }
 
+/// A rule of queues of clients, which each taking from a queue keeps. Of how it begins nothing is said here: so that it
+/// held of an empty queue at some moment, only the queue itself can say.
+pub trait ClientRule<C: Drop>: Protocol<Arrival<C>, Side<C>> {
+    ghost use Rattle.client_queue.specs.Dealing.{IsKeptByTakers};
+
+    ghost kept: { IsKeptByTakers Self.holds };
+}
+
 /// The rule: what was put waits in the queue, in order, or was taken once; and closings come last.
 pub struct EachOnce;
 
@@ -47,7 +56,13 @@ impl<C: Drop> Protocol<Arrival<C>, Side<C>> for EachOnce {
     ghost first = { new_queue };
 }
 
-/// An arrival joins the queue, or leaves it.
+impl<C: Drop> ClientRule<C> for EachOnce {
+    ghost use Rattle.client_queue.specs.Rules.{each_once};
+
+    ghost kept = { each_once };
+}
+
+/// An arrival joins the queue.
 pub struct Moves;
 
 impl<C: Drop> Outcome<Arrival<C>, Side<C>> for Moves {
@@ -60,6 +75,23 @@ impl<C: Drop> Lesson<Arrival<C>, Side<C>> for Moves {
     ghost use Rattle.std.specs.Prelude.{⊤};
 
     ghost fact = { λ view items. ⊤ };
+}
+
+/// An arrival leaves the queue. No value of it is made.
+pub struct Leaves<P> {
+    rule: PhantomData<P>,
+}
+
+impl<C: Drop, P> Outcome<Arrival<C>, Side<C>> for Leaves<P> {
+    ghost use Rattle.client_queue.specs.Dealing.{IsOneMore};
+
+    ghost then = { IsOneMore };
+}
+
+impl<C: Drop, P: ClientRule<C>> Lesson<Arrival<C>, Side<C>> for Leaves<P> {
+    ghost use Rattle.client_queue.specs.Dealing.{IsHeldBeside};
+
+    ghost fact = { IsHeldBeside P.Protocol.holds };
 }
 
 /// A taker goes out, who has taken nothing.

@@ -1,13 +1,12 @@
 -- What a taker's step changes of what all takers took.
-use Rattle.std.proofs.Common.{◌≡◌, ◌∙◌, ◌+◌, ◌++◌, ◌∷◌, ℕ, zero, suc, List, [], refl, sym, ap, subst, arith, slice_set}
-use Rattle.std.specs.Prelude.{IsPermutation, ⊤}
-use Rattle.std.proofs.lemmas.List.{append_assoc, append-nil}
+use Rattle.std.proofs.Common.{◌≡◌, ◌+◌, ◌++◌, ◌∷◌, ℕ, zero, suc, List, [], refl, sym, ap, subst, arith, slice_set}
+use Rattle.std.specs.Prelude.{IsPermutation}
+use Rattle.std.proofs.lemmas.List.{append_assoc}
 use Rattle.std.proofs.lemmas.List.Sorted.{IsPermutation-append_left, IsPermutation-append_right, IsPermutation-append_comm, IsPermutation-refl}
-use Rattle.std.proofs.lemmas.List.Sorted.{IsPermutation-sym, IsPermutation-trans}
+use Rattle.std.proofs.lemmas.List.Sorted.{IsPermutation-trans}
 use mathlib.Core.Option.{Option as Found, some, none, some-ne-none}
 use lib.ListN.{get_elem?}
 use Rattle.client_queue.specs.Dealing.{OnlyTake, ended_by, takers_in, taken_by}
-use Rattle.client_queue.specs.declared.queue.DealerView.{DealerView}
 use Rattle.client_queue.specs.declared.queue.Side.{Side}
 
 module _ {C : Type 0} where

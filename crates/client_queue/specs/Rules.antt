@@ -1,0 +1,6 @@
+-- That each client is taken once is kept by each taking.
+use Rattle.client_queue.specs.Dealing.{IsDealing, IsKeptByTakers}
+use Rattle.client_queue.specs.TakingLemmas.{takes}
+
+pub each_once : {C : Type 0} → IsKeptByTakers {C = C} IsDealing
+each_once pass taken ended = takes pass taken ended
