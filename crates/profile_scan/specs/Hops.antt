@@ -29,7 +29,7 @@ pub record StandsAt (t : TimetableValue) (place : ℕ) (c : Connection) : Type 0
   pub in_range : place < length t.connections
   pub is : c ≡ connection_at t place
 
--- times, seconds and values that laws speak of
+-- the hop's numbers and values are such as the laws speak of; nothing here ties them to a timetable
 pub record IsHop {V : Type 0} (rules : Rules V) (q : Query) (hop : Hop V) : Type 0 where
   pub arrival : IsTime hop.connection.arr
   pub by : IsTime q.by

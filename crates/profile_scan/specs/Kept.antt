@@ -24,7 +24,8 @@ use Rattle.profile_scan.specs.declared.ways.Ways.{Ways}
 abbrev pub points_at : {K V : Type 0} → Stops K V → ℕ → List (Point V)
 points_at stops stop = list_points stops.lists (slice_index stops.heads.items stop)
 
--- what a stop was offered: its points have one, for whoever is there before a time, that is no worse than a value
+-- what a stop was offered last (another thing than IsOffered of Steps): its points have one, for whoever is there
+-- before a time, that is no worse than a value
 pub record IsOffered {V : Type 0} (rules : Rules V) (points : List (Point V)) (offered : Offered V) : Type 0 where
   pub admitted : Admits rules offered.value
   pub covers : (time : ℕ) → time < offered.before → IsCovered rules points time offered.value
@@ -87,7 +88,8 @@ pub record IsState {K V : Type 0} {c : _} (rules_of : K → Rules V) (criterion 
   pub labels : AreLabels (rules_of criterion) state.trips.labels
   pub found : criterion_of state.origin.found ≡ criterion
 
--- a scan that has read the connections of a timetable from a place on
+-- the shape of a scan that has read the connections of a timetable from a place on: sizes, criterion, and a bound that
+-- points found outdo. What was found is said by MatchesFrom, which the loop of scan_window carries
 pub record IsScan {K V : Type 0} {c : _} (rules_of : K → Rules V) (criterion : K) (t : TimetableValue) (place : ℕ)
     (scan : Scan K V c) : Type 0 where
   pub state : IsState rules_of criterion t.stops t.trips scan.state

@@ -117,8 +117,8 @@ BoardsAfterEach {K} {V} rules walks begin end hop ridden old new =
 abbrev pub points_of_trip : {K V : Type 0} {c : _} → State K V c → Hop V → List (Point V)
 points_of_trip state hop = trip_points state.trips.labels hop.connection.trip
 
--- a state takes a connection in: first the labels of its trip, and then, by these, the points of every stop and the
--- points found
+-- a state takes a connection in, in the order of the code: alighting gives the labels of its trip, and by these one
+-- sets out, which gives the points found, and boards, which gives the points of every stop
 pub record TakesConnection {K V : Type 0} {c : _} (rules : Rules V) (t : TimetableValue) (q : Query) (hop : Hop V)
     (old new : State K V c) : Type 0 where
   pub between : Story
@@ -129,12 +129,12 @@ pub record TakesConnection {K V : Type 0} {c : _} (rules : Rules V) (t : Timetab
       (λ tags. leavings rules t q tags hop.place
       (carried rules hop.bound.now (points_at old.stops (connection_at t hop.place).to)))
       (points_of_trip old hop) (points_of_trip new hop)
-  pub boards : (stop : ℕ) → Takes rules t.footpaths between (story_of new)
-      (λ tags. boardings rules t tags hop.place stop (carried rules hop.bound.now (points_of_trip new hop)))
-      (points_at old.stops stop) (points_at new.stops stop)
   pub sets_out : Takes rules t.footpaths between (story_of new)
       (λ tags. settings_out rules t q tags hop.place (points_of_trip new hop))
       (points_of old.origin.found) (points_of new.origin.found)
+  pub boards : (stop : ℕ) → Takes rules t.footpaths between (story_of new)
+      (λ tags. boardings rules t tags hop.place stop (carried rules hop.bound.now (points_of_trip new hop)))
+      (points_at old.stops stop) (points_at new.stops stop)
 
 -- points found, under a criterion, match every journey that boards at a place or later
 pub record HasFound {K V : Type 0} {c : _} (rules_of : K → Rules V) (t : TimetableValue) (criterion : K) (q : Query)

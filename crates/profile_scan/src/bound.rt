@@ -1,4 +1,4 @@
-//! Values that the points found already better: what is no better than one of them, once ridden, isn't carried on.
+//! The bound: values of points found. A value that is no better than one of them after its ride is dropped.
 
 ghost use Rattle.std.specs.Prelude.{◌≡◌, ◌⊎◌, ◌<◌, ◌≤◌, ℕ, true, not, filter, length, slice_get, Some, IfOk, OnOk};
 ghost use Rattle.std.specs.Prelude.{Contains};
@@ -13,12 +13,15 @@ use std::alloc::{AllocError, Global};
 use std::ops::Range;
 
 /// Values of points found that depart no earlier than the connections to come.
+///
+/// An old bound stays right, for two reasons: connections read later depart no later, and a point leaves the points
+/// found only for one that departs no earlier and is no worse. So each value here keeps a point found that outdoes it.
 #[derive(Drop)]
 pub struct Bound<C: Criterion> {
     pub values: Vec<C::V>,
-    // how many points had ever been found when some were last read: the list of the points found may grow shorter
+    // how many points had ever been found at the last reading: the list of the points found may grow shorter
     count: usize,
-    // the index of the first point that may still have to be read: no point will be found that belongs before it
+    // the index of the first point to read again: points to come depart no later, so they are put in behind it
     place: usize,
     // the departure of the first point that wasn't late enough, or 0 if all were read
     next: u32,
@@ -58,7 +61,7 @@ impl<C: Criterion> Bound<C> {
 
     /// Adds the values of points found that depart at `time` or later and weren't read yet. `count` is how many points
     /// were ever found, by which it is known whether there are new ones. Points that depart exactly at `time` are read
-    /// again, since others may still come among them. What the values bettered they still better.
+    /// again at the next call, since more of them may be found. What the bound excluded stays excluded.
     pub fn renew(
         &mut self,
         criterion: &C,
@@ -86,7 +89,7 @@ impl<C: Criterion> Bound<C> {
     }
 }
 
-/// Whether one of some values is no worse than a value.
+/// Whether one of some values is no worse than a value; an equal one is.
 pub fn is_bettered<C: Criterion>(criterion: &C, values: &[C::V], value: &C::V) -> bool
     requires values { (b : _) → Contains values.now b → Admits (C.rules criterion.now) b }
     requires value { Admits (C.rules criterion.now) value.now }
@@ -95,7 +98,7 @@ pub fn is_bettered<C: Criterion>(criterion: &C, values: &[C::V], value: &C::V) -
     some_no_worse(criterion, values, value)
 }
 
-// Whether a value stays when another comes.
+// Whether `other` stays when `value` comes.
 fn stays<C: Criterion>(criterion: &C, value: &C::V, other: &C::V) -> bool
     requires value { Admits (C.rules criterion.now) value.now }
     requires other { Admits (C.rules criterion.now) other.now }
@@ -121,7 +124,7 @@ fn drop_bettered<C: Criterion>(criterion: &C, values: &mut Vec<C::V>, value: &C:
     values.truncate(kept);
 }
 
-// Takes a value, unless it is bettered, in the place of those that it betters.
+// Adds a value, unless one that is there is no worse, and drops those that it is no worse than.
 fn take_value<C: Criterion>(
     criterion: &C,
     value: C::V,

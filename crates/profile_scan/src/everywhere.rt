@@ -1,4 +1,6 @@
 //! One scan of a window for all sources: like the scan for one, but for the points found, which are kept for each stop.
+//!
+//! A point found from one source outdoes nothing for another, so this scan has no bound.
 
 ghost use Rattle.std.specs.Prelude.{◌≡◌};
 
@@ -52,7 +54,7 @@ impl<C: Criterion> StateOfAll<C> {
         })
     }
 
-    // Whether nothing is offered at a connection. This holds for many of them.
+    // True only if the connection can add nothing, as many can't; false is always safe.
     fn is_idle(&self, asked: &Asked<C>, connection: &Connection, way: Option<u32>) -> bool
         requires trip { HasTrip (C.rules asked.now.criterion) connection.now.trip self.now.trips }
         requires stop { HasStop C.rules asked.now.criterion connection.now.to self.now.stops }
@@ -96,7 +98,8 @@ impl<C: Criterion> StateOfAll<C> {
         Ok(())
     }
 
-    // Visits the connection at an index, unless nothing is offered at it. `none` is an empty bound.
+    // Takes in the connection at index `place`, unless it can add nothing. `none` is an empty bound. `hop.led` and the
+    // source of `asked` mean nothing here, the target stands in for a source: nothing that this calls may read them.
     fn step<S: ConnSource>(
         &mut self,
         asked: &Asked<C>,

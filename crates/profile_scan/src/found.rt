@@ -16,8 +16,8 @@ use timetable::{Kept, Query, Timetable};
 /// The answer of a profile query: the points of all best departures, by departure, then by the criterion's order. Each
 /// point's tag is the number of a node, and by the nodes from there on it spells a journey that attains the point.
 ///
-/// It keeps the criterion, and in fields that contracts alone see the timetable and the query that it answers, and that
-/// it does.
+/// It keeps the criterion. The timetable, the query and the proof that this is their answer are in fields that only
+/// contracts see.
 #[derive(Drop)]
 pub struct Found<C: Criterion> {
     pub(crate) criterion: C,

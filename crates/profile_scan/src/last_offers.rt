@@ -1,17 +1,19 @@
-//! What each stop was offered last.
+//! The last offer that each stop's list took from boarding by an only label.
 //!
-//! Most points that a stop is offered are no better than the one before: that is seen here, in one small record a stop,
-//! and neither the head of the stop's list nor an entry is read.
+//! Most offers are no better than the one before, and this small record says so: neither the head of the stop's list
+//! nor an entry is read. It may be old but is never false: a list may lose a point, but not what that covers. So
+//! boarding by several labels may leave it as it is.
 
-ghost use Rattle.std.specs.Prelude.{◌≡◌, ℕ, IfOk, length, replicate, slice_get, Some};
+ghost use Rattle.std.specs.Prelude.{◌≡◌, ℕ, IfOk, length, slice_get, Some};
 ghost use Rattle.criteria.specs.Laws.{Admits};
 ghost use Rattle.profile_scan.specs.declared.last_offers.Offered.{Offered};
 
 use criteria::Criterion;
+use fronts::copies;
 use std::alloc::{AllocError, Global};
 
-/// What a stop was offered: its list has, for one who is there before a time, a point no worse than a value. Before 0
-/// is nobody, so that is said where nothing was offered.
+/// What a stop was offered: its list has a point no worse than `value` for everyone who is there before `before`. That
+/// is 0 until something is offered: no time is before 0.
 #[derive(Clone, Copy, Drop)]
 pub struct Offered<V> {
     pub before: u32,
@@ -32,21 +34,6 @@ pub fn none_offered<C: Criterion>(
         before: 0,
         value: criterion.arrive(0),
     };
-    let offers = alike(alloc, nothing, count)?;
-    Ok(offers)
-}
-
-// So many stops that were offered the same.
-fn alike<V: Copy>(
-    alloc: Global,
-    offered: Offered<V>,
-    count: usize,
-) -> Result<Vec<Offered<V>>, AllocError>
-    ensures { IfOk result (λ offers. offers.items ≡ replicate count offered) }
-{
-    let mut offers = Vec::with_capacity(alloc, count)?;
-    for k in 0..count {
-        offers.push(offered)?;
-    }
+    let offers = copies(alloc, nothing, count)?;
     Ok(offers)
 }

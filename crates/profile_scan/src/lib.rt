@@ -3,10 +3,30 @@
 //! A profile query asks for all best departures of a window: the points (departure, value) of all journeys that no
 //! other of these points dominates. The scan goes once over the connections, from the last to the first, as the profile
 //! variant of the Connection Scan Algorithm does (Dibbelt, Pajor, Strasser, Wagner, ACM Journal of Experimental
-//! Algorithmics, 2018). `profile` is that scan, over any source and any criterion. Its loop is `scan::scan_window`, and
-//! a connection goes in at `State::take`: its trip's labels first (`trips`), then the points of the source (`origin`),
-//! then those of the stops (`stops`). What it keeps at each connection, and why that is enough, is said in `specs/`
-//! (Points, Continuations, Matching, Steps, then Parts) and proved by the functions of `laws`.
+//! Algorithmics, 2018). `profile` is that scan, over any source and any criterion. Its loop is `scan::scan_window`,
+//! which calls `Scan::step` for each index from the window's end down. That returns at once if the connection can add
+//! nothing; else it brings the bound up to the connection's departure, makes a `Hop` and calls `State::take`:
+//!
+//! 1. `Trips::alight` changes only the labels of the connection's trip and appends to `exits`; it reads the stops as
+//!    they were before this connection.
+//! 2. `Origin::set_out` changes only the points found and appends to `set_outs`; it reads the labels that `alight`
+//!    left.
+//! 3. `Stops::board` appends to the lists and changes `heads`, `offers` and the scratch vector `ridden`; it reads the
+//!    same labels and never the points found.
+//!
+//! The invariant is `MatchesFrom` (specs/Matching.antt): at every stop, in every trip and at the source, each point is
+//! attained by what its tag spells, and each way to go on from index i is covered, except, at stops and in trips, by
+//! what a point found outdoes. The loop of `scan_window` carries it: the law `nothing_follows` begins it,
+//! `one_index_down` keeps it at each step, and `match_is_the_answer` ends it. What a step is, and why that is enough,
+//! is said in `specs/` (Points, Continuations, Matching, Steps, then Parts) and proved by the functions of `laws`.
+//!
+//! A tag is an index, and whose point it is says into what: a label's into `Trips::exits`, that of a stop's point into
+//! the steps of `Stops::lists`, that of a point found into `Origin::set_outs`, and in `Found` into the nodes. An
+//! offer's tag is the vector's length before the offer, and the record is pushed only if the offer is accepted; these
+//! vectors only grow while a scan runs, so a tag keeps its meaning.
+//!
+//! `profiles_to` answers from every stop to one target by a second scan, `everywhere::scan_for_all`: the same steps,
+//! but points found for each stop and no bound.
 #![tactic(auto)]
 
 mod answering;

@@ -2,8 +2,8 @@
 
 use timetable::Footpath;
 
-/// How one goes on, from here to the target. `first` and `last` are places of connections, where a leg begins and where
-/// it ends; `next` is the number of an earlier node.
+/// How one goes on, from here to the target. `first` and `last` are indices of connections, where a leg begins and
+/// where it ends; `next` is the index of a node that is earlier in the list and comes later in the journey.
 #[derive(Clone, Copy, Drop)]
 pub enum Node {
     /// Leaves the trip where a connection ends: at the target, or one footpath before it.

@@ -100,8 +100,8 @@ impl<C: Criterion> Origin<C> {
         Ok(())
     }
 
-    // Offers the points found each label of the connection's trip, boarded after a start, where that is one from the
-    // source in the window.
+    // Offers the points found each label of the connection's trip, boarded after `start`; nothing if that doesn't leave
+    // the source in the window.
     #[inline(always)]
     fn set_out_by(
         &mut self,

@@ -50,7 +50,8 @@ impl<C: Criterion> Profiles<C> {
         self.destination
     }
 
-    /// The best departures from a stop, by departure, then by the criterion's order. Their tags mean nothing to others.
+    /// The best departures from a stop other than the target, by departure, then by the criterion's order. Their tags
+    /// are of use to `found_from` alone.
     pub fn points(&self, stop: u32) -> &[Point<C::V>]
         requires { stop < stops_of self.now }
         ensures { result.now ≡ listed_from self.now stop }

@@ -47,7 +47,7 @@ impl<C: Criterion> State<C> {
         })
     }
 
-    // Whether nothing is offered at a connection. This holds for the majority of connections.
+    // True only if the connection can add nothing, as most can't; false is always safe.
     fn is_idle(&self, asked: &Asked<C>, connection: &Connection, way: Option<u32>) -> bool
         requires trip { HasTrip (C.rules asked.now.criterion) connection.now.trip self.now.trips }
         requires stop { HasStop C.rules asked.now.criterion connection.now.to self.now.stops }
@@ -121,7 +121,8 @@ impl<C: Criterion> Scan<C> {
     ghost use Rattle.profile_scan.specs.Kept.{IsScan, kept_by, story_of};
     ghost use Rattle.profile_scan.specs.Hops.{IsAsked, StandsAt};
 
-    // Visits the connection at an index, unless nothing is offered at it.
+    // Takes in the connection at index `place`, after bringing the bound up to its departure, unless it can add
+    // nothing.
     fn step<S: ConnSource>(
         &mut self,
         asked: &Asked<C>,

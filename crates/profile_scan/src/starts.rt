@@ -7,8 +7,8 @@ use sources::ConnSource;
 use std::alloc::{AllocError, Global};
 use timetable::Footpath;
 
-/// For each stop whether a footpath leads there from the source, which is another stop. To few stops one does, so that
-/// where a connection is boarded, a scan mostly needn't go over footpaths to see how one may set out.
+/// For each stop whether a footpath that isn't a loop leads there from the source. To few stops one does, so setting
+/// out mostly skips the footpaths.
 #[derive(Drop)]
 pub struct Starts {
     led: Vec<bool>,

@@ -1,4 +1,4 @@
-//! What a scan keeps for each stop: a list of points, to which one who boards a connection adds.
+//! What a scan keeps for each stop: a list of points. Boarding a connection adds to it.
 
 ghost use Rattle.std.specs.Prelude.{◌≡◌, ℕ, IfOk, replicate};
 
@@ -13,7 +13,8 @@ use std::alloc::{AllocError, Global};
 use std::ops::Range;
 use timetable::Footpath;
 
-/// A list of points for each stop, by its head, and what each was offered last.
+/// A list of points for each stop, by its head, and what each was offered last. The tag of a point is the index of its
+/// step in `lists`: the connection that is boarded, the label by which one rides on, and the footpath before it.
 #[derive(Drop)]
 pub struct Stops<C: Criterion> {
     pub lists: FrontLists<C>,
@@ -77,7 +78,7 @@ impl<C: Criterion> Stops<C> {
     }
 
     // Offers the list of the stop where a footpath begins each ridden value, boarded after it. `place` is the index of
-    // the footpath.
+    // the footpath; `hop.place` is that of the connection.
     #[inline(always)]
     fn board_after(
         &mut self,
@@ -137,7 +138,7 @@ impl<C: Criterion> Stops<C> {
     }
 
     // Offers the list of the stop where a footpath begins one ridden value, boarded after it, unless what the stop was
-    // offered last is as good. `place` is the index of the footpath.
+    // offered last is as good. `place` is the index of the footpath; `hop.place` is that of the connection.
     #[inline(always)]
     fn board_one_after(
         &mut self,

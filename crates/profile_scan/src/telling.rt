@@ -67,7 +67,8 @@ impl<'a, C: Criterion> View<'a, C> {
         }
     }
 
-    // The last label to which one leads, those on the way to it being noted.
+    // Follows changes from a label to the one that ends; `route` gets the labels before that. A change leads to an
+    // earlier label, so no label comes twice.
     fn note_route(&self, first: usize, route: &mut Vec<usize>) -> Result<usize, AllocError>
         ensures route { IfOk result (λ last. IsRoute (story_seen self.now) first route.new.items last) }
         ensures ends { IfOk result (λ last. (walks : _) → IsLabelTold walks (story_seen self.now) first
@@ -87,7 +88,8 @@ impl<'a, C: Criterion> View<'a, C> {
         Ok(label)
     }
 
-    // Adds a node that says how one leaves the trip of a label for good.
+    // Adds a node that says how one leaves the trip of a label for good. Of a label that doesn't end, as `note_route`
+    // never returns it, the number says nothing.
     fn tell_end(&self, label: usize, nodes: &mut Vec<Node>) -> Result<usize, AllocError>
         ensures nodes { Extends nodes.old.items nodes.new.items }
         ensures says { IfOk result (λ number. (walks : _) → IsLabelTold walks (story_seen self.now) label
@@ -176,7 +178,7 @@ impl<'a, C: Criterion> View<'a, C> {
     }
 }
 
-// Adds a node, and tells its number.
+// Adds a node, and returns its number.
 fn add(nodes: &mut Vec<Node>, node: Node) -> Result<usize, AllocError>
     ensures nodes { Extends nodes.old.items nodes.new.items }
     ensures added { IfOk result (λ number. (number ≡ length nodes.old.items)
@@ -194,7 +196,7 @@ pub struct Told<V> {
     pub nodes: Vec<Node>,
 }
 
-/// The points found, told in nodes.
+/// The points with their journeys as nodes: each point's tag is then the number of a `SetsOut` node.
 pub fn tell_journeys<S: ConnSource, C: Criterion>(
     alloc: Global,
     source: &S,

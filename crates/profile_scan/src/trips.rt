@@ -104,8 +104,9 @@ impl<C: Criterion> Trips<C> {
         self.offer(&asked.criterion, hop.connection.trip, point.value, exit)
     }
 
-    // Offers the labels of the connection's trip each point of the stop where it ends that departs then or later and
-    // isn't bettered after the ride. The front from that time on is enough.
+    // A passenger changes: offers the labels of the connection's trip each point of the stop where it ends that departs
+    // at the arrival or later and isn't bettered after the ride. The front from then on is enough: for each such point
+    // it has one that is no worse. Its first point is in the entry, so that one goes ahead of the loop over items.
     #[inline(always)]
     fn change(
         &mut self,
@@ -200,8 +201,8 @@ struct Ending {
     time: u32,
 }
 
-// How one who leaves a trip where a connection ends is at the target in time, `way` being the seconds of the footpath
-// from that stop to the target.
+// The end of a journey that gets off where a connection ends, if it reaches the target by `query.by`; `way` is the
+// seconds of the footpath from that stop to the target.
 fn end_of(connection: &Connection, query: &Query, way: Option<u32>) -> Option<Ending>
     requires arrival { IsTime connection.now.arr }
     requires secs { IfSome way (λ secs. IsSecs secs) }
@@ -235,7 +236,7 @@ fn end_of(connection: &Connection, query: &Query, way: Option<u32>) -> Option<En
     })
 }
 
-// The value of being over at a time, with a walk before.
+// The value of arriving at `time`, after the last footpath if there is one.
 fn value_at_end<C: Criterion>(criterion: &C, walk: Option<Footpath>, time: u32) -> C::V
     requires time { IsTime time }
     requires secs { IfSome walk (λ f. IsSecs f.secs) }

@@ -11,7 +11,7 @@ use timetable::limits::MAX_WALK_SECS;
 /// for one at each connection.
 #[derive(Drop)]
 pub struct Ways {
-    // where there is none, more than a footpath takes
+    // `u32::MAX` where there is none
     seconds: Vec<u32>,
 }
 
@@ -25,7 +25,7 @@ impl Ways {
     }
 }
 
-// What a word says: so many seconds, or more than a footpath takes.
+// What a word says: so many seconds, or, above what a footpath takes, that there is none.
 fn way_of(word: u32) -> Option<u32>
     ensures { result ≡ way_in word }
 {

@@ -1,8 +1,0 @@
-use Rattle.std.proofs.Common.{◌++◌, ◌∷◌, [], ◌∙◌, ap}
-use Rattle.std.proofs.lemmas.List.{replicate-append-replicate}
-use Rattle.profile_scan.proofs.last_offers.alike.Goals as goal
-
-pub loop-k-preserved : goal.loop-k-preserved
-loop-k-preserved g c =
-    c.in_ok-push.ensures.items ∙ ap (λ xs. xs ++ c.args.offered ∷ []) c.loop-k.invariant
-    ∙ replicate-append-replicate c.loop-k.k 1 c.args.offered
