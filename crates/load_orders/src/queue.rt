@@ -42,9 +42,9 @@ pub struct Known {
     pub live: bool,
 }
 
-/// A rule of queues of orders, which each order that is put or taken and each try keeps. Of how it begins nothing is said
-/// here, nor that there may be one end more: so that it held of some orders at some moment, only the queue itself can
-/// say.
+/// A rule of queues of orders, which each order that is put or taken and each try keeps. Of how it begins nothing is
+/// said here, nor that there may be one end more: so that it held of some orders at some moment, only the queue itself
+/// can say.
 pub trait OrderRule<N: Drop>: Protocol<Order<N>, Known> {
     ghost use Rattle.load_orders.specs.Queue.{IsKept};
 
