@@ -1,6 +1,7 @@
 //! The end of the queue where clients are put, and the ends where they are taken.
 
-ghost use Rattle.std.specs.Prelude.{◌≡◌, ◌+◌, ◌++◌, ◌∷◌, [], false, true, IfNone, IfOk, IfSome, OnErr, OnOk, MatchOption};
+ghost use Rattle.std.specs.Prelude.{◌≡◌, ◌+◌, ◌++◌, ◌∷◌, [], false, true, IfNone, IfOk, IfSome, OnErr, OnOk};
+ghost use Rattle.std.specs.Prelude.{MatchOption};
 ghost use Rattle.crossbeam_channel.specs.Claims.{IsSeatAt, view as view_of};
 ghost use Rattle.crossbeam_channel.specs.Ends.{ruled_capacity, sends_on};
 ghost use Rattle.crossbeam_channel.specs.Fifo.{Pushes};
@@ -126,8 +127,8 @@ impl<C: Drop> Dealer<C> {
     }
 }
 
-// Sends once there is room. What comes back unsent is sent again: that none does while the dealer keeps a receiver of its
-// own, no clause says.
+// Sends once there is room. What comes back unsent is sent again: that nothing does, while the dealer keeps a receiver
+// of its own, no clause says.
 fn send<R: Wait, C: Drop>(
     rt: &R,
     sender: &RuledSender<Arrival<C>, Side<C>, EachOnce, Global>,
@@ -150,9 +151,9 @@ fn send<R: Wait, C: Drop>(
 }
 
 impl<C: Drop, P: ClientRule<C>> Taker<C, P> {
-    /// Takes the client that waits longest, or waits for one. None comes if the queue was closed for this end, and then
-    /// none ever comes; or if it was empty at one moment of the call, and the end is gone where clients are put: that it
-    /// is gone, tests show, and no contract.
+    /// Takes the client that waits longest, or waits for one. None comes if the queue was closed for this end, and
+    /// then none ever comes; or if it was empty at one moment of the call, and the end is gone where clients are put:
+    /// that it is gone, tests show, and no contract.
     pub fn next<R: Wait>(&mut self, rt: &R) -> Option<C>
         ensures queue { self.new.queue ≡ self.old.queue }
         ensures taken { MatchOption result (self.new.taken ≡ self.old.taken)

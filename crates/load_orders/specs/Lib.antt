@@ -1,4 +1,5 @@
 pub mod Ways
+pub mod WayRules
 pub mod Queue
 pub mod Rules
 pub mod Asking

@@ -1,5 +1,5 @@
 -- The queue of orders.
-use Rattle.std.specs.Prelude.{◌≡◌, ◌≤◌, ◌+◌, ◌++◌, ◌∷◌, ℕ, List, [], length}
+use Rattle.std.specs.Prelude.{◌≡◌, ◌≤◌, ◌+◌, ◌++◌, ◌∷◌, ℕ, List, [], false, length, true}
 use mathlib.Core.Option.{some}
 use lib.ListN.{get_elem?}
 use Rattle.crossbeam_channel.specs.Fifo.{Forks, Pops, Pushes}
@@ -18,7 +18,11 @@ waiting items views = AtMostFour items
 
 -- an end that has put and taken nothing
 abbrev pub nothing : Known
-nothing = record { orders = []; tries = 0 }
+nothing = record { orders = []; tries = 0; live = true }
+
+-- what is split from an end that tries to put an order, and is let go
+abbrev pub let_go : Known
+let_go = record { orders = []; tries = 0; live = false }
 
 -- an end that has tried once more to put an order
 abbrev pub tried : Known → Known
@@ -30,17 +34,16 @@ mark_of order = record { feed = order.feed; way = order.way_back }
 
 -- an end puts an order, or takes one
 abbrev pub IsOneMore : {N : Type 0} → Known → Order N → Known → Type 0
-IsOneMore before order after = after ≡ record { orders = before.orders ++ mark_of order ∷ []; tries = before.tries }
+IsOneMore before order after = after ≡ record before { orders = before.orders ++ mark_of order ∷ [] }
 
 -- over a rule of what a queue holds, oldest first, and of what each of its ends knows
 module _ {N : Type 0} (holds : List (Order N) → List Known → Type 0) where
-  -- each step at a queue for four orders keeps the rule: an order is put where fewer wait, or is taken, or is tried to be put, or there is one
-  -- end more
+  -- what an end does at a queue for four orders keeps the rule: it puts an order where fewer wait, or takes one, or tries to put one. Each of
+  -- these changes what this end knows: so from a moment at which fewer waited none is made up at which four did
   pub record IsKept : Type 0 where
-    pub puts : (pass : ℕ) (v : Known) (order : Order N) → Pushes holds 4 pass v order (IsOneMore v order)
-    pub takes : (pass : ℕ) (v : Known) → Pops holds pass v (IsOneMore v)
-    pub splits : (pass : ℕ) (v : Known) → Forks holds pass v v nothing
-    pub tries : (pass : ℕ) (v : Known) → Forks holds pass v (tried v) nothing
+    pub puts : (pass : ℕ) (v : Known) (order : Order N) → v.live ≡ true → Pushes holds 4 pass v order (IsOneMore v order)
+    pub takes : (pass : ℕ) (v : Known) → v.live ≡ true → Pops holds pass v (IsOneMore v)
+    pub tries : (pass : ℕ) (v : Known) → v.live ≡ true → Forks holds pass v (tried v) let_go
 
   -- at one moment the queue held so many orders, and one of its ends knew this: the rule held then
   abbrev pub Held : ℕ → (Known → Type 0) → Type 0

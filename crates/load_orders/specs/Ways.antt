@@ -1,5 +1,8 @@
 -- The way back from the loader to whoever waits for a load.
 use Rattle.std.specs.Prelude.{◌≡◌, ◌++◌, ◌∷◌, ℕ, List, [], slice_get, Option, Some, None}
+use mathlib.Core.Option.{some}
+use lib.ListN.{get_elem?}
+use Rattle.crossbeam_channel.specs.Fifo.{Held, Pops}
 use Rattle.atomic_table.specs.Seated.{TableId}
 use Rattle.load_orders.specs.declared.ways.LoadAnswer.{LoadAnswer}
 use Rattle.load_orders.specs.declared.ways.Side.{Side}
@@ -50,3 +53,17 @@ abbrev pub HeardWasTold : Type 0 → Type 0
 HeardWasTold N = (items : List (LoadAnswer N)) (ends : List (Side N)) → IsWay items ends
     → (i j : ℕ) (told heard : List (LoadAnswer N)) → slice_get ends i ≡ Some (Side.Telling told) → slice_get ends j ≡ Some (Side.Hearing heard)
     → told ≡ heard ++ items
+
+-- over a rule of what a way back holds, and of what its ends know
+module _ {N : Type 0} (holds : List (LoadAnswer N) → List (Side N) → Type 0) where
+  -- each hearing keeps the rule
+  abbrev pub IsKeptByHearing : Type 0
+  IsKeptByHearing = (end : ℕ) (heard : List (LoadAnswer N)) → Pops holds end (Side.Hearing heard) (IsOneAnswerMore (Side.Hearing heard))
+
+  -- the rule holds of these answers, where one end knows this
+  abbrev pub IsHeldBeside : Side N → List (LoadAnswer N) → Type 0
+  IsHeldBeside side items = (ends : List (Side N)) × (end : ℕ) × holds items ends × (get_elem? ends end ≡ some side)
+
+  -- at one moment no answer was on the way, and one end hadn't heard any: the rule held then
+  abbrev pub WasSilent : Type 0
+  WasSilent = Held 0 (IsHeldBeside unheard)

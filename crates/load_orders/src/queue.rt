@@ -34,15 +34,17 @@ impl Model for OrderMark {
     ghost also_owns = { λ _. ftrue };
 }
 
-/// What an end of the queue knows: the orders that it put or took, in order, and how often it tried
-/// to put one. No value of it is made.
+/// What an end of the queue knows: the orders that it put or took, in order, how often it tried to put one, and whether
+/// it puts and takes: what is split from it for a try does neither. No value of it is made.
 pub struct Known {
     pub orders: LinkedList<OrderMark>,
     pub tries: u64,
+    pub live: bool,
 }
 
-/// A rule of queues of orders, which each step at a queue keeps. Of how it begins nothing is said here: so that it held
-/// of some orders at some moment, only the queue itself can say.
+/// A rule of queues of orders, which each order that is put or taken and each try keeps. Of how it begins nothing is
+/// said here, nor that there may be one end more: so that it held of some orders at some moment, only the queue itself
+/// can say.
 pub trait OrderRule<N: Drop>: Protocol<Order<N>, Known> {
     ghost use Rattle.load_orders.specs.Queue.{IsKept};
 
@@ -87,15 +89,15 @@ impl<N: Drop, P: OrderRule<N>> Lesson<Order<N>, Known> for Moves<P> {
         × (get_elem? views pass ≡ some view) };
 }
 
-/// An end tries to put an order. What is split from it for that knows nothing, and is let go.
+/// An end tries to put an order. What is split from it for that puts and takes nothing, and is let go.
 pub struct Tries;
 
 impl Split<Known> for Tries {
-    ghost use Rattle.load_orders.specs.Queue.{nothing, tried};
+    ghost use Rattle.load_orders.specs.Queue.{let_go, tried};
 
     ghost left = { λ view. tried view };
 
-    ghost right = { λ view. nothing };
+    ghost right = { λ view. let_go };
 }
 
 /// One end more, which has put and taken nothing.

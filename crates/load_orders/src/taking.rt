@@ -35,7 +35,7 @@ pub struct OrderEnd<N: Drop, P: OrderRule<N> = Waiting> {
 }
 
 impl<N: Drop, P: OrderRule<N>> Model for OrderEnd<N, P> {
-    ghost use Rattle.std.specs.Prelude.{◌≡◌};
+    ghost use Rattle.std.specs.Prelude.{◌≡◌, true};
     ghost use Rattle.crossbeam_channel.specs.Claims.{IsSeatAt, view as view_of};
     ghost use Rattle.crossbeam_channel.specs.Ends.{sends_on, ruled_capacity};
     ghost use Rattle.load_orders.specs.Queue.{EndValue};
@@ -49,7 +49,8 @@ impl<N: Drop, P: OrderRule<N>> Model for OrderEnd<N, P> {
           (view_of s.pass).tries;
     } };
 
-    ghost invariant = { λ s. IsSeatAt (sends_on s.sender) s.pass × (ruled_capacity (sends_on s.sender) ≡ 4) };
+    ghost invariant = { λ s. IsSeatAt (sends_on s.sender) s.pass × (ruled_capacity (sends_on s.sender) ≡ 4)
+        × ((view_of s.pass).live ≡ true) };
 }
 
 /// A worker's end of the queue: it takes orders of feeds by their names, whose versions are published at the shelves.
@@ -144,6 +145,7 @@ pub struct LoaderOrders<N: Drop, P: OrderRule<N> = Waiting> {
 }
 
 impl<N: Drop, P: OrderRule<N>> Model for LoaderOrders<N, P> {
+    ghost use Rattle.std.specs.Prelude.{◌≡◌, true};
     ghost use Rattle.crossbeam_channel.specs.Claims.{IsSeatAt, view as view_of};
     ghost use Rattle.crossbeam_channel.specs.Ends.{receives_on};
     ghost use Rattle.load_orders.specs.Telling.{LoaderOrdersValue};
@@ -158,7 +160,7 @@ impl<N: Drop, P: OrderRule<N>> Model for LoaderOrders<N, P> {
       over = s.over;
     } };
 
-    ghost invariant = { λ s. IsSeatAt (receives_on s.receiver) s.pass };
+    ghost invariant = { λ s. IsSeatAt (receives_on s.receiver) s.pass × ((view_of s.pass).live ≡ true) };
 }
 
 /// An empty queue for four orders: its first end, and the loader's.
@@ -180,9 +182,9 @@ pub fn order_queue<N: Drop>(alloc: Global) -> Result<(OrderEnd<N>, LoaderOrders<
     Ok((OrderEnd { sender, pass }, loader))
 }
 
-impl<N: Drop, P: OrderRule<N>> OrderEnd<N, P> {
+impl<N: Drop> OrderEnd<N> {
     /// Another end of this queue, at which nothing was put yet.
-    pub fn another(&mut self) -> Result<OrderEnd<N, P>, AllocError>
+    pub fn another(&mut self) -> Result<OrderEnd<N>, AllocError>
         ensures same { self.new ≡ self.old }
         ensures queue { IfOk result (λ end. end.queue ≡ self.old.queue) }
         ensures another { IfOk result (λ end. end.orders ≡ []) }
@@ -191,7 +193,9 @@ impl<N: Drop, P: OrderRule<N>> OrderEnd<N, P> {
         let pass = self.sender.another::<Another>(&mut self.pass);
         Ok(OrderEnd { sender, pass })
     }
+}
 
+impl<N: Drop, P: OrderRule<N>> OrderEnd<N, P> {
     // Puts an order, where there is room.
     fn put<R: Wait>(&mut self, rt: &R, order: Order<N>) -> Result<(), OrderFault>
         ensures queue { self.new.queue ≡ self.old.queue }

@@ -1,14 +1,14 @@
 //! The way back to whoever waits for a load: one for each order, made for it, for one answer.
 
-ghost use Rattle.std.specs.Prelude.{◌≡◌, ◌∷◌, [], Some, None, IfOk, MatchOption};
+ghost use Rattle.std.specs.Prelude.{◌≡◌, ◌∷◌, [], Some, None, IfNone, IfOk, MatchOption};
 ghost use Rattle.load_orders.specs.Telling.{IsToldAt};
-ghost use Rattle.load_orders.specs.Ways.{heard_at};
+ghost use Rattle.load_orders.specs.Ways.{WasSilent, heard_at};
 
 use crossbeam_channel::protocol::{Lesson, Outcome, Protocol, Split};
 use crossbeam_channel::{Pass, RuledReceiver, RuledSender, bounded_with};
 use std::alloc::{AllocError, Global};
 use std::collections::LinkedList;
-use std::marker::Model;
+use std::marker::{Model, PhantomData};
 use std::sync::Wait;
 
 /// What came of a load, as it is told to whoever waits for it.
@@ -32,6 +32,14 @@ pub enum Side<N> {
     Hearing { heard: LinkedList<LoadAnswer<N>> },
 }
 
+/// A rule of ways back, which each hearing keeps. Of how it begins nothing is said here: so that it held of a way back
+/// on which no answer was, only the way itself can say.
+pub trait WayRule<N: Drop>: Protocol<LoadAnswer<N>, Side<N>> {
+    ghost use Rattle.load_orders.specs.Ways.{IsKeptByHearing};
+
+    ghost kept: { IsKeptByHearing Self.holds };
+}
+
 /// The rule of a way back: one end tells, and one hears what was told.
 pub struct OneTells;
 
@@ -43,7 +51,13 @@ impl<N: Drop> Protocol<LoadAnswer<N>, Side<N>> for OneTells {
     ghost first = { new_way };
 }
 
-/// An answer is told, or is heard.
+impl<N: Drop> WayRule<N> for OneTells {
+    ghost use Rattle.load_orders.specs.WayRules.{one_hears};
+
+    ghost kept = { one_hears };
+}
+
+/// An answer is told.
 pub struct Tells;
 
 impl<N: Drop> Outcome<LoadAnswer<N>, Side<N>> for Tells {
@@ -56,6 +70,23 @@ impl<N: Drop> Lesson<LoadAnswer<N>, Side<N>> for Tells {
     ghost use Rattle.std.specs.Prelude.{⊤};
 
     ghost fact = { λ view items. ⊤ };
+}
+
+/// An answer is heard. No value of it is made.
+pub struct Hears<P> {
+    rule: PhantomData<P>,
+}
+
+impl<N: Drop, P> Outcome<LoadAnswer<N>, Side<N>> for Hears<P> {
+    ghost use Rattle.load_orders.specs.Ways.{IsOneAnswerMore};
+
+    ghost then = { IsOneAnswerMore };
+}
+
+impl<N: Drop, P: WayRule<N>> Lesson<LoadAnswer<N>, Side<N>> for Hears<P> {
+    ghost use Rattle.load_orders.specs.Ways.{IsHeldBeside};
+
+    ghost fact = { IsHeldBeside P.Protocol.holds };
 }
 
 /// A new way has two ends: one that tells, and one that hears.
@@ -92,12 +123,12 @@ impl<N: Drop> Model for WayBack<N> {
 
 /// Where whoever waits hears what came of the order. Contracts see which way it is.
 #[derive(Drop)]
-pub struct Awaited<N: Drop> {
-    receiver: RuledReceiver<LoadAnswer<N>, Side<N>, OneTells, Global>,
+pub struct Awaited<N: Drop, P: WayRule<N> = OneTells> {
+    receiver: RuledReceiver<LoadAnswer<N>, Side<N>, P, Global>,
     pass: Pass<LoadAnswer<N>, Side<N>>,
 }
 
-impl<N: Drop> Model for Awaited<N> {
+impl<N: Drop, P: WayRule<N>> Model for Awaited<N, P> {
     ghost use Rattle.std.specs.Prelude.{◌≡◌};
     ghost use Rattle.crossbeam_channel.specs.Claims.{IsSeatAt, view as view_of};
     ghost use Rattle.crossbeam_channel.specs.Ends.{receives_on};
@@ -150,13 +181,15 @@ impl<N: Drop> WayBack<N> {
     }
 }
 
-impl<N: Drop> Awaited<N> {
-    // Waits for the answer. None comes where the other end is gone.
+impl<N: Drop, P: WayRule<N>> Awaited<N, P> {
+    // Waits for the answer. None comes if no answer was there at one moment of the call, and the other end is gone:
+    // that it is gone, tests show, and no contract.
     pub(crate) fn hear<R: Wait>(self, rt: &R) -> (Option<LoadAnswer<N>>, UsedWay<N>)
-        ensures { result.1 ≡ heard_at self result.0 }
+        ensures heard { result.1 ≡ heard_at self result.0 }
+        ensures none { IfNone result.0 (WasSilent P.Protocol.holds) }
     {
         let Awaited { receiver, mut pass } = self;
-        let answer = receiver.recv_as::<Tells, R>(rt, &mut pass).ok();
+        let answer = receiver.recv_as::<Hears<P>, R>(rt, &mut pass).ok();
         (answer, UsedWay { pass })
     }
 }

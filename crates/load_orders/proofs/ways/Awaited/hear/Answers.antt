@@ -1,10 +1,11 @@
 use Rattle.std.proofs.Common.{[], sym, subst}
 use Rattle.crossbeam_channel.specs.Fifo.{Pops}
-use Rattle.load_orders.specs.Ways.{IsOneAnswerMore, IsWay}
-use Rattle.load_orders.proofs.WayLemmas.{hears}
+use Rattle.load_orders.specs.Ways.{IsOneAnswerMore}
 use Rattle.load_orders.proofs.ways.Awaited.hear.Goals as goal
 
 pub recv_as-requires-clause-rule : goal.recv_as-requires-clause-rule
 recv_as-requires-clause-rule g c =
-    let pass = c.self.inside.pass in
-    (subst (λ side. Pops IsWay pass.id side (IsOneAnswerMore side)) (sym c.self.invariant.1) (hears pass.id []), λ items ends holds at. tt)
+    let pass = c.self.inside.pass in (
+      subst (λ side. Pops g.P.Protocol.holds pass.id side (IsOneAnswerMore side)) (sym c.self.invariant.1) (g.met.P.WayRule.kept pass.id []),
+      λ items ends holds at. (ends, pass.id, holds, at),
+    )

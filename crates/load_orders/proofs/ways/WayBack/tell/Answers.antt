@@ -2,7 +2,7 @@ use Rattle.std.proofs.Common.{[], sym, subst}
 use Rattle.crossbeam_channel.specs.Ends.{ruled_capacity, sends_on}
 use Rattle.crossbeam_channel.specs.Fifo.{Pushes}
 use Rattle.load_orders.specs.Ways.{IsOneAnswerMore, IsWay}
-use Rattle.load_orders.proofs.WayLemmas.{tells}
+use Rattle.load_orders.specs.WayRules.{tells}
 use Rattle.load_orders.proofs.ways.WayBack.tell.Goals as goal
 
 pub try_send_as-requires-clause-rule : goal.try_send_as-requires-clause-rule

@@ -4,7 +4,7 @@ use Rattle.std.proofs.lemmas.List.{append_assoc}
 use mathlib.Core.Option.{Option as Found, some, none, some-ne-none}
 use lib.ListN.{get_elem?}
 use Rattle.crossbeam_channel.specs.Fifo.{Pops, Pushes}
-use Rattle.load_orders.specs.Ways.{IsOneAnswerMore, IsWay, answers_of}
+use Rattle.load_orders.specs.Ways.{IsKeptByHearing, IsOneAnswerMore, IsWay, answers_of}
 use Rattle.load_orders.specs.declared.ways.LoadAnswer.{LoadAnswer}
 use Rattle.load_orders.specs.declared.ways.Side.{Side}
 
@@ -51,3 +51,6 @@ module _ {N : Type 0} where
   hears zero heard answer items (Side.Whole ∷ []) holds at = let e : 0 ≡ 2 = ap kind at in absurd (omega (arith, e))
   hears (suc end) heard answer items (Side.Whole ∷ []) holds at = absurd (some-ne-none _ (sym at))
   hears end heard answer items ends holds at = absurd holds
+
+pub one_hears : {N : Type 0} → IsKeptByHearing {N = N} IsWay
+one_hears end heard = hears end heard
