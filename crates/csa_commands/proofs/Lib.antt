@@ -1,4 +1,5 @@
 mod AnswerLemmas
+mod Appended
 mod OfFolder
 mod Picturing
 mod StopLines

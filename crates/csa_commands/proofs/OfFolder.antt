@@ -1,5 +1,5 @@
 -- What a command read of a folder is of that folder.
-use Rattle.std.proofs.Common.{◌≡◌, ◌∷◌, ◌++◌, ◌∙◌, [], ℕ, List, Result, Ok, Err, OnOk, ap, map, subst, sym, take}
+use Rattle.std.proofs.Common.{◌≡◌, ◌∷◌, ◌++◌, ◌∙◌, [], ℕ, List, Result, Ok, Err, OnOk, ap, inr, map, subst, sym, take}
 use Rattle.std.specs.Prelude.{All, IfErr, IfOk}
 use Rattle.connections.specs.declared.report.Report.{Report}
 use Rattle.command_requests.specs.declared.plans.PlanText.{PlanText}
@@ -8,14 +8,18 @@ use Rattle.feed_files.specs.Files.{FileRead, MayBeRead, MayGive, opened}
 use Rattle.feed_files.specs.Reading.{Content, HoldsTables, NoTables}
 use Rattle.feed_files.specs.Reads.{AllWereRead, AreRead, SomeWereRead, all_tables, read_of}
 use Rattle.feed_files.specs.declared.reading.ReadFault.{ReadFault}
-use Rattle.feed_loader.specs.Refused.{IsLoaded}
+use Rattle.feed_loader.specs.Refused.{IsLoadRefusal, IsLoaded}
+use Rattle.feed_loader.specs.declared.fault.LoadFault.{LoadFault}
 use Rattle.feed_loader.specs.declared.plan.Plan.{Plan}
 use Rattle.feed_plans.specs.Planning.{IsPlanNow}
 use Rattle.gtfs_rows.specs.declared.fault.Table.{Table}
 use Rattle.gtfs_tables.specs.declared.tables.Tables.{Tables}
 use Rattle.timetable.specs.NamesValue.{NamesValue}
 use Rattle.timetable.specs.TimetableValue.{TimetableValue}
-use Rattle.csa_commands.specs.Folders.{AreTablesOf, HoldsOfRead, IsBuiltFrom, MayBeOf}
+use Rattle.csa_commands.specs.Building.{IfRefused}
+use Rattle.csa_commands.specs.Folders.{AreTablesOf, HoldsOfRead, IsBuildRefusal, IsBuiltFrom, MayBeOf}
+use Rattle.csa_commands.specs.declared.build.Failure.{Failure}
+use Rattle.csa_commands.specs.declared.build.Failure.TheVariants.{Refused, Unreadable, Unwritable, OutOfMemory}
 
 -- what was read in all was read since nothing had been
 read_since : (content : Content) (ts : List Table) {began then : List ℕ} {old new : List FileRead} → then ≡ began → old ≡ []
@@ -36,6 +40,14 @@ of_read_weaker gives folder A B follows read =
       given = read.given;
       holds = λ content ts agrees. follows content (read.holds content ts agrees);
     }
+
+-- what follows from a fault for which a feed isn't built
+pub refused_weaker : (failure : Failure) (A B : LoadFault → Type 0) → ((fault : LoadFault) → A fault → B fault)
+    → IfRefused failure A → IfRefused failure B
+refused_weaker (Refused fault) A B follows is = λ unless. follows fault (is unless)
+refused_weaker (Unreadable path) A B follows is = tt
+refused_weaker (Unwritable path reason) A B follows is = tt
+refused_weaker OutOfMemory A B follows is = tt
 
 -- over files of a folder, as they began and as they are then
 module _ {D : Type 0} (gives : D → List ℕ → MayGive) (disk : D) (folder began then : List ℕ)
@@ -79,6 +91,22 @@ module _ {D : Type 0} (gives : D → List ℕ → MayGive) (disk : D) (folder be
         given = subst (λ (path : List ℕ). ∥ All (MayBeRead (gives disk path)) new ∥₁) (at ∙ same) given;
         holds = λ content ts read. holds content ts (read_since content ts at none read);
       }
+
+  -- why a feed isn't built, of files of which nothing was read before
+  pub build_refused : {T : Type 0} (result : Result T Failure) (asked : PlanText) (bytes : List ℕ) (plan : Plan) → began ≡ folder
+      → old ≡ [] → IsPlanNow asked bytes plan → ∥ All (MayBeRead (gives disk then)) new ∥₁
+      → IfErr result (λ failure. IfRefused failure (λ fault. SomeWereRead (opened began ∷ old) (opened then ∷ new)
+      × ((content : Content) (ts : List Table) → AreRead content ts (opened began ∷ old) (opened then ∷ new)
+      → IsLoadRefusal content plan fault)))
+      → IfErr result (λ failure. IfRefused failure (IsBuildRefusal gives folder asked))
+  build_refused (Ok built) asked bytes plan same none planned given is = tt
+  build_refused (Err failure) asked bytes plan same none planned given is =
+      refused_weaker failure _ _ (λ fault read. inr (
+        bytes,
+        plan,
+        planned,
+        of_read (λ content. IsLoadRefusal content plan fault) same none read.0 given read.1,
+      )) is
 
   -- what reading the tables came to
   pub tables_known : (result : Result Tables ReadFault) → began ≡ folder

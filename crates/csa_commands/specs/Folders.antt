@@ -1,11 +1,11 @@
 -- What a command reads of a folder.
-use Rattle.std.specs.Prelude.{◌≡◌, ◌⊎◌, ℕ, List, [], Option, All, false}
+use Rattle.std.specs.Prelude.{◌⊎◌, ℕ, List, [], Option, All, false}
 use Rattle.std.specs.Io.KnownBytes.{Appends}
 use Rattle.connections.specs.declared.report.Report.{Report}
 use Rattle.feed_files.specs.Files.{FileRead, MayBeRead, MayGive}
 use Rattle.feed_files.specs.Reading.{Content, HoldsTables}
 use Rattle.feed_files.specs.Reads.{AreRead, MayHold, SomeWereRead, all_tables}
-use Rattle.feed_loader.specs.Refused.{AreFilesRefused, AreTablesRefused, IsLoaded}
+use Rattle.feed_loader.specs.Refused.{AreFilesRefused, AreTablesRefused, IsLoadRefusal, IsLoaded}
 use Rattle.feed_loader.specs.declared.fault.LoadFault.{LoadFault}
 use Rattle.feed_loader.specs.declared.plan.Plan.{Plan}
 use Rattle.feed_plans.specs.Planning.{IsPlanNow}
@@ -16,7 +16,8 @@ use Rattle.gtfs_tables.specs.declared.tables.Feed.{Feed}
 use Rattle.gtfs_tables.specs.declared.tables.Tables.{Tables}
 use Rattle.timetable.specs.NamesValue.{NamesValue}
 use Rattle.timetable.specs.TimetableValue.{TimetableValue}
-use Rattle.csa_commands.specs.Refusing.{refusal_line}
+use Rattle.csa_commands.specs.Refusing.{RefusesFeed, refusal_line}
+use Rattle.csa_commands.specs.Zoning.{IsNoZoneOf}
 use Rattle.csa_commands.specs.declared.refusal.Refusal.TheVariants.{Feed as OfFeed}
 
 -- the first of a folder's files were read, each of which may have given what was read; and of every content that agrees with it this holds
@@ -33,7 +34,7 @@ IsTablesRefusal fault content = AreFilesRefused content fault ⊎ AreTablesRefus
 
 -- over what the disks of a kind may give: of a disk, for a folder, for the file of a name
 module _ {D : Type 0} (gives : D → List ℕ → MayGive) (folder : List ℕ) where
-  -- the files of the folder may hold this: each was read, and that is what was read
+  -- the files of the folder may hold this: of each it is what a read of it may give
   abbrev pub MayBeOf : Content → Type 0
   MayBeOf content = (disk : D) × MayHold (gives disk folder) content all_tables
 
@@ -51,7 +52,20 @@ module _ {D : Type 0} (gives : D → List ℕ → MayGive) (folder : List ℕ) w
       (bytes : List ℕ) × (plan : Plan) × (content : Content) × IsPlanNow asked bytes plan × MayBeOf content
       × IsLoaded content plan t names report
 
-  -- the fault is the first of the folder's tables, and its line was added to what was printed before, and nothing else
+  -- the fault is the first of the folder's tables, a feed is refused for it, and its line was added to what was printed before, and nothing else
   abbrev pub AreTablesRefusedOf : Option (List ℕ) → Option (List ℕ) → Type 0
   AreTablesRefusedOf before after =
-      (fault : LoadFault) × HoldsOfRead gives folder (IsTablesRefusal fault) × Appends before after (refusal_line (OfFeed fault))
+      (fault : LoadFault) × RefusesFeed fault × HoldsOfRead gives folder (IsTablesRefusal fault)
+      × Appends before after (refusal_line (OfFeed fault))
+
+  -- there is no zone of what was asked for, or the fault is the first of the folder's files by a plan that was asked for
+  abbrev pub IsBuildRefusal : PlanText → LoadFault → Type 0
+  IsBuildRefusal asked fault =
+      IsNoZoneOf asked fault
+      ⊎ ((bytes : List ℕ) × (plan : Plan) × IsPlanNow asked bytes plan
+      × HoldsOfRead gives folder (λ content. IsLoadRefusal content plan fault))
+
+  -- a feed is refused for it, and its line was added to what was printed before, and nothing else
+  abbrev pub IsRefusedBuild : PlanText → Option (List ℕ) → Option (List ℕ) → Type 0
+  IsRefusedBuild asked before after =
+      (fault : LoadFault) × RefusesFeed fault × IsBuildRefusal asked fault × Appends before after (refusal_line (OfFeed fault))

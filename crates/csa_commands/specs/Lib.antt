@@ -5,6 +5,7 @@ pub mod Commands
 pub mod Counting
 pub mod Departing
 pub mod Elapsed
+pub mod Ending
 pub mod Folders
 pub mod Informing
 pub mod Judging
@@ -15,4 +16,5 @@ pub mod Picturing
 pub mod Refusing
 pub mod StopLines
 pub mod Tabling
+pub mod Writing
 pub mod Zoning

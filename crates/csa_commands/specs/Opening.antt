@@ -4,6 +4,7 @@ use Rattle.std.specs.Io.KnownBytes.{Appends}
 use Rattle.image_layout.specs.Image.{ImageValue, Spells}
 use Rattle.image_layout.specs.Text.{bytes_of}
 use Rattle.image_verifier.specs.FirstFault.{first_fault}
+use Rattle.image_verifier.specs.declared.fault.ImageFault.TheVariants.{OutOfMemory}
 use Rattle.csa_commands.specs.Refusing.{refusal_line}
 use Rattle.csa_commands.specs.declared.refusal.Refusal.{Refusal}
 use Rattle.csa_commands.specs.declared.refusal.Refusal.TheVariants.{OddLength, Image, Feed, Query, BadText, Journey}
@@ -21,7 +22,17 @@ IsNoImage (Query fault) bytes = ⊥
 IsNoImage BadText bytes = ⊥
 IsNoImage (Journey fault) bytes = ⊥
 
--- the line of a refusal was added to what was printed before, and nothing else; the standard input is no image for that refusal
+-- it is a refusal of an image: for its length, or for a fault of its words; that memory ran out is none
+abbrev pub IsOfImage : Refusal → Type 0
+IsOfImage OddLength = Unit {0}
+IsOfImage (Image fault) = fault ≢ OutOfMemory
+IsOfImage (Feed fault) = ⊥
+IsOfImage (Query fault) = ⊥
+IsOfImage BadText = ⊥
+IsOfImage (Journey fault) = ⊥
+
+-- the line of a refusal of an image was added to what was printed before, and nothing else; the standard input is no image for that refusal
 abbrev pub IsRefusedImage : List ℕ → Option (List ℕ) → Option (List ℕ) → Option (List ℕ) → Type 0
 IsRefusedImage path input before after =
-    (refusal : Refusal) × Appends before after (refusal_line refusal) × (path ≡ codes "-" → IfSome input (IsNoImage refusal))
+    (refusal : Refusal) × IsOfImage refusal × Appends before after (refusal_line refusal)
+    × (path ≡ codes "-" → IfSome input (IsNoImage refusal))

@@ -1,7 +1,8 @@
 -- How a refusal is printed, and with which status a feed is refused.
-use Rattle.std.specs.Prelude.{ℕ, List, [], ◌++◌, codes, decimal}
+use Rattle.std.specs.Prelude.{◌≡◌, ℕ, List, [], ◌++◌, codes, decimal}
 use Rattle.command_requests.specs.declared.statuses.TheConstants.{INPUT_OUTPUT, REFUSED}
 use Rattle.feed_loader.specs.Faults.{fault_name as feed_name, fault_number as feed_number}
+use Rattle.feed_loader.specs.Refused.{IsWantOfMemory}
 use Rattle.feed_loader.specs.declared.fault.LoadFault.{LoadFault}
 use Rattle.feed_loader.specs.declared.fault.LoadFault.TheVariants as feeds
 use Rattle.gtfs_rows.specs.Told.{file_name}
@@ -87,3 +88,7 @@ refusal_status (feeds.Day fault) = REFUSED
 refusal_status (feeds.Footpaths fault) = REFUSED
 refusal_status (feeds.Image fault) = REFUSED
 refusal_status (feeds.FileFailed table) = INPUT_OUTPUT
+
+-- a feed is refused for it: neither did memory run out, nor is there a file that can't be read
+abbrev pub RefusesFeed : LoadFault → Type 0
+RefusesFeed fault = (¬ (IsWantOfMemory fault)) × (refusal_status fault ≡ REFUSED)

@@ -1,5 +1,7 @@
 -- The bytes of a zone's file, and why there is no zone.
-use Rattle.std.specs.Prelude.{◌≡◌, ℕ, List, []}
+use Rattle.std.specs.Prelude.{◌≡◌, ◌≢◌, ℕ, List, []}
+use Rattle.std.specs.declared.io.ErrorKind.{ErrorKind}
+use Rattle.std.specs.declared.io.ErrorKind.TheVariants.{OutOfMemory as WasOutOfMemory}
 use Rattle.command_requests.specs.declared.plans.PlanText.{PlanText}
 use Rattle.command_requests.specs.declared.plans.ZoneText.{ZoneText}
 use Rattle.command_requests.specs.declared.plans.ZoneText.TheVariants.{Fixed, Posix, File}
@@ -16,6 +18,12 @@ AreZoneBytes (Fixed ahead) bytes = bytes ≡ []
 AreZoneBytes (Posix rule) bytes = bytes ≡ []
 AreZoneBytes (File path) bytes = Unit {0}
 
+-- a file at a path can't be read, or there is no memory for its bytes, by the kind of the error
+abbrev pub IsUnread : ErrorKind → List ℕ → PlanFailure → Type 0
+IsUnread kind path (Refused fault) = ⊥
+IsUnread kind path (Unreadable unread) = (kind ≢ WasOutOfMemory) × (unread.now ≡ path)
+IsUnread kind path OutOfMemory = kind ≡ WasOutOfMemory
+
 -- of a zone that is no file nothing fails; a file can't be read, the one that is named, or there is no memory for its bytes
 abbrev pub IsZoneUnread : ZoneText → PlanFailure → Type 0
 IsZoneUnread (File path) (Unreadable unread) = unread.now ≡ path.now
@@ -27,8 +35,8 @@ abbrev pub IsNoZoneOf : PlanText → LoadFault → Type 0
 IsNoZoneOf asked fault =
     (bytes : List ℕ) × (wrong : DayFault) × (fault ≡ Day wrong) × IsZoneFault asked.zone bytes wrong
 
--- a plan is refused only for its zone
+-- a plan is refused only for its zone, and fails else only where the bytes of the zone's file can't be had
 abbrev pub IsNoPlan : PlanText → PlanFailure → Type 0
 IsNoPlan asked (Refused fault) = IsNoZoneOf asked fault
-IsNoPlan asked (Unreadable path) = Unit {0}
-IsNoPlan asked OutOfMemory = Unit {0}
+IsNoPlan asked (Unreadable path) = IsZoneUnread asked.zone (Unreadable path)
+IsNoPlan asked OutOfMemory = IsZoneUnread asked.zone OutOfMemory

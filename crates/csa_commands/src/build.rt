@@ -1,14 +1,16 @@
 //! `csa build FOLDER OUT --first DAY --days N --zone ZONE [--strict] [--progress] [--no-warnings]`.
 
-ghost use Rattle.std.specs.Prelude.{◌≡◌, ◌≢◌, ◌≤◌, ◌<◌, ◌-◌, ◌^◌, ◌++◌, IfOk, OnOk, string_bytes};
+ghost use Rattle.std.specs.Prelude.{◌≡◌, ◌≢◌, ◌≤◌, ◌<◌, ◌-◌, ◌^◌, ◌++◌, List, IfErr, IfOk, OnOk, string_bytes};
 ghost use Rattle.std.specs.Io.KnownBytes.{Appends};
 ghost use Rattle.connections.specs.declared.days.TheConstants.{MAX_DAYS};
 ghost use Rattle.command_requests.specs.declared.statuses.TheConstants.{ACCEPTED, OUT_OF_MEMORY, REFUSED};
 ghost use Rattle.feed_files.specs.Reading.{Content};
-ghost use Rattle.feed_files.specs.Reads.{AreRead, all_tables};
-ghost use Rattle.feed_loader.specs.Refused.{IsLoaded};
-ghost use Rattle.csa_commands.specs.Building.{IsReported, changed_text, made_text, report_line};
-ghost use Rattle.csa_commands.specs.Folders.{IsBuiltFrom};
+ghost use Rattle.feed_files.specs.Reads.{AreRead, SomeWereRead, all_tables};
+ghost use Rattle.feed_loader.specs.Refused.{IsLoadRefusal, IsLoaded};
+ghost use Rattle.gtfs_rows.specs.declared.fault.Table.{Table};
+ghost use Rattle.csa_commands.specs.Building.{IfRefused, IsReported, IsUnwritten, changed_text, made_text, report_line};
+ghost use Rattle.csa_commands.specs.Ending.{Ends};
+ghost use Rattle.csa_commands.specs.Folders.{IsBuildRefusal, IsBuiltFrom, IsRefusedBuild};
 
 use crate::explaining::{explain_refused, reason_of};
 use crate::planning::{PlanFailure, plan_of};
@@ -21,7 +23,6 @@ use command_requests::BuildRequest;
 use feed_files::{Disk, FeedFiles, FolderFiles};
 use feed_loader::{LoadFault, Plan, Report};
 use std::alloc::{AllocError, Global};
-use std::io;
 use std::io::{ErrorKind, Write};
 use std::rt::Files;
 use std::time::Clock;
@@ -38,22 +39,6 @@ enum Failure<'a> {
     OutOfMemory,
 }
 
-impl<'a> From<LoadFault> for Failure<'a> {
-    fn from(fault: LoadFault) -> Failure<'a> {
-        Failure::Refused(fault)
-    }
-}
-
-impl<'a> From<PlanFailure<'a>> for Failure<'a> {
-    fn from(failure: PlanFailure<'a>) -> Failure<'a> {
-        match failure {
-            PlanFailure::Refused(fault) => Failure::Refused(fault),
-            PlanFailure::Unreadable(path) => Failure::Unreadable(path),
-            PlanFailure::OutOfMemory => Failure::OutOfMemory,
-        }
-    }
-}
-
 /// Builds the image of the folder's feed, writes it, and prints its counts to `output`; or prints the first thing
 /// that is wrong. A file at the path is replaced once the image is whole. Explanations go to `errors`, and so do
 /// warnings, if they are wanted, and progress, if it is asked for or that is a terminal. The status is that of an
@@ -66,7 +51,10 @@ pub fn run<H: Files + Disk + AllocGlobal + Clock, O: Write, E: Write>(
     is_terminal: bool,
     warnings: bool,
 ) -> u8
+    ensures status { Ends result }
     ensures printed { result ≡ ACCEPTED → IsReported H.gives request.entry.folder.now request.entry.plan
+        (O.contents output.old) (O.contents output.new) }
+    ensures refused { result ≡ REFUSED → IsRefusedBuild H.gives request.entry.folder.now request.entry.plan
         (O.contents output.old) (O.contents output.new) }
     ensures silent { result ≡ OUT_OF_MEMORY → O.contents output.new ≡ O.contents output.old }
 {
@@ -103,10 +91,17 @@ fn build<'a, 'c, H: Files + Disk + AllocGlobal + Clock, E: Write>(
     log: Option<&'c mut E>,
     is_terminal: bool,
 ) -> Result<Built, Failure<'a>>
-    ensures { IfOk result (λ built. IsBuiltFrom H.gives request.now.folder.now request.now.plan
+    ensures built { IfOk result (λ built. IsBuiltFrom H.gives request.now.folder.now request.now.plan
         built.image.timetable built.image.names built.report) }
+    ensures refused { IfErr result (λ failure. IfRefused failure
+        (IsBuildRefusal H.gives request.now.folder.now request.now.plan)) }
 {
-    let plan = plan_of(rt, &request.plan)?;
+    let plan = match plan_of(rt, &request.plan) {
+        Ok(plan) => plan,
+        Err(PlanFailure::Refused(fault)) => return Err(Failure::Refused(fault)),
+        Err(PlanFailure::Unreadable(path)) => return Err(Failure::Unreadable(path)),
+        Err(PlanFailure::OutOfMemory) => return Err(Failure::OutOfMemory),
+    };
     let progress = Progress::new(rt.alloc(), rt, log, is_terminal);
     let mut files = ReportedFiles::new(FolderFiles::new(rt, request.folder), progress);
     let built = build_reported(rt, request.out, &mut files, plan);
@@ -124,14 +119,21 @@ fn build_reported<'a, H: Files + AllocGlobal, F: FeedFiles, R: Reports>(
     requires failures { F.failures files.old.files < 2 ^ 64 - 1 }
     requires some { 1 ≤ plan.days }
     requires few { plan.days ≤ MAX_DAYS }
-    ensures { IfOk result (λ built. (content : Content)
+    ensures built { IfOk result (λ built. (content : Content)
         × AreRead content all_tables (F.reads files.old.files) (F.reads files.new.files)
         × IsLoaded content plan built.image.timetable built.image.names built.report) }
+    ensures refused { IfErr result (λ failure. IfRefused failure (λ fault.
+        SomeWereRead (F.reads files.old.files) (F.reads files.new.files)
+        × ((content : Content) (ts : List Table)
+        → AreRead content ts (F.reads files.old.files) (F.reads files.new.files) → IsLoadRefusal content plan fault))) }
 {
-    let (image, report) = load_reported(rt.alloc(), files, &plan)?;
+    let (image, report) = match load_reported(rt.alloc(), files, &plan) {
+        Ok(loaded) => loaded,
+        Err(fault) => return Err(Failure::Refused(fault)),
+    };
     files.report_writing(out);
     if let Err(error) = put_image(rt, out, image.words()) {
-        return Err(write_failure(&error, out));
+        return Err(write_failure(error.kind(), out));
     }
     files.report_written(out, image.words().len());
     Ok(Built {
@@ -141,18 +143,22 @@ fn build_reported<'a, H: Files + AllocGlobal, F: FeedFiles, R: Reports>(
     })
 }
 
-fn write_failure<'a>(error: &io::Error, path: &'a str) -> Failure<'a> {
-    match error.kind() {
+// Why the file at a path isn't written, by the kind of the error.
+fn write_failure<'a>(kind: ErrorKind, path: &'a str) -> Failure<'a>
+    ensures { IsUnwritten kind path.now result }
+{
+    match kind {
         ErrorKind::OutOfMemory => Failure::OutOfMemory,
-        kind => Failure::Unwritable(path, reason_of(kind)),
+        _ => Failure::Unwritable(path, reason_of(kind)),
     }
 }
 
 // Prints the line of counts. It refuses nothing.
 fn print_counts<O: Write>(alloc: Global, report: &Report, output: &mut O) -> u8
+    ensures status { Ends result }
+    ensures refused { result ≢ REFUSED }
     ensures printed { result ≡ ACCEPTED
         → Appends (O.contents output.old) (O.contents output.new) (report_line report.now) }
-    ensures refused { result ≢ REFUSED }
     ensures silent { result ≡ OUT_OF_MEMORY → O.contents output.new ≡ O.contents output.old }
 {
     match counts(alloc, report) {

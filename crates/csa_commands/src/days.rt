@@ -4,6 +4,7 @@ ghost use Rattle.std.specs.Prelude.{◌≡◌, ◌≢◌, IfErr, IfOk};
 ghost use Rattle.command_requests.specs.declared.statuses.TheConstants.{ACCEPTED, OUT_OF_MEMORY, REFUSED};
 ghost use Rattle.feed_loader.specs.Refused.{IsWantOfMemory};
 ghost use Rattle.gtfs_tables.specs.declared.tables.Feed.{Feed};
+ghost use Rattle.csa_commands.specs.Ending.{Ends};
 ghost use Rattle.csa_commands.specs.Folders.{AreTablesRefusedOf, HoldsOfRead, IsFeedOf, IsTablesRefusal};
 ghost use Rattle.csa_commands.specs.Informing.{IsInformedOfDays};
 
@@ -28,6 +29,7 @@ pub fn run<H: Files + Disk + AllocGlobal, O: Write, E: Write>(
     output: &mut O,
     errors: &mut E,
 ) -> u8
+    ensures status { Ends result }
     ensures printed { result ≡ ACCEPTED → (feed : Feed) × IsFeedOf H.gives folder.now feed
         × IsInformedOfDays feed (O.contents output.old) (O.contents output.new) }
     ensures refused { result ≡ REFUSED
@@ -57,8 +59,9 @@ fn read_feed<H: Disk + AllocGlobal>(rt: &H, folder: &str) -> Result<Feed, LoadFa
 
 // Prints which service days a feed has. It refuses nothing.
 fn print_days<O: Write>(alloc: Global, feed: &Feed, output: &mut O) -> u8
-    ensures printed { result ≡ ACCEPTED → IsInformedOfDays feed.now (O.contents output.old) (O.contents output.new) }
+    ensures status { Ends result }
     ensures refused { result ≢ REFUSED }
+    ensures printed { result ≡ ACCEPTED → IsInformedOfDays feed.now (O.contents output.old) (O.contents output.new) }
     ensures silent { result ≡ OUT_OF_MEMORY → O.contents output.new ≡ O.contents output.old }
 {
     match days_text(alloc, feed) {

@@ -3,6 +3,7 @@
 ghost use Rattle.std.specs.Prelude.{◌≡◌, ◌≢◌};
 ghost use Rattle.command_requests.specs.declared.statuses.TheConstants.{ACCEPTED, OUT_OF_MEMORY, REFUSED};
 ghost use Rattle.csa_commands.specs.Informing.{IsInformed};
+ghost use Rattle.csa_commands.specs.Ending.{Ends};
 
 use crate::status;
 use image_facts::facts_of;
@@ -12,8 +13,9 @@ use std::io::Write;
 
 /// Prints what an image has, which was judged when it was opened. It refuses nothing.
 pub fn run<O: Write>(alloc: Global, image: &Verified, output: &mut O) -> u8
-    ensures printed { result ≡ ACCEPTED → IsInformed image.now (O.contents output.old) (O.contents output.new) }
+    ensures status { Ends result }
     ensures refused { result ≢ REFUSED }
+    ensures printed { result ≡ ACCEPTED → IsInformed image.now (O.contents output.old) (O.contents output.new) }
     ensures silent { result ≡ OUT_OF_MEMORY → O.contents output.new ≡ O.contents output.old }
 {
     match facts_of(alloc, image) {

@@ -1,9 +1,10 @@
 //! What every command over an image begins with.
 
-ghost use Rattle.std.specs.Prelude.{◌≡◌, ◌≢◌, ◌⊎◌, codes, IfErr, IfOk, IfSome, OnOk};
+ghost use Rattle.std.specs.Prelude.{◌≡◌, ◌≢◌, codes, IfErr, IfOk, IfSome, OnOk};
 ghost use Rattle.std.specs.Io.KnownBytes.{Appends};
-ghost use Rattle.command_requests.specs.declared.statuses.TheConstants.{INPUT_OUTPUT, OUT_OF_MEMORY, REFUSED};
+ghost use Rattle.command_requests.specs.declared.statuses.TheConstants.{OUT_OF_MEMORY, REFUSED};
 ghost use Rattle.image_verifier.specs.declared.fault.ImageFault.TheVariants.{OutOfMemory as WasOutOfMemory};
+ghost use Rattle.csa_commands.specs.Ending.{EndsUndone};
 ghost use Rattle.csa_commands.specs.Opening.{IsRefusedImage, SpellsImage};
 ghost use Rattle.csa_commands.specs.Refusing.{refusal_line};
 ghost use Rattle.csa_commands.specs.declared.refusal.Refusal.TheVariants.{Image as OfImage};
@@ -29,7 +30,7 @@ pub fn open_image<H: Files + AllocGlobal, I: Read, O: Write, E: Write>(
 ) -> Result<Verified, u8>
     ensures image { IfOk result (λ image. path.now ≡ codes "-"
         → IfSome (I.remaining input.old) (SpellsImage image)) }
-    ensures status { IfErr result (λ status. (status ≡ REFUSED) ⊎ (status ≡ INPUT_OUTPUT) ⊎ (status ≡ OUT_OF_MEMORY)) }
+    ensures status { IfErr result EndsUndone }
     ensures silent { OnOk result (O.contents output.new ≡ O.contents output.old) }
     ensures memory { IfErr result (λ status. status ≡ OUT_OF_MEMORY
         → O.contents output.new ≡ O.contents output.old) }
@@ -68,7 +69,7 @@ fn refuse_words<O: Write, E: Write>(
     output: &mut O,
     errors: &mut E,
 ) -> u8
-    ensures status { (result ≡ REFUSED) ⊎ (result ≡ INPUT_OUTPUT) ⊎ (result ≡ OUT_OF_MEMORY) }
+    ensures status { EndsUndone result }
     ensures refused { result ≡ REFUSED → fault ≢ WasOutOfMemory }
     ensures printed { result ≡ REFUSED
         → Appends (O.contents output.old) (O.contents output.new) (refusal_line (OfImage fault)) }
@@ -89,7 +90,7 @@ fn refuse<F: fmt::Display, O: Write, E: Write>(
     output: &mut O,
     errors: &mut E,
 ) -> u8
-    ensures status { (result ≡ REFUSED) ⊎ (result ≡ INPUT_OUTPUT) ⊎ (result ≡ OUT_OF_MEMORY) }
+    ensures status { EndsUndone result }
     ensures printed { result ≡ REFUSED
         → Appends (O.contents output.old) (O.contents output.new) (refusal_line refusal) }
     ensures silent { result ≡ OUT_OF_MEMORY → O.contents output.new ≡ O.contents output.old }

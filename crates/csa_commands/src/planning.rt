@@ -3,7 +3,7 @@
 ghost use Rattle.std.specs.Prelude.{◌≡◌, ◌≤◌, ℕ, List, IfErr, IfOk};
 ghost use Rattle.connections.specs.declared.days.TheConstants.{MAX_DAYS};
 ghost use Rattle.feed_plans.specs.Planning.{IsPlanNow};
-ghost use Rattle.csa_commands.specs.Zoning.{AreZoneBytes, IsNoPlan, IsZoneUnread};
+ghost use Rattle.csa_commands.specs.Zoning.{AreZoneBytes, IsNoPlan, IsUnread, IsZoneUnread};
 
 use clock_days::instant;
 use command_requests::{PlanText, ZoneText};
@@ -62,10 +62,17 @@ pub fn zone_bytes<'a, H: Files + AllocGlobal>(
         ZoneText::Posix(_) => Ok(Vec::new(rt.alloc())),
         ZoneText::File(path) => match fs::read(rt, path) {
             Ok(bytes) => Ok(bytes),
-            Err(error) => match error.kind() {
-                ErrorKind::OutOfMemory => Err(PlanFailure::OutOfMemory),
-                _ => Err(PlanFailure::Unreadable(path)),
-            },
+            Err(error) => Err(unread(error.kind(), path)),
         },
+    }
+}
+
+// Why the bytes of the file at a path can't be had, by the kind of the error.
+fn unread<'a>(kind: ErrorKind, path: &'a str) -> PlanFailure<'a>
+    ensures { IsUnread kind path.now result }
+{
+    match kind {
+        ErrorKind::OutOfMemory => PlanFailure::OutOfMemory,
+        _ => PlanFailure::Unreadable(path),
     }
 }

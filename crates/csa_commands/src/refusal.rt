@@ -7,7 +7,9 @@ ghost use Rattle.feed_loader.specs.Refused.{IsWantOfMemory};
 ghost use Rattle.journeys.specs.Texts.{number_text};
 ghost use Rattle.csa_commands.specs.Listing.{word_text};
 ghost use Rattle.csa_commands.specs.Refusing.{feed_places, image_places, journey_places, refusal_line, refusal_places};
-ghost use Rattle.csa_commands.specs.Refusing.{refusal_status, refusal_told};
+ghost use Rattle.csa_commands.specs.Refusing.{RefusesFeed, refusal_status, refusal_told};
+ghost use Rattle.csa_commands.specs.Ending.{EndsUndone};
+ghost use Rattle.csa_commands.specs.Writing.{IsBegun};
 ghost use Rattle.csa_commands.specs.declared.refusal.Refusal.TheVariants.{Feed as OfFeed};
 
 use crate::status;
@@ -44,7 +46,7 @@ impl Refusal {
             Refusal::Image(fault) => fault.number(),
             Refusal::Feed(fault) => fault.number(),
             Refusal::Query(fault) => fault.number(),
-            Refusal::BadText => 80,
+            Refusal::BadText => TextFault::BadText.number().unwrap_or_default(),
             Refusal::Journey(fault) => fault.number(),
         }
     }
@@ -166,21 +168,19 @@ fn put_record(line: &mut String, file: &str, row: u64) -> Result<(), AllocError>
 /// Prints why a feed isn't loaded. The status is that of a refusal, or of a file that can't be read, if that is why; or
 /// that of a failed write, or of memory that ran out. If it ran out, nothing is printed.
 pub fn refuse_feed<O: Write>(alloc: Global, output: &mut O, fault: LoadFault) -> u8
-    ensures status { (result ≡ REFUSED) ⊎ (result ≡ INPUT_OUTPUT) ⊎ (result ≡ OUT_OF_MEMORY) }
-    ensures kind { (result ≡ refusal_status fault) ⊎ (result ≡ INPUT_OUTPUT) ⊎ (result ≡ OUT_OF_MEMORY) }
+    ensures status { EndsUndone result }
     ensures memory { IsWantOfMemory fault → result ≡ OUT_OF_MEMORY }
-    ensures refused { result ≡ REFUSED → ¬ (IsWantOfMemory fault) }
+    ensures refused { result ≡ REFUSED → RefusesFeed fault }
     ensures printed { result ≡ REFUSED
         → Appends (O.contents output.old) (O.contents output.new) (refusal_line (OfFeed fault)) }
     ensures silent { result ≡ OUT_OF_MEMORY → O.contents output.new ≡ O.contents output.old }
+    ensures begun { result ≡ INPUT_OUTPUT
+        → IsBegun (O.contents output.old) (O.contents output.new) (refusal_line (OfFeed fault)) }
 {
     if fault.is_want_of_memory() {
         return status::OUT_OF_MEMORY;
     }
-    match refusal_line(alloc, Refusal::Feed(fault)) {
-        Ok(line) => status::write_text(output, line.as_str(), status_of(fault)),
-        Err(_) => status::OUT_OF_MEMORY,
-    }
+    status::print_refusal_as(alloc, output, Refusal::Feed(fault), status_of(fault))
 }
 
 // The status of a feed that isn't loaded, once that is printed.

@@ -1,9 +1,11 @@
 //! Exit statuses, and what is written with them.
 
-ghost use Rattle.std.specs.Prelude.{◌≡◌, ◌≢◌, ◌⊎◌, IfErr, IfOk, string_bytes};
+ghost use Rattle.std.specs.Prelude.{◌≡◌, ◌≢◌, ◌⊎◌, IfErr, IfOk, string_bytes, true};
 ghost use Rattle.std.specs.Io.KnownBytes.{Appends};
 ghost use Rattle.command_requests.specs.declared.statuses.TheConstants.{INPUT_OUTPUT, OUT_OF_MEMORY, REFUSED};
+ghost use Rattle.csa_commands.specs.Ending.{EndsUndone};
 ghost use Rattle.csa_commands.specs.Refusing.{refusal_line};
+ghost use Rattle.csa_commands.specs.Writing.{IsBegun};
 
 use crate::explaining::unread_reason;
 use crate::refusal::{Refusal, refusal_line};
@@ -11,18 +13,43 @@ pub use command_requests::statuses::{
     ACCEPTED, COMMAND_LINE, INPUT_OUTPUT, OUT_OF_MEMORY, REFUSED,
 };
 use std::alloc::{AllocError, Global};
-use std::io::Write;
+use std::io::{ErrorKind, Write};
 use std::rt::Files;
 
-/// Writes the text; the status that is given, or that of a failed write.
+/// Writes the text; the status that is given, or that of a failed write, before which a first part of it was written.
 pub fn write_text<W: Write>(writer: &mut W, text: &str, status: u8) -> u8
     ensures status { (result ≡ status) ⊎ (result ≡ INPUT_OUTPUT) }
     ensures written { result ≢ INPUT_OUTPUT → Appends (W.contents writer.old) (W.contents writer.new) text.now }
+    ensures begun { IsBegun (W.contents writer.old) (W.contents writer.new) text.now }
 {
-    match writer.write_all(text.as_bytes()) {
-        Ok(()) => status,
-        Err(_) => INPUT_OUTPUT,
+    if write_bytes(writer, text.as_bytes()) {
+        status
+    } else {
+        INPUT_OUTPUT
     }
+}
+
+// Writes the bytes, and returns whether all were written; the first ones were in any case, and no others.
+fn write_bytes<W: Write>(writer: &mut W, bytes: &[u8]) -> bool
+    ensures whole { result ≡ true → Appends (W.contents writer.old) (W.contents writer.new) bytes.now }
+    ensures begun { IsBegun (W.contents writer.old) (W.contents writer.new) bytes.now }
+{
+    let mut done = 0;
+    for _ in 0..u64::MAX {
+        if done == bytes.len() {
+            return true;
+        }
+        match writer.write(&bytes[done..]) {
+            Ok(0) => return false,
+            Ok(written) => done += written,
+            Err(error) => {
+                if error.kind() != ErrorKind::Interrupted {
+                    return false;
+                }
+            }
+        }
+    }
+    false
 }
 
 /// Writes a line that may have found no memory: the status that is given, or that of a failed write; or, if there is
@@ -35,6 +62,7 @@ pub fn write_line<W: Write>(writer: &mut W, line: Result<String, AllocError>, st
     ensures memory { IfErr line (λ _. result ≡ OUT_OF_MEMORY) }
     ensures unwritten { IfErr line (λ _. W.contents writer.new ≡ W.contents writer.old) }
     ensures silent { status ≢ OUT_OF_MEMORY → result ≡ OUT_OF_MEMORY → W.contents writer.new ≡ W.contents writer.old }
+    ensures begun { IfOk line (λ text. IsBegun (W.contents writer.old) (W.contents writer.new) (string_bytes text)) }
 {
     match line {
         Ok(text) => write_text(writer, text.as_str(), status),
@@ -42,15 +70,36 @@ pub fn write_line<W: Write>(writer: &mut W, line: Result<String, AllocError>, st
     }
 }
 
-/// Prints the line of a refusal.
+/// Prints the line of a refusal. The status is that of a refusal, or as of `print_refusal_as`.
 pub(crate) fn print_refusal<O: Write>(alloc: Global, output: &mut O, refusal: Refusal) -> u8
-    ensures status { (result ≡ REFUSED) ⊎ (result ≡ INPUT_OUTPUT) ⊎ (result ≡ OUT_OF_MEMORY) }
+    ensures status { EndsUndone result }
     ensures printed { result ≡ REFUSED
         → Appends (O.contents output.old) (O.contents output.new) (refusal_line refusal) }
     ensures silent { result ≡ OUT_OF_MEMORY → O.contents output.new ≡ O.contents output.old }
+    ensures begun { result ≡ INPUT_OUTPUT
+        → IsBegun (O.contents output.old) (O.contents output.new) (refusal_line refusal) }
+{
+    print_refusal_as(alloc, output, refusal, REFUSED)
+}
+
+/// Prints the line of a refusal; the status that is given, or that of a failed write, before which a first part of the
+/// line was written, or of memory that ran out, and then nothing is written.
+pub(crate) fn print_refusal_as<O: Write>(
+    alloc: Global,
+    output: &mut O,
+    refusal: Refusal,
+    status: u8,
+) -> u8
+    ensures status { (result ≡ status) ⊎ (result ≡ INPUT_OUTPUT) ⊎ (result ≡ OUT_OF_MEMORY) }
+    ensures printed { result ≢ INPUT_OUTPUT → result ≢ OUT_OF_MEMORY
+        → Appends (O.contents output.old) (O.contents output.new) (refusal_line refusal) }
+    ensures silent { status ≢ OUT_OF_MEMORY → result ≡ OUT_OF_MEMORY
+        → O.contents output.new ≡ O.contents output.old }
+    ensures begun { result ≢ OUT_OF_MEMORY
+        → IsBegun (O.contents output.old) (O.contents output.new) (refusal_line refusal) }
 {
     match refusal_line(alloc, refusal) {
-        Ok(line) => write_text(output, line.as_str(), REFUSED),
+        Ok(line) => write_text(output, line.as_str(), status),
         Err(_) => OUT_OF_MEMORY,
     }
 }

@@ -3,6 +3,7 @@
 ghost use Rattle.std.specs.Prelude.{◌≡◌, ◌≢◌, ◌+◌, ◌++◌, ℕ, List, decimal, IfOk, MatchBool, OnOk, string_bytes};
 ghost use Rattle.command_requests.specs.declared.statuses.TheConstants.{ACCEPTED, OUT_OF_MEMORY, REFUSED};
 ghost use Rattle.csa_commands.specs.StopLines.{AreStopLines, AreStopsPrinted, IsFound, IsIn, stop_line};
+ghost use Rattle.csa_commands.specs.Ending.{Ends};
 
 use crate::status;
 use answer_pictures::stop_name;
@@ -19,9 +20,10 @@ pub fn run<O: Write>(
     request: StopsRequest<'_>,
     output: &mut O,
 ) -> u8
+    ensures status { Ends result }
+    ensures refused { result ≢ REFUSED }
     ensures printed { result ≡ ACCEPTED
         → AreStopsPrinted image.now request.entry.text.now (O.contents output.old) (O.contents output.new) }
-    ensures refused { result ≢ REFUSED }
     ensures silent { result ≡ OUT_OF_MEMORY → O.contents output.new ≡ O.contents output.old }
 {
     match lines_of(alloc, image, request.text) {

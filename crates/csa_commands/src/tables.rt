@@ -6,6 +6,7 @@ ghost use Rattle.command_requests.specs.declared.statuses.TheConstants.{ACCEPTED
 ghost use Rattle.feed_loader.specs.Refused.{IsWantOfMemory};
 ghost use Rattle.gtfs_rows.specs.declared.fault.FaultKind.{FaultKind};
 ghost use Rattle.gtfs_tables.specs.Feeds.{IsFirstFault};
+ghost use Rattle.csa_commands.specs.Ending.{Ends};
 ghost use Rattle.csa_commands.specs.Folders.{AreTablesRefusedOf, HoldsOfRead, IsTablesRefusal};
 ghost use Rattle.csa_commands.specs.Tabling.{AreCounted, AreCountsOf, AreCountsOfJoined, counts_of, counts_text};
 ghost use Rattle.csa_commands.specs.Tabling.{services_text, trips_text};
@@ -44,6 +45,7 @@ pub fn run<H: Files + Disk + AllocGlobal, O: Write, E: Write>(
     output: &mut O,
     errors: &mut E,
 ) -> u8
+    ensures status { Ends result }
     ensures printed { result ≡ ACCEPTED
         → AreCounted H.gives folder.now (O.contents output.old) (O.contents output.new) }
     ensures refused { result ≡ REFUSED
@@ -97,9 +99,10 @@ fn counts_of(tables: &Tables) -> Counts
 
 // Prints the line of counts. It refuses nothing.
 fn print_counts<O: Write>(alloc: Global, counts: Counts, output: &mut O) -> u8
+    ensures status { Ends result }
+    ensures refused { result ≢ REFUSED }
     ensures printed { result ≡ ACCEPTED
         → Appends (O.contents output.old) (O.contents output.new) (counts_text counts) }
-    ensures refused { result ≢ REFUSED }
     ensures silent { result ≡ OUT_OF_MEMORY → O.contents output.new ≡ O.contents output.old }
 {
     match line_of(alloc, counts) {

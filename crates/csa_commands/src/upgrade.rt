@@ -4,6 +4,7 @@ ghost use Rattle.std.specs.Prelude.{◌≡◌, ◌≢◌, IfOk};
 ghost use Rattle.std.specs.Io.KnownBytes.{Appends};
 ghost use Rattle.command_requests.specs.declared.statuses.TheConstants.{ACCEPTED, OUT_OF_MEMORY, REFUSED};
 ghost use Rattle.csa_commands.specs.Counting.{counts_line};
+ghost use Rattle.csa_commands.specs.Ending.{Ends};
 ghost use Rattle.image_layout.specs.declared.layout.TheConstants.{LAYOUT};
 ghost use Rattle.image_layout.specs.Fields.{layout_of};
 ghost use Rattle.image_layout.specs.Image.{IsImage};
@@ -26,9 +27,10 @@ pub fn run<H: Files + AllocGlobal, O: Write, E: Write>(
     output: &mut O,
     errors: &mut E,
 ) -> u8
+    ensures status { Ends result }
+    ensures refused { result ≢ REFUSED }
     ensures printed { result ≡ ACCEPTED
         → Appends (O.contents output.old) (O.contents output.new) (counts_line image.now) }
-    ensures refused { result ≢ REFUSED }
     ensures silent { result ≡ OUT_OF_MEMORY → O.contents output.new ≡ O.contents output.old }
 {
     let Ok(words) = upgraded(rt.alloc(), image) else {

@@ -4,6 +4,7 @@ ghost use Rattle.std.specs.Prelude.{◌≡◌, ◌≢◌, ◌++◌, IfOk, OnOk, 
 ghost use Rattle.std.specs.Io.KnownBytes.{Appends};
 ghost use Rattle.command_requests.specs.declared.statuses.TheConstants.{ACCEPTED, OUT_OF_MEMORY, REFUSED};
 ghost use Rattle.csa_commands.specs.Counting.{counts_line, numbers_text};
+ghost use Rattle.csa_commands.specs.Ending.{Ends};
 
 use crate::status;
 use image_verifier::Verified;
@@ -13,9 +14,10 @@ use text_pieces::{put_number, put_text};
 
 /// Prints the counts of an image, which was judged when it was opened. It refuses nothing.
 pub fn run<O: Write>(alloc: Global, image: &Verified, output: &mut O) -> u8
+    ensures status { Ends result }
+    ensures refused { result ≢ REFUSED }
     ensures printed { result ≡ ACCEPTED
         → Appends (O.contents output.old) (O.contents output.new) (counts_line image.now) }
-    ensures refused { result ≢ REFUSED }
     ensures silent { result ≡ OUT_OF_MEMORY → O.contents output.new ≡ O.contents output.old }
 {
     match counts(alloc, image) {

@@ -1,16 +1,27 @@
--- The image is that of the folder's files.
-use Rattle.std.proofs.Common.{◌≡◌, rules}
+-- The image is that of the folder's files, and so is the first thing that is wrong with them.
+use Rattle.std.proofs.Common.{◌≡◌, [], rules}
 use Rattle.std.proofs.lemmas.Result.{IfOk-weaker}
-use Rattle.csa_commands.proofs.OfFolder.{built_of}
+use Rattle.csa_commands.proofs.OfFolder.{build_refused, built_of}
 use Rattle.csa_commands.proofs.build.build.Goals as goal
 
-pub returns : goal.returns
-returns g c =
+pub returns-clause-built : goal.returns-clause-built
+returns-clause-built g c =
     let began = c.new-files.result.files in
     let then = c.build_reported-built.new.files.files in
     let asked = c.args.request.now in
     let same : began.folder.now ≡ asked.folder.now = search rules in
     IfOk-weaker c.build_reported-built.result _ _ (λ built is.
     built_of g.H.Disk.gives then.disk.now asked.folder.now began.folder.now then.folder.now began.reads then.reads
-    asked.plan c.in_ok-plan.ensures.plan.0 c.in_ok-plan.plan built.image.timetable built.image.names built.report
-    same c.in_ok-plan.ensures.plan.1 then.given is) c.build_reported-built.ensures
+    asked.plan c.in-Ok.ensures.plan.0 c.in-Ok.plan built.image.timetable built.image.names built.report
+    same c.in-Ok.ensures.plan.1 then.given is) c.build_reported-built.ensures.built
+
+pub returns-clause-refused : goal.returns-clause-refused
+returns-clause-refused g c =
+    let began = c.new-files.result.files in
+    let then = c.build_reported-built.new.files.files in
+    let asked = c.args.request.now in
+    let same : began.folder.now ≡ asked.folder.now = search rules in
+    let unread : began.reads ≡ [] = search rules in
+    build_refused g.H.Disk.gives then.disk.now asked.folder.now began.folder.now then.folder.now began.reads then.reads
+    c.build_reported-built.result asked.plan c.in-Ok.ensures.plan.0 c.in-Ok.plan same unread c.in-Ok.ensures.plan.1 then.given
+    c.build_reported-built.ensures.refused

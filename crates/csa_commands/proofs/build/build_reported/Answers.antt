@@ -5,12 +5,17 @@ use Rattle.feed_loader.specs.Refused.{IsLoaded}
 use Rattle.csa_commands.proofs.OfFolder.{whole_of}
 use Rattle.csa_commands.proofs.build.build_reported.Goals as goal
 
-pub returns : goal.returns
-returns g c =
-    let image = c.in_ok-image.image in
-    let loaded = c.in_ok-image.ensures in
+pub returns-clause-built : goal.returns-clause-built
+returns-clause-built g c =
+    let loaded = c.in-Ok.loaded in
     whole_of g.F.FeedFiles.reads (g.F.FeedFiles.reads c.args.files.now.files) c.load_reported.new.files.files
     c.report_written.new.self.files
-    (λ content. IsLoaded content c.args.plan image.timetable image.names c.in_ok-image.report)
-    (c.report_written.ensures ∙ c.report_writing.ensures) loaded.all_read
-    (λ content read. loaded.read_ok content all_tables read)
+    (λ content. IsLoaded content c.args.plan loaded.0.timetable loaded.0.names loaded.1)
+    (c.report_written.ensures ∙ c.report_writing.ensures) c.in-Ok.ensures.all_read
+    (λ content read. c.in-Ok.ensures.read_ok content all_tables read)
+
+pub returns-in-Err-clause-refused : goal.returns-in-Err-clause-refused
+returns-in-Err-clause-refused g c unless = (
+  c.load_reported.ensures.first_read,
+  λ content ts read. c.in-Err.ensures.read_err content ts read unless,
+)

@@ -3,7 +3,6 @@ use Rattle.std.proofs.Common.{inl, inr, refl}
 use Rattle.std.proofs.lemmas.Result.{err_from_is_err_and}
 use Rattle.feed_files.specs.Reading.{HoldsTables, NoTables}
 use Rattle.csa_commands.proofs.OfFolder.{of_read_weaker}
-use Rattle.csa_commands.specs.Folders.{IsTablesRefusal}
 use Rattle.csa_commands.proofs.days.read_feed.Goals as goal
 
 pub returns-in_err-tables-clause-refused : goal.returns-in_err-tables-clause-refused

@@ -1,28 +1,12 @@
-use Rattle.std.proofs.Common.{◌≡◌, ℕ, List, [], ◌++◌, Some, None, Option, sym, subst, ap, ◌∙◌, Result, Ok, Err, OnOk, rules, append_assoc, append-nil}
+use Rattle.std.proofs.Common.{◌≡◌, ℕ, List, [], ◌++◌, sym, subst, ap, ◌∙◌, Result, Ok, Err, OnOk, rules, append_assoc, append-nil}
 use Rattle.std.proofs.lemmas.Grind.{flat_map-append}
 use Rattle.std.proofs.lemmas.List.{nil_from_length}
 use Rattle.std.specs.Int.{w32, to_le_bytes}
-use Rattle.std.specs.Io.KnownBytes.{Appends, Keeps}
+use Rattle.std.specs.Io.KnownBytes.{Appends}
 use Rattle.std.specs.Slice.Iter.{chunks_rest}
 use Rattle.image_layout.specs.Text.{bytes_of}
+use Rattle.csa_commands.proofs.Appended.{appended_and_kept, appended_in_turns, nothing_appended}
 use Rattle.csa_commands.proofs.writing.write_words.Goals as goal
-
-nothing_appended : (known : Option (List ℕ)) → Appends known known []
-nothing_appended None = tt
-nothing_appended (Some xs) = sym (append-nil xs)
-
--- what is appended in turns is appended one after the other
-appended_in_turns : (u v w : Option (List ℕ)) (a b : List ℕ) → Appends u v a → Appends v w b → Appends u w (a ++ b)
-appended_in_turns None v w a b x y = tt
-appended_in_turns (Some xs) None w a b x y = absurd x
-appended_in_turns (Some xs) (Some ys) None a b x y = y
-appended_in_turns (Some xs) (Some ys) (Some zs) a b x y = y ∙ ap (λ (t : List ℕ). t ++ b) x ∙ append_assoc xs a b
-
-appended_and_kept : (u v w : Option (List ℕ)) (a : List ℕ) → Appends u v a → Keeps v w → Appends u w a
-appended_and_kept None v w a x y = tt
-appended_and_kept (Some xs) None w a x y = absurd x
-appended_and_kept (Some xs) (Some ys) None a x y = absurd y
-appended_and_kept (Some xs) (Some ys) (Some zs) a x y = y ∙ x
 
 -- what holds in any case holds at a value
 at_value : {T E P : Type 0} (r : Result T E) → P → OnOk r P
