@@ -125,6 +125,7 @@ answers 2 C
 run stops - B
 answers 1 B
 run stops - b
+tells csa: no stop_id contains \"b\" (stop names and stations aren't searched)
 ends 0
 ";
 
