@@ -287,6 +287,9 @@ rows base_feed no folder
 tells csa: base_feed: not a folder
 answers refused 1 MissingFile agency.txt 0
 remove base_feed
+run tables ''
+tells csa: \"\": no such file or folder
+answers refused 1 MissingFile agency.txt 0
 rows feed.zip no folder
 run tables feed.zip
 tells csa: feed.zip: a zip file: unpack it, and name the folder
