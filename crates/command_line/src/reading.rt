@@ -189,6 +189,14 @@ fn wrong_feed(alloc: Global, word: &str) -> Unread {
     )
 }
 
+fn feed_named_twice(alloc: Global, word: &str) -> Unread {
+    mistake(
+        alloc,
+        "serve",
+        format!(in alloc; "error: {word:?}: there is a feed of this name already\n"),
+    )
+}
+
 /// What is wrong with the words of a command, and its usage if there is memory for it.
 fn mistake(alloc: Global, command: &str, text: Result<String, AllocError>) -> Unread {
     let Ok(text) = text else {
@@ -351,9 +359,21 @@ fn named_folders<'a>(
         let Some(feed) = named_folder(*word) else {
             return Err(wrong_feed(alloc, word));
         };
+        if has_name(&feeds, feed.name) {
+            return Err(feed_named_twice(alloc, word));
+        }
         if feeds.push(feed).is_err() {
             return Err(Unread::OutOfMemory);
         }
     }
     Ok(feeds)
+}
+
+fn has_name(feeds: &[NamedFolder<'_>], name: &str) -> bool {
+    for feed in feeds {
+        if feed.name == name {
+            return true;
+        }
+    }
+    false
 }

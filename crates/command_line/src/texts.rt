@@ -98,6 +98,7 @@ pub(crate) const DEPARTURES: &str =
 except the one where journeys end; a stop without departures has no line. Stops come in the image's order, as\n\
 `csa stops` prints them. The last line `stops N points N read N` has the number of stops that have a line, the number\n\
 of their departures, and the number of connections that were read.\n\
+Journeys have the image's numbers; `csa profile --names` prints those from one stop with ids.\n\
 A journey rides at least once, so a direct walk is not among the departures: --summary and --json give its seconds\n\
 for the stops that have a line.\n\
 If a line of FILE is not a stop_id of the image, nothing is printed, standard error has the number of that line, and\n\

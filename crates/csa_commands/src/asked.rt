@@ -112,7 +112,7 @@ fn do_asked<H: Files + AllocGlobal, O: Write, E: Write>(
         Asked::Journey(request) => journey::run(rt.alloc(), image, request, output, errors),
         Asked::Profile(request) => profile::run(rt, image, request, output, errors),
         Asked::Departures(request) => departures::run(rt, image, request, output, errors),
-        Asked::Stops(request) => stops::run(rt.alloc(), image, request, output),
+        Asked::Stops(request) => stops::run(rt.alloc(), image, request, output, errors),
         Asked::Upgrade(request) => upgrade::run(rt, image, request, output, errors),
     }
 }

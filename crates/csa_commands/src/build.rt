@@ -76,7 +76,7 @@ pub fn run<H: Files + Disk + AllocGlobal + Clock, O: Write, E: Write>(
             explain_refused(rt, folder, &fault, errors);
             refuse_feed(alloc, output, fault)
         }
-        Err(Failure::Unreadable(path)) => status::report_unreadable(rt, errors, path),
+        Err(Failure::Unreadable(path)) => status::report_unread_zone(rt, errors, path),
         Err(Failure::Unwritable(path, reason)) => {
             status::report_unwritten(alloc, errors, path, reason)
         }

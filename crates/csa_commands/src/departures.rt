@@ -10,7 +10,7 @@ ghost use Rattle.csa_commands.specs.declared.wanted_stops.NoList.TheVariants.{Un
 ghost use Rattle.csa_commands.specs.Departing.{AreAllPrinted, ArePrinted, AreShownBy, IsNoneAsked};
 ghost use Rattle.csa_commands.specs.Departing.{form_of, window_asked};
 
-use crate::explaining::explain;
+use crate::explaining::{explain, is_file};
 use crate::question::{explain_end, explain_unknown, window_reason};
 use crate::refusal::Refusal;
 use crate::status;
@@ -116,12 +116,24 @@ fn explain_list<H: Files + AllocGlobal, E: Write>(
             explain_line(rt.alloc(), path, line, errors);
             status::REFUSED
         }
-        NoList::Unreadable => status::report_unreadable(rt, errors, path),
+        NoList::Unreadable => {
+            let status = status::report_unreadable(rt, errors, path);
+            explain_from(rt, path, errors);
+            status
+        }
         NoList::NotText => {
             explain(errors, &["csa: --from ", path, ": it isn't UTF-8"]);
             status::INPUT_OUTPUT
         }
         NoList::OutOfMemory => status::OUT_OF_MEMORY,
+    }
+}
+
+// Says what --from is, if its value is no file.
+fn explain_from<H: Files, E: Write>(rt: &H, path: &str, errors: &mut E) {
+    if !is_file(rt, path) {
+        let line = "csa: --from is a file of stop_ids here; for one stop use csa profile";
+        explain(errors, &[line]);
     }
 }
 

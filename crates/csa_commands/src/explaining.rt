@@ -4,7 +4,7 @@
 
 use crate::folders::explain_folder;
 use crate::table_fault::{explain_failed, explain_table};
-use crate::warnings::zone_path;
+use crate::warnings::{ZONES, zone_path};
 use feed_loader::LoadFault;
 use std::alloc::{AllocError, Global};
 use std::convert::AsStr;
@@ -59,6 +59,11 @@ pub fn unread_reason<H: Files>(rt: &H, path: &str) -> &'static str {
         Ok(_) => reason_of(ErrorKind::Other),
         Err(error) => reason_of(error.kind()),
     }
+}
+
+/// A path as it is shown: an empty one in quotes.
+pub fn shown_path(path: &str) -> &str {
+    if path.is_empty() { "\"\"" } else { path }
 }
 
 /// A value as it is shown: in quotes, with control characters escaped, and cut if it is long.
@@ -130,17 +135,30 @@ pub fn explain_load<E: Write>(fault: &LoadFault, errors: &mut E) {
     explain(errors, &["csa: ", reason]);
 }
 
-/// Says how a zone is spelled of which only the name was given, if the system has a file of it.
+/// Says how a zone is spelled of which only the name or the path was given, if the system has a file of it.
 pub fn explain_zone<H: Files + AllocGlobal, S: AsStr, E: Write>(
     rt: &H,
     words: &[S],
     errors: &mut E,
 ) {
-    if let Some(name) = value_of(words, "--zone")
-        && let Some(path) = zone_path(rt, name)
-    {
+    if let Some(zone) = value_of(words, "--zone") {
+        explain_zone_named(rt, zone_name(zone), errors);
+    }
+}
+
+/// Says how the zone of a name is spelled, if the system has a file of it.
+pub fn explain_zone_named<H: Files + AllocGlobal, E: Write>(rt: &H, name: &str, errors: &mut E) {
+    if let Some(path) = zone_path(rt, name) {
         let parts = ["csa: for this zone write --zone file:", path.as_str()];
         explain(errors, &parts);
+    }
+}
+
+/// What is behind the folder of zone files, or all of the text if that isn't ahead of it.
+fn zone_name(zone: &str) -> &str {
+    match zone.strip_prefix(ZONES) {
+        Some(rest) => rest.strip_prefix('/').unwrap_or(zone),
+        None => zone,
     }
 }
 

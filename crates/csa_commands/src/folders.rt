@@ -1,6 +1,6 @@
 //! What is wrong with the folder of a feed: that it is none, or which file it lacks, and where that file is.
 
-use crate::explaining::{explain, is_file, is_folder, reason_of};
+use crate::explaining::{explain, is_file, is_folder, reason_of, shown_path};
 use gtfs_rows::Table;
 use std::alloc::Global;
 use std::fs;
@@ -21,7 +21,7 @@ pub fn explain_folder<H: Files, E: Write>(rt: &H, folder: &str, errors: &mut E) 
 }
 
 fn explain_path<'a, E: Write>(errors: &mut E, path: &'a str, reason: &'a str) {
-    explain(errors, &["csa: ", path, ": ", reason]);
+    explain(errors, &["csa: ", shown_path(path), ": ", reason]);
 }
 
 /// What is wrong with the folder of a feed, if it is none.

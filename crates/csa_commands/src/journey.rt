@@ -90,7 +90,8 @@ fn explain_refusal<E: Write>(refusal: Refusal, errors: &mut E) {
         Refusal::BadText => explain(
             errors,
             &[
-                "csa: a journey is `ride FIRST LAST` and `walk FROM TO SECS`, with one space between words",
+                "csa: a journey is rides and walks by number, as `csa profile` prints them without --names: ",
+                "`ride FIRST LAST`, `walk FROM TO SECS`, one space between words, at least one ride",
             ],
         ),
         Refusal::Journey(fault) => explain_fault(fault, errors),

@@ -18,6 +18,24 @@ use std::fmt;
 use std::io::{Read, Write};
 use std::rt::Files;
 
+/// Why words are no image, as it is said of a file.
+#[derive(Clone, Copy, Drop)]
+struct Reason(ImageFault);
+
+impl fmt::Display for Reason {
+    fn fmt<W: fmt::Write>(&self, f: &mut fmt::Formatter<W>) -> fmt::Result {
+        match self.0 {
+            ImageFault::BadMagic => {
+                f.write_str("it is no image of csa: it doesn't begin like one")
+            }
+            ImageFault::BadLength => f.write_str(
+                "its size isn't the one that its counts give: it was cut off, or is no image",
+            ),
+            fault => write!(f, "{fault}"),
+        }
+    }
+}
+
 /// The verified image at the path, of the input for `-`; or the status of a command that has said why there is none:
 /// that of a refusal, of a file that can't be read or a line that can't be written, or of memory that ran out, in which
 /// case nothing was printed.
@@ -40,7 +58,7 @@ pub fn open_image<H: Files + AllocGlobal, I: Read, O: Write, E: Write>(
     let words = match image_words(rt, path, input) {
         Ok(words) => words,
         Err(ImageFileFault::OddLength) => {
-            let reason = "its size isn't a multiple of four bytes";
+            let reason = "it is no image: its size isn't a multiple of four bytes";
             return Err(refuse(
                 rt.alloc(),
                 path,
@@ -78,7 +96,8 @@ fn refuse_words<O: Write, E: Write>(
     if fault == ImageFault::OutOfMemory {
         return status::OUT_OF_MEMORY;
     }
-    refuse(alloc, path, Refusal::Image(fault), &fault, output, errors)
+    let reason = Reason(fault);
+    refuse(alloc, path, Refusal::Image(fault), &reason, output, errors)
 }
 
 // Prints why the image at a path is refused, and says what is wrong.

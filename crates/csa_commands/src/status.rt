@@ -7,7 +7,7 @@ ghost use Rattle.csa_commands.specs.Ending.{EndsUndone};
 ghost use Rattle.csa_commands.specs.Refusing.{refusal_line};
 ghost use Rattle.csa_commands.specs.Writing.{IsBegun};
 
-use crate::explaining::unread_reason;
+use crate::explaining::{explain_zone_named, shown_path, unread_reason};
 use crate::refusal::{Refusal, refusal_line};
 pub use command_requests::statuses::{
     ACCEPTED, COMMAND_LINE, INPUT_OUTPUT, OUT_OF_MEMORY, REFUSED,
@@ -113,6 +113,19 @@ pub fn report_unreadable<H: Files + AllocGlobal, E: Write>(rt: &H, errors: &mut 
     report_failed_file(rt.alloc(), errors, path, "read", reason)
 }
 
+/// Reports a zone's file that can't be read, and how that zone is spelled if the system has a file of this name.
+pub fn report_unread_zone<H: Files + AllocGlobal, E: Write>(
+    rt: &H,
+    errors: &mut E,
+    path: &str,
+) -> u8
+    ensures { (result ≡ INPUT_OUTPUT) ⊎ (result ≡ OUT_OF_MEMORY) }
+{
+    let status = report_unreadable(rt, errors, path);
+    explain_zone_named(rt, path, errors);
+    status
+}
+
 /// Reports a file that can't be written, with the system's reason.
 pub(crate) fn report_unwritten<E: Write>(
     alloc: Global,
@@ -135,6 +148,7 @@ fn report_failed_file<E: Write>(
 ) -> u8
     ensures { (result ≡ INPUT_OUTPUT) ⊎ (result ≡ OUT_OF_MEMORY) }
 {
+    let path = shown_path(path);
     write_line(
         errors,
         format!(in alloc; "csa: {path} can't be {what}: {reason}\n"),

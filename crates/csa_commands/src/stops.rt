@@ -5,6 +5,7 @@ ghost use Rattle.command_requests.specs.declared.statuses.TheConstants.{ACCEPTED
 ghost use Rattle.csa_commands.specs.StopLines.{AreStopLines, AreStopsPrinted, IsFound, IsIn, stop_line};
 ghost use Rattle.csa_commands.specs.Ending.{Ends};
 
+use crate::explaining::{explain, quoted};
 use crate::status;
 use answer_pictures::stop_name;
 use command_requests::StopsRequest;
@@ -13,12 +14,14 @@ use std::alloc::{AllocError, Global};
 use std::io::Write;
 use text_pieces::{put_number, put_text, put_word};
 
-/// Prints number and name of each stop whose name has the text in it, in order. It refuses nothing.
-pub fn run<O: Write>(
+/// Prints number and name of each stop whose name has the text in it, in order; if there is none, standard error says
+/// so. It refuses nothing.
+pub fn run<O: Write, E: Write>(
     alloc: Global,
     image: &Verified,
     request: StopsRequest<'_>,
     output: &mut O,
+    errors: &mut E,
 ) -> u8
     ensures status { Ends result }
     ensures refused { result ≢ REFUSED }
@@ -27,8 +30,23 @@ pub fn run<O: Write>(
     ensures silent { result ≡ OUT_OF_MEMORY → O.contents output.new ≡ O.contents output.old }
 {
     match lines_of(alloc, image, request.text) {
-        Ok(lines) => status::write_text(output, lines.as_str(), status::ACCEPTED),
+        Ok(lines) => {
+            explain_none(alloc, lines.as_str(), request.text, errors);
+            status::write_text(output, lines.as_str(), status::ACCEPTED)
+        }
         Err(_) => status::OUT_OF_MEMORY,
+    }
+}
+
+// Says that no stop_id has the text in it, if there is no line of one.
+fn explain_none<E: Write>(alloc: Global, lines: &str, text: &str, errors: &mut E) {
+    if !lines.is_empty() {
+        return;
+    }
+    if let Ok(shown) = quoted(alloc, text.as_bytes()) {
+        let reason = " (stop names and stations aren't searched)";
+        let parts = ["csa: no stop_id contains ", shown.as_str(), reason];
+        explain(errors, &parts);
     }
 }
 

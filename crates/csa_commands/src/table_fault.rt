@@ -3,13 +3,13 @@
 use crate::explaining::{explain, is_file, quoted, unread_reason};
 use crate::folders::missing_file;
 use crate::further_rows::{FurtherRows, SameKey};
-use crate::records::{Records, Search, Unread, Wanted, find};
+use crate::records::{Record, Records, Search, Unread, Wanted, find};
 use crate::separator::Separator;
 use crate::suspects::{Form, Suspect, key_columns, required_columns, suspects_of};
 use feed_files::LONGEST_FILE;
 use gtfs_rows::values::number;
 use gtfs_rows::{Day, FaultKind, Table, TableFault, Time};
-use std::alloc::Global;
+use std::alloc::{AllocError, Global};
 use std::fs::{self, File};
 use std::io::Write;
 use std::path::Path;
@@ -85,7 +85,7 @@ fn not_utf8<H: Files + AllocGlobal>(rt: &H, folder: &str, table: Table) -> Optio
     format!(in rt.alloc(); "{file}, line {line}: {shown} isn't UTF-8").ok()
 }
 
-/// The required columns that the header doesn't have.
+/// The required columns that the header doesn't have, and the header.
 fn missing_column<H: Files + AllocGlobal>(rt: &H, folder: &str, table: Table) -> Option<String> {
     let file = table.file_name();
     let Some(found) = record_in(rt, folder, file, Wanted::Number(0)).ok()? else {
@@ -99,7 +99,22 @@ fn missing_column<H: Files + AllocGlobal>(rt: &H, folder: &str, table: Table) ->
             append_column(&mut text, separator.next(), column)?;
         }
     }
+    let shown = shown_header(rt.alloc(), &found.record).ok()?;
+    text.push_str(": it is ").ok()?;
+    text.push_str(shown.as_str()).ok()?;
     Some(text)
+}
+
+/// A header as it is shown: its fields with commas between.
+fn shown_header(alloc: Global, header: &Record) -> Result<String, AllocError> {
+    let mut text = Vec::new(alloc);
+    for index in 0..header.fields() {
+        if index > 0 {
+            text.push(b',')?;
+        }
+        text.extend_from_slice(header.field(index))?;
+    }
+    quoted(alloc, &text)
 }
 
 /// Appends a column that the header lacks, behind what is between it and the one before.

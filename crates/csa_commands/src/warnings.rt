@@ -42,7 +42,8 @@ pub fn warn<H: Files + AllocGlobal, E: Write>(
     errors: &mut E,
 ) {
     if built.report.runs == 0 {
-        let line = "no trip runs on these days, so no query has a departure";
+        let line = "no trip runs on these days, so no query has a departure \
+(`csa days FOLDER` prints the days on which trips run)";
         warn_of(errors, line);
     } else if let Some(line) = idle_days(rt.alloc(), built) {
         warn_of(errors, line.as_str());

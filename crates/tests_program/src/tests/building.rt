@@ -62,10 +62,12 @@ ends 3
 
 # The day that the clock shows, and the day before: on neither runs anything. The zone is read before a clock is asked.
 run build base_feed today.csa --first today --days 1 --zone fixed:0
-tells csa: warning: no trip runs on these days, so no query has a departure
+tells csa: warning: no trip runs on these days, so no query has a departure \
+(`csa days FOLDER` prints the days on which trips run)
 answers stops 3 runs 0 connections 0 footpaths 3 lifted 0 flex 0 frequencies 0 skipped 0
 run build base_feed today.csa --first today-1 --days 14 --zone posix:CET-1CEST,M3.5.0,M10.5.0/3
-tells csa: warning: no trip runs on these days, so no query has a departure
+tells csa: warning: no trip runs on these days, so no query has a departure \
+(`csa days FOLDER` prints the days on which trips run)
 answers stops 3 runs 0 connections 0 footpaths 3 lifted 0 flex 0 frequencies 0 skipped 0
 run build base_feed today.csa --first today --days 1 --zone posix:none
 tells csa: --zone: file:PATH must be a time zone file (TZif), posix:TEXT a rule such as CET-1CEST,M3.5.0,M10.5.0/3
@@ -182,7 +184,8 @@ rows feed/trips.txt service_id,trip_id
 rows feed/stop_times.txt trip_id,arrival_time,departure_time,stop_id,stop_sequence
 rows feed/transfers.txt from_stop_id,to_stop_id,transfer_type,min_transfer_time
 run build feed feed.csa --first 20240115 --days 1 --zone fixed:0
-tells csa: warning: no trip runs on these days, so no query has a departure
+tells csa: warning: no trip runs on these days, so no query has a departure \
+(`csa days FOLDER` prints the days on which trips run)
 answers stops 2 runs 0 connections 0 footpaths 4 lifted 0 flex 0 frequencies 0 skipped 0
 asks profile feed.csa --from P --to Q --after 00:00:00 --until 01:00:00 --by 01:00:00 --criterion arrival
 answers points 0 read 0 walk 120
@@ -194,7 +197,8 @@ tells csa: --from S: no stop of the image has this stop_id \
 answers refused 31 UnknownStop
 rows feed/transfers.txt from_stop_id,to_stop_id,transfer_type,min_transfer_time | S,S,2,180
 run build feed feed.csa --first 20240115 --days 1 --zone fixed:0
-tells csa: warning: no trip runs on these days, so no query has a departure
+tells csa: warning: no trip runs on these days, so no query has a departure \
+(`csa days FOLDER` prints the days on which trips run)
 answers stops 2 runs 0 connections 0 footpaths 4 lifted 0 flex 0 frequencies 0 skipped 0
 asks profile feed.csa --from P --to Q --after 00:00:00 --until 01:00:00 --by 01:00:00 --criterion arrival
 answers points 0 read 0 walk 180
@@ -202,7 +206,8 @@ asks profile feed.csa --from Q --to P --after 00:00:00 --until 01:00:00 --by 01:
 answers points 0 read 0 walk 180
 rows feed/transfers.txt from_stop_id,to_stop_id,transfer_type,min_transfer_time | S,S,2,180 | P,Q,3,
 run build feed feed.csa --first 20240115 --days 1 --zone fixed:0
-tells csa: warning: no trip runs on these days, so no query has a departure
+tells csa: warning: no trip runs on these days, so no query has a departure \
+(`csa days FOLDER` prints the days on which trips run)
 answers stops 2 runs 0 connections 0 footpaths 3 lifted 0 flex 0 frequencies 0 skipped 0
 asks profile feed.csa --from P --to Q --after 00:00:00 --until 01:00:00 --by 01:00:00 --criterion arrival
 answers points 0 read 0 walk none
@@ -265,7 +270,8 @@ rows east/trips.txt service_id,trip_id
 rows east/stop_times.txt trip_id,arrival_time,departure_time,stop_id,stop_sequence
 rows east/calendar_dates.txt service_id,date,exception_type
 run build east east.csa --first 20240115 --days 1 --zone file:zone_file
-tells csa: warning: no trip runs on these days, so no query has a departure
+tells csa: warning: no trip runs on these days, so no query has a departure \
+(`csa days FOLDER` prints the days on which trips run)
 answers stops 1 runs 0 connections 0 footpaths 1 lifted 0 flex 0 frequencies 0 skipped 0
 image 1346458435 2 1 0 0 1 1 1705273200 0 0 1 0 0 0 1 65
 holds east.csa

@@ -123,8 +123,14 @@ const EXPLAINED: &str = "
 sample
 cut 3
 run verify -
-tells csa: standard input: its size isn't a multiple of four bytes
+tells csa: standard input: it is no image: its size isn't a multiple of four bytes
 answers refused 51 OddLength
+cut 184
+tells csa: standard input: its size isn't the one that its counts give: it was cut off, or is no image
+answers refused 63 BadLength
+zeros 50
+tells csa: standard input: it is no image of csa: it doesn't begin like one
+answers refused 61 BadMagic
 sample
 set 9 4294967295
 run verify -
@@ -146,7 +152,8 @@ tells csa: walk 1, walk 0 being the one before the first ride: it doesn't lead f
 the next departs; a change is a walk, even at one stop and of 0 seconds
 answers refused 85 WalkBroken 1
 run journey - 'walk 0 0 0' --from A --to C --after 07:00:00 --until 09:00:00 --by 10:00:00
-tells csa: a journey is `ride FIRST LAST` and `walk FROM TO SECS`, with one space between words
+tells csa: a journey is rides and walks by number, as `csa profile` prints them without --names: \
+`ride FIRST LAST`, `walk FROM TO SECS`, one space between words, at least one ride
 answers refused 80 BadText
 run journey - 'ride 0 1' --from A --to C --after 07:00:00 --until 07:30:00 --by 10:00:00
 tells csa: the journey departs before --after or after --until, or arrives after --by

@@ -16,6 +16,9 @@ complains 64
 run verify no/such/file
 tells csa: no/such/file can't be read: no such file or folder
 ends 3
+run verify ''
+tells csa: \"\" can't be read: no such file or folder
+ends 3
 folder a_folder
 run verify a_folder
 tells csa: a_folder can't be read: it is a folder
@@ -111,6 +114,10 @@ tells For more information, try 'csa build --help'.
 ends 64
 run build no_such_feed none.csa --first 20240115 --days 1 --zone UTC
 complains 64
+run build no_such_feed none.csa --first 20240115 --days 1 --zone /usr/share/zoneinfo/UTC
+complains 64
+run build no_such_feed none.csa --first 20240115 --days 1 --zone file:UTC
+complains 3
 ";
 
 #[test]

@@ -125,6 +125,7 @@ answers 2 C
 run stops - B
 answers 1 B
 run stops - b
+tells csa: no stop_id contains \"b\" (stop names and stations aren't searched)
 ends 0
 ";
 
@@ -310,6 +311,7 @@ tells csa: --from wanted, line 2: no stop of the image has this stop_id \
 ends 2
 asks departures - --to C --after 07:00:00 --until 09:00:00 --by 10:00:00 --criterion arrival --from nowhere
 tells csa: nowhere can't be read: no such file or folder
+tells csa: --from is a file of stop_ids here; for one stop use csa profile
 ends 3
 
 # The first line that is no stop_id is reported, and a line that is there twice is one stop: of two stops of a name the first.

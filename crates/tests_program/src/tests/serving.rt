@@ -25,6 +25,15 @@ run serve --image - --port 0 --workers 2 --sessions 1 --first 20240115 --days 1 
 complains 64
 run serve --image - --port 0 --workers 2 --sessions 1 --first 20240115 --days 1 --zone fixed:0 slow=
 complains 64
+run serve --image - --port 0 --workers 2 --sessions 1 --first 20240115 --days 1 --zone fixed:0 \
+a=slow b=slow a=flat
+tells error: \"a=flat\": there is a feed of this name already
+tells 
+tells Usage: csa serve [OPTIONS] --image <IMAGE> --port <P> --workers <W> --sessions <N> --first <DAY> --days <N> \
+--zone <ZONE> [NAME=FOLDER]...
+tells 
+tells For more information, try 'csa serve --help'.
+ends 64
 
 # An image that can't be read.
 run serve --image 'no such file' --port 0 --workers 2 --sessions 1 --first 20240115 --days 1 --zone fixed:0 slow=slow_feed

@@ -191,8 +191,22 @@ with stop_times.txt 1 T1,08:00:00,08:00:00,A
 tells csa: stop_times.txt, line 2: the number of fields is 4, in the header 5
 answers refused 4 RowLength stop_times.txt 1
 rows base_feed/stop_times.txt trip_id,arrival_time,stop_id
-tells csa: stop_times.txt, line 1: the header lacks departure_time, stop_sequence
+tells csa: stop_times.txt, line 1: the header lacks departure_time, stop_sequence: \
+it is \"trip_id,arrival_time,stop_id\"
 answers refused 2 MissingColumn stop_times.txt 0
+rows base_feed/stops.txt stop_id;stop_name | A;A
+tells csa: stops.txt, line 1: the header lacks stop_id: it is \"stop_id;stop_name\"
+answers refused 2 MissingColumn stops.txt 0
+rows base_feed/stops.txt stop_id\tstop_name | A\tA
+tells csa: stops.txt, line 1: the header lacks stop_id: it is \"stop_id\\tstop_name\"
+answers refused 2 MissingColumn stops.txt 0
+rows base_feed/stops.txt \u{FEFF}\u{FEFF}stop_id | A
+tells csa: stops.txt, line 1: the header lacks stop_id: it is \"\\u{feff}stop_id\"
+answers refused 2 MissingColumn stops.txt 0
+rows base_feed/stops.txt Stop_ID,stop_code,stop_name,stop_desc,stop_lat,stop_lon,zone_id,stop_url | A,,,,,,,
+tells csa: stops.txt, line 1: the header lacks stop_id: \
+it is \"Stop_ID,stop_code,stop_name,stop_desc,stop_lat,stop_lon,zone\" ..
+answers refused 2 MissingColumn stops.txt 0
 rows base_feed/stops.txt stop_id | A | B | A
 tells csa: stops.txt, line 4: stop_id \"A\" is in line 2 too
 answers refused 8 IdTwice stops.txt 3
@@ -287,6 +301,9 @@ rows base_feed no folder
 tells csa: base_feed: not a folder
 answers refused 1 MissingFile agency.txt 0
 remove base_feed
+run tables ''
+tells csa: \"\": no such file or folder
+answers refused 1 MissingFile agency.txt 0
 rows feed.zip no folder
 run tables feed.zip
 tells csa: feed.zip: a zip file: unpack it, and name the folder
