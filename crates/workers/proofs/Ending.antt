@@ -89,12 +89,13 @@ module _ {C R W S : Type 0} (form : PointForm) (opens : C → Result (R × W) Co
       subst (λ clients. Are clients sessions_then) (sym takes) (subst (λ list. Are (has ++ client ∷ []) list) (sym adds) all)
 
   -- the reader and the writer of a session that was served may be closed
-  pub may_close : (closes : R → W → End → Type 0) (n : ℕ) (client : C) (streams : Option (Streams R W)) (end : End) (a b : SeatValue)
-      (asked asked_then : List OrderValue) → MayClose form opens remaining contents closes
-      → IsServed form opens remaining contents n client streams end a asked b asked_then
+  pub may_close : (fits : S → Type 0) (closes : R → W → End → Type 0) (client : C) (streams : Option (Streams R W)) (end : End) (a b : S)
+      (asked asked_then : List OrderValue) → MayClose form opens remaining contents number value known fits closes → fits a → fits b
+      → IsServedAt form opens remaining contents number value known client (streams, end) a asked b asked_then
       → IfSome streams (λ now. closes (inner_of now.reader) (inner_of now.writer) end)
-  may_close closes n client None end a b asked asked_then may served = tt
-  may_close closes n client (Some now) end a b asked asked_then may served = may n client now end a b asked asked_then served
+  may_close fits closes client None end a b asked asked_then may first last served = tt
+  may_close fits closes client (Some now) end a b asked asked_then may first last served =
+      may client now end a b asked asked_then first last served
 
 -- what is told before a publish was tried leaves the loader's seat as it was
 pub not_published : (answers : List LoaderAnswer) (refusal : LoadRefusal) → IsEarly refusal → IsNotPublished answers refusal answers

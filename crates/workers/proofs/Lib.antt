@@ -3,3 +3,4 @@ pub mod Carried
 pub mod Reading
 pub mod Shared
 pub mod Told
+mod Learning

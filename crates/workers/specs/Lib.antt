@@ -5,3 +5,4 @@ pub mod Loading
 pub mod Carrying
 pub mod Ordering
 pub mod Drawing
+pub mod Learned

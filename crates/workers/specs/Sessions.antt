@@ -43,11 +43,6 @@ module _ {C R W : Type 0} (form : PointForm) (opens : C → Result (R × W) Conn
       (0 < failures_of now.reader) (0 < failures_of now.writer) a asked b asked_then
   IsServed number client None end a asked b asked_then = (fault : ConnFault) × opens client (Err fault) × IsUnopened end a asked b asked_then
 
-  -- whatever session was served, its reader and its writer may be closed as they are then
-  abbrev pub MayClose : (R → W → End → Type 0) → Type 0
-  MayClose closes = (number : ℕ) (client : C) (now : Streams R W) (end : End) (a b : SeatValue) (asked asked_then : List OrderValue)
-      → IsServed number client (Some now) end a asked b asked_then → closes (inner_of now.reader) (inner_of now.writer) end
-
   -- over seats with these numbers, values, and parts of their shelves' one history that they know
   module _ {S : Type 0} (number : S → ℕ) (value : S → SeatValue) (known : S → Known) where
     -- a client is served at this seat, which learns meanwhile: each profile is answered over the image that the history published as its
@@ -57,6 +52,11 @@ module _ {C R W : Type 0} (form : PointForm) (opens : C → Result (R × W) Conn
         IsServed (number a) client session.0 session.1 (value a) asked (value b) asked_then × (number b ≡ number a)
         × Learns (known a) (value a) (known b) (value b) × TellPublished (known b) (value a) (value b)
         × ((value a).held ≡ None → (value b).held ≡ None)
+
+    -- whatever session was served at a seat that fits, its reader and its writer may be closed as they are then
+    abbrev pub MayClose : (S → Type 0) → (R → W → End → Type 0) → Type 0
+    MayClose fits closes = (client : C) (now : Streams R W) (end : End) (a b : S) (asked asked_then : List OrderValue)
+        → fits a → fits b → IsServedAt client (Some now, end) a asked b asked_then → closes (inner_of now.reader) (inner_of now.writer) end
 
     -- the clients are served at this seat one after the other, each in one of these sessions
     abbrev pub AreServed : List C → List (Session R W) → S → List OrderValue → S → List OrderValue → Type 0

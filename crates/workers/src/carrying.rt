@@ -5,6 +5,7 @@ ghost use Rattle.feed_loader.specs.declared.plan.Plan.{Plan};
 ghost use Rattle.load_orders.specs.Queue.{mark_of};
 ghost use Rattle.load_orders.specs.Telling.{AnsweredValue};
 ghost use Rattle.workers.specs.Carrying.{AllCarriedOut, FailedAsTold, IsCarriedOut, IsLoadOf};
+ghost use Rattle.workers.specs.Learned.{LoaderLearns};
 ghost use Rattle.workers.specs.Loading.{IsOutcome, load_answer};
 ghost use Rattle.workers.specs.declared.drawing.DrawnFiles.{DrawnFiles};
 
@@ -44,6 +45,8 @@ impl<'a, R: Wait, N: Drop, T: Versions<Notice = N> + Loads, F: Feeds> Loading<'a
         requires loads { T.Loads.loads self.now.shelves.now seat }
         requires none { (orders.taken ≡ []) × (orders.answered ≡ []) × (used ≡ []) }
         ensures loads { T.Loads.loads self.now.shelves.now result.1 }
+        ensures learns { LoaderLearns (T.Loads.learned seat) (T.Loads.answers seat)
+            (T.Loads.learned result.1) (T.Loads.answers result.1) }
         ensures queue { result.0.queue ≡ orders.queue }
         ensures carried { AllCarriedOut T.Versions.noted (F.are_files self.now.feeds.now) F.Files.holds F.Files.reads
             F.Files.failures F.Files.failed
@@ -72,6 +75,8 @@ impl<'a, R: Wait, N: Drop, T: Versions<Notice = N> + Loads, F: Feeds> Loading<'a
     )
         requires { T.Loads.loads self.now.shelves.now seat.old }
         ensures loads { T.Loads.loads self.now.shelves.now seat.new }
+        ensures learns { LoaderLearns (T.Loads.learned seat.old) (T.Loads.answers seat.old)
+            (T.Loads.learned seat.new) (T.Loads.answers seat.new) }
         ensures queue { orders.new.queue ≡ orders.old.queue }
         ensures taken { orders.new.taken ≡ orders.old.taken }
         ensures carried { (answer : AnsweredValue N) × (files : Option (DrawnFiles F.Files N))
@@ -98,6 +103,8 @@ impl<'a, R: Wait, N: Drop, T: Versions<Notice = N> + Loads, F: Feeds> Loading<'a
     ) -> (LoadAnswer<N>, Option<DrawnFiles<F::Files, N>>)
         requires { T.Loads.loads self.now.shelves.now seat.old }
         ensures loads { T.Loads.loads self.now.shelves.now seat.new }
+        ensures learns { LoaderLearns (T.Loads.learned seat.old) (T.Loads.answers seat.old)
+            (T.Loads.learned seat.new) (T.Loads.answers seat.new) }
         ensures load { IsLoadOf T.Versions.noted (F.are_files self.now.feeds.now) F.Files.holds F.Files.reads
             F.Files.failures F.Files.failed
             (F.is_plan self.now.feeds.now)
@@ -137,6 +144,8 @@ impl<'a, R: Wait, N: Drop, T: Versions<Notice = N> + Loads, F: Feeds> Loading<'a
         requires new { files.old.files ≡ files.old.first.value }
         requires failures { F.Files.failures files.old.files ≡ 0 }
         ensures loads { T.Loads.loads self.now.shelves.now seat.new }
+        ensures learns { LoaderLearns (T.Loads.learned seat.old) (T.Loads.answers seat.old)
+            (T.Loads.learned seat.new) (T.Loads.answers seat.new) }
         ensures first { files.new.first ≡ files.old.first }
         ensures end { files.new.end ≡ files.old.end }
         ensures outcome { (plan : Plan) × F.is_plan self.now.feeds.now plan

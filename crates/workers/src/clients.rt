@@ -41,9 +41,16 @@ pub trait Clients<C> {
     // That there is no further client.
     ghost none_left: { Self → Type 0 };
 
+    // What may be said of their source.
+    ghost Fact: { Type 0 } = { Unit {0} };
+
+    // It is so, and stays so.
+    ghost holds: { Self → Self.Fact → Type 0 };
+
     /// The next client; it may be long in coming. None after the last.
     fn next(&mut self) -> Option<C>
         ensures came { MatchOption result (came self.new ≡ came self.old)
             (λ client. came self.new ≡ came self.old ++ client ∷ []) }
-        ensures none_left { MatchOption result (none_left self.new) (λ _. ⊤) };
+        ensures none_left { MatchOption result (none_left self.new) (λ _. ⊤) }
+        ensures holds { (fact : Self.Fact) → holds self.old fact → holds self.new fact };
 }

@@ -17,6 +17,7 @@ pub(crate) fn deal_all<R: Wait, C: Drop, K: Clients<C> + Drop>(
 ) -> K
     requires { dealer.old.view.closings ≡ 0 }
     ensures none_left { K.none_left result }
+    ensures holds { (fact : K.Fact) → K.holds clients fact → K.holds result fact }
     ensures put { (since : List C) × (K.came result ≡ K.came clients ++ since)
         × IsClosedFor takers since dealer.old dealer.new }
 {
@@ -33,6 +34,7 @@ fn put_all<R: Wait, C: Drop, K: Clients<C> + Drop>(
 ) -> K
     requires { dealer.old.view.closings ≡ 0 }
     ensures none_left { K.none_left result }
+    ensures holds { (fact : K.Fact) → K.holds clients fact → K.holds result fact }
     ensures put { IsPutSince (K.came clients) (K.came result) dealer.old dealer.new }
 {
     for _ in rt.forever() {

@@ -4,6 +4,7 @@ ghost use Rattle.std.specs.Prelude.{◌≡◌, ◌<◌, ◌≤◌, ◌-◌, ◌^
 ghost use Rattle.connections.specs.declared.days.TheConstants.{MAX_DAYS};
 ghost use Rattle.workers.specs.Carrying.{FailedAsTold};
 ghost use Rattle.workers.specs.Drawing.{IsDrawnAt};
+ghost use Rattle.workers.specs.Learned.{LoaderLearns};
 ghost use Rattle.workers.specs.Loading.{IsOutcome};
 
 use crate::feeds::Feeds;
@@ -64,6 +65,8 @@ impl<D: FeedFiles, N: Drop> DrawnFiles<D, N> {
         requires some { 1 ≤ plan.now.days }
         requires few { plan.now.days ≤ MAX_DAYS }
         ensures loads { T.Loads.loads shelves.now loader.new }
+        ensures learns { LoaderLearns (T.Loads.learned loader.old) (T.Loads.answers loader.old)
+            (T.Loads.learned loader.new) (T.Loads.answers loader.new) }
         ensures first { self.new.first ≡ self.old.first }
         ensures end { self.new.end ≡ self.old.end }
         ensures outcome { IsOutcome T.Versions.noted (D.holds self.new.first.value) (D.reads self.new.first.value)

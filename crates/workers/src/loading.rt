@@ -7,6 +7,7 @@ ghost use Rattle.feed_files.specs.Reading.{Content};
 ghost use Rattle.feed_files.specs.Reads.{AllWereRead, SomeWereRead};
 ghost use Rattle.feed_loader.specs.Faults.{failed_by, failed_in};
 ghost use Rattle.epochs.specs.Seats.{RefuseStep};
+ghost use Rattle.workers.specs.Learned.{LoaderLearns};
 ghost use Rattle.workers.specs.Loading.{ShowsContent, reading};
 ghost use Rattle.workers.specs.Loading.{IsEarly, IsImageOf, IsOutcome, IsPublished, MayRefuse};
 
@@ -41,6 +42,8 @@ pub fn load_one<F: FeedFiles, N, T: Versions<Notice = N> + Loads>(
     ensures same { F.holds files.new ≡ F.holds files.old }
     ensures failures { F.failures files.new ≡ F.failures files.old + failed_in (reading result) }
     ensures failed { F.failed files.new ≡ failed_by (F.failed files.old) (reading result) }
+    ensures learns { LoaderLearns (T.Loads.learned loader.old) (T.Loads.answers loader.old)
+        (T.Loads.learned loader.new) (T.Loads.answers loader.new) }
     ensures outcome { IsOutcome T.Versions.noted (F.holds files.old) (F.reads files.old) (F.reads files.new) plan.now
         (T.Loads.answers loader.old) result (T.Loads.answers loader.new) }
 {
@@ -94,6 +97,8 @@ fn publish_image<N, T: Versions<Notice = N> + Loads>(
     ensures published { MatchResult result
         (λ loaded. IsPublished (T.Loads.answers loader.old) (arc_value image) loaded.0 (T.Loads.answers loader.new))
         (λ fault. RefuseStep (T.Loads.answers loader.old) fault (T.Loads.answers loader.new)) }
+    ensures learns { LoaderLearns (T.Loads.learned loader.old) (T.Loads.answers loader.old)
+        (T.Loads.learned loader.new) (T.Loads.answers loader.new) }
     ensures notice { IfOk result (λ loaded. MatchOption loaded.1 ⊥ (λ notice. T.Versions.noted notice ≡ loaded.0)) }
 {
     match shelves.publish(loader, image) {

@@ -1,9 +1,10 @@
 //! Workers at shelves without a lock, under a name that the caller picks.
 
 ghost use Rattle.std.specs.Prelude.{◌≡◌, ◌≤◌, [], All, length, IfOk};
-ghost use Rattle.epochs.specs.ShelfSeats.{NoticeValue};
+ghost use Rattle.epochs.specs.ShelfSeats.{NoticeValue, ShelfSeatValue};
 ghost use Rattle.shelf_steps.specs.Events.{known_of};
 ghost use Rattle.workers.specs.Carrying.{AllCarriedOut};
+ghost use Rattle.workers.specs.Learned.{LoaderLearns};
 ghost use Rattle.workers.specs.Ordering.{route_to};
 ghost use Rattle.workers.specs.Sessions.{AreServedSince, MayClose};
 
@@ -46,8 +47,11 @@ pub fn run_shelves<
     requires loader { loader.table ≡ B.table }
     requires some { 1 ≤ length seats.items }
     requires few { length seats.items ≤ 16 }
-    requires closes { MayClose form C.opens C.Reader.remaining C.Writer.contents C.closes }
+    requires closes { MayClose form C.opens C.Reader.remaining C.Writer.contents
+        (λ (seat : ShelfSeatValue). seat.number) (λ seat. seat.shown) (λ seat. known_of seat.view)
+        (λ seat. seat.table ≡ shelves) C.closes }
     ensures none_left { IfOk result (λ ran. K.none_left ran.clients) }
+    ensures holds { IfOk result (λ ran. (fact : K.Fact) → K.holds clients fact → K.holds ran.clients fact) }
     ensures seats { IfOk result (λ ran. All (λ seat. seat.table ≡ shelves) ran.seats.items) }
     ensures loader { IfOk result (λ ran. ran.loader.table ≡ shelves) }
     ensures shares { IfOk result (λ ran. AreServedSince form C.opens C.Reader.remaining C.Writer.contents
@@ -58,6 +62,8 @@ pub fn run_shelves<
         (F.are_files feeds.now) F.Files.holds F.Files.reads
         F.Files.failures F.Files.failed (F.is_plan feeds.now) (length (F.named feeds.now))
         ran.orders ran.used loader.answers ran.loader.answers) }
+    ensures learns { IfOk result (λ ran. LoaderLearns (known_of loader.view) loader.answers
+        (known_of ran.loader.view) ran.loader.answers) }
 {
     let room = Vec::with_capacity(alloc, seats.len())?;
     let seats = named_seats::<B>(alloc, seats)?;

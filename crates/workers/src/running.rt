@@ -3,6 +3,7 @@
 ghost use denote.Param.Send.{IsSend, IsSync};
 ghost use Rattle.std.specs.Prelude.{◌≡◌, ◌≤◌, ◌++◌, ◌∷◌, [], All, length, IfOk, OnOk};
 ghost use Rattle.workers.specs.Carrying.{AllCarriedOut};
+ghost use Rattle.workers.specs.Learned.{LoaderLearns};
 ghost use Rattle.workers.specs.Ordering.{route_to};
 ghost use Rattle.workers.specs.Sessions.{AreServedSince, IsShare, MayClose};
 
@@ -87,8 +88,10 @@ where
     requires loader { T.Loads.loads shelves.now loader }
     requires some { 1 ≤ length seats.items }
     requires few { length seats.items ≤ 16 }
-    requires closes { MayClose form C.opens C.Reader.remaining C.Writer.contents C.closes }
+    requires closes { MayClose form C.opens C.Reader.remaining C.Writer.contents T.Versions.number T.Versions.value
+        T.Versions.known (T.Versions.fits shelves.now) C.closes }
     ensures none_left { IfOk result (λ ran. K.none_left ran.clients) }
+    ensures holds { IfOk result (λ ran. (fact : K.Fact) → K.holds clients fact → K.holds ran.clients fact) }
     ensures seats { IfOk result (λ ran. All (T.Versions.fits shelves.now) ran.seats.items) }
     ensures loader { IfOk result (λ ran. T.Loads.loads shelves.now ran.loader) }
     ensures shares { IfOk result (λ ran. AreServedSince form C.opens C.Reader.remaining C.Writer.contents
@@ -98,6 +101,8 @@ where
     ensures loads { IfOk result (λ ran. AllCarriedOut T.Versions.noted (F.are_files feeds.now) F.Files.holds
         F.Files.reads F.Files.failures F.Files.failed (F.is_plan feeds.now) (length (F.named feeds.now)) ran.orders
         ran.used (T.Loads.answers loader) (T.Loads.answers ran.loader)) }
+    ensures learns { IfOk result (λ ran. LoaderLearns (T.Loads.learned loader) (T.Loads.answers loader)
+        (T.Loads.learned ran.loader) (T.Loads.answers ran.loader)) }
 {
     thread::scope(
         thread::scope_env(),
@@ -109,8 +114,10 @@ where
                 × IsSend F.Files.row × IsSend E.row
                 × All (T.Versions.fits shelves.now) seats.items × T.Loads.loads shelves.now loader
                 × (1 ≤ length seats.items)
-                × MayClose form C.opens C.Reader.remaining C.Writer.contents C.closes }
+                × MayClose form C.opens C.Reader.remaining C.Writer.contents T.Versions.number T.Versions.value
+                T.Versions.known (T.Versions.fits shelves.now) C.closes }
             ensures none_left { IfOk result (λ ran. K.none_left ran.clients) }
+            ensures holds { IfOk result (λ ran. (fact : K.Fact) → K.holds clients fact → K.holds ran.clients fact) }
             ensures seats { IfOk result (λ ran. All (T.Versions.fits shelves.entry.now) ran.seats.items) }
             ensures loader { IfOk result (λ ran. T.Loads.loads shelves.entry.now ran.loader) }
             ensures shares { IfOk result (λ ran. AreServedSince form C.opens C.Reader.remaining C.Writer.contents
@@ -123,6 +130,8 @@ where
                 F.Files.failures F.Files.failed
                 (F.is_plan feeds.entry.now) (length (F.named feeds.entry.now)) ran.orders ran.used
                 (T.Loads.answers loader) (T.Loads.answers ran.loader)) }
+            ensures learns { IfOk result (λ ran. LoaderLearns (T.Loads.learned loader) (T.Loads.answers loader)
+                (T.Loads.learned ran.loader) (T.Loads.answers ran.loader)) }
         {
             let mut dealer = client_queue(alloc)?;
             let room = Vec::with_capacity(alloc, seats.len())?;
@@ -145,7 +154,9 @@ where
                         × AllCarriedOut T.Versions.noted (F.are_files feeds.entry.now) F.Files.holds F.Files.reads
                         F.Files.failures F.Files.failed
                         (F.is_plan feeds.entry.now) (length (F.named feeds.entry.now))
-                        result.0 result.2 (T.Loads.answers loader_seat) (T.Loads.answers result.1) }
+                        result.0 result.2 (T.Loads.answers loader_seat) (T.Loads.answers result.1)
+                        × LoaderLearns (T.Loads.learned loader_seat) (T.Loads.answers loader_seat)
+                        (T.Loads.learned result.1) (T.Loads.answers result.1) }
                 {
                     let loading = Loading {
                         rt,
@@ -177,7 +188,8 @@ where
                     move || -> (Share<C, T::Seat>, UsedOrders<T::Notice>)
                         requires { T.Versions.fits shelves.now seat × (taker.taken ≡ []) × (nobody_yet ≡ [])
                             × (end.orders ≡ [])
-                            × MayClose form C.opens C.Reader.remaining C.Writer.contents C.closes }
+                            × MayClose form C.opens C.Reader.remaining C.Writer.contents T.Versions.number
+                            T.Versions.value T.Versions.known (T.Versions.fits shelves.now) C.closes }
                         ensures { (result.0.taker.queue ≡ taker.queue)
                             × T.Versions.fits shelves.entry.now result.0.seat
                             × IsShare form C.opens C.Reader.remaining C.Writer.contents

@@ -75,7 +75,8 @@ impl<'a, R: Wait, N: Drop, T: Versions<Notice = N>, G: Gate> Worker<'a, R, T, G>
         requires fits { T.fits self.now.desk.shelves.now seat }
         requires notices { AgreeOnNotices O.told T.noted }
         requires none { (taker.taken ≡ []) × (served ≡ []) }
-        requires closes { MayClose self.now.desk.form C.opens C.Reader.remaining C.Writer.contents C.closes }
+        requires closes { MayClose self.now.desk.form C.opens C.Reader.remaining C.Writer.contents T.number T.value
+            T.known (T.fits self.now.desk.shelves.now) C.closes }
         ensures fits { T.fits self.now.desk.shelves.now result.0.seat }
         ensures queue { result.0.taker.queue ≡ taker.queue }
         ensures route { O.route result.1 ≡ O.route orders }

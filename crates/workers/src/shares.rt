@@ -140,13 +140,16 @@ impl<
 > Promise<(LoaderOrders<N>, L, UsedFiles<D, N>)> for LoadsAt<T, F, N> {
     ghost use Rattle.std.specs.Prelude.{◌≡◌, length};
     ghost use Rattle.workers.specs.Carrying.{AllCarriedOut};
+    ghost use Rattle.workers.specs.Learned.{LoaderLearns};
 
     ghost kept_by = { λ promise done. T.Loads.loads promise.shelves.value done.1
         × (done.0.queue ≡ promise.orders.value.queue)
         × AllCarriedOut T.Versions.noted (F.are_files promise.feeds.value) D.holds D.reads
         D.failures D.failed
         (F.is_plan promise.feeds.value) (length (F.named promise.feeds.value)) done.0 done.2
-        (T.Loads.answers promise.seat.value) (T.Loads.answers done.1) };
+        (T.Loads.answers promise.seat.value) (T.Loads.answers done.1)
+        × LoaderLearns (T.Loads.learned promise.seat.value) (T.Loads.answers promise.seat.value)
+        (T.Loads.learned done.1) (T.Loads.answers done.1) };
 }
 
 /// Puts all clients in the queue, and joins the workers once it was closed for each: the clients' source, the workers'
@@ -185,6 +188,7 @@ pub(crate) fn deal_and_join<
     requires out { dealer.view ≡ record nothing_put { out = length workers.items } }
     requires room { room.items ≡ [] }
     ensures none_left { IfOk result (λ ran. K.none_left ran.0) }
+    ensures holds { IfOk result (λ ran. (fact : K.Fact) → K.holds clients fact → K.holds ran.0 fact) }
     ensures fits { IfOk result (λ ran. All (T.fits shelves.now) ran.2.items) }
     ensures shares { IfOk result (λ ran. AreServedSince form C.opens C.Reader.remaining C.Writer.contents
         T.number T.value T.known T.noted (route_to (F.named route.feeds.value) route.end.value.queue)

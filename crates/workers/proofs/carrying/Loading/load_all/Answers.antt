@@ -1,6 +1,7 @@
 use Rattle.std.proofs.Common.{◌∙◌, [], length, refl}
 use Rattle.load_orders.specs.Queue.{mark_of}
 use Rattle.workers.proofs.Carried.{all_carried, carries_also, carries_nothing, each_answered}
+use Rattle.workers.proofs.Learning.{loader_on, loader_same}
 use Rattle.workers.proofs.carrying.Loading.load_all.Goals as goal
 
 -- nothing was taken yet
@@ -13,6 +14,7 @@ loop-init g c =
       finite = tt;
       queue = refl;
       loads = c.requires.loads;
+      learns = loader_same (g.T.Loads.learned c.args.seat) (g.T.Loads.answers c.args.seat);
       carried = carries_nothing g.T.Versions.noted (g.F.Feeds.are_files feeds) g.F.Files.FeedFiles.holds g.F.Files.FeedFiles.reads
           g.F.Files.FeedFiles.failures g.F.Files.FeedFiles.failed (g.F.Feeds.is_plan feeds)
           (length (g.F.Feeds.named feeds)) c.args.orders.queue c.args.orders c.args.used (g.T.Loads.answers c.args.seat) none.0 none.1 none.2;
@@ -38,6 +40,7 @@ loop-preserved g c =
       finite = tt;
       queue = one.queue ∙ at_queue;
       loads = one.loads;
+      learns = loader_on _ _ _ _ _ _ c.loop.invariant.learns one.learns;
       carried = carries_also g.T.Versions.noted (g.F.Feeds.are_files feeds) g.F.Files.FeedFiles.holds g.F.Files.FeedFiles.reads
           g.F.Files.FeedFiles.failures g.F.Files.FeedFiles.failed (g.F.Feeds.is_plan feeds)
           (length (g.F.Feeds.named feeds)) c.args.orders.queue c.loop.orders c.next-in-loop.new.self c.load_feed.new.orders
@@ -57,4 +60,4 @@ returns-in-None-next g c =
     (length (g.F.Feeds.named feeds)) c.args.orders.queue c.loop.orders c.next-in-loop.new.self c.loop.used
     (g.T.Loads.answers c.args.seat) (g.T.Loads.answers c.loop.seat)
     c.loop.invariant.carried at_queue last.taken last.answered last.over in
-    record { loads = c.loop.invariant.loads; queue = at_queue; carried = carried }
+    record { loads = c.loop.invariant.loads; learns = c.loop.invariant.learns; queue = at_queue; carried = carried }

@@ -1,5 +1,6 @@
 use Rattle.std.proofs.Common.{◌≡◌, [], length}
 use Rattle.workers.specs.Carrying.{AreCarriedOut}
+use Rattle.workers.specs.Learned.{LoaderLearns}
 use Rattle.workers.proofs.carrying.Loading.load_all.Given as goal
 
 abbrev pub invariant-loop : goal.invariant-loop
@@ -13,4 +14,5 @@ invariant-loop g l = record {
       (g.F.Feeds.is_plan l.self.feeds.now)
       (length (g.F.Feeds.named l.self.feeds.now)) l.fn.orders.queue [] l.orders.taken l.used l.orders.answered
       (g.T.Loads.answers l.fn.seat) (g.T.Loads.answers l.seat);
+  learns : LoaderLearns (g.T.Loads.learned l.fn.seat) (g.T.Loads.answers l.fn.seat) (g.T.Loads.learned l.seat) (g.T.Loads.answers l.seat);
 }

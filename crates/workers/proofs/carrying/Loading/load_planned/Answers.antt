@@ -1,5 +1,6 @@
 use Rattle.std.proofs.Common.{ap, refl, arith, sym, subst}
 use Rattle.feed_files.specs.Reads.{SomeWereRead}
+use Rattle.workers.proofs.Learning.{loader_same}
 use Rattle.workers.proofs.Reading.{none_read}
 use Rattle.workers.proofs.carrying.Loading.load_planned.Goals as goal
 
@@ -13,3 +14,6 @@ returns-in-Err-clause-outcome g c =
     let failures = ap g.F.Files.FeedFiles.failures c.requires.new in
     let failed = ap g.F.Files.FeedFiles.failed c.requires.new in
     (possible.0, possible.1, (unread, λ content shows not. absurd (not refl), refl), (omega (arith, failures), failed))
+
+pub returns-in-Err-clause-learns : goal.returns-in-Err-clause-learns
+returns-in-Err-clause-learns g c = loader_same _ _

@@ -44,9 +44,11 @@ loop-preserved g c =
 pub close-requires-clause-closes : goal.close-requires-clause-closes
 close-requires-clause-closes g c =
     let one = c.serve_client-streams in
+    let is = one.ensures in
     λ lifetimes outlive. may_close c.args.self.now.desk.form g.C.Client.opens g.C.Reader.Read.remaining g.C.Writer.Write.contents
-    g.T.Versions.number g.T.Versions.value g.T.Versions.known g.C.Client.closes
-    _ _ one.result.0 one.result.1 _ _ _ _ c.requires.closes one.ensures.session
+    g.T.Versions.number g.T.Versions.value g.T.Versions.known (g.T.Versions.fits c.args.self.now.desk.shelves.now) g.C.Client.closes
+    c.in-Some-next.client one.result.0 one.result.1 c.loop.seat one.new.seat (g.O.Orders.asked c.loop.orders) (g.O.Orders.asked one.new.orders)
+    c.requires.closes c.loop.invariant.fits is.fits (is.session, is.number, is.learns, is.profiles, is.idle)
 
 -- what was told while a client was served is told still
 pub returns-in-None-next-clause-told : goal.returns-in-None-next-clause-told

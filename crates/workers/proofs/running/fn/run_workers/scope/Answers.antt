@@ -5,6 +5,7 @@ use Rattle.workers.proofs.Shared.{one_more_out, seated_none, seated_next, seated
 use mathlib.Core.Path.{sym}
 use Rattle.load_orders.specs.Queue.{QueueId}
 use Rattle.workers.specs.Carrying.{AllCarriedOut}
+use Rattle.workers.specs.Learned.{LoaderLearns}
 use Rattle.workers.specs.Ordering.{GoesBy, route_to}
 use Rattle.workers.specs.Sessions.{AreServedSince, MayClose}
 use Rattle.workers.proofs.running.fn.run_workers.scope.Goals as goal
@@ -17,7 +18,8 @@ spawn_with-begun-requires-clause-runs g c =
     let fits : g.T.Versions.fits c.captures.shelves.now c.in-Some.seat = left 0 c.in-Some.seat (omega arith) in
     let ready : g.T.Versions.fits c.captures.shelves.now c.in-Some.seat × (c.in_ok-taker.taker.taken ≡ []) × (c.new-nobody_yet.result ≡ [])
     × (c.in_ok-end.end.orders ≡ [])
-    × MayClose c.captures.form g.C.Client.opens g.C.Reader.Read.remaining g.C.Writer.Write.contents g.C.Client.closes =
+    × MayClose c.captures.form g.C.Client.opens g.C.Reader.Read.remaining g.C.Writer.Write.contents
+    g.T.Versions.number g.T.Versions.value g.T.Versions.known (g.T.Versions.fits c.captures.shelves.now) g.C.Client.closes =
     (fits, ap (λ taker. taker.taken) c.in_ok-taker.ensures.taker, c.new-nobody_yet.ensures, c.in_ok-end.ensures.another, c.requires.15) in
     λ κs within. (
       ready,
@@ -122,4 +124,14 @@ returns-in-Ok-served g c =
     g.F.Files.FeedFiles.holds g.F.Files.FeedFiles.reads g.F.Files.FeedFiles.failures g.F.Files.FeedFiles.failed
     (g.F.Feeds.is_plan c.captures.feeds.now) (length (g.F.Feeds.named c.captures.feeds.now)) done.0 done.2
     (g.T.Loads.answers seat) (g.T.Loads.answers done.1)) seat at_feeds in
-    record { none_left = ran.ensures.none_left; seats = ran.ensures.fits; loader = loader; shares = shares; loads = loads }
+    let learns = subst (λ seat. LoaderLearns (g.T.Loads.learned seat) (g.T.Loads.answers seat) (g.T.Loads.learned done.1) (g.T.Loads.answers done.1))
+    seat c.join-orders.ensures.3 in
+    record {
+      none_left = ran.ensures.none_left;
+      holds = ran.ensures.holds;
+      seats = ran.ensures.fits;
+      loader = loader;
+      shares = shares;
+      loads = loads;
+      learns = learns;
+    }
