@@ -178,7 +178,7 @@ run build feed feed.csa --first 20240114 --days 4 --zone fixed:0
 tells csa: warning: no trip runs on 20240114, 20240116, 20240117
 answers stops 2 runs 1 connections 1 footpaths 2 lifted 0 flex 0 frequencies 0 skipped 0
 
-# Two stops of a station, and nothing that runs: two minutes between them, unless a row has another time, or there is no way.
+# Two stops of a station, and nothing that runs: two minutes between them, unless a row says otherwise.
 rows feed/stops.txt stop_id,location_type,parent_station | S,1, | P,0,S | Q,0,S
 rows feed/trips.txt service_id,trip_id
 rows feed/stop_times.txt trip_id,arrival_time,departure_time,stop_id,stop_sequence

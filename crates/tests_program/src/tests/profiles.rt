@@ -76,7 +76,7 @@ prints dep 08:30:00 arr 08:40:00 trips 1 : ride T4 08:30:00 A 08:40:00 B
 prints dep 08:40:00 arr 08:50:00 trips 1 : ride T5 08:40:00 A 08:50:00 B
 answers points 4 read 4 walk none
 
-# Three rides with a change before each but the first: the third one's first connection at C is missed, and the second isn't.
+# Three rides, a change before each but the first: at C the third one's first connection is missed, not the second.
 image 1346458435 1 4 4 4 4 12 1705276800 0 0 1 28800 29400 0 3 1 2 29520 30000 1 3 2 3 29700 30600 2 3 2 3 30300 31200 3 3 0 1 2 3 4 0 0 1 0 2 0 3 0 0 1 2 3 4 6 8 10 12 20240115 20240115 20240115 20240115 1145258561 844378452 877933396
 profile A D 07:00:00 09:00:00 10:00:00 arrival+trips+walk
 prints dep 08:00:00 arr 08:40:00 trips 3 walked 0 : ride 0 0 walk 1 1 0 ride 1 1 walk 2 2 0 ride 3 3

@@ -139,7 +139,7 @@ tells csa: calendar_dates.txt, line 2: exception_type \"3\" is neither 1 nor 2
 answers refused 7 BadNumber calendar_dates.txt 1
 remove base_feed/calendar_dates.txt
 
-# Then the order is: parents, stop times, frequencies, trips, transfers. The first trip comes back in time over a blank row.
+# Then the order is: parents, stop times, frequencies, trips, transfers. The first trip goes back in time.
 rows base_feed/transfers.txt from_stop_id,to_stop_id | A,Q
 tells csa: stops.txt, line 2: parent_station \"Q\" isn't a station in stops.txt (the field may be left blank)
 answers refused 9 UnknownId stops.txt 1
