@@ -77,15 +77,20 @@ impl Telling for Shown {
     fn told<R: Abort>(&self, _rt: &R, alloc: Global, case: Case<'_>) -> Result<String, Fail> {
         let zone = zone_of(alloc, case.head)?;
         let mut told = String::new(alloc);
-        for line in case.wanted.split("\n> ") {
-            let (text, _) = line.split_once(' ').unwrap_or((line, ""));
-            if !told.is_empty() {
-                told.push_str("\n> ")?;
-            }
-            add_days(&mut told, &zone, text)?;
-        }
+        add_lines(&mut told, &zone, case.wanted)?;
         Ok(told)
     }
+}
+
+fn add_lines(told: &mut String, zone: &Zone, lines: &str) -> Result<(), Fail> {
+    for line in lines.split("\n> ") {
+        let (text, _) = line.split_once(' ').unwrap_or((line, ""));
+        if !told.is_empty() {
+            told.push_str("\n> ")?;
+        }
+        add_days(told, zone, text)?;
+    }
+    Ok(())
 }
 
 fn add_days(told: &mut String, zone: &Zone, text: &str) -> Result<(), Fail> {

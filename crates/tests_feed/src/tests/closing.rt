@@ -166,7 +166,7 @@ fn faults_are_told(rt: HostRuntime) -> Result<(), Fail> {
     Ok(())
 }
 
-// Whichever growth is refused, want of memory is told and nothing else, and else the closure comes.
+// Whichever growth is refused, the fault is that memory ran out; else the closure comes.
 // A refused growth ends the test with `AllocError`.
 #[test]
 fn refused_growth_is_told(rt: HostRuntime) -> Result<(), Fail> {

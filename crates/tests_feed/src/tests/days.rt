@@ -16,7 +16,6 @@ fn day(text: &str) -> Result<Day, Fail> {
     Ok(Day::parse(text.as_bytes())?)
 }
 
-// Begins a further line.
 fn add_line(told: &mut String) -> Result<(), AllocError> {
     if told.is_empty() {
         Ok(())
@@ -62,14 +61,19 @@ impl Telling for Starts {
     fn told<R: Abort>(&self, _rt: &R, alloc: Global, case: Case<'_>) -> Result<String, Fail> {
         let zone = zone_of(alloc, case.head)?;
         let mut told = String::new(alloc);
-        for line in case.wanted.split("\n> ") {
-            let (text, _) = line.split_once(' ').unwrap_or((line, ""));
-            let start = day_start(&zone, day(text)?)?;
-            add_line(&mut told)?;
-            write!(told, "{text} {start}")?;
-        }
+        add_starts(&mut told, &zone, case.wanted)?;
         Ok(told)
     }
+}
+
+fn add_starts(told: &mut String, zone: &Zone, lines: &str) -> Result<(), Fail> {
+    for line in lines.split("\n> ") {
+        let (text, _) = line.split_once(' ').unwrap_or((line, ""));
+        let start = day_start(zone, day(text)?)?;
+        add_line(told)?;
+        write!(told, "{text} {start}")?;
+    }
+    Ok(())
 }
 
 #[test]
@@ -124,9 +128,9 @@ fn days_in_a_row(rt: HostRuntime) {
 
 #[test]
 fn numbers(rt: HostRuntime) {
-    assert_eq!(rt; DayFault::BadZone.number(), 21);
-    assert_eq!(rt; DayFault::DayOutOfRange.number(), 22);
-    assert_eq!(rt; DayFault::OutOfMemory.number(), 23);
+    assert!(rt; DayFault::BadZone.number() == 21);
+    assert!(rt; DayFault::DayOutOfRange.number() == 22);
+    assert!(rt; DayFault::OutOfMemory.number() == 23);
 }
 
 // Services by their weeks, and by days that are added and removed; and on which days they run. 2024-01-15 is a Monday.
@@ -175,7 +179,7 @@ none
 > saturday 20240212 20240213 20240214 20240215 20240216 20240217 20240218: false false false false false true false
 > sunday 20240212 20240213 20240214 20240215 20240216 20240217 20240218: false false false false false false true";
 
-// What is read, or want of memory.
+// The rows, or that memory ran out.
 fn read(answer: Result<Vec<CalendarRow>, TableFault>) -> Result<Vec<CalendarRow>, Fail> {
     match answer {
         Ok(rows) => Ok(rows),
@@ -219,15 +223,30 @@ fn services_of(alloc: Global, lines: &str) -> Result<Services, Fail> {
     Ok(Services::new(alloc, IdHash::of_key(1), &rows, &dates)?)
 }
 
-// Whether a service runs on each of some days.
-fn answers(alloc: Global, services: &Services, service: &str, days: &str) -> Result<String, Fail> {
-    let mut told = String::new(alloc);
+// Adds whether a service runs on each of some days, each behind a space.
+fn add_answers(
+    told: &mut String,
+    services: &Services,
+    service: &str,
+    days: &str,
+) -> Result<(), Fail> {
     for text in days.split(' ') {
-        let space = if told.is_empty() { "" } else { " " };
         let runs = active(services, service, day(text)?);
-        write!(told, "{space}{runs}")?;
+        write!(told, " {runs}")?;
     }
-    Ok(told)
+    Ok(())
+}
+
+// Adds the services and the days of lines, with whether each runs.
+fn add_runs(told: &mut String, services: &Services, lines: &str) -> Result<(), Fail> {
+    for line in lines.split("\n> ") {
+        let (asked, _) = line.split_once(": ").unwrap_or((line, ""));
+        let (service, days) = asked.split_once(' ').unwrap_or((asked, ""));
+        add_line(told)?;
+        write!(told, "{asked}:")?;
+        add_answers(told, services, service, days)?;
+    }
+    Ok(())
 }
 
 // The service and the days of each line, and whether it runs on them.
@@ -237,13 +256,7 @@ impl Telling for Runs {
     fn told<R: Abort>(&self, _rt: &R, alloc: Global, case: Case<'_>) -> Result<String, Fail> {
         let services = services_of(alloc, case.given)?;
         let mut told = String::new(alloc);
-        for line in case.wanted.split("\n> ") {
-            let (asked, _) = line.split_once(": ").unwrap_or((line, ""));
-            let (service, days) = asked.split_once(' ').unwrap_or((asked, ""));
-            let runs = answers(alloc, &services, service, days)?;
-            add_line(&mut told)?;
-            write!(told, "{asked}: {runs}")?;
-        }
+        add_runs(&mut told, &services, case.wanted)?;
         Ok(told)
     }
 }
@@ -276,13 +289,12 @@ const ONE_DAY_OUT: &str = "\
 calendar.txt: S,1,1,1,1,1,1,1,20240110,20240220
 S -20240112";
 
-// Whichever growth is refused, want of memory is told and nothing else. A refused growth ends the
-// test with `AllocError`.
+// Whichever growth is refused, the fault is that memory ran out. A refused growth ends the test with `AllocError`.
 #[test]
 fn refused_growth_of_services(rt: HostRuntime) -> Result<(), Fail> {
+    let (first, second) = (day("20240111")?, day("20240112")?);
     let services = services_of(rt.alloc(), ONE_DAY_OUT)?;
-    assert!(rt; active(&services, "S", day("20240111")?));
-    assert!(rt; !active(&services, "S", day("20240112")?));
+    assert!(rt; active(&services, "S", first) && !active(&services, "S", second));
     Ok(())
 }
 

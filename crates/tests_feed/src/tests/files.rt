@@ -1,5 +1,7 @@
 //! A small feed in memory and in a folder, and what stops its reading.
 
+ghost use Rattle.std.specs.Prelude.{◌<◌};
+
 use super::failing::{Failing, ORDER};
 use feed_files::{
     FeedFiles, FileFault, FolderFiles, MemoryFiles, ReadFault, file_up_to, read_tables,
@@ -37,32 +39,63 @@ fn feed() -> [(&'static str, &'static [u8]); 6] {
     ]
 }
 
-// The tables of files in memory.
-fn tables_of(alloc: Global, files: &[(&str, &[u8])]) -> Result<Tables, ReadFault> {
-    let mut files = MemoryFiles::of(files);
-    read_tables(alloc, &mut files)
+// The feed without the file at a place.
+fn without(place: usize) -> [(&'static str, &'static [u8]); 6]
+    requires { place < 6 }
+{
+    let mut files = feed();
+    files[place].0 = "elsewhere.txt";
+    files
 }
 
-// Whether the answer is this fault of a table.
-fn tells<T: Drop>(answer: Result<T, ReadFault>, table: Table, row: u64, kind: FaultKind) -> bool {
+// How many rows each file has, in the order in which they are read.
+type RowCounts = [usize; 8];
+
+fn sizes_of(tables: &Tables) -> RowCounts {
+    [
+        tables.agencies.len(),
+        tables.stops.len(),
+        tables.trips.len(),
+        tables.stop_times.rows.len(),
+        tables.calendar.len(),
+        tables.calendar_dates.len(),
+        tables.transfers.len(),
+        tables.frequencies.len(),
+    ]
+}
+
+fn sizes(answer: Result<Tables, ReadFault>) -> Result<RowCounts, ReadFault> {
     match answer {
-        Err(ReadFault::Table(fault)) => fault == TableFault { table, row, kind },
-        _ => false,
+        Ok(tables) => Ok(sizes_of(&tables)),
+        Err(fault) => Err(fault),
     }
 }
 
+// What is read of files in memory.
+fn read(alloc: Global, files: &[(&str, &[u8])]) -> Result<RowCounts, ReadFault> {
+    let mut files = MemoryFiles::of(files);
+    sizes(read_tables(alloc, &mut files))
+}
+
+// What is read of files of which so many can be read, and how many reads failed.
+fn read_after(
+    alloc: Global,
+    left: usize,
+    files: &[(&'static str, &'static [u8])],
+    fault: FileFault,
+) -> (Result<RowCounts, ReadFault>, u64) {
+    let mut files = Failing::after(left, files, fault);
+    let told = sizes(read_tables(alloc, &mut files));
+    (told, files.failures)
+}
+
+fn refused(table: Table, row: u64, kind: FaultKind) -> Result<RowCounts, ReadFault> {
+    Err(ReadFault::Table(TableFault { table, row, kind }))
+}
+
 #[test]
-fn a_feed_is_read(rt: HostRuntime) -> Result<(), Fail> {
-    let tables = tables_of(rt.alloc(), &feed())?;
-    assert_eq!(rt; tables.agencies.len(), 1);
-    assert_eq!(rt; tables.stops.len(), 3);
-    assert_eq!(rt; tables.trips.len(), 2);
-    assert_eq!(rt; tables.stop_times.rows.len(), 2);
-    assert_eq!(rt; tables.calendar.len(), 1);
-    assert_eq!(rt; tables.calendar_dates.len(), 1);
-    assert!(rt; tables.transfers.is_empty());
-    assert!(rt; tables.frequencies.is_empty());
-    Ok(())
+fn a_feed_is_read(rt: HostRuntime) {
+    assert!(rt; read(rt.alloc(), &feed()) == Ok([1, 3, 2, 2, 1, 1, 0, 0]));
 }
 
 #[test]
@@ -74,28 +107,19 @@ fn a_required_file_that_is_missing_is_told(rt: HostRuntime) {
         (3, Table::StopTimes),
     ];
     for (place, table) in tables {
-        let mut files = feed();
-        files[place].0 = "elsewhere.txt";
-        let answer = tables_of(rt.alloc(), &files);
-        assert!(rt; tells(answer, table, 0, FaultKind::MissingFile));
+        let told = read(rt.alloc(), &without(place));
+        assert!(rt; told == refused(table, 0, FaultKind::MissingFile));
     }
 }
 
 #[test]
-fn one_calendar_is_enough(rt: HostRuntime) -> Result<(), Fail> {
-    let mut files = feed();
-    files[4].0 = "elsewhere.txt";
-    let tables = tables_of(rt.alloc(), &files)?;
-    assert!(rt; tables.calendar.is_empty());
-    assert_eq!(rt; tables.calendar_dates.len(), 1);
-    let mut files = feed();
+fn one_calendar_is_enough(rt: HostRuntime) {
+    assert!(rt; read(rt.alloc(), &without(4)) == Ok([1, 3, 2, 2, 0, 1, 0, 0]));
+    assert!(rt; read(rt.alloc(), &without(5)) == Ok([1, 3, 2, 2, 1, 0, 0, 0]));
+    let mut files = without(4);
     files[5].0 = "elsewhere.txt";
-    let tables = tables_of(rt.alloc(), &files)?;
-    assert!(rt; tables.calendar_dates.is_empty());
-    files[4].0 = "elsewhere.txt";
-    let answer = tables_of(rt.alloc(), &files);
-    assert!(rt; tells(answer, Table::Calendar, 0, FaultKind::MissingFile));
-    Ok(())
+    let told = read(rt.alloc(), &files);
+    assert!(rt; told == refused(Table::Calendar, 0, FaultKind::MissingFile));
 }
 
 #[test]
@@ -103,30 +127,26 @@ fn the_first_file_at_fault_is_told(rt: HostRuntime) {
     let mut files = feed();
     files[3].1 = b"trip_id,arrival_time,departure_time,stop_id,stop_sequence\nT1,8:5:9,,A,1\n";
     files[5].1 = b"service_id,date,exception_type\nS,20240115,3\n";
-    let answer = tables_of(rt.alloc(), &files);
-    assert!(rt; tells(answer, Table::StopTimes, 1, FaultKind::BadTime));
+    let told = read(rt.alloc(), &files);
+    assert!(rt; told == refused(Table::StopTimes, 1, FaultKind::BadTime));
     files[3].1 = STOP_TIMES;
     files[4].0 = "elsewhere.txt";
-    let answer = tables_of(rt.alloc(), &files);
-    assert!(rt; tells(answer, Table::CalendarDates, 1, FaultKind::BadNumber));
+    let told = read(rt.alloc(), &files);
+    assert!(rt; told == refused(Table::CalendarDates, 1, FaultKind::BadNumber));
     files[0].0 = "elsewhere.txt";
-    let answer = tables_of(rt.alloc(), &files);
-    assert!(rt; tells(answer, Table::Agency, 0, FaultKind::MissingFile));
+    let told = read(rt.alloc(), &files);
+    assert!(rt; told == refused(Table::Agency, 0, FaultKind::MissingFile));
 }
 
-// Whichever read fails, that file is told. So it is of one that memory is wanting for, which is no failure.
+// Whichever read fails, the fault names that file; so too where memory runs out for it, which is no failure.
 #[test]
 fn a_read_that_fails_is_told(rt: HostRuntime) {
     let feed = feed();
     for (left, table) in ORDER.iter().enumerate() {
-        let mut files = Failing::after(left, &feed, FileFault::Failed);
-        let answer = read_tables(rt.alloc(), &mut files);
-        assert!(rt; matches!(answer, Err(ReadFault::FileFailed(failed)) if failed == *table));
-        assert_eq!(rt; files.failures, 1);
-        let mut files = Failing::after(left, &feed, FileFault::OutOfMemory);
-        let answer = read_tables(rt.alloc(), &mut files);
-        assert!(rt; tells(answer, *table, 0, FaultKind::OutOfMemory));
-        assert_eq!(rt; files.failures, 0);
+        let (told, failures) = read_after(rt.alloc(), left, &feed, FileFault::Failed);
+        assert!(rt; told == Err(ReadFault::FileFailed(*table)) && failures == 1);
+        let (told, failures) = read_after(rt.alloc(), left, &feed, FileFault::OutOfMemory);
+        assert!(rt; told == refused(*table, 0, FaultKind::OutOfMemory) && failures == 0);
     }
 }
 
@@ -135,53 +155,68 @@ fn a_read_that_fails_is_told(rt: HostRuntime) {
 fn a_fault_before_a_read_that_fails_is_told(rt: HostRuntime) {
     let mut feed = feed();
     feed[1].1 = b"stop_id\nA\nA\n";
-    let mut files = Failing::after(2, &feed, FileFault::Failed);
-    let answer = read_tables(rt.alloc(), &mut files);
-    assert!(rt; tells(answer, Table::Stops, 2, FaultKind::IdTwice));
-    assert_eq!(rt; files.failures, 0);
+    let (told, failures) = read_after(rt.alloc(), 2, &feed, FileFault::Failed);
+    assert!(rt; told == refused(Table::Stops, 2, FaultKind::IdTwice) && failures == 0);
 }
 
-// That both calendars are missing is told once both were asked for.
+// That both calendars are missing is a fault only once both were read.
 #[test]
 fn a_read_that_fails_behind_a_missing_calendar_is_told(rt: HostRuntime) {
-    let mut feed = feed();
-    feed[4].0 = "elsewhere.txt";
-    let mut files = Failing::after(5, &feed, FileFault::Failed);
-    let answer = read_tables(rt.alloc(), &mut files);
-    assert!(rt; matches!(answer, Err(ReadFault::FileFailed(Table::CalendarDates))));
-    assert_eq!(rt; files.failures, 1);
+    let (told, failures) = read_after(rt.alloc(), 5, &without(4), FileFault::Failed);
+    assert!(rt; told == Err(ReadFault::FileFailed(Table::CalendarDates)) && failures == 1);
 }
 
-// A file as long as the limit is read, a longer one isn't; files of `/proc` are longer than is told of them.
+// Whether so much of a file is read, and it has this text.
+fn is_read(
+    rt: &HostRuntime,
+    limit: u32,
+    folder: &str,
+    name: &str,
+    text: &[u8],
+) -> Result<bool, FileFault> {
+    match file_up_to(limit, rt, rt.alloc(), folder, name)? {
+        Some(bytes) => Ok(bytes.as_slice() == text),
+        None => Ok(false),
+    }
+}
+
+// A file as long as the limit is read, a longer one isn't; files of `/proc` are longer than their size says.
 #[test]
 fn longer_files_are_refused(rt: HostRuntime) -> Result<(), Fail> {
     fs::create_dir(&rt, "long_files")?;
     fs::write(&rt, "long_files/agency.txt", "12345")?;
-    match file_up_to(5, &rt, rt.alloc(), "long_files", "agency.txt")? {
-        Some(bytes) => assert!(rt; bytes.as_slice() == b"12345".as_slice()),
-        None => assert!(rt; false),
-    }
-    let longer = file_up_to(4, &rt, rt.alloc(), "long_files", "agency.txt");
-    assert!(rt; matches!(longer, Err(FileFault::Failed)));
-    let untold = file_up_to(4, &rt, rt.alloc(), "/proc/self", "stat");
-    assert!(rt; matches!(untold, Err(FileFault::Failed)));
+    let whole = is_read(&rt, 5, "long_files", "agency.txt", b"12345");
+    let longer = is_read(&rt, 4, "long_files", "agency.txt", b"1234");
+    let untold = is_read(&rt, 4, "/proc/self", "stat", b"");
     fs::remove_file(&rt, "long_files/agency.txt")?;
     fs::remove_dir(&rt, "long_files")?;
+    assert!(rt; whole == Ok(true) && longer == Err(FileFault::Failed));
+    assert!(rt; untold == Err(FileFault::Failed));
     Ok(())
+}
+
+fn read_folder(rt: &HostRuntime, folder: &str) -> Result<RowCounts, ReadFault> {
+    let mut files = FolderFiles::new(rt, folder);
+    sizes(read_tables(rt.alloc(), &mut files))
+}
+
+// How long a file of a folder is, if it is there.
+fn length_of(rt: &HostRuntime, folder: &str, name: &str) -> Result<Option<usize>, FileFault> {
+    let mut files = FolderFiles::new(rt, folder);
+    match files.read(rt.alloc(), name)? {
+        Some(bytes) => Ok(Some(bytes.len())),
+        None => Ok(None),
+    }
 }
 
 #[test]
 fn a_folder_that_is_missing_has_no_files(rt: HostRuntime) {
-    let mut files = FolderFiles::new(&rt, "no_such_folder");
-    let answer = read_tables(rt.alloc(), &mut files);
-    assert!(rt; tells(answer, Table::Agency, 0, FaultKind::MissingFile));
-    let mut files = FolderFiles::new(&rt, "/proc/self/stat");
-    let answer = read_tables(rt.alloc(), &mut files);
-    assert!(rt; tells(answer, Table::Agency, 0, FaultKind::MissingFile));
-    let mut files = FolderFiles::new(&rt, "/proc/self");
-    assert!(rt; matches!(files.read(rt.alloc(), "fd"), Err(FileFault::Failed)));
-    assert!(rt; matches!(files.read(rt.alloc(), "agency.txt"), Ok(None)));
-    assert!(rt; matches!(files.read(rt.alloc(), "stat"), Ok(Some(bytes)) if !bytes.is_empty()));
+    let missing = refused(Table::Agency, 0, FaultKind::MissingFile);
+    assert!(rt; read_folder(&rt, "no_such_folder") == missing);
+    assert!(rt; read_folder(&rt, "/proc/self/stat") == missing);
+    assert!(rt; length_of(&rt, "/proc/self", "fd") == Err(FileFault::Failed));
+    assert!(rt; length_of(&rt, "/proc/self", "agency.txt") == Ok(None));
+    assert!(rt; matches!(length_of(&rt, "/proc/self", "stat"), Ok(Some(length)) if length > 0));
 }
 
 // A file of so many lines, the first of them its header.
@@ -194,7 +229,6 @@ fn long_file(alloc: Global, lines: usize) -> Result<String, AllocError> {
     Ok(text)
 }
 
-// Whether two hashes are of one key.
 fn are_of_one_key(first: &IdHash, second: &IdHash) -> bool {
     first.hash_one("A") == second.hash_one("A")
 }
@@ -208,80 +242,92 @@ fn folders_draw_their_keys(rt: HostRuntime) {
     assert!(rt; !are_of_one_key(&first.id_hash(), &second.id_hash()));
 }
 
+fn write_folder(rt: &HostRuntime, folder: &str, files: &[(&str, &[u8])]) -> Result<(), Fail> {
+    fs::create_dir(rt, folder)?;
+    for (name, bytes) in files {
+        let path = format!(in rt.alloc(); "{folder}/{name}")?;
+        fs::write(rt, path.as_str(), *bytes)?;
+    }
+    Ok(())
+}
+
+// Removes a folder with all eight files.
+fn remove_folder(rt: &HostRuntime, folder: &str) -> Result<(), Fail> {
+    for table in ORDER {
+        let name = table.file_name();
+        let path = format!(in rt.alloc(); "{folder}/{name}")?;
+        fs::remove_file(rt, path.as_str())?;
+    }
+    fs::remove_dir(rt, folder)?;
+    Ok(())
+}
+
+const TRANSFERS: &[u8] = b"from_stop_id,to_stop_id\nA,B\nB,A\n";
+
+const FREQUENCIES: &[u8] = b"trip_id,start_time,end_time,headway_secs\nT1,9:00:00,10:00:00,1200\n";
+
+// All eight files of a feed, of which one has so many rows.
+fn write_whole_feed(rt: &HostRuntime, folder: &str, rows: usize) -> Result<(), Fail> {
+    let dates = long_file(rt.alloc(), rows)?;
+    let files = [
+        ("agency.txt", AGENCY),
+        ("stops.txt", STOPS),
+        ("trips.txt", TRIPS),
+        ("stop_times.txt", STOP_TIMES),
+        ("calendar.txt", CALENDAR),
+        ("calendar_dates.txt", dates.as_bytes()),
+        ("transfers.txt", TRANSFERS),
+        ("frequencies.txt", FREQUENCIES),
+    ];
+    write_folder(rt, folder, &files)
+}
+
+// Whether the ids of tables, and those of the feed that they are joined to, are hashed by this key.
+fn are_hashed(alloc: Global, tables: Tables, hash: &IdHash) -> Result<bool, TableFault> {
+    let trips = are_of_one_key(tables.stop_times.trips.hasher(), hash);
+    let stops = are_of_one_key(tables.stop_times.stops.hasher(), hash);
+    let feed = join(alloc, tables, false)?;
+    Ok(trips && stops && are_of_one_key(&feed.hash, hash))
+}
+
+// What a folder has, and whether its ids are hashed by the key that the folder drew.
+fn read_with_key(rt: &HostRuntime, folder: &str) -> Result<(RowCounts, bool), Fail> {
+    let mut files = FolderFiles::new(rt, folder);
+    let tables = read_tables(rt.alloc(), &mut files)?;
+    let sizes = sizes_of(&tables);
+    Ok((sizes, are_hashed(rt.alloc(), tables, &files.id_hash())?))
+}
+
 // All eight files of a feed in a folder, one of them longer than is read at once.
 #[test]
 fn a_folder_is_read_whole(rt: HostRuntime) -> Result<(), Fail> {
-    fs::create_dir(&rt, "whole_feed")?;
-    fs::write(&rt, "whole_feed/agency.txt", AGENCY)?;
-    fs::write(&rt, "whole_feed/stops.txt", STOPS)?;
-    fs::write(&rt, "whole_feed/trips.txt", TRIPS)?;
-    fs::write(&rt, "whole_feed/stop_times.txt", STOP_TIMES)?;
-    fs::write(&rt, "whole_feed/calendar.txt", CALENDAR)?;
-    let dates = long_file(rt.alloc(), 9000)?;
-    fs::write(&rt, "whole_feed/calendar_dates.txt", dates.as_str())?;
-    fs::write(
-        &rt,
-        "whole_feed/transfers.txt",
-        "from_stop_id,to_stop_id\nA,B\nB,A\n",
-    )?;
-    fs::write(
-        &rt,
-        "whole_feed/frequencies.txt",
-        "trip_id,start_time,end_time,headway_secs\nT1,9:00:00,10:00:00,1200\n",
-    )?;
-    let mut files = FolderFiles::new(&rt, "whole_feed");
-    let tables = read_tables(rt.alloc(), &mut files)?;
-    assert_eq!(rt; tables.stops.len(), 3);
-    assert_eq!(rt; tables.stop_times.rows.len(), 2);
-    assert_eq!(rt; tables.calendar.len(), 1);
-    assert_eq!(rt; tables.calendar_dates.len(), 9000);
-    assert_eq!(rt; tables.transfers.len(), 2);
-    assert_eq!(rt; tables.frequencies.len(), 1);
-    assert!(rt; are_of_one_key(tables.stop_times.trips.hasher(), &files.id_hash()));
-    assert!(rt; are_of_one_key(tables.stop_times.stops.hasher(), &files.id_hash()));
-    assert!(rt; are_of_one_key(&join(rt.alloc(), tables, false)?.hash, &files.id_hash()));
-    for table in ORDER {
-        let name = table.file_name();
-        let path = format!(in rt.alloc(); "whole_feed/{name}")?;
-        fs::remove_file(&rt, path.as_str())?;
-    }
-    fs::remove_dir(&rt, "whole_feed")?;
+    write_whole_feed(&rt, "whole_feed", 9000)?;
+    let (sizes, is_hashed) = read_with_key(&rt, "whole_feed")?;
+    remove_folder(&rt, "whole_feed")?;
+    assert!(rt; sizes == [1, 3, 2, 2, 1, 9000, 2, 1] && is_hashed);
     Ok(())
 }
 
-// Whichever growth is refused, want of memory is told and nothing else. A refused growth ends the
-// test with `AllocError`.
+// Whichever growth is refused, the fault is that memory ran out. A refused growth ends the test with `AllocError`.
 #[test]
-fn refused_growth_is_told(rt: HostRuntime) -> Result<(), Fail> {
-    let files: [(&str, &[u8]); 1] = [("agency.txt", b"agency_timezone\n")];
-    match tables_of(rt.alloc(), &files) {
-        Ok(_) => assert!(rt; false),
-        Err(fault) => {
-            let missing = ReadFault::Table(Table::Stops.missing());
-            let wanting = ReadFault::Table(TableFault {
-                table: Table::Agency,
-                row: 0,
-                kind: FaultKind::OutOfMemory,
-            });
-            if fault != missing {
-                assert!(rt; fault == wanting);
-                return Err(AllocError.into());
-            }
-        }
+fn refused_growth_is_told(rt: HostRuntime) -> Result<(), AllocError> {
+    let told = read(
+        rt.alloc(),
+        &[("agency.txt", b"agency_timezone\n".as_slice())],
+    );
+    if told == refused(Table::Agency, 0, FaultKind::OutOfMemory) {
+        return Err(AllocError);
     }
+    assert!(rt; told == refused(Table::Stops, 0, FaultKind::MissingFile));
     Ok(())
 }
 
 #[test]
-fn refused_growth_of_a_folders_file(rt: HostRuntime) -> Result<(), Fail> {
-    let mut files = FolderFiles::new(&rt, "/proc/self");
-    match files.read(rt.alloc(), "stat") {
-        Ok(Some(bytes)) => assert!(rt; !bytes.is_empty()),
-        Ok(None) => assert!(rt; false),
-        Err(fault) => {
-            assert!(rt; fault == FileFault::OutOfMemory);
-            return Err(AllocError.into());
-        }
+fn refused_growth_of_a_folders_file(rt: HostRuntime) -> Result<(), AllocError> {
+    let told = length_of(&rt, "/proc/self", "stat");
+    if told == Err(FileFault::OutOfMemory) {
+        return Err(AllocError);
     }
+    assert!(rt; matches!(told, Ok(Some(length)) if length > 0));
     Ok(())
 }

@@ -1,16 +1,14 @@
-//! Where a growth is refused, want of memory is told and nothing else, whichever growth it is. A
-//! refused growth ends the test with `AllocError`.
+//! Whichever growth is refused, the fault is that memory ran out. A refused growth ends the test with `AllocError`.
 
 ghost use Rattle.std.specs.Prelude.{◌≡◌};
 
 use gtfs_tables::spread::spread;
 use gtfs_tables::{
-    FaultKind, FrequencyRow, IdHash, Location, StopRow, StopTimeRow, StopTimes, Tables,
+    FaultKind, Feed, FrequencyRow, IdHash, Location, StopRow, StopTimeRow, StopTimes, Tables,
     TransferKind, TransferRow, TripRow, join,
 };
 use indexmap::IndexSet;
 use std::alloc::{AllocError, Global};
-use std::test::Fail;
 
 // A row of the one trip, at its one stop.
 fn row(sequence: u32, time: Option<u32>) -> StopTimeRow
@@ -43,82 +41,98 @@ fn stop_times(alloc: Global) -> Result<StopTimes, AllocError> {
     })
 }
 
-// Tables of a stop and a trip whose ids are blank, so that they take little memory.
-fn tables(alloc: Global) -> Result<Tables, AllocError> {
-    let mut stops = Vec::new(alloc);
-    stops.push(StopRow {
+// A stop, a trip, a transfer and a row of frequencies, each in a list of its own. Their ids are
+// blank, so that they take little memory.
+fn a_stop(alloc: Global) -> Result<Vec<StopRow>, AllocError> {
+    let row = StopRow {
         id: String::new(alloc),
         location: Location::Stop,
         parent: String::new(alloc),
-    })?;
-    let mut trips = Vec::new(alloc);
-    trips.push(TripRow {
+    };
+    Ok(vec![in alloc; row]?)
+}
+
+fn a_trip(alloc: Global) -> Result<Vec<TripRow>, AllocError> {
+    let row = TripRow {
         service: String::new(alloc),
         id: String::new(alloc),
-    })?;
-    let mut transfers = Vec::new(alloc);
-    transfers.push(TransferRow {
+    };
+    Ok(vec![in alloc; row]?)
+}
+
+fn a_transfer(alloc: Global) -> Result<Vec<TransferRow>, AllocError> {
+    let row = TransferRow {
         from: String::new(alloc),
         to: String::new(alloc),
         kind: TransferKind::Minimum,
         seconds: None,
-    })?;
-    let mut frequencies = Vec::new(alloc);
-    frequencies.push(FrequencyRow {
+    };
+    Ok(vec![in alloc; row]?)
+}
+
+fn a_frequency(alloc: Global) -> Result<Vec<FrequencyRow>, AllocError> {
+    let row = FrequencyRow {
         trip: String::new(alloc),
         start: 28_800,
         end: 32_400,
         headway: 600,
-    })?;
+    };
+    Ok(vec![in alloc; row]?)
+}
+
+fn tables(alloc: Global) -> Result<Tables, AllocError> {
     Ok(Tables {
         agencies: Vec::new(alloc),
-        stops,
-        trips,
+        stops: a_stop(alloc)?,
+        trips: a_trip(alloc)?,
         stop_times: stop_times(alloc)?,
         calendar: Vec::new(alloc),
         calendar_dates: Vec::new(alloc),
-        transfers,
-        frequencies,
+        transfers: a_transfer(alloc)?,
+        frequencies: a_frequency(alloc)?,
     })
 }
 
+// How many stops, trips, stop times, transfers and frequencies a feed has.
+fn counts(feed: &Feed) -> [usize; 5] {
+    [
+        feed.stops.len(),
+        feed.trips.len(),
+        feed.stop_times.len(),
+        feed.transfers.len(),
+        feed.frequencies.len(),
+    ]
+}
+
 #[test]
-fn refused_growth_of_a_feed(rt: HostRuntime) -> Result<(), Fail> {
+fn refused_growth_of_a_feed(rt: HostRuntime) -> Result<(), AllocError> {
     match join(rt.alloc(), tables(rt.alloc())?, true) {
         Ok(feed) => {
-            assert_eq!(rt; feed.stops.len(), 1);
-            assert_eq!(rt; feed.trips.len(), 1);
-            assert_eq!(rt; feed.stop_times.len(), 2);
-            assert_eq!(rt; feed.transfers.len(), 1);
-            assert_eq!(rt; feed.frequencies.len(), 1);
+            assert!(rt; counts(&feed) == [1, 1, 2, 1, 1]);
+            Ok(())
         }
         Err(fault) => {
             assert!(rt; fault.kind == FaultKind::OutOfMemory);
-            return Err(AllocError.into());
+            Err(AllocError)
         }
     }
-    Ok(())
 }
 
 // 08:00:00, two blank rows and 08:10:02 give 08:03:20 and 08:06:41.
 #[test]
-fn refused_growth_of_spread_times(rt: HostRuntime) -> Result<(), Fail> {
+fn refused_growth_of_spread_times(rt: HostRuntime) -> Result<(), AllocError> {
     let rows = [
         row(1, Some(28_800)),
         row(2, None),
         row(3, None),
         row(4, Some(29_402)),
     ];
-    let times = spread(rt.alloc(), &rows)?;
     let expected = [
         (28_800, 28_800),
         (29_000, 29_000),
         (29_201, 29_201),
         (29_402, 29_402),
     ];
-    assert_eq!(rt; times.len(), 4);
-    for (time, wanted) in times.iter().zip(expected) {
-        assert!(rt; *time == wanted);
-    }
+    assert!(rt; spread(rt.alloc(), &rows)?.as_slice() == expected.as_slice());
     Ok(())
 }

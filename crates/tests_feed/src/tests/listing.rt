@@ -123,12 +123,16 @@ fn platforms(alloc: Global, count: u32) -> Result<String, Fail> {
     Ok(stops)
 }
 
-// How many footpaths a station of so many platforms lists with these transfers, if they may be as
-// many as the platforms.
-fn listed_at(alloc: Global, count: u32, transfers: &str) -> Result<Option<usize>, Fail> {
+// A station of so many platforms with these transfers.
+fn station(alloc: Global, count: u32, transfers: &str) -> Result<Feed, Fail> {
     let stops = platforms(alloc, count)?;
     let files = format!(in alloc; "transfers.txt: {transfers}\n{stops}")?;
-    let feed = joined(alloc, files.as_str(), BASE, true)?;
+    Ok(joined(alloc, files.as_str(), BASE, true)?)
+}
+
+// How many footpaths it lists, if they may be as many as its platforms.
+fn listed_at(alloc: Global, count: u32, transfers: &str) -> Result<Option<usize>, Fail> {
+    let feed = station(alloc, count, transfers)?;
     match listed_within(alloc, &feed, count as usize) {
         Ok(paths) => Ok(Some(paths.len())),
         Err(_) => Ok(None),
@@ -143,7 +147,7 @@ fn a_station_that_forbids_lists_loops(rt: HostRuntime) -> Result<(), Fail> {
     Ok(())
 }
 
-// Whichever growth is refused, want of memory is told. A refused growth ends the test with `AllocError`.
+// Whichever growth is refused, the fault is that memory ran out. A refused growth ends the test with `AllocError`.
 #[test]
 fn refused_growth_is_told(rt: HostRuntime) -> Result<(), Fail> {
     let feed = joined_or_refused(&rt, rt.alloc(), "transfers.txt: S,S,2,180", BASE)?;

@@ -67,31 +67,39 @@ fn loaded(alloc: Global, changed: &str, plan: &Plan) -> Result<(Verified, Report
     }
 }
 
-/// These files are refused by this fault.
-fn assert_refused(rt: &impl Abort, alloc: Global, files: &[(&str, &[u8])], expected: LoadFault) {
-    match made(alloc, files, &one_day()) {
-        Ok(_) => panic!(rt; "files that are wrong are loaded"),
-        Err(fault) => {
-            assert_eq!(rt; fault, expected);
-        }
+/// Why the small feed with some other files is refused, if it is.
+fn refusal(alloc: Global, changed: &str) -> Result<Option<LoadFault>, Fail> {
+    let feed = feed_of(alloc, changed, FILES)?;
+    let files = files_of(alloc, feed.as_str())?;
+    Ok(made(alloc, &files, &one_day()).err())
+}
+
+/// What is counted of the small feed with some other files, if its image has these words.
+fn counted(alloc: Global, changed: &str, words: &[u32]) -> Result<Option<Report>, Fail> {
+    let (image, report) = loaded(alloc, changed, &one_day())?;
+    if image.words() == words {
+        Ok(Some(report))
+    } else {
+        Ok(None)
     }
 }
 
+/// What is counted of the small feed.
+const COUNTED: Report = Report {
+    stops: 3,
+    runs: 2,
+    connections: 3,
+    footpaths: 3,
+    lifted: 0,
+    flex: 0,
+    frequencies: 0,
+    skipped: 0,
+};
+
 #[test]
 fn a_feed_makes_its_image(rt: HostRuntime) -> Result<(), Fail> {
-    let (image, report) = loaded(rt.alloc(), "", &one_day())?;
-    assert!(rt; image.words() == second_sample_words().as_slice());
-    let counted = Report {
-        stops: 3,
-        runs: 2,
-        connections: 3,
-        footpaths: 3,
-        lifted: 0,
-        flex: 0,
-        frequencies: 0,
-        skipped: 0,
-    };
-    assert_eq!(rt; report, counted);
+    let report = counted(rt.alloc(), "", &second_sample_words())?;
+    assert_eq!(rt; report, Some(COUNTED));
     Ok(())
 }
 
@@ -122,25 +130,26 @@ impl<F: FeedFiles> FeedFiles for Hashed<F> {
     }
 }
 
+/// Whether files whose ids have this hash make the sample.
+fn make_the_sample(alloc: Global, files: &[(&str, &[u8])], hash: IdHash) -> bool {
+    let mut hashed = Hashed {
+        files: MemoryFiles::of(files),
+        hash,
+    };
+    match load(alloc, &mut hashed, &one_day()) {
+        Ok((image, _report)) => image.words() == second_sample_words().as_slice(),
+        Err(_) => false,
+    }
+}
+
 /// Whatever the key of the hash, the image has the same words.
 #[test]
 fn an_image_has_no_trace_of_a_key(rt: HostRuntime) -> Result<(), Fail> {
     let feed = feed_of(rt.alloc(), "", FILES)?;
     let files = files_of(rt.alloc(), feed.as_str())?;
-    for hash in [
-        IdHash::of_key(1),
-        IdHash::of_key(u64::MAX),
-        IdHash::random(&rt),
-    ] {
-        let mut hashed = Hashed {
-            files: MemoryFiles::of(&files),
-            hash,
-        };
-        let Ok((image, _report)) = load(rt.alloc(), &mut hashed, &one_day()) else {
-            panic!(rt; "the feed is refused");
-        };
-        assert!(rt; image.words() == second_sample_words().as_slice());
-    }
+    assert!(rt; make_the_sample(rt.alloc(), &files, IdHash::of_key(1)));
+    assert!(rt; make_the_sample(rt.alloc(), &files, IdHash::of_key(u64::MAX)));
+    assert!(rt; make_the_sample(rt.alloc(), &files, IdHash::random(&rt)));
     Ok(())
 }
 
@@ -156,18 +165,24 @@ const REPEATED: [u32; 80] = [
     20240115, 20240115, 20240115, 20240115, 0, 1, 2, 0, 0x54434241, 0x54315431, 0x00325431,
 ];
 
+/// Whether trips 1, 2 and 3 of four are these repeats.
+fn are_repeats(image: &Verified, repeats: [u32; 3]) -> bool {
+    if image.trips() != 4 {
+        return false;
+    }
+    [
+        image.trip_repeat(1),
+        image.trip_repeat(2),
+        image.trip_repeat(3),
+    ] == repeats
+}
+
 /// A trip that repeats runs once for each of its starts, and the image has the runs' numbers.
 #[test]
 fn repeats_are_numbered(rt: HostRuntime) -> Result<(), Fail> {
     let (image, report) = loaded(rt.alloc(), THREE_STARTS, &one_day())?;
-    assert_eq!(rt; report.runs, 4);
-    assert_eq!(rt; report.connections, 7);
-    assert_eq!(rt; report.frequencies, 1);
-    assert!(rt; image.words() == REPEATED.as_slice());
-    assert_eq!(rt; image.trips(), 4);
-    assert_eq!(rt; image.trip_repeat(1), 1);
-    assert_eq!(rt; image.trip_repeat(2), 2);
-    assert_eq!(rt; image.trip_repeat(3), 0);
+    assert!(rt; report.runs == 4 && report.connections == 7 && report.frequencies == 1);
+    assert!(rt; image.words() == REPEATED.as_slice() && are_repeats(&image, [1, 2, 0]));
     Ok(())
 }
 
@@ -177,23 +192,25 @@ fn written_anew(alloc: Global, image: &Verified) -> Result<Vec<u32>, AllocError>
     write(alloc, &timetable, &names)
 }
 
+/// Whether words are an image that, unpacked and written again, has the words expected.
+fn are_written_anew(alloc: Global, words: &[u32], expected: &[u32]) -> Result<bool, AllocError> {
+    match verify(alloc, words.to_vec(alloc)?) {
+        Ok(image) => {
+            let written = written_anew(alloc, &image)?;
+            Ok(image.words() == words && written.as_slice() == expected)
+        }
+        Err(_) => Ok(false),
+    }
+}
+
 /// Words that are judged, unpacked and written again are the same words; those of the first layout
 /// come out in the second.
 #[test]
-fn an_image_is_written_anew(rt: HostRuntime) -> Result<(), Fail> {
-    let first = sample_words();
+fn an_image_is_written_anew(rt: HostRuntime) -> Result<(), AllocError> {
     let second = second_sample_words();
-    for (words, expected) in [
-        (first.as_slice(), second.as_slice()),
-        (second.as_slice(), second.as_slice()),
-        (REPEATED.as_slice(), REPEATED.as_slice()),
-    ] {
-        let Ok(image) = verify(rt.alloc(), words.to_vec(rt.alloc())?) else {
-            panic!(rt; "the words are refused");
-        };
-        assert!(rt; image.words() == words);
-        assert!(rt; written_anew(rt.alloc(), &image)?.as_slice() == expected);
-    }
+    assert!(rt; are_written_anew(rt.alloc(), &sample_words(), &second)?);
+    assert!(rt; are_written_anew(rt.alloc(), &second, &second)?);
+    assert!(rt; are_written_anew(rt.alloc(), &REPEATED, &REPEATED)?);
     Ok(())
 }
 
@@ -202,21 +219,32 @@ const TWO_STARTS: &str = "frequencies.txt: T1,09:00:00,09:40:00,1200";
 
 const NO_HEADWAY: &str = "frequencies.txt: T1,09:00:00,10:00:00,0";
 
+/// What is counted of the small feed with some other files.
+fn report_of(alloc: Global, changed: &str) -> Result<Report, Fail> {
+    let (_image, report) = loaded(alloc, changed, &one_day())?;
+    Ok(report)
+}
+
 /// An end time is no start; a headway of 0 is refused.
 #[test]
 fn an_end_time_is_no_start(rt: HostRuntime) -> Result<(), Fail> {
-    let (_, report) = loaded(rt.alloc(), TWO_STARTS, &one_day())?;
-    assert_eq!(rt; report.runs, 3);
-    assert_eq!(rt; report.connections, 5);
-    let feed = feed_of(rt.alloc(), NO_HEADWAY, FILES)?;
-    let files = files_of(rt.alloc(), feed.as_str())?;
+    let report = report_of(rt.alloc(), TWO_STARTS)?;
+    assert!(rt; report.runs == 3 && report.connections == 5);
     let headway = TableFault {
         table: Table::Frequencies,
         row: 1,
         kind: FaultKind::BadHeadway,
     };
-    assert_refused(&rt, rt.alloc(), &files, LoadFault::Table(headway));
+    assert_eq!(rt;
+        refusal(rt.alloc(), NO_HEADWAY)?,
+        Some(LoadFault::Table(headway))
+    );
     Ok(())
+}
+
+/// Whether an image has three stops, no trip, and this base.
+fn is_without_trips(image: &Verified, base: i64) -> bool {
+    image.trips() == 0 && image.stops() == 3 && image.base() == base
 }
 
 /// On a day on which nothing runs there are no trips.
@@ -227,10 +255,7 @@ fn a_day_without_runs_has_an_image(rt: HostRuntime) -> Result<(), Fail> {
         ..one_day()
     };
     let (image, report) = loaded(rt.alloc(), "", &next)?;
-    assert_eq!(rt; report.runs, 0);
-    assert_eq!(rt; image.trips(), 0);
-    assert_eq!(rt; image.stops(), 3);
-    assert_eq!(rt; image.base(), 1_705_363_200);
+    assert!(rt; report.runs == 0 && is_without_trips(&image, 1_705_363_200));
     Ok(())
 }
 
@@ -258,18 +283,20 @@ const ONE_WAY: [u32; 22] = [
     0x50415343, 2, 2, 0, 0, 3, 2, 1705276800, 0, 0, 2, 3, 0, 180, 1, 180, 1, 180, 0, 1, 2, 0x5150,
 ];
 
+/// Whether the station with these transfers makes an image of these words.
+fn station_makes(alloc: Global, transfers: &str, words: &[u32]) -> Result<bool, Fail> {
+    let changed = format!(in alloc; "{}\n{transfers}", STATION)?;
+    Ok(counted(alloc, changed.as_str(), words)?.is_some())
+}
+
 /// The ways within a station, and the loops of its stops.
 #[test]
 fn a_station_has_ways_and_loops(rt: HostRuntime) -> Result<(), Fail> {
-    for (transfers, expected) in [
-        ("", FREE_LOOPS.as_slice()),
-        ("transfers.txt: S,S,2,180", SLOW_LOOPS.as_slice()),
-        ("transfers.txt: S,S,2,180|P,Q,3,", ONE_WAY.as_slice()),
-    ] {
-        let changed = format!(in rt.alloc(); "{}\n{transfers}", STATION)?;
-        let (image, _report) = loaded(rt.alloc(), changed.as_str(), &one_day())?;
-        assert!(rt; image.words() == expected);
-    }
+    let slow = "transfers.txt: S,S,2,180";
+    let one_way = "transfers.txt: S,S,2,180|P,Q,3,";
+    assert!(rt; station_makes(rt.alloc(), "", &FREE_LOOPS)?);
+    assert!(rt; station_makes(rt.alloc(), slow, &SLOW_LOOPS)?);
+    assert!(rt; station_makes(rt.alloc(), one_way, &ONE_WAY)?);
     Ok(())
 }
 
@@ -280,10 +307,11 @@ fn what_is_wrong_is_told(rt: HostRuntime) {
         row: 0,
         kind: FaultKind::MissingFile,
     };
-    assert_refused(&rt, rt.alloc(), &[], LoadFault::Table(missing));
+    let fault = made(rt.alloc(), &[], &one_day()).err();
+    assert!(rt; fault == Some(LoadFault::Table(missing)));
 }
 
-/// A fault is told by its number, its name and its places.
+/// A fault has a number, a name and its places.
 #[test]
 fn faults_are_told(rt: HostRuntime) -> Result<(), Fail> {
     let twice = TableFault {
@@ -309,46 +337,48 @@ fn faults_are_told(rt: HostRuntime) -> Result<(), Fail> {
     Ok(())
 }
 
-/// Whichever read fails, that file is told, and nothing is read after it.
+/// Why files of which so many can be read aren't loaded, and how many reads failed.
+fn failed_after(alloc: Global, left: usize, files: &[(&str, &[u8])]) -> (Option<LoadFault>, u64) {
+    let mut failing = Failing::after(left, files, FileFault::Failed);
+    let fault = load(alloc, &mut failing, &one_day()).err();
+    (fault, failing.failures)
+}
+
+/// Whichever read fails, the fault names that file, and nothing is read after it.
 #[test]
 fn a_read_that_fails_is_told(rt: HostRuntime) -> Result<(), Fail> {
     let feed = feed_of(rt.alloc(), "", FILES)?;
     let files = files_of(rt.alloc(), feed.as_str())?;
     for (left, table) in ORDER.iter().enumerate() {
-        let mut failing = Failing::after(left, &files, FileFault::Failed);
-        match load(rt.alloc(), &mut failing, &one_day()) {
-            Ok(_) => panic!(rt; "a feed that can't be read is loaded"),
-            Err(fault) => {
-                assert_eq!(rt; fault, LoadFault::FileFailed(*table));
-            }
-        }
-        assert_eq!(rt; failing.failures, 1);
+        let (fault, failures) = failed_after(rt.alloc(), left, &files);
+        assert!(rt; fault == Some(LoadFault::FileFailed(*table)) && failures == 1);
     }
     Ok(())
 }
 
-/// Memory was wanting, and that is told.
-fn wants_memory(rt: &impl Abort, fault: LoadFault) -> Result<(), Fail> {
-    if let LoadFault::Table(fault) = fault {
-        assert_eq!(rt; fault.kind, FaultKind::OutOfMemory);
-    } else {
-        assert!(rt; fault.is_want_of_memory());
+/// What was loaded, unless a growth was refused: then the fault is that memory ran out.
+fn loaded_or_refused(
+    rt: &impl Abort,
+    answer: Result<(Verified, Report), LoadFault>,
+) -> Result<(Verified, Report), AllocError> {
+    match answer {
+        Ok(loaded) => Ok(loaded),
+        Err(fault) => {
+            assert!(rt; fault.is_want_of_memory());
+            Err(AllocError)
+        }
     }
-    Err(Fail::from(AllocError))
 }
 
-/// Whichever growth is refused, want of memory is told.
+/// Whichever growth is refused, the fault is that memory ran out.
 #[test]
-fn refused_growth_is_told(rt: HostRuntime) -> Result<(), Fail> {
+fn refused_growth_is_told(rt: HostRuntime) -> Result<(), AllocError> {
     let feed = feed_of(rt.alloc(), "", FILES)?;
     let files = files_of(rt.alloc(), feed.as_str())?;
-    match made(rt.alloc(), &files, &one_day()) {
-        Ok((image, _report)) => {
-            assert!(rt; image.words() == second_sample_words().as_slice());
-            Ok(())
-        }
-        Err(fault) => wants_memory(&rt, fault),
-    }
+    let answer = made(rt.alloc(), &files, &one_day());
+    let (image, _report) = loaded_or_refused(&rt, answer)?;
+    assert!(rt; image.words() == second_sample_words().as_slice());
+    Ok(())
 }
 
 /// All files: a station with two stops, a quoted id, a blank row, a day that is taken out, and ways
@@ -365,31 +395,35 @@ frequencies.txt: T2,09:00:00,09:40:00,1200|T1,00:00:00,00:00:30,10|T1,00:00:05,0
     T1,00:00:01,00:00:30,14
 transfers.txt: S,S,2,180";
 
-/// So too over a feed with all files.
-#[test]
-fn refused_growth_over_all_files_is_told(rt: HostRuntime) -> Result<(), Fail> {
-    let feed = feed_of(rt.alloc(), "", ALL_FILES)?;
-    let files = files_of(rt.alloc(), feed.as_str())?;
-    let mut files = MemoryFiles::of(&files);
+/// What is counted of it.
+const ALL_COUNTED: Report = Report {
+    stops: 3,
+    runs: 10,
+    connections: 18,
+    footpaths: 5,
+    lifted: 0,
+    flex: 0,
+    frequencies: 2,
+    skipped: 0,
+};
+
+/// The files of a feed, loaded for two days.
+fn two_days_of(alloc: Global, files: &[(&str, &[u8])]) -> Result<(Verified, Report), LoadFault> {
+    let mut files = MemoryFiles::of(files);
     let plan = Plan {
         days: 2,
         ..one_day()
     };
-    match load(rt.alloc(), &mut files, &plan) {
-        Ok((_image, report)) => {
-            let counted = Report {
-                stops: 3,
-                runs: 10,
-                connections: 18,
-                footpaths: 5,
-                lifted: 0,
-                flex: 0,
-                frequencies: 2,
-                skipped: 0,
-            };
-            assert_eq!(rt; report, counted);
-            Ok(())
-        }
-        Err(fault) => wants_memory(&rt, fault),
-    }
+    load(alloc, &mut files, &plan)
+}
+
+/// So too over a feed with all files.
+#[test]
+fn refused_growth_over_all_files_is_told(rt: HostRuntime) -> Result<(), AllocError> {
+    let feed = feed_of(rt.alloc(), "", ALL_FILES)?;
+    let files = files_of(rt.alloc(), feed.as_str())?;
+    let answer = two_days_of(rt.alloc(), &files);
+    let (_image, report) = loaded_or_refused(&rt, answer)?;
+    assert_eq!(rt; report, ALL_COUNTED);
+    Ok(())
 }

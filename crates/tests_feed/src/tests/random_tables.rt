@@ -5,9 +5,9 @@ use csv::{ByteRecord, Reader, ReaderBuilder};
 use gtfs_rows::{TableFault, TransferRow, read_transfers};
 use std::alloc::{AllocError, Global};
 use std::fmt::Write;
+use std::process::Abort;
 use std::test::Fail;
 
-// How many tables are drawn.
 const TABLES: u32 = 300;
 
 // What a table is made of behind its header.
@@ -42,7 +42,6 @@ const HEADERS: [&str; 8] = [
     " from_stop_id , to_stop_id ,,\n",
 ];
 
-// Numbers drawn one after another.
 #[derive(Drop)]
 struct Draws(u64);
 
@@ -85,6 +84,27 @@ fn take(reader: &mut Reader<&[u8]>, record: &mut ByteRecord) -> Result<bool, Fai
     }
 }
 
+// Adds the first two fields of each record behind the header. Returns the number of the first record of another length.
+fn add_records(
+    reader: &mut Reader<&[u8]>,
+    record: &mut ByteRecord,
+    text: &mut String,
+) -> Result<Option<u32>, Fail> {
+    take(reader, record)?;
+    let width = record.len();
+    for row in 1..1_000 {
+        if !take(reader, record)? {
+            break;
+        }
+        if record.len() != width {
+            return Ok(Some(row));
+        }
+        add_field(text, field(record, 0))?;
+        add_field(text, field(record, 1))?;
+    }
+    Ok(None)
+}
+
 // The first two fields of each record behind the header, by `csv`, or the first record of another length.
 fn told_by_csv(alloc: Global, bytes: &[u8]) -> Result<String, Fail> {
     let mut reader = ReaderBuilder::new()
@@ -92,20 +112,11 @@ fn told_by_csv(alloc: Global, bytes: &[u8]) -> Result<String, Fail> {
         .flexible(true)
         .from_reader(alloc, bytes);
     let mut record = ByteRecord::new(alloc);
-    take(&mut reader, &mut record)?;
-    let width = record.len();
     let mut text = String::new(alloc);
-    for row in 1..1_000 {
-        if !take(&mut reader, &mut record)? {
-            break;
-        }
-        if record.len() != width {
-            return Ok(format!(in alloc; "4 RowLength transfers.txt {row}")?);
-        }
-        add_field(&mut text, field(&record, 0))?;
-        add_field(&mut text, field(&record, 1))?;
+    match add_records(&mut reader, &mut record, &mut text)? {
+        None => Ok(text),
+        Some(row) => Ok(format!(in alloc; "4 RowLength transfers.txt {row}")?),
     }
-    Ok(text)
 }
 
 // The same by the rows that are read.
@@ -123,15 +134,19 @@ fn told(alloc: Global, answer: Result<Vec<TransferRow>, TableFault>) -> Result<S
     }
 }
 
+fn try_table(rt: &impl Abort, alloc: Global, table: &str) -> Result<(), Fail> {
+    let wanted = told_by_csv(alloc, table.as_bytes())?;
+    let given = told(alloc, read_transfers(alloc, table.as_bytes()))?;
+    assert_eq!(rt; given.as_str(), wanted.as_str(), "{table}");
+    Ok(())
+}
+
 #[test]
 fn tables_are_read_as_csv_reads_them(rt: HostRuntime) -> Result<(), Fail> {
     let alloc = rt.alloc();
     let mut draws = Draws(7);
-    for number in 0..TABLES {
-        let table = draws.table(alloc)?;
-        let wanted = told_by_csv(alloc, table.as_bytes())?;
-        let given = told(alloc, read_transfers(alloc, table.as_bytes()))?;
-        assert_eq!(rt; given.as_str(), wanted.as_str(), "table {number}: {table}");
+    for _table in 0..TABLES {
+        try_table(&rt, alloc, draws.table(alloc)?.as_str())?;
     }
     Ok(())
 }

@@ -2,7 +2,7 @@
 
 use super::failing::ORDER;
 use super::rows::{told_of, try_files};
-use gtfs_rows::{FaultKind, Table};
+use gtfs_rows::{FaultKind, Table, TableFault};
 use std::alloc::Global;
 use std::process::Abort;
 use std::test::Fail;
@@ -10,9 +10,9 @@ use std::test::Fail;
 #[test]
 fn missing_files(rt: HostRuntime) {
     for table in [Table::Agency, Table::Stops, Table::Calendar] {
-        let fault = table.missing();
-        assert!(rt; fault.table == table && fault.row == 0);
-        assert!(rt; fault.kind == FaultKind::MissingFile);
+        let row = 0;
+        let kind = FaultKind::MissingFile;
+        assert!(rt; table.missing() == TableFault { table, row, kind });
     }
 }
 
@@ -38,9 +38,8 @@ fn told_by_number_and_name(rt: HostRuntime) {
         (FaultKind::OutOfMemory, 17, "OutOfMemory"),
         (FaultKind::BadHeadway, 18, "BadHeadway"),
     ];
-    for (kind, number, name) in told {
-        assert!(rt; kind.number() == number);
-        assert!(rt; kind.name() == name);
+    for (kind, number, name) in told.iter() {
+        assert!(rt; kind.number() == *number && kind.name() == *name, "{name}");
     }
 }
 

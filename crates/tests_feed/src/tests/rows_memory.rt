@@ -1,5 +1,4 @@
-//! Where a growth is refused, each call answers with the want of memory, whichever growth it is. A
-//! refused growth ends the test with `AllocError`.
+//! Whichever growth is refused, the fault is that memory ran out. A refused growth ends the test with `AllocError`.
 
 use gtfs_rows::{
     FaultKind, StopTimes, Table, TableFault, read_agency, read_calendar, read_calendar_dates,
@@ -9,7 +8,7 @@ use std::alloc::AllocError;
 use std::process::Abort;
 use std::test::Fail;
 
-// What was read. Where it wasn't, want of memory is told of the table, and nothing else.
+// What was read. If nothing was, the fault is that memory ran out for this table.
 fn read_or_refused<T: Drop>(
     rt: &impl Abort,
     table: Table,
@@ -24,14 +23,14 @@ fn read_or_refused<T: Drop>(
     }
 }
 
-// Whether one row was read, or want of memory told.
+// Whether one row was read, or memory ran out.
 fn one_or_refused<T: Drop>(
     rt: &impl Abort,
     table: Table,
     answer: Result<Vec<T>, TableFault>,
 ) -> Result<(), Fail> {
     let rows = read_or_refused(rt, table, answer)?;
-    assert_eq!(rt; rows.len(), 1);
+    assert!(rt; rows.len() == 1);
     Ok(())
 }
 

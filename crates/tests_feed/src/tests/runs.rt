@@ -7,7 +7,7 @@ use super::texts::{
     Case, Telling, add_rows, joined, joined_or_refused, number, try_cases, zone_of,
 };
 use connections::{MAX_DAYS, Report, Run, RunsFault, runs_of};
-use gtfs_tables::{Day, FaultKind, Table};
+use gtfs_tables::{Day, FaultKind, Feed, Table};
 use service_days::{DayFault, Zone};
 use std::alloc::{AllocError, Global};
 use std::process::Abort;
@@ -153,7 +153,19 @@ const DAYS_WITHOUT_A_START: &str = "
 
 type Made = (Vec<Connection>, Vec<Run>, Report);
 
-// What the files of a text, with further ones, make on some days, as `20240115 1 fixed:0`.
+// What a feed makes on some days, as `20240115 1 fixed:0`.
+fn made_of(alloc: Global, feed: &Feed, asked: &str) -> Result<Result<Made, RunsFault>, Fail> {
+    let (first, rest) = asked.split_once(' ').unwrap_or((asked, ""));
+    let (days, zone) = rest.split_once(' ').unwrap_or((rest, ""));
+    let first = Day::parse(first.as_bytes())?;
+    let days = number(days)?;
+    if days < 1 || days > MAX_DAYS {
+        return Err(Fail::new("a number of days"));
+    }
+    Ok(runs_of(alloc, feed, first, days, &zone_of(alloc, zone)?))
+}
+
+// What the files of a text, with further ones, make on some days.
 fn made(
     alloc: Global,
     files: &str,
@@ -162,15 +174,7 @@ fn made(
 ) -> Result<Result<Made, RunsFault>, Fail> {
     let files = format!(in alloc; "{files}\n{further}")?;
     let feed = joined(alloc, files.as_str(), LEVEL, false)?;
-    let (first, rest) = asked.split_once(' ').unwrap_or((asked, ""));
-    let (days, zone) = rest.split_once(' ').unwrap_or((rest, ""));
-    let first = Day::parse(first.as_bytes())?;
-    let zone = zone_of(alloc, zone)?;
-    let days = number(days)?;
-    if days < 1 || days > MAX_DAYS {
-        return Err(Fail::new("a number of days"));
-    }
-    Ok(runs_of(alloc, &feed, first, days, &zone))
+    made_of(alloc, &feed, asked)
 }
 
 // What is made, all of it or its counts alone.
@@ -239,7 +243,6 @@ fn faults_name_their_tables(rt: HostRuntime) {
     assert!(rt; MAX_DAYS == 14);
 }
 
-// Whether memory was wanting.
 fn is_want_of_memory(fault: RunsFault) -> bool {
     match fault {
         RunsFault::Table(fault) => fault.kind == FaultKind::OutOfMemory,
@@ -247,8 +250,7 @@ fn is_want_of_memory(fault: RunsFault) -> bool {
     }
 }
 
-// Whichever growth is refused, want of memory is told and nothing else. A refused growth ends the
-// test with `AllocError`.
+// Whichever growth is refused, the fault is that memory ran out. A refused growth ends the test with `AllocError`.
 #[test]
 fn refused_growth_is_told(rt: HostRuntime) -> Result<(), Fail> {
     let feed = joined_or_refused(&rt, rt.alloc(), "", LEVEL)?;

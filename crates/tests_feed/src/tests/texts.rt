@@ -68,7 +68,6 @@ fn try_case<R: Abort, T: Telling>(
     Ok(())
 }
 
-/// Tries each case of a text.
 pub(crate) fn try_cases<R: Abort, T: Telling>(
     rt: &R,
     alloc: Global,
@@ -83,7 +82,6 @@ pub(crate) fn try_cases<R: Abort, T: Telling>(
     Ok(())
 }
 
-/// A number of a text.
 pub(crate) fn number(text: &str) -> Result<u32, Fail> {
     match text.parse() {
         Ok(number) => Ok(number),
@@ -194,12 +192,17 @@ pub(crate) fn file_of<'a>(alloc: Global, line: &'a str) -> Result<(&'a str, Stri
     Ok((file, lines_of(alloc, text)?))
 }
 
-/// The files of lines, each as [`file_of`] gives it: its name in a line, then its text, ended by a bar.
+/// Adds a file as [`file_of`] gives it: its name in a line, then its text, ended by a bar.
+fn add_file(alloc: Global, feed: &mut String, line: &str) -> Result<(), AllocError> {
+    let (file, text) = file_of(alloc, line)?;
+    write!(feed, "{file}\n{text}|")
+}
+
+/// The files of lines, as [`add_file`] adds them.
 pub(crate) fn feed_of(alloc: Global, changed: &str, base: &str) -> Result<String, AllocError> {
     let mut feed = String::new(alloc);
     for line in changed.split('\n').chain(base.split('\n')) {
-        let (file, text) = file_of(alloc, line)?;
-        write!(feed, "{file}\n{text}|")?;
+        add_file(alloc, &mut feed, line)?;
     }
     Ok(feed)
 }
@@ -216,7 +219,7 @@ pub(crate) fn files_of(alloc: Global, feed: &str) -> Result<Vec<(&str, &[u8])>, 
     Ok(files)
 }
 
-/// Memory is wanting for the files themselves, which is told of the first.
+/// Memory ran out for the files themselves: a fault of the first.
 fn wanting() -> TableFault {
     TableFault {
         table: Table::Agency,
@@ -252,7 +255,7 @@ pub(crate) fn joined(
     Ok(feed)
 }
 
-/// The same where no growth was refused. Else want of memory is told, and nothing else.
+/// The same where no growth was refused. Else the fault is that memory ran out.
 pub(crate) fn joined_or_refused(
     rt: &impl Abort,
     alloc: Global,
