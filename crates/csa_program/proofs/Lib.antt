@@ -1,3 +1,5 @@
 mod FeedNames
 mod NewSeats
 mod ServerEnds
+mod CountedOff
+mod ServedEnds

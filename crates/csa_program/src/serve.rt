@@ -2,17 +2,19 @@
 //! [NAME=FOLDER]..`.
 
 ghost use Rattle.std.specs.Prelude.{◌≡◌, ◌≢◌, ◌≤◌, ◌⊎◌, [], All, length, map};
-ghost use Rattle.std.specs.Prelude.{slice_get, Some, string_bytes, IfOk};
+ghost use Rattle.std.specs.Prelude.{slice_get, Some, string_bytes, IfOk, ℕ};
 ghost use Rattle.std.specs.Io.KnownBytes.{Appends};
 ghost use Rattle.command_requests.specs.Ending.{status_of};
 ghost use Rattle.command_requests.specs.declared.statuses.TheConstants.{ACCEPTED, INPUT_OUTPUT, OUT_OF_MEMORY};
 ghost use Rattle.shelf_steps.specs.Events.{known_of};
 ghost use Rattle.shelf_steps.specs.Handed.{handed};
 ghost use Rattle.shelf_steps.specs.declared.views.View.{View};
-ghost use Rattle.epochs.specs.ShelfSeats.{NoticeValue, SeatsHanded};
+ghost use Rattle.epochs.specs.ShelfSeats.{NoticeValue, SeatsHanded, ShelfSeatValue};
 ghost use Rattle.workers.specs.Carrying.{AllCarriedOut};
+ghost use Rattle.workers.specs.Learned.{LoaderLearns};
 ghost use Rattle.workers.specs.Ordering.{route_to};
 ghost use Rattle.workers.specs.Sessions.{AreServedSince, MayClose};
+ghost use Rattle.csa_program.specs.Door.{AreCountedOff, AreServedEnds};
 ghost use Rattle.csa_program.specs.Serving.{IsServerEnd, counts_of, form_with, port_text, served_text};
 ghost use Rattle.feed_plans.specs.Planning.{IsPlanNow};
 
@@ -217,7 +219,7 @@ fn listen<
     output: &mut O,
     errors: &mut E,
 ) -> u8
-    ensures { IsServerEnd (O.contents output.old) (O.contents output.new) result }
+    ensures { IsServerEnd request.now.sessions (O.contents output.old) (O.contents output.new) result }
 {
     let alloc = folders.alloc;
     let Ok(made) = shelves_of(alloc, image, request.workers.number) else {
@@ -253,6 +255,7 @@ fn serve_at<H: Disk + Explains + Clock + Threads + Wait + Sync, E: Write + Send>
     requires new { SeatsHanded made.0 (length made.2.items) made.2.items }
     requires some { 1 ≤ length made.2.items }
     requires few { length made.2.items ≤ 16 }
+    ensures { IfOk result (λ ran. AreServedEnds request.now.sessions ran.0 ran.1) }
 {
     let shared = SharedErrors::of(rt, folders.alloc, errors);
     let log = if request.log { Some(&shared) } else { None };
@@ -299,6 +302,10 @@ fn serve_door<
     requires new { SeatsHanded made.0 (length made.2.items) made.2.items }
     requires some { 1 ≤ length made.2.items }
     requires few { length made.2.items ≤ 16 }
+    requires nobody { door.came ≡ [] }
+    ensures { (wanted : ℕ) → AreCountedOff wanted door.entry.left door.entry.accepted
+        door.entry.is_endless door.entry.failed []
+        → IfOk result (λ ran. AreServedEnds wanted ran.0 ran.1) }
 {
     let ran = serve_all::<B, _, _, _, _>(rt, door, made, folders, form, errors)?;
     Ok(end_of(&ran.served, &ran.clients))
@@ -327,8 +334,12 @@ fn serve_all<
     requires new { SeatsHanded made.0 (length made.2.items) made.2.items }
     requires some { 1 ≤ length made.2.items }
     requires few { length made.2.items ≤ 16 }
-    requires closes { MayClose form C.opens C.Reader.remaining C.Writer.contents C.closes }
+    requires closes { MayClose form C.opens C.Reader.remaining C.Writer.contents
+        (λ (seat : ShelfSeatValue). seat.number) (λ seat. seat.shown) (λ seat. known_of seat.view)
+        (λ seat. seat.table ≡ made.0) C.closes }
     ensures none_left { IfOk result (λ ran. K.none_left ran.clients) }
+    ensures holds { IfOk result (λ ran. (fact : K.Fact) → K.holds clients fact → K.holds ran.clients fact) }
+    ensures many { IfOk result (λ ran. K.came clients ≡ [] → length ran.served ≡ length (K.came ran.clients)) }
     ensures seats { IfOk result (λ ran. All (λ seat. seat.table ≡ made.0) ran.seats.items) }
     ensures loader { IfOk result (λ ran. ran.loader.table ≡ made.0) }
     ensures shares { IfOk result (λ ran. AreServedSince form C.opens C.Reader.remaining C.Writer.contents
@@ -341,6 +352,8 @@ fn serve_all<
         ⟦<FolderFiles<'f, H> as FeedFiles>⟧.failed
         (IsPlanNow folders.now.asked.now folders.now.zone_bytes.items) (length folders.now.names.items)
         ran.orders ran.used made.1.answers ran.loader.answers) }
+    ensures learns { IfOk result (λ ran. LoaderLearns (known_of made.1.view) made.1.answers
+        (known_of ran.loader.view) ran.loader.answers) }
 {
     let (shelves, loader, seats) = made;
     run_shelves::<B, _, _, _, _, _, _>(

@@ -1,7 +1,8 @@
 //! Sessions over TCP.
 
 ghost use Rattle.std.specs.Prelude.{◌≡◌, ◌⊎◌, ◌↔◌, ◌+◌, ◌++◌, ◌∷◌, [], true};
-ghost use Rattle.std.specs.Prelude.{false, IfOk, IfSome, IsTrue, MatchOption, ⊤};
+ghost use Rattle.std.specs.Prelude.{false, IfOk, IfSome, IsTrue, MatchOption, ⊤, ◌-◌, ◌^◌, ℕ, map, min};
+ghost use Rattle.csa_program.specs.Door.{AreCountedOff};
 
 use crate::logging::SessionLog;
 use crate::requests::Requests;
@@ -99,7 +100,9 @@ impl<'a, L> Door<'a, L> {
         ensures left { result.left ≡ connections }
         ensures endless { IsTrue result.is_endless ↔ (connections ≡ 0) }
         ensures whole { result.failed ≡ false }
+        ensures log { result.log ≡ log.entry }
         ensures nobody { result.came ≡ [] }
+        ensures counted { AreCountedOff connections result.left result.accepted result.is_endless result.failed [] }
     {
         Door {
             listener,
@@ -125,6 +128,8 @@ impl<'a, L> Door<'a, L> {
         ensures left { self.new.left ≡ self.old.left }
         ensures endless { self.new.is_endless ≡ self.old.is_endless }
         ensures came { self.new.came ≡ self.old.came }
+        ensures accepted { self.new.accepted ≡ self.old.accepted }
+        ensures log { self.new.log ≡ self.old.log }
     {
         for _ in 0..u64::MAX {
             match self.listener.accept() {
@@ -147,6 +152,8 @@ impl<'a, L> Door<'a, L> {
         ensures endless { self.new.is_endless ≡ self.old.is_endless }
         ensures failed { self.new.failed ≡ self.old.failed }
         ensures number { result.number ≡ self.new.accepted }
+        ensures next { self.new.accepted ≡ min (self.old.accepted + 1) (2 ^ 64 - 1) }
+        ensures log { (result.log ≡ self.old.log) × (self.new.log ≡ self.old.log) }
         ensures came { self.new.came ≡ self.old.came ++ result ∷ [] }
     {
         self.accepted = self.accepted.saturating_add(1);
@@ -166,6 +173,13 @@ impl<'a, L> Clients<Visitor<'a, L>> for Door<'a, L> {
     // Accepting failed, or as many as are wanted were accepted.
     ghost none_left = { λ door. (door.failed ≡ true) ⊎ ((door.is_endless ≡ false) × (door.left ≡ 0)) };
 
+    // So many are wanted, or there is no end to them: of those who came each has the next number, and they are counted
+    // off.
+    ghost Fact = { ℕ };
+
+    ghost holds = { λ door wanted. AreCountedOff wanted door.left door.accepted door.is_endless door.failed
+        (map (λ visitor. visitor.number) door.came) };
+
     /// The next connection. Without end none is counted off, and otherwise one.
     fn next(&mut self) -> Option<Visitor<'a, L>>
         ensures came { MatchOption result (self.new.came ≡ self.old.came)
@@ -178,6 +192,13 @@ impl<'a, L> Clients<Visitor<'a, L>> for Door<'a, L> {
         ensures left { IfSome result (λ _. (self.old.is_endless ≡ true) ⊎ (self.new.left + 1 ≡ self.old.left)) }
         ensures failed { IfSome result (λ _. self.new.failed ≡ self.old.failed) }
         ensures deaf { self.old.failed ≡ true → self.new.failed ≡ true }
+        ensures log { self.new.log ≡ self.old.log }
+        ensures number { IfSome result (λ client. client.number ≡ min (self.old.accepted + 1) (2 ^ 64 - 1)) }
+        ensures holds { (wanted : ℕ)
+            → AreCountedOff wanted self.old.left self.old.accepted self.old.is_endless self.old.failed
+            (map (λ visitor. visitor.number) self.old.came)
+            → AreCountedOff wanted self.new.left self.new.accepted self.new.is_endless self.new.failed
+            (map (λ visitor. visitor.number) self.new.came) }
     {
         if !self.is_endless {
             if self.left == 0 {

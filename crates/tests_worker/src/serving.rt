@@ -1,9 +1,12 @@
 //! Clients over memory, served by threads.
 
 mod holding;
+mod releasing;
 mod spending;
 
 ghost use Rattle.std.specs.Prelude.{◌≡◌, ◌≤◌, [], All, length, IfOk};
+ghost use Rattle.epochs.specs.ShelfSeats.{ShelfSeatValue};
+ghost use Rattle.shelf_steps.specs.Events.{known_of};
 ghost use Rattle.workers.specs.Sessions.{MayClose};
 
 use epochs::{Named, PublishFault, ShelfLoader, ShelfSeat, Shelves};
@@ -137,6 +140,8 @@ impl<C> Clients<C> for Row<C> {
     ghost came = { λ row. row.came };
 
     ghost none_left = { λ row. row.visitors.items ≡ [] };
+
+    ghost holds = { λ _ _. Unit {0} };
 
     fn next(&mut self) -> Option<C> {
         let next = self.visitors.pop();
@@ -296,7 +301,9 @@ fn count_ends<
     requires loader { loader.table ≡ B.table }
     requires some { 1 ≤ length seats.items }
     requires few { length seats.items ≤ 16 }
-    requires closes { MayClose form C.opens C.Reader.remaining C.Writer.contents C.closes }
+    requires closes { MayClose form C.opens C.Reader.remaining C.Writer.contents
+        (λ (seat : ShelfSeatValue). seat.number) (λ seat. seat.shown) (λ seat. known_of seat.view)
+        (λ seat. seat.table ≡ shelves) C.closes }
 {
     let feeds = two_feeds(alloc)?;
     let Ok(ran) = run_shelves::<B, _, _, _, _, _, _>(

@@ -19,10 +19,10 @@ use workers::PointForm;
 
 /// Shelves, the loader's seat and the workers' seats.
 #[derive(Drop)]
-struct Stage {
-    shelves: Shelves,
-    loader: ShelfLoader,
-    seats: Vec<ShelfSeat>,
+pub(super) struct Stage {
+    pub(super) shelves: Shelves,
+    pub(super) loader: ShelfLoader,
+    pub(super) seats: Vec<ShelfSeat>,
 }
 
 fn sample(alloc: Global) -> Result<Arc<Verified, Global>, AllocError> {
@@ -36,7 +36,7 @@ fn sample(alloc: Global) -> Result<Arc<Verified, Global>, AllocError> {
 }
 
 /// New shelves with the sample.
-fn stage_of(alloc: Global) -> Result<Stage, AllocError>
+pub(super) fn stage_of(alloc: Global) -> Result<Stage, AllocError>
     ensures loader { IfOk result (λ stage. stage.loader.table ≡ stage.shelves) }
     ensures seats { IfOk result (λ stage. All (λ seat. seat.table ≡ stage.shelves) stage.seats.items) }
 {

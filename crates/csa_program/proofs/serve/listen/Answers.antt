@@ -9,5 +9,5 @@ returns-in-Ok-serve_at g c =
     let told = c.tell_served in
     let ran = c.in-Ok-serve_at in
     let accepted : begun.result ≡ ACCEPTED = search rules in
-    served_end _ (g.O.Write.contents begun.new.output) (g.O.Write.contents told.new.output) c.in-Ok-listener_at.bound.1 ran.ends ran.is_deaf told.result
-    (begun.ensures.printed accepted) told.ensures.status told.ensures.printed
+    served_end _ _ (g.O.Write.contents begun.new.output) (g.O.Write.contents told.new.output) c.in-Ok-listener_at.bound.1 ran.ends ran.is_deaf told.result
+    ran.ensures (begun.ensures.printed accepted) told.ensures.status told.ensures.printed

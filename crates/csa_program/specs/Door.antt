@@ -1,0 +1,36 @@
+-- Clients that come to a door, counted off.
+use Rattle.std.specs.Prelude.{◌≡◌, ◌≢◌, ◌≤◌, ◌+◌, ℕ, Bool, true, false, List, [], ◌∷◌, length}
+use Rattle.workers.specs.Ends.{capped, has_ended, has_failed, is_spent}
+use Rattle.workers.specs.declared.served.End.{End}
+use Rattle.command_requests.specs.declared.ends.Ends.{Ends}
+use Rattle.std.specs.List.{count_by}
+
+-- behind so many earlier ones each has the next number, from 1 on, which stays at the greatest value
+abbrev pub AreNumbered : ℕ → List ℕ → Type 0
+AreNumbered earlier [] = Unit {0}
+AreNumbered earlier (number ∷ numbers) = (number ≡ capped (earlier + 1)) × AreNumbered (earlier + 1) numbers
+
+-- those who came have these numbers. So many are wanted, or there is no end to them where that is 0; so many are left of these. While accepting
+-- never failed, as many came as aren't left, and none more else
+pub record AreCountedOff (wanted left accepted : ℕ) (is_endless failed : Bool) (numbers : List ℕ) : Type 0 where
+  pub numbered : AreNumbered 0 numbers
+  pub accepted_are : accepted ≡ capped (length numbers)
+  pub endless : is_endless ≡ true → wanted ≡ 0
+  pub bounded : is_endless ≡ false → wanted ≢ 0
+  pub most : is_endless ≡ false → left + length numbers ≤ wanted
+  pub all : is_endless ≡ false → failed ≡ false → left + length numbers ≡ wanted
+
+-- how many of these sessions ended in each way
+abbrev pub counts_in : List End → Ends
+counts_in ends = record {
+  ended = capped (count_by has_ended ends);
+  failed = capped (count_by has_failed ends);
+  spent = capped (count_by is_spent ends);
+}
+
+-- so many sessions ended so: no more than are wanted, or as many unless accepting failed, which happened where they are wanted without end
+pub record AreServedEnds (wanted : ℕ) (ends : Ends) (is_deaf : Bool) : Type 0 where
+  pub sessions : List End
+  pub counted : ends ≡ counts_in sessions
+  pub most : wanted ≢ 0 → length sessions ≤ wanted
+  pub all : is_deaf ≡ false → (wanted ≢ 0) × (length sessions ≡ wanted)
