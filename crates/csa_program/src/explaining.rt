@@ -1,10 +1,10 @@
-//! What standard error says of a feed that a server doesn't load.
+//! What standard error says of a feed that a server loads, or doesn't.
 
 use csa_commands::{explain, explain_refused};
 use epochs::PublishFault;
 use std::io::Write;
 use std::rt::Files;
-use workers::LoadRefusal;
+use workers::{LoadRefusal, Loaded};
 
 /// Who can say more of a feed that isn't loaded, on any thread: it has no type of its own.
 pub trait Explains {
@@ -31,4 +31,13 @@ fn explain_unpublished<E: Write>(fault: PublishFault, errors: &mut E) {
         PublishFault::OutOfMemory => return,
     };
     explain(errors, &["csa: ", reason]);
+}
+
+/// Warns of a feed that was loaded although none of its trips runs on the days of the plan: its version answers every
+/// query with nothing.
+pub fn warn_of_idle_feed<'a, E: Write>(errors: &mut E, name: &'a str, loaded: &Loaded) {
+    if loaded.report.runs == 0 {
+        let reason = ": no trip runs on these days, so no query has a departure";
+        explain(errors, &["csa: warning: feed ", name, reason]);
+    }
 }

@@ -19,7 +19,7 @@ ghost use Rattle.csa_program.specs.Serving.{IsServerEnd, counts_of, form_with, p
 ghost use Rattle.feed_plans.specs.Planning.{IsPlanNow};
 
 use crate::bases::warn_of_bases;
-use crate::explaining::Explains;
+use crate::explaining::{Explains, warn_of_idle_feed};
 use crate::folders::warn_of_folders;
 use crate::logging::{LoaderErrors, SessionLog, SharedErrors, log_load};
 use crate::machine::Machine;
@@ -103,7 +103,7 @@ impl<'a, H: Disk + Explains + Clock + Sync> Feeds for Folders<'a, H> {
         Instant::now(self.disk).ok()
     }
 
-    // What is wrong with a feed is looked for in its folder once more.
+    // What is wrong with a feed is looked for in its folder once more; a feed of which no trip runs has a warning.
     fn finish<W: Write>(
         &self,
         errors: &mut W,
@@ -124,8 +124,9 @@ impl<'a, H: Disk + Explains + Clock + Sync> Feeds for Folders<'a, H> {
                 errors,
             );
         }
-        if let Err(refusal) = &outcome {
-            self.disk.explain_feed(feed.folder, refusal, errors);
+        match &outcome {
+            Ok(loaded) => warn_of_idle_feed(errors, feed.name, loaded),
+            Err(refusal) => self.disk.explain_feed(feed.folder, refusal, errors),
         }
     }
 }
@@ -144,7 +145,7 @@ pub fn run<
             explain_load(&fault, errors);
             return refuse_feed(alloc, output, fault);
         }
-        Err(PlanFailure::Unreadable(path)) => return status::report_unreadable(rt, errors, path),
+        Err(PlanFailure::Unreadable(path)) => return status::report_unread_zone(rt, errors, path),
         Err(PlanFailure::OutOfMemory) => return status::OUT_OF_MEMORY,
     };
     let image = match open_image(rt, request.image, input, output, errors) {
