@@ -2,4 +2,4 @@
 
 /// The sum of all sources but this file, as `release/sources --program` prints it. `release/stamp` writes it, and
 /// `.ci/run` compares it with the sources.
-pub const SOURCES: &str = "ec8f4fff38cc0e8496f3bc4232425a94b3c8f8cfba82eac7183584fe9f9cd9c0";
+pub const SOURCES: &str = "d841749c73a6794d217d5044a427e91085288adbb570f356734786aa2e48c632";
