@@ -1,4 +1,4 @@
-"""Journeys of a planner: how lines are read, and how they are spelled by the numbers of an image."""
+"""Journeys of a planner: reading them from lines, and writing them with the numbers of an image."""
 
 from __future__ import annotations
 
@@ -15,7 +15,7 @@ from csa_client.image import Connection, Image
 
 USAGE = 64
 CRITERIA = ("arrival", "arrival+trips", "arrival+trips+walk")
-# so many are given to csa on its command line
+# the most legs of a journey, since they go onto the command line of csa
 MOST_LEGS = 1000
 
 
@@ -32,11 +32,11 @@ class Unreadable(Exception):
 
 
 class Unknown(Exception):
-    """Which id the image hasn't."""
+    """Which id isn't in the image."""
 
 
 class Impossible(Exception):
-    """Why no trip runs so."""
+    """Why no trip runs like this."""
 
 
 class Query(NamedTuple):
@@ -79,7 +79,7 @@ class Point(NamedTuple):
 
 @dataclass
 class Journey:
-    """A line, and what is found of it. `text` is its journey by the image's numbers."""
+    """A line, and what is found out about it. `text` is its journey with the numbers of the image."""
 
     line: int
     id: Any = None
@@ -111,7 +111,7 @@ class Reader:
             record = self.record(line)
             journey.id = record.get("id")
             if not isinstance(record["legs"], list) or not all(isinstance(leg, dict) for leg in record["legs"]):
-                raise Unreadable("its 'legs' are no list of objects")
+                raise Unreadable("its 'legs' aren't a list of objects")
             journey.legs = [self.leg(leg) for leg in record["legs"]]
             if len(journey.legs) > MOST_LEGS:
                 raise Unreadable(f"it has more than {MOST_LEGS} legs")
@@ -127,7 +127,7 @@ class Reader:
         return journey
 
     def record(self, line: str) -> dict[str, Any]:
-        """A line of either form, as the object of the first one."""
+        """A line of either form, as an object of the first form."""
         if line.lstrip().startswith("{"):
             return json.loads(line)
         words, legs = line.split(), []
@@ -148,17 +148,23 @@ class Reader:
 
     def text(self, value: Any) -> str:
         if not isinstance(value, str):
-            raise Unreadable(f"{value!r} is no text")
+            raise Unreadable(f"{value!r} isn't a text")
         return value
 
     def whole(self, value: Any) -> int:
         """Whole seconds, which some planners write as 60.0."""
         if not float(value).is_integer():
-            raise Unreadable(f"{value!r} are no whole seconds")
+            raise Unreadable(f"{value!r} isn't a whole number of seconds")
         return int(float(value))
 
     def day(self, value: Any) -> int | None:
-        return None if value is None else int(str(value).replace("-", ""))
+        """A service day, YYYYMMDD or YYYY-MM-DD."""
+        if value is None:
+            return None
+        digits = str(value).replace("-", "")
+        if re.fullmatch("[0-9]{1,8}", digits) is None:
+            raise Unreadable(f"{value!r} isn't a service day, YYYYMMDD")
+        return int(digits)
 
     def seconds(self, value: Any) -> int:
         """The seconds after the image's base of a clock or an instant."""
@@ -166,7 +172,7 @@ class Reader:
             return seconds_of(value)
         instant = datetime.fromisoformat(re.sub("Z$", "+00:00", value))
         if instant.tzinfo is None:
-            raise Unreadable(f"{value!r} has no offset, as +01:00")
+            raise Unreadable(f"{value!r} has no offset such as +01:00")
         return int(instant.timestamp()) - self.base
 
     def query(self, number: int, legs: list[Ride | Walk], record: dict[str, Any]) -> Query:
@@ -178,12 +184,12 @@ class Reader:
             window.append(clock_of(seconds_of(self.text(clock))))
         criterion = record.get("criterion", self.asked.criterion)
         if criterion not in CRITERIA:
-            raise Unreadable(f"{criterion!r} is no criterion")
+            raise Unreadable(f"{criterion!r} isn't a criterion")
         return Query(legs[0].source, legs[-1].target, *window, criterion)
 
 
 class Spelling:
-    """Spells journeys of ids by the numbers of an image, and the other way round."""
+    """Translates journeys from ids to the numbers of an image, and back."""
 
     def __init__(self, image: Image, journeys: list[Journey]) -> None:
         self.image = image
@@ -191,7 +197,7 @@ class Spelling:
         self.rides = image.rides({trip for runs in self.runs.values() for trip, _ in runs})
 
     def spell(self, journey: Journey) -> None:
-        """Gives the journey its text, or says which id is unknown or why no trip runs so."""
+        """Gives the journey its text, or else says which id is unknown or why no trip runs like this."""
         try:
             words: list[str] = []
             before: Ride | Walk | None = None
@@ -219,7 +225,7 @@ class Spelling:
         return f"walk {source} {target} {seconds}"
 
     def other_footpaths(self, journey: Journey) -> str:
-        """How long the image's own footpaths take, where the journey's take another time."""
+        """How long the image's own footpaths take, if those of the journey take another time."""
         found = []
         for leg in journey.legs:
             if isinstance(leg, Walk) and leg.seconds is not None:
@@ -249,12 +255,12 @@ class Spelling:
         raise Impossible(f"leg {number}: trip {leg.trip} doesn't reach {leg.target} at {clock_of(leg.arrival)}" + self.times(left, 3))
 
     def times(self, places: list[tuple[list[tuple[int, Connection]], int]], which: int) -> str:
-        """The first few times at which it does."""
+        """The first few times at which the trip does."""
         seen = sorted({ride[place][1][which] for ride, place in places})
         return f", but at {', '.join(map(clock_of, seen[:5]))}{' ..' if len(seen) > 5 else ''}" if seen else ", nor at another time"
 
     def named(self, text: str) -> str:
-        """A journey's text by ids and times, as `csa profile --names` prints it."""
+        """A journey's text with ids and times, as `csa profile --names` prints it."""
         numbers, words = iter(text.split()), []
         for kind in numbers:
             one, two = int(next(numbers)), int(next(numbers))

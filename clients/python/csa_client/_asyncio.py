@@ -14,12 +14,16 @@ Value = TypeVar("Value")
 
 
 class AsyncCsaClient:
-    """One session of an asyncio program, open within `async with`. Calls of several tasks take turns; a pin is that of the session."""
+    """One session of an asyncio program, open within `async with`. Tasks that share it take turns, and share its pin.
+
+        async with AsyncCsaClient(port=7077) as csa, csa.pinned() as pinned:
+            answer = await csa.profile("A", "C", after="07:00:00", until="09:00:00", by="10:00:00")
+    """
 
     def __init__(self, host: str = "127.0.0.1", port: int = DEFAULT_PORT, timeout: float = 30.0) -> None:
-        """`timeout`, in seconds, bounds the connecting and then each request; what takes longer raises TimeoutError and closes.
+        """`timeout`, in seconds, is for connecting, which `async with` does, and then for each request. TimeoutError closes the session.
 
-        A server whose workers are all taken lets one more connect, and says nothing: the first request raises TimeoutError then.
+        If all workers of the server are taken, one can connect but gets no reply: the first request raises TimeoutError.
         """
         self._address = host, port
         self._timeout = timeout
@@ -27,11 +31,11 @@ class AsyncCsaClient:
         self._turn = asyncio.Lock()
 
     async def pin(self) -> Pinned:
-        """Pins the current version: all further profiles are answered from it, until it is released."""
+        """Pins the current version: profiles are answered from it until it is released. Refused 92 if the session holds a pin."""
         return await self._ask(_protocol.pin())
 
     async def release(self) -> None:
-        """Releases the pinned version."""
+        """Releases the pinned version. Refused 93 if there is none."""
         await self._ask(_protocol.release())
 
     @asynccontextmanager
@@ -47,22 +51,31 @@ class AsyncCsaClient:
     async def profile(
         self, source: str, target: str, *, after: str, until: str, by: str, criterion: Criterion = "arrival"
     ) -> Profile:
-        """Every best departure from `after` to `until` that arrives at `by` at the latest, of the pinned version, else of the current one.
+        """Every best departure from `after` to `until` that arrives no later than `by`, in the pinned version or else in the current one.
 
-        Refused 31 if it hasn't got one of the stops: which one, a profile from a stop to itself shows (32 if it has that stop, else 31).
+            csa.profile("A", "C", after="07:00:00", until="09:00:00", by="10:00:00", criterion="arrival+trips").points
+
+        Refused 31 if one of the stops is unknown. To see which, ask for a profile from a stop to itself: 32 if it is known, else 31.
         """
         return await self._ask(_protocol.profile(source, target, after, until, by, criterion))
 
     async def load(self, feed: str) -> None:
-        """Orders that the feed of this name is loaded and published. It returns when the order is in the queue, not when it is done."""
+        """Orders the server to load the feed of this name and publish it. Returns once the order is queued, not when it is done.
+
+        Refused 114 if the server wasn't started with a feed of this name, 115 if four orders are waiting already.
+        """
         await self._ask(_protocol.load(feed))
 
     async def load_and_wait(self, feed: str, timeout: float | None = None) -> int:
-        """Orders the feed and waits until it is published: its version. `timeout`, in seconds, bounds this request in place of the session's own."""
+        """Orders the server to load the feed, waits until it is published, and returns its version. This session then pins it or a newer one.
+
+        A worker of the server is occupied meanwhile. A load may take minutes: `timeout`, in seconds, is for this request, instead of the
+        session's own. Refused 120 if the load was refused; its `refusal` is the number of that.
+        """
         return await self._ask(_protocol.load_and_wait(feed), timeout)
 
     def close(self) -> None:
-        """Ends the session; what it pinned is released by the server."""
+        """Ends the session; the server then releases what it pinned."""
         if self._streams is not None:
             self._streams[1].close()
             self._streams = None
@@ -75,23 +88,23 @@ class AsyncCsaClient:
         self.close()
 
     async def _ask(self, request: Request[Result], timeout: float | None = None) -> Result:
-        """Sends one line and returns what its reply says, or raises it."""
+        """Sends a request, and returns what its reply says or raises it."""
         async with self._turn:
             if self._streams is None:
-                raise SessionEnded("the session is closed")
+                raise SessionEnded("the session is not open: use `async with`, or open another one")
             try:
                 line = await _bounded(_exchange(*self._streams, request.line()), self._timeout if timeout is None else timeout)
                 return request.result(line)
             except Refused:
                 raise
             except BaseException:
-                # also where the task is cancelled: what comes next on the connection could be the reply to this request
+                # also if the task is cancelled: what comes next on the connection could be the reply to this request
                 self.close()
                 raise
 
 
 async def _exchange(reader: asyncio.StreamReader, writer: asyncio.StreamWriter, line: bytes) -> bytes:
-    """Sends a line and returns the one that comes back, with its end."""
+    """Sends a line and returns the reply, with its line end."""
     try:
         writer.write(line)
         await writer.drain()
@@ -103,7 +116,7 @@ async def _exchange(reader: asyncio.StreamReader, writer: asyncio.StreamWriter, 
 
 
 async def _bounded(awaited: Awaitable[Value], timeout: float) -> Value:
-    """What is awaited, or TimeoutError; that of asyncio is another one before Python 3.11."""
+    """The awaited value, or the built-in TimeoutError; before Python 3.11 asyncio has one of its own."""
     try:
         return await asyncio.wait_for(awaited, timeout)
     except asyncio.TimeoutError as error:

@@ -12,12 +12,16 @@ from ._protocol import DEFAULT_PORT, LONGEST_REPLY, Criterion, Pinned, Profile, 
 
 
 class CsaClient:
-    """One session. Its calls are not for several threads at once; open a client for each."""
+    """One session. Don't share it between threads; open a client for each.
+
+        with CsaClient(port=7077) as csa:
+            answer = csa.profile("A", "C", after="07:00:00", until="09:00:00", by="10:00:00")
+    """
 
     def __init__(self, host: str = "127.0.0.1", port: int = DEFAULT_PORT, timeout: float = 30.0) -> None:
-        """Connects. `timeout`, in seconds, bounds the connecting and then each request; what takes longer raises TimeoutError and closes.
+        """Connects. `timeout`, in seconds, is for connecting, and then for each request. TimeoutError closes the session.
 
-        A server whose workers are all taken lets one more connect, and says nothing: the first request raises TimeoutError then.
+        If all workers of the server are taken, one can connect but gets no reply: the first request raises TimeoutError.
         """
         self._socket: socket.socket | None = socket.create_connection((host, port), timeout)
         self._timeout = timeout
@@ -25,11 +29,11 @@ class CsaClient:
         self._received = bytearray()
 
     def pin(self) -> Pinned:
-        """Pins the current version: all further profiles are answered from it, until it is released."""
+        """Pins the current version: profiles are answered from it until it is released. Refused 92 if the session holds a pin."""
         return self._ask(_protocol.pin())
 
     def release(self) -> None:
-        """Releases the pinned version."""
+        """Releases the pinned version. Refused 93 if there is none."""
         self._ask(_protocol.release())
 
     @contextmanager
@@ -45,26 +49,31 @@ class CsaClient:
     def profile(
         self, source: str, target: str, *, after: str, until: str, by: str, criterion: Criterion = "arrival"
     ) -> Profile:
-        """Every best departure from `after` to `until` that arrives at `by` at the latest, of the pinned version, else of the current one.
+        """Every best departure from `after` to `until` that arrives no later than `by`, in the pinned version or else in the current one.
 
-        Refused 31 if it hasn't got one of the stops: which one, a profile from a stop to itself shows (32 if it has that stop, else 31).
+            csa.profile("A", "C", after="07:00:00", until="09:00:00", by="10:00:00", criterion="arrival+trips").points
+
+        Refused 31 if one of the stops is unknown. To see which, ask for a profile from a stop to itself: 32 if it is known, else 31.
         """
         return self._ask(_protocol.profile(source, target, after, until, by, criterion))
 
     def load(self, feed: str) -> None:
-        """Orders that the feed of this name is loaded and published. It returns when the order is in the queue, not when it is done."""
+        """Orders the server to load the feed of this name and publish it. Returns once the order is queued, not when it is done.
+
+        Refused 114 if the server wasn't started with a feed of this name, 115 if four orders are waiting already.
+        """
         self._ask(_protocol.load(feed))
 
     def load_and_wait(self, feed: str, timeout: float | None = None) -> int:
-        """Orders the feed and waits until it is published: its version. From then on this session pins that version or a newer one.
+        """Orders the server to load the feed, waits until it is published, and returns its version. This session then pins it or a newer one.
 
-        The server's worker serves nobody else meanwhile. `timeout`, in seconds, bounds this request in place of the session's own: a
-        load may take minutes. Refused 120 has the number of the load's refusal.
+        A worker of the server is occupied meanwhile. A load may take minutes: `timeout`, in seconds, is for this request, instead of the
+        session's own. Refused 120 if the load was refused; its `refusal` is the number of that.
         """
         return self._ask(_protocol.load_and_wait(feed), timeout)
 
     def close(self) -> None:
-        """Ends the session; what it pinned is released by the server."""
+        """Ends the session; the server then releases what it pinned."""
         if self._socket is not None:
             self._socket.close()
             self._socket = None
@@ -76,9 +85,9 @@ class CsaClient:
         self.close()
 
     def _ask(self, request: Request[Result], timeout: float | None = None) -> Result:
-        """Sends one line and returns what its reply says, or raises it."""
+        """Sends a request, and returns what its reply says or raises it."""
         if self._socket is None:
-            raise SessionEnded("the session is closed")
+            raise SessionEnded("the session is closed: open another one")
         deadline = time.monotonic() + (self._timeout if timeout is None else timeout)
         try:
             return request.result(self._exchange(self._socket, request.line(), deadline))
@@ -90,7 +99,7 @@ class CsaClient:
             raise
 
     def _exchange(self, connection: socket.socket, line: bytes, deadline: float) -> bytes:
-        """Sends a line and returns the one that comes back, without its end."""
+        """Sends a line and returns the reply, without its line end."""
         try:
             connection.settimeout(_left(deadline))
             connection.sendall(line)
@@ -99,7 +108,7 @@ class CsaClient:
             raise SessionEnded("the server ended the session") from error
 
     def _read_line(self, connection: socket.socket, deadline: float) -> bytes:
-        """The next line of the server, without its end; TimeoutError when the deadline passes before it is whole."""
+        """The next line of the server, without its line end; TimeoutError if the deadline passes before it is complete."""
         searched = 0
         while (end := self._received.find(b"\n", searched)) < 0:
             searched = len(self._received)

@@ -16,7 +16,7 @@ Result = TypeVar("Result")
 
 DEFAULT_PORT = 7077
 
-# A reply is read up to so many bytes.
+# the longest reply that is read, in bytes
 LONGEST_REPLY = 256 * 1024 * 1024
 
 NUMBER = "([0-9]{1,10})"
@@ -26,45 +26,45 @@ CLOCK = re.compile("([0-9]{1,6}):([0-5][0-9]):([0-5][0-9])")
 
 
 class CsaError(Exception):
-    """The base of the exceptions of this client; those of the socket, as TimeoutError, are OSError as ever."""
+    """The base class of this client's exceptions. Exceptions of the socket, such as TimeoutError, are OSErrors as usual."""
 
 
 class Refused(CsaError):
-    """The server refused a request; the session goes on as before (after 97 SeatLost nothing is pinned)."""
+    """The server refused a request. The session goes on as before (after 97 SeatLost nothing is pinned)."""
 
     def __init__(self, number: int, name: str, newest: int | None = None, refusal: int | None = None) -> None:
         super().__init__(f"{number} {name}" if refusal is None else f"{number} {name} {refusal}")
         self.number = number
         self.name = name
-        #: The newest version that was seen, of 91 Moved alone.
+        #: With 91 Moved only: the newest version that was seen.
         self.newest = newest
-        #: The number with which the load was refused, of 120 LoadRefused alone.
+        #: With 120 LoadRefused only: the number with which the load was refused.
         self.refusal = refusal
 
 
 class SessionEnded(CsaError, ConnectionError):
-    """The server ended the session, or its reply was none. The client is closed."""
+    """The server ended the session, or sent something that isn't a reply to the request. The client is closed."""
 
 
 @dataclass(frozen=True)
 class Pinned:
-    """The version that the session holds, and the instant from which its clocks count, in seconds after 1970."""
+    """The version that the session holds, and the instant from which its clocks count, in seconds since 1970-01-01T00:00:00Z."""
 
     version: int
     base: int
 
     def instant(self, clock: str, zone: tzinfo | str = timezone.utc) -> datetime:
-        """The instant of a clock text in this version, in a zone: `"Europe/Berlin"`, or any other tzinfo. ValueError if it is no clock."""
+        """The instant of a clock text in this version, in a zone such as `"Europe/Berlin"`, or any tzinfo. ValueError if it isn't a clock."""
         start = datetime.fromtimestamp(self.base, timezone.utc)
         return (start + timedelta(seconds=seconds_of(clock))).astimezone(_zone(zone))
 
     def clock(self, instant: datetime) -> str:
-        """The clock text of an instant in this version, in whole seconds. ValueError before the base, and without a zone."""
+        """The clock text of an instant in this version, in whole seconds. ValueError if it is before the base or has no zone."""
         if instant.tzinfo is None:
-            raise ValueError("an instant without a zone has no clock")
+            raise ValueError("the instant has no zone: give it a tzinfo")
         seconds = int(instant.timestamp() // 1) - self.base
         if seconds < 0:
-            raise ValueError("the instant is before the first second of this version")
+            raise ValueError("the instant is before the base of this version")
         return f"{seconds // 3600:02}:{seconds // 60 % 60:02}:{seconds % 60:02}"
 
 
@@ -78,7 +78,7 @@ class Ride:
 
 @dataclass(frozen=True)
 class Walk:
-    """A footpath: the numbers of its stops in the image of the version that answered, and its seconds. From a stop to itself it is a change."""
+    """A footpath: the numbers of its stops in the image of the version that answered, and its seconds. A change if both stops are the same."""
 
     from_stop: int
     to_stop: int
@@ -87,8 +87,10 @@ class Walk:
 
 @dataclass(frozen=True)
 class NamedRide:
-    """A ride by its trip_id, the service day as the number YYYYMMDD, and the stop_ids and clocks of its ends, which count from the base as
-    a point's do. `repeat` is which of that day's repeats of the trip it is, from 0 on."""
+    """A ride: its trip_id, the service day as the number YYYYMMDD, and the stop_ids and clocks of its ends, which count from the base.
+
+    `repeat` says which of that day's repeats of the trip it is, counted from 0.
+    """
 
     trip: str
     day: int
@@ -101,7 +103,7 @@ class NamedRide:
 
 @dataclass(frozen=True)
 class NamedWalk:
-    """A footpath by the stop_ids of its ends, and its seconds. From a stop to itself it is a change."""
+    """A footpath: the stop_ids of its ends, and its seconds. A change if both stops are the same."""
 
     from_stop: str
     to_stop: str
@@ -110,9 +112,9 @@ class NamedWalk:
 
 @dataclass(frozen=True)
 class Point:
-    """A best departure: its clocks, its journey's text, and the trips and seconds of walking where the criterion counts them.
+    """A best departure: its clocks, the text of its journey, and `trips` and `walked` (seconds on foot) if the criterion counts them.
 
-    `named_legs` are the journey's rides and walks by their ids, in order, from a server that was started with `--legs`; else None.
+    `named_legs` are the journey's rides and walks in order, with ids, if the server was started with `--legs`; otherwise None.
     """
 
     dep: str
@@ -124,7 +126,7 @@ class Point:
 
     @property
     def legs(self) -> tuple[Ride | Walk, ...]:
-        """The journey's rides and walks by their numbers in the image, in order."""
+        """The journey's rides and walks in order, with the numbers of the image."""
         return parse_journey(self.journey)
 
 
@@ -138,17 +140,17 @@ class Profile:
 
 
 def parse_journey(text: str) -> tuple[Ride | Walk, ...]:
-    """The legs of a journey's text, `ride FIRST LAST` and `walk FROM TO SECONDS`, with a space between. ValueError if it is no such text."""
+    """The legs of a journey's text: `ride FIRST LAST` and `walk FROM TO SECONDS`, separated by spaces. ValueError if the text isn't that."""
     if JOURNEY.fullmatch(text) is None:
-        raise ValueError(f"no journey: {text[:80]!r}")
+        raise ValueError(f"not a journey: {text[:80]!r}")
     return tuple(_leg(*numbers) for numbers in LEG.findall(text))
 
 
 def seconds_of(clock: str) -> int:
-    """The seconds of a clock text `HH:MM:SS`; its hours may pass 24. ValueError if it is none."""
+    """The seconds of a clock text `HH:MM:SS`, whose hours may pass 24. ValueError if the text isn't a clock."""
     matched = CLOCK.fullmatch(clock)
     if matched is None:
-        raise ValueError(f"no clock: {clock[:80]!r}")
+        raise ValueError(f"not a clock, HH:MM:SS: {clock[:80]!r}")
     hours, minutes, seconds = map(int, matched.groups())
     return hours * 3600 + minutes * 60 + seconds
 
@@ -165,17 +167,17 @@ class Request(Generic[Result]):
         return json.dumps(self.fields, ensure_ascii=False).encode() + b"\n"
 
     def result(self, line: bytes) -> Result:
-        """What the reply says. Refused is what the server says; SessionEnded, that this line is no reply to the request."""
+        """What the reply says. Raises Refused if the server refused the request, SessionEnded if the line isn't a reply to it."""
         try:
             reply = json.loads(line)
             if "error" in reply:
                 refused = Refused(_number(reply, "error"), reply["name"], reply.get("newest"), reply.get("refusal"))
             elif reply["ok"] != self.fields["do"]:
-                raise SessionEnded(f"this is no reply to {self.fields['do']}")
+                raise SessionEnded(f"the server sent something else than a reply to {self.fields['do']}")
             else:
                 return self.read(reply)
         except (ValueError, KeyError, TypeError, AttributeError, RecursionError) as error:
-            raise SessionEnded(f"no reply that can be read: {error}") from error
+            raise SessionEnded(f"the reply can't be read: {error}") from error
         raise refused
 
 
@@ -226,14 +228,14 @@ def _leg(first: str, last: str, source: str, target: str, seconds: str) -> Ride 
 def _number(reply: Reply, key: str) -> int:
     number = reply[key]
     if type(number) is not int:
-        raise TypeError(f"{key} is no whole number")
+        raise TypeError(f"{key} isn't a whole number")
     return number
 
 
 def _text(reply: Reply, key: str) -> str:
     text = reply[key]
     if not isinstance(text, str):
-        raise TypeError(f"{key} is no text")
+        raise TypeError(f"{key} isn't a text")
     return text
 
 

@@ -1,8 +1,14 @@
-"""A reader of images, as docs/IMAGE.md describes them. It looks up what it is asked for, and trusts that `csa verify` accepts the file."""
+"""Reads images, as docs/IMAGE.md of csa describes them. It doesn't verify the file: it relies on `csa verify` to accept it.
+
+    image = Image.open("city.csa")
+    connection = image.connection(26854)
+    print(image.stop_id(connection.source), image.trip_id(connection.trip))
+"""
 
 from __future__ import annotations
 
 import mmap
+import os
 import struct
 from collections.abc import Iterator
 from datetime import date
@@ -17,7 +23,7 @@ FOOTPATH = struct.Struct("<2I")
 
 
 class Connection(NamedTuple):
-    """A ride from a stop to the next; the times are seconds after the image's base."""
+    """One hop of a trip, from a stop to the next. Times are seconds after the image's base; stops and the trip are numbers in the image."""
 
     source: int
     target: int
@@ -28,16 +34,21 @@ class Connection(NamedTuple):
 
 
 class Image:
-    """An image file, mapped: the file may be closed then, and one that takes its name later leaves the image as it is."""
+    """An image file, mapped into memory. The file may then be closed, and replacing it under its name doesn't change this image.
+
+    `base` is the instant from which its times count, in seconds since 1970; `stops`, `trips` and `connections` are counts. Each of them is
+    numbered from 0.
+    """
 
     def __init__(self, file: BinaryIO) -> None:
-        """Maps the file. ValueError where it is no image of a known layout, or has another length than its counts say."""
+        """Maps the file. ValueError if it isn't an image of layout 1 or 2, or has another length than its counts give."""
+        # an empty file can't be mapped
+        if os.fstat(file.fileno()).st_size < HEADER.size:
+            raise ValueError(f"{file.name} isn't an image: it is too short")
         self._bytes = mmap.mmap(file.fileno(), 0, access=mmap.ACCESS_READ)
-        if len(self._bytes) < HEADER.size:
-            raise ValueError(f"{file.name} is no image: it is too short")
         magic, layout, stops, trips, connections, footpaths, text, self.base = HEADER.unpack_from(self._bytes)
         if magic != MAGIC or layout not in (1, 2):
-            raise ValueError(f"{file.name} is no image of layout 1 or 2")
+            raise ValueError(f"{file.name} isn't an image of layout 1 or 2")
         self.stops, self.trips, self.connections = stops, trips, connections
         self._foot_index = 9 + 6 * connections
         self._footpaths = self._foot_index + stops + 1
@@ -45,40 +56,37 @@ class Image:
         self._days = self._names + stops + trips + 1
         self._text = self._days + layout * trips
         if len(self._bytes) != 4 * (self._text + (text + 3) // 4):
-            raise ValueError(f"{file.name} is no image: its length isn't that of its counts")
+            raise ValueError(f"{file.name} isn't a whole image: its length doesn't fit its counts")
 
     @classmethod
     def open(cls, path: str | Path) -> Image:
-        """The image of this file. OSError where it can't be opened; ValueError as `Image`."""
+        """Opens the image in this file. OSError if the file can't be opened, ValueError as for `Image`."""
         with open(path, "rb") as file:
             return cls(file)
 
     def connection(self, number: int) -> Connection:
-        """A connection by its number; IndexError where there is none."""
-        if number >= self.connections:
-            raise IndexError(f"no connection {number}")
+        """The connection with this number; IndexError if there is none."""
+        _check("connection", number, self.connections)
         return Connection(*CONNECTION.unpack_from(self._bytes, HEADER.size + CONNECTION.size * number))
 
     def stop_id(self, number: int) -> str:
-        """A stop's id by its number; IndexError where there is none."""
-        if number >= self.stops:
-            raise IndexError(f"no stop {number}")
+        """The stop_id of the stop with this number; IndexError if there is none."""
+        _check("stop", number, self.stops)
         return self._text_of(number)
 
     def trip_id(self, number: int) -> str:
-        """A trip's id by its number; IndexError where there is none."""
-        if number >= self.trips:
-            raise IndexError(f"no trip {number}")
+        """The trip_id of the trip with this number; IndexError if there is none."""
+        _check("trip", number, self.trips)
         return self._text_of(self.stops + number)
 
     @cached_property
     def stop_numbers(self) -> dict[str, int]:
-        """The number of each stop_id; where two stops have one, csa takes the first."""
+        """The number of each stop_id; if two stops have the same one, that of the first, as in csa."""
         return {self._text_of(stop): stop for stop in reversed(range(self.stops))}
 
     @cached_property
     def days(self) -> tuple[date, date] | None:
-        """The first and the last service day; None where there is no trip, or a day is no date."""
+        """The first and the last service day; None if there is no trip, or a day isn't a date."""
         numbers = memoryview(self._bytes)[4 * self._days : 4 * (self._days + self.trips)]
         first, last = 2**32, 0
         for (day,) in struct.iter_unpack("<I", numbers):
@@ -89,8 +97,11 @@ class Image:
             return None
 
     def runs(self, trip_ids: set[str]) -> dict[str, list[tuple[int, int]]]:
-        """For each of these trip_ids that the image has, its runs: the number of the trip in the image and its service day, YYYYMMDD."""
-        # what is no UTF-8 is the name of nothing
+        """The runs of each of these trip_ids: the number of the trip in the image, and its service day as the number YYYYMMDD.
+
+        A trip_id that the image doesn't have has no entry.
+        """
+        # a name that can't be encoded in UTF-8 is in no image
         wanted = {name.encode(errors="surrogatepass"): name for name in trip_ids}
         found: dict[str, list[tuple[int, int]]] = {}
         for trip, name in enumerate(self._names_from(self.stops, self.trips)):
@@ -99,7 +110,7 @@ class Image:
         return found
 
     def rides(self, trips: set[int]) -> dict[int, list[tuple[int, Connection]]]:
-        """The connections of these trips with their numbers, in the order in which each trip rides them."""
+        """The connections of each of these trips with their numbers, in the order in which the trip makes them."""
         found: dict[int, list[tuple[int, Connection]]] = {trip: [] for trip in trips}
         rows = CONNECTION.iter_unpack(memoryview(self._bytes)[HEADER.size : HEADER.size + CONNECTION.size * self.connections])
         for number, row in enumerate(rows):
@@ -108,7 +119,12 @@ class Image:
         return found
 
     def footpath(self, source: int, target: int) -> int | None:
-        """The seconds of the footpath from one stop to another, None where there is none; from a stop to itself it is the change there."""
+        """The seconds of the footpath from one stop to another, or None if there is none; from a stop to itself, the change time there.
+
+        IndexError if there is no stop with one of these numbers.
+        """
+        _check("stop", source, self.stops)
+        _check("stop", target, self.stops)
         for path in range(self._word(self._foot_index + target), self._word(self._foot_index + target + 1)):
             left, seconds = FOOTPATH.unpack_from(self._bytes, 4 * (self._footpaths + 2 * path))
             if left == source:
@@ -127,6 +143,11 @@ class Image:
             end = self._word(self._names + name + 1)
             yield self._bytes[4 * self._text + begin : 4 * self._text + end]
             begin = end
+
+
+def _check(what: str, number: int, count: int) -> None:
+    if not 0 <= number < count:
+        raise IndexError(f"no {what} {number}: the image has {count}, numbered from 0")
 
 
 def _date(number: int) -> date:

@@ -22,6 +22,7 @@ from datetime import datetime, timezone
 from pathlib import Path
 
 from csa_client import AsyncCsaClient, CsaClient, NamedRide, NamedWalk, Pinned, Point, Profile, Refused, Ride, SessionEnded, Walk, parse_journey
+from csa_client.image import Connection, Image
 
 TOP = Path(__file__).resolve().parents[3]
 WINDOW = {"after": "07:00:00", "until": "09:00:00", "by": "10:00:00"}
@@ -123,6 +124,41 @@ class Instants(unittest.TestCase):
         for clock in ("8:60:00", "08:00", "-1:00:00", "08:00:00 ", "9999999:00:00"):
             with self.assertRaises(ValueError, msg=clock):
                 self.PINNED.instant(clock)
+
+
+class Images(unittest.TestCase):
+    """The image of layout 1 that docs/IMAGE.md spells out."""
+
+    def setUp(self) -> None:
+        self.image = Image.open(TOP / "examples/base.csa")
+
+    def test_what_it_has(self) -> None:
+        self.assertEqual((self.image.base, self.image.stops, self.image.trips, self.image.connections), (1705276800, 3, 2, 3))
+        self.assertEqual(self.image.connection(2), Connection(1, 2, 29520, 30000, 1, 3))
+        self.assertEqual([self.image.stop_id(stop) for stop in range(3)], ["A", "B", "C"])
+        self.assertEqual([self.image.trip_id(trip) for trip in range(2)], ["T1", "T2"])
+        self.assertEqual((self.image.footpath(1, 1), self.image.footpath(0, 1)), (0, None))
+        self.assertEqual(self.image.runs({"T2", "T3"}), {"T2": [(1, 20240115)]})
+
+    def test_numbers_that_it_has_not(self) -> None:
+        for look_up, count in ((self.image.connection, 3), (self.image.stop_id, 3), (self.image.trip_id, 2)):
+            for number in (-1, count):
+                with self.assertRaisesRegex(IndexError, f"the image has {count}, numbered from 0"):
+                    look_up(number)
+        for ends in ((0, 3), (3, 0), (-1, 0), (0, -1)):
+            with self.assertRaises(IndexError):
+                self.image.footpath(*ends)
+
+    def test_files_that_are_no_image(self) -> None:
+        whole = (TOP / "examples/base.csa").read_bytes()
+        with tempfile.TemporaryDirectory() as room:
+            path = Path(room, "image")
+            for content, why in ((b"", "too short"), (whole[:35], "too short"), (b"P" + whole[1:], "layout 1 or 2"), (whole[:-4], "isn't a whole image")):
+                path.write_bytes(content)
+                with self.assertRaisesRegex(ValueError, why):
+                    Image.open(path)
+            with self.assertRaises(FileNotFoundError):
+                Image.open(Path(room, "another"))
 
 
 class CannedReplies(unittest.TestCase):
