@@ -15,37 +15,40 @@ from .gateway import Kept, create_app
 from .search import Sessions
 
 EXAMPLE = """\
-Example, over the server of csa's README (one of its workers is held while a search runs, and none in between):
+Example, with the image and the server of csa's README:
 
-  python3 -m csa_web --feed examples/base --image examples/base.csa --server 7077 --port 8077
+  python3 -m csa_web --feed examples/base --image base.csa --server 7077 --port 8077
 
-The feed's folder has the names, and the image, where it is the one that the server answers from, the legs; both are read anew when
-other files have taken their names. It is served by waitress where that is installed, else by Flask's own server, which isn't for
-a network.
+A search occupies one of the server's workers while it runs. Names come from the feed's folder. Legs come from the server if it was
+started with --legs, otherwise from the image, if it is the one from which the server answers. If the feed or the image is replaced, it is
+read again. The page is served by waitress if that is installed, otherwise by Flask's own server, which isn't meant for a network.
 """
 
 
 def no_image() -> None:
-    """There is none, and so there are no legs."""
+    """Without an image there are no legs, unless the server sends them."""
 
 
 def main() -> int:
-    parser = argparse.ArgumentParser("csa_web", description="A page over a csa server.", epilog=EXAMPLE)
+    parser = argparse.ArgumentParser("csa_web", description="A web page in front of a csa server.", epilog=EXAMPLE)
     parser.formatter_class = argparse.RawDescriptionHelpFormatter
     parser.add_argument("--feed", type=Path, required=True, metavar="FOLDER", help="the unpacked feed")
-    parser.add_argument("--image", type=Path, metavar="FILE", help="the image that the server answers from; without it there are no legs")
+    parser.add_argument("--image", type=Path, metavar="FILE", help="the image from which the server answers, for the legs if the server has no --legs")
     parser.add_argument("--server", type=int, default=7077, metavar="PORT", help="the csa server's port on this machine (7077)")
-    parser.add_argument("--sessions", type=int, default=2, help="how many sessions are open at once, at most (2)")
-    parser.add_argument("--timeout", type=float, default=5.0, help="the seconds after which the server is taken to be gone (5)")
-    parser.add_argument("--host", default="127.0.0.1", help="the address to listen at (127.0.0.1)")
-    parser.add_argument("--port", type=int, default=8077, help="the port to listen at (8077)")
+    parser.add_argument("--sessions", type=int, default=2, help="the most sessions that are open at once (2)")
+    parser.add_argument("--timeout", type=float, default=5.0, help="how many seconds to wait for the server (5)")
+    parser.add_argument("--host", default="127.0.0.1", help="the address to listen on (127.0.0.1)")
+    parser.add_argument("--port", type=int, default=8077, help="the port to listen on (8077)")
     words = parser.parse_args()
     try:
         feed = Kept(Feed, words.feed, words.feed / "stops.txt")
         image: Callable[[], Image | None] = no_image
         if words.image is not None:
             image = Kept(Image.open, words.image, words.image)
-    except (OSError, ValueError, KeyError) as error:
+    except OSError as error:
+        print(f"csa_web: {error.filename}: {error.strerror}", file=sys.stderr)
+        return 1
+    except ValueError as error:
         print(f"csa_web: {error}", file=sys.stderr)
         return 1
     sessions = Sessions(lambda: CsaClient(port=words.server, timeout=words.timeout), words.sessions, words.timeout)
@@ -56,8 +59,12 @@ def main() -> int:
         app.run(words.host, words.port, threaded=True)
     else:
         print(f"csa_web: listening at http://{words.host}:{words.port}", flush=True)
-        # an address of 1 MB comes as far as the gateway, which refuses it as any other that is too long
-        serve(app, host=words.host, port=words.port, ident="csa_web", max_request_header_size=1 << 21)
+        # an address of 1 MB gets as far as the gateway, which refuses it like any other that is too long
+        try:
+            serve(app, host=words.host, port=words.port, ident="csa_web", max_request_header_size=1 << 21)
+        except OSError as error:
+            print(f"csa_web: can't listen on {words.host}:{words.port}: {error.strerror}", file=sys.stderr)
+            return 1
     return 0
 
 

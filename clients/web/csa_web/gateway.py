@@ -36,10 +36,10 @@ HEADERS = {
 
 
 class Kept(Generic[Value]):
-    """What is read from a path, read anew when another file has taken its name; where that fails, the old one is kept."""
+    """A value that is read from a path, and read again when the file is replaced; if that fails, the old value is kept."""
 
     def __init__(self, read: Callable[[Path], Value], path: Path, mark: Path) -> None:
-        """`mark` is the file by which it is seen that there is another one. What `read` raises at first is raised."""
+        """`mark` is the file that shows whether it was replaced. If the first `read` raises an exception, so does this."""
         self._read, self._path, self._mark = read, path, mark
         self._turn = threading.Lock()
         self._seen = self._signature()
@@ -117,7 +117,7 @@ def create_app(feed: Callable[[], Feed], image: Callable[[], Image | None], sess
 
 
 def _fields(words: Any, feed: Feed, image: Image | None) -> dict[str, str]:
-    """What the form shows: what was asked for, else now, or the nearest day of the timetable."""
+    """What the form shows: the query, or else the time that it is now, on the nearest day of the timetable."""
     now = datetime.now(feed.zone)
     days = image.days if image else None
     day = min(max(now.date(), days[0]), days[1]) if days else now.date()
@@ -131,7 +131,7 @@ def _page_query(fields: dict[str, str], feed: Feed) -> Query:
 
 
 def _find(feed: Feed, text: str, field: str) -> Stop:
-    """The stop that is meant by what was typed."""
+    """The stop that the text means."""
     if not text:
         raise Problem(400, f"Please enter a stop in “{field.title()}”.", field)
     found = feed.find(text)
@@ -151,24 +151,24 @@ def _api_query(words: Any, feed: Feed) -> Query:
 
 
 def _end(feed: Feed, words: Any, field: str) -> Stop:
-    """The stop of a stop_id."""
+    """The stop with the stop_id in this field."""
     if words[field] not in feed.stops:
-        raise Problem(404, f"{field} is no stop_id of the timetable.", field)
+        raise Problem(404, f"{field} isn't a stop_id of the timetable.", field)
     return feed.stops[words[field]]
 
 
 def _when(fields: dict[str, str], zone: ZoneInfo) -> tuple[datetime, int, Criterion]:
-    """The instant, the hours and the criterion that are asked for."""
+    """The instant, the hours and the criterion of the query."""
     try:
         after = datetime.combine(date.fromisoformat(fields["day"]), time.fromisoformat(fields["time"]).replace(tzinfo=zone))
         instant = after.astimezone(timezone.utc)
     except (ValueError, OverflowError) as error:
-        raise Problem(400, "The day is YYYY-MM-DD, and the time HH:MM.", "day") from error
+        raise Problem(400, "The day must be YYYY-MM-DD, and the time HH:MM.", "day") from error
     if fields["hours"] not in map(str, HOURS):
-        raise Problem(400, f"hours is one of {', '.join(map(str, HOURS))}.", "hours")
+        raise Problem(400, f"hours must be one of {', '.join(map(str, HOURS))}.", "hours")
     criterion = next((it for it in CRITERIA if it == fields["criterion"]), None)
     if criterion is None:
-        raise Problem(400, f"criterion is one of {', '.join(CRITERIA)}.", "criterion")
+        raise Problem(400, f"criterion must be one of {', '.join(CRITERIA)}.", "criterion")
     return instant, int(fields["hours"]), criterion
 
 

@@ -1,6 +1,6 @@
-"""A search: what is asked of the csa server, and what its answer is in instants, stops and trips.
+"""A search: the query to the csa server, and its answer as instants, stops and trips.
 
-All instants are in UTC: in one zone, Python compares and subtracts what the clocks on the wall show, and these go back once a year.
+All instants are in UTC: within another zone Python compares and subtracts local times, which go back once a year.
 """
 
 from __future__ import annotations
@@ -16,18 +16,18 @@ from csa_client.image import Image
 
 from .feed import Stop
 
-# The latest arrival is so long after the latest departure.
+# how long after the latest departure the latest arrival is
 LONGEST_JOURNEY = timedelta(hours=12)
 STATUS_OF_REFUSAL = {31: 404, 32: 400, 33: 400, 112: 400, 113: 400}
 REASON_OF_REFUSAL = {
-    31: "The timetable hasn't got one of these stops.",
+    31: "One of these stops isn't in the timetable.",
     32: "Both are the same stop.",
-    33: "The timetable hasn't got this time.",
+    33: "This time is outside the timetable.",
 }
 
 
 class Problem(Exception):
-    """Why there is no answer: an HTTP status and a sentence, and the stops that could be meant where it isn't clear which."""
+    """Why there is no answer: an HTTP status and a sentence, and the stops that could be meant if it isn't clear which."""
 
     def __init__(self, status: int, reason: str, field: str = "", candidates: list[Stop] | None = None) -> None:
         super().__init__(reason)
@@ -36,7 +36,7 @@ class Problem(Exception):
 
 @dataclass(frozen=True)
 class Query:
-    """Departures from one stop to another, from an instant in UTC on for some hours, best by a criterion."""
+    """The best departures from one stop to another by a criterion, for some hours from an instant in UTC."""
 
     source: Stop
     target: Stop
@@ -47,7 +47,7 @@ class Query:
 
 @dataclass(frozen=True)
 class Leg:
-    """A part of a journey between two stops, by their ids: a ride of a trip, or a walk where there is none."""
+    """A part of a journey between two stops, given by their ids: a ride if it has a trip, otherwise a walk."""
 
     source: str
     target: str
@@ -57,13 +57,13 @@ class Leg:
 
     @property
     def is_change(self) -> bool:
-        """Whether it is the time that a change at one stop takes."""
+        """Whether it is a change at one stop, and no way on foot."""
         return self.trip is None and self.source == self.target
 
 
 @dataclass(frozen=True)
 class Departure:
-    """A best departure. Its legs are None where the server sends none and the image isn't that of the version that answered."""
+    """A best departure. Its legs are None if the server sends none and the image isn't the one that answered."""
 
     departure: datetime
     arrival: datetime
@@ -82,17 +82,17 @@ class Answer:
 
 
 class Sessions:
-    """The way to the server: few sessions at once, each given back as soon as its answer is there."""
+    """Sessions with the server: a few at once, each closed as soon as it has answered."""
 
     def __init__(self, connect: Callable[[], CsaClient], most: int, patience: float) -> None:
-        """`connect` opens a session; whoever finds `most` of them open waits for `patience` seconds."""
+        """`connect` opens a session. If `most` of them are open, a search waits for up to `patience` seconds."""
         self._connect, self._patience = connect, patience
         self._free = threading.BoundedSemaphore(most)
 
     @contextmanager
     def session(self) -> Iterator[CsaClient]:
         if not self._free.acquire(timeout=self._patience):
-            raise Problem(503, "Too many are asking at once. Please try again in a moment.")
+            raise Problem(503, "Too many searches at once. Please try again in a moment.")
         try:
             with self._connect() as client:
                 yield client
@@ -106,8 +106,8 @@ class Sessions:
 
 
 def search(sessions: Sessions, image: Image | None, query: Query) -> Answer:
-    """Asks the server. The legs are those that it sends, or else are resolved where the image is the one that it answers from. Problem where
-    there is no answer."""
+    """Asks the server. The legs are those that it sends, or else those of the image, if it is the one that answered. Problem if there is no
+    answer."""
     if query.source == query.target:
         raise Problem(400, REASON_OF_REFUSAL[32])
     with sessions.session() as client, client.pinned() as pinned:
@@ -135,14 +135,14 @@ def _answer(pinned: Pinned, profile: Profile, image: Image | None, query: Query)
 
 
 def _legs(point: Point, image: Image | None, pinned: Pinned, query: Query) -> tuple[Leg, ...] | None:
-    """The legs of a point: as the server sends them, or else as the image has them."""
+    """The legs of a point, from the server or else from the image."""
     if point.named_legs is not None:
         return named_legs_of(point.named_legs, pinned, pinned.instant(point.dep))
     return None if image is None else legs_of(point, image, pinned, query.source.id, query.target.id)
 
 
 def named_legs_of(parts: tuple[NamedRide | NamedWalk, ...], pinned: Pinned, now: datetime) -> tuple[Leg, ...]:
-    """The legs that the server sends; a walk begins when what is before it ends."""
+    """The legs that the server sends; a walk begins when the leg before it ends."""
     legs = []
     for part in parts:
         if isinstance(part, NamedWalk):
@@ -155,7 +155,7 @@ def named_legs_of(parts: tuple[NamedRide | NamedWalk, ...], pinned: Pinned, now:
 
 
 def legs_of(point: Point, image: Image, pinned: Pinned, source: str, target: str) -> tuple[Leg, ...] | None:
-    """The legs of a point in an image. None where they don't lead from the source to the target in its times: the image is another one."""
+    """The legs of a point in an image. None if they don't lead from the source to the target at its times: then it is another image."""
     legs = []
     here, now = source, pinned.instant(point.dep)
     try:
@@ -176,7 +176,7 @@ def _walk(walk: Walk, image: Image, now: datetime) -> Leg:
 
 
 def _ride(ride: Ride, image: Image) -> Leg | None:
-    """The ride of one trip, or None where its ends are of two."""
+    """The ride, or None if its ends belong to different trips."""
     first, last = image.connection(ride.first), image.connection(ride.last)
     if first.trip != last.trip:
         return None

@@ -1,4 +1,4 @@
-"""How instants and durations are written on the page, and where they are on its time axis."""
+"""How instants and durations are written on the page, and their positions on its time axis."""
 
 from __future__ import annotations
 
@@ -12,7 +12,7 @@ STEPS = [timedelta(minutes=minutes) for minutes in (5, 10, 15, 30, 60, 120, 240,
 
 
 def clock(instant: datetime, zone: ZoneInfo, day: date | None = None) -> str:
-    """The time on the wall, with seconds where there are some, and the days by which it is after the day that was asked for."""
+    """The local time, with seconds unless they are 0, and how many days it is after the day of the query."""
     there = instant.astimezone(zone)
     text = there.strftime("%H:%M:%S" if there.second else "%H:%M")
     days = (there.date() - day).days if day else 0
@@ -59,7 +59,7 @@ class Axis:
 
 
 def axis_of(answer: Answer, zone: ZoneInfo) -> Axis | None:
-    """The axis from the first departure to the last arrival; None where there is none."""
+    """The axis from the first departure to the last arrival; None if there are no departures."""
     if not answer.departures:
         return None
     begin = min(it.departure for it in answer.departures)

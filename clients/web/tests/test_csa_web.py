@@ -213,6 +213,20 @@ class Keeping(Folder):
         self.assertEqual(list(kept().stops), ["X"])
 
 
+class BadFeeds(Folder):
+    def test_what_is_missing_is_named(self) -> None:
+        for name, text, why in (
+            ("stops.txt", "stop_name\nX\n", "stops.txt: no column stop_id"),
+            ("trips.txt", "", "trips.txt: no column trip_id"),
+            ("agency.txt", "agency_timezone\nMars/X\n", "agency.txt: this system has no time zone 'Mars/X'"),
+        ):
+            before = (self.folder / name).read_text()
+            (self.folder / name).write_text(text)
+            with self.assertRaisesRegex(ValueError, why):
+                Feed(self.folder)
+            (self.folder / name).write_text(before)
+
+
 class Pages(Folder):
     def open(self, answer: Profile | Exception, most: int = 1, **words: int) -> None:
         self.client = FakeClient(answer, **words)
