@@ -1,5 +1,5 @@
 #!/usr/bin/env python3
-"""Writes manual pages and completions of csa into a folder, all read from the program's own --help.
+"""Writes manual pages and completions of csa into a folder, from the program's own --help.
 
     release/help_pages.py PROGRAM VERSION FOLDER
 """

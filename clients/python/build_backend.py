@@ -1,4 +1,4 @@
-"""Makes the wheel and the source archive of this package with the standard library alone (PEP 517), so that pip needs no network for it."""
+"""Builds the wheel and the source archive of this package with the standard library only (PEP 517), so that pip needs no network."""
 
 from __future__ import annotations
 
