@@ -46,7 +46,7 @@ def main() -> int:
         if words.image is not None:
             image = Kept(Image.open, words.image, words.image)
     except OSError as error:
-        print(f"csa_web: {error.filename}: {error.strerror}", file=sys.stderr)
+        print(f"csa_web: {error.filename}: {error.strerror}" if error.filename else f"csa_web: {error}", file=sys.stderr)
         return 1
     except ValueError as error:
         print(f"csa_web: {error}", file=sys.stderr)
