@@ -85,7 +85,12 @@ impl<'a, H: Disk + Explains + Clock + Sync> Feeds for Folders<'a, H> {
 
     // The zone was made of the same bytes before, so only memory can be missing.
     fn plan(&self, alloc: Global) -> Result<Plan, AllocError> {
-        match plan_at(alloc, &self.request.plan, &self.zone_bytes, instant(self.disk)) {
+        match plan_at(
+            alloc,
+            &self.request.plan,
+            &self.zone_bytes,
+            instant(self.disk),
+        ) {
             Ok(plan) => Ok(plan),
             Err(_) => Err(AllocError),
         }
@@ -452,7 +457,11 @@ fn port_line(alloc: Global, port: u16) -> Result<String, AllocError>
 
 // Prints how many sessions there were. The status is that of their ends and of the door, unless the line
 // can't be printed.
-fn tell_served<'d, L: SessionLog + Sync, O: Write>(alloc: Global, hosted: &Hosted<'d, L>, output: &mut O) -> u8
+fn tell_served<'d, L: SessionLog + Sync, O: Write>(
+    alloc: Global,
+    hosted: &Hosted<'d, L>,
+    output: &mut O,
+) -> u8
     ensures status { (result ≡ status_of hosted.now.door.failed (counts_of hosted.now.served))
         ⊎ (result ≡ INPUT_OUTPUT) ⊎ (result ≡ OUT_OF_MEMORY) }
     ensures printed { (result ≢ INPUT_OUTPUT) × (result ≢ OUT_OF_MEMORY) →
