@@ -1,4 +1,5 @@
 mod FeedNames
+mod Hosted
 mod NewSeats
 mod ServerEnds
 mod CountedOff

@@ -1,38 +1,18 @@
--- As many sessions are counted as clients came.
+-- As many sessions are served as clients came.
 use Rattle.std.proofs.Common.{◌≡◌, ◌≢◌, ◌+◌, ◌∙◌, ◌⊎◌, ◌++◌, ◌∷◌, ℕ, suc, Bool, true, false, List, [], Option, Result, Ok, Err, IfOk}
-use Rattle.std.proofs.Common.{arith, ap, cond, inl, inr, length, map, refl, sym, true≢false}
-use Rattle.std.proofs.lemmas.List.{length-append, length-map}
-use Rattle.std.proofs.lemmas.List.Sums.{sum_by-cons}
+use Rattle.std.proofs.Common.{arith, ap, inl, inr, length, refl, sym, true≢false}
+use Rattle.std.proofs.lemmas.List.{length-append}
 use Rattle.std.proofs.lemmas.List.Sorted.{length_permutation}
-use Rattle.std.specs.Prelude.{count_by, flat_map}
+use Rattle.std.specs.Prelude.{flat_map}
 use Rattle.epochs.specs.Seats.{SeatValue}
 use Rattle.load_orders.specs.Asking.{OrderRoute, WorkerOrdersValue}
 use Rattle.orders.specs.Ordering.{OrderValue}
 use Rattle.shelf_steps.specs.declared.views.Known.{Known}
 use Rattle.answer_replies.specs.declared.point_form.PointForm.{PointForm}
-use Rattle.command_requests.specs.declared.ends.Ends.{Ends}
-use Rattle.workers.specs.Ends.{Session, capped, has_ended, has_failed, is_spent}
+use Rattle.workers.specs.Ends.{Session}
 use Rattle.workers.specs.Sessions.{AreServed, AreServedSince, AreShares}
 use Rattle.workers.specs.declared.clients.ConnFault.{ConnFault}
-use Rattle.workers.specs.declared.served.End.{End}
-use Rattle.csa_program.specs.Door.{AreCountedOff, AreServedEnds, counts_in}
-use Rattle.csa_program.specs.Serving.{counts_of}
-
--- what is counted by a part is counted by all of it
-counted_by : {X Y : Type 0} (part : X → Y) (is : Y → Bool) (xs : List X) → count_by (λ x. is (part x)) xs ≡ count_by is (map part xs)
-counted_by part is [] = refl
-counted_by part is (x ∷ xs) =
-    sum_by-cons (λ y. cond (is (part y)) 1 0) x xs ∙ ap (λ n. cond (is (part x)) 1 0 + n) (counted_by part is xs)
-    ∙ sym (sum_by-cons (λ y. cond (is y) 1 0) (part x) (map part xs))
-
--- the counts of sessions are those of their ends
-counts_are : {R W : Type 0} (sessions : List (Session R W)) → counts_of sessions ≡ counts_in (map (λ session. session.1) sessions)
-counts_are {R} {W} sessions =
-    let part : Session R W → End = λ session. session.1 in
-    let ended = ap capped (counted_by part has_ended sessions) in
-    let failed = ap capped (counted_by part has_failed sessions) in
-    let spent = ap capped (counted_by part is_spent sessions) in
-    λ i. record { ended = ended i; failed = failed i; spent = spent i }
+use Rattle.csa_program.specs.Door.{AreAsMany, AreCountedOff}
 
 module _ {C R W S N : Type 0} (form : PointForm) (opens : C → Result (R × W) ConnFault → Type 0)
     (remaining : R → Option (List ℕ)) (contents : W → Option (List ℕ))
@@ -91,21 +71,15 @@ bounded_is : (is_endless : Bool) (wanted : ℕ) → (is_endless ≡ true → wan
 bounded_is true wanted endless some = absurd (some (endless refl))
 bounded_is false wanted endless some = refl
 
--- once nobody is left, as many sessions are counted as are wanted, unless accepting failed
-pub served_ends : {R W : Type 0} (wanted left accepted : ℕ) (is_endless failed : Bool) (numbers : List ℕ) (sessions : List (Session R W)) (ends : Ends)
+-- once nobody is left, as many sessions are served as are wanted, unless accepting failed
+pub as_many : (wanted left accepted : ℕ) (is_endless failed : Bool) (numbers : List ℕ) (many : ℕ)
     → AreCountedOff wanted left accepted is_endless failed numbers → (failed ≡ true) ⊎ ((is_endless ≡ false) × (left ≡ 0))
-    → length sessions ≡ length numbers → ends ≡ counts_of sessions → AreServedEnds wanted ends failed
-served_ends {R} {W} wanted left accepted is_endless failed numbers sessions ends counted none many are =
-    let part : Session R W → End = λ session. session.1 in
-    let list = map part sessions in
-    let length_is : length list ≡ length numbers = length-map sessions part ∙ many in
-    record {
-      sessions = list;
-      counted = are ∙ counts_are sessions;
-      most = λ some. let most = counted.most (bounded_is is_endless wanted counted.endless some) in omega (arith, most, length_is);
-      all = λ whole.
-          let last = left_none failed is_endless left whole none in
-          let all = counted.all last.0 whole in
-          let gone = last.1 in
-          (counted.bounded last.0, omega (arith, all, gone, length_is));
-    }
+    → many ≡ length numbers → AreAsMany wanted many failed
+as_many wanted left accepted is_endless failed numbers many counted none many_are = record {
+  most = λ some. let most = counted.most (bounded_is is_endless wanted counted.endless some) in omega (arith, most, many_are);
+  all = λ whole.
+      let last = left_none failed is_endless left whole none in
+      let all = counted.all last.0 whole in
+      let gone = last.1 in
+      (counted.bounded last.0, omega (arith, all, gone, many_are));
+}

@@ -1,9 +1,6 @@
 -- Clients that come to a door, counted off.
 use Rattle.std.specs.Prelude.{◌≡◌, ◌≢◌, ◌≤◌, ◌+◌, ℕ, Bool, true, false, List, [], ◌∷◌, length}
-use Rattle.workers.specs.Ends.{capped, has_ended, has_failed, is_spent}
-use Rattle.workers.specs.declared.served.End.{End}
-use Rattle.command_requests.specs.declared.ends.Ends.{Ends}
-use Rattle.std.specs.List.{count_by}
+use Rattle.workers.specs.Ends.{capped}
 
 -- behind so many earlier ones each has the next number, from 1 on, which stays at the greatest value
 abbrev pub AreNumbered : ℕ → List ℕ → Type 0
@@ -20,17 +17,7 @@ pub record AreCountedOff (wanted left accepted : ℕ) (is_endless failed : Bool)
   pub most : is_endless ≡ false → left + length numbers ≤ wanted
   pub all : is_endless ≡ false → failed ≡ false → left + length numbers ≡ wanted
 
--- how many of these sessions ended in each way
-abbrev pub counts_in : List End → Ends
-counts_in ends = record {
-  ended = capped (count_by has_ended ends);
-  failed = capped (count_by has_failed ends);
-  spent = capped (count_by is_spent ends);
-}
-
--- so many sessions ended so: no more than are wanted, or as many unless accepting failed, which happened where they are wanted without end
-pub record AreServedEnds (wanted : ℕ) (ends : Ends) (is_deaf : Bool) : Type 0 where
-  pub sessions : List End
-  pub counted : ends ≡ counts_in sessions
-  pub most : wanted ≢ 0 → length sessions ≤ wanted
-  pub all : is_deaf ≡ false → (wanted ≢ 0) × (length sessions ≡ wanted)
+-- so many are no more than are wanted, and as many unless accepting failed, which happened where they are wanted without end
+pub record AreAsMany (wanted many : ℕ) (is_deaf : Bool) : Type 0 where
+  pub most : wanted ≢ 0 → many ≤ wanted
+  pub all : is_deaf ≡ false → (wanted ≢ 0) × (many ≡ wanted)

@@ -1,3 +1,5 @@
 pub mod Door
+pub mod Hosting
 pub mod Logging
 pub mod Serving
+pub mod Watching

@@ -4,7 +4,6 @@ use Rattle.std.specs.Io.KnownBytes.{Appends}
 use Rattle.command_requests.specs.Ending.{sessions_in, status_of}
 use Rattle.command_requests.specs.declared.statuses.TheConstants.{INPUT_OUTPUT, OUT_OF_MEMORY}
 use Rattle.command_requests.specs.declared.ends.Ends.{Ends}
-use Rattle.csa_program.specs.Door.{AreServedEnds}
 use Rattle.answer_replies.specs.declared.point_form.PointForm.{PointForm}
 use Rattle.workers.specs.Ends.{Session, ended_in, failed_in, spent_in}
 
@@ -25,9 +24,8 @@ port_text port = (codes "listening " ++ decimal port) ++ codes "\n"
 abbrev pub served_text : Ends → List ℕ
 served_text ends = (codes "served " ++ decimal (sessions_in ends)) ++ codes "\n"
 
--- a server that is to serve so many sessions, or to serve without end, and that neither failed at a socket, a write or a session nor ran out of
--- memory has printed its port and then the number of its sessions, and its status is that of how they ended
-abbrev pub IsServerEnd : ℕ → Option (List ℕ) → Option (List ℕ) → ℕ → Type 0
-IsServerEnd wanted before after status = (status ≢ INPUT_OUTPUT) × (status ≢ OUT_OF_MEMORY)
-    → (port : ℕ) × (ends : Ends) × (is_deaf : Bool) × AreServedEnds wanted ends is_deaf × (status ≡ status_of is_deaf ends)
-    × Appends before after (port_text port ++ served_text ends)
+-- a server of these sessions, and whether accepting failed: if it neither failed at a socket, a write or a session nor ran out of memory, it has
+-- printed its port and then the number of the sessions, and its status is that of how they ended
+abbrev pub IsServerEnd : {R W : Type 0} → ℕ → Option (List ℕ) → Option (List ℕ) → List (Session R W) → Bool → ℕ → Type 0
+IsServerEnd port before after sessions is_deaf status = (status ≢ INPUT_OUTPUT) × (status ≢ OUT_OF_MEMORY)
+    → (status ≡ status_of is_deaf (counts_of sessions)) × Appends before after (port_text port ++ served_text (counts_of sessions))

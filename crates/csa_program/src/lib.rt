@@ -9,15 +9,19 @@ mod machine;
 mod requests;
 mod serve;
 mod sockets;
+mod watching;
 
 pub use crate::explaining::Explains;
 pub use crate::machine::Machine;
+use crate::watching::Watched;
 use command_line::{Unread, read, wants_warnings};
 use command_requests::Request;
-use csa_commands::{Asked, answer, build, days, explain, explain_zone, open_image, status, tables};
+use csa_commands::{
+    Asked, answer, build, days, explain, explain_zone, open_image, reason_of, status, tables,
+};
 pub use feed_files::Disk;
 use std::convert::AsStr;
-use std::io::{Read, Write};
+use std::io::{ErrorKind, Read, Write};
 use std::net::{Net, TcpListener, TcpStream};
 use std::rt::Files;
 
@@ -26,9 +30,9 @@ use std::rt::Files;
 /// What a command finds goes to `output`, what is wrong with the command line or with a file to
 /// `errors`. The status is 0 for an accepted request, 2 for a refused one and for a server of which
 /// a session had too many requests, 3 where a file can't be read or written, a line can't be
-/// written, or a socket or a session fails, 4 where memory ran out, which is also said in `errors`,
-/// and 64 for a command line that asks for nothing. Where `errors` is a terminal, progress is shown
-/// there.
+/// written, or a socket or a session fails, 4 where memory ran out, and 64 for a command line that
+/// asks for nothing. That memory ran out and why `output` can't be written is also said in `errors`;
+/// not of a pipe that nobody reads any more. Where `errors` is a terminal, progress is shown there.
 pub fn run<
     H: Machine + Net<Listener = TcpListener, Stream = TcpStream>,
     S: AsStr,
@@ -36,11 +40,23 @@ pub fn run<
     O: Write,
     E: Write + Send,
 >(rt: &H, words: &[S], input: &mut I, output: &mut O, errors: &mut E, is_terminal: bool) -> u8 {
-    let status = run_command(rt, words, input, output, errors, is_terminal);
+    let mut output = Watched::of(output);
+    let status = run_command(rt, words, input, &mut output, errors, is_terminal);
     if status == status::OUT_OF_MEMORY {
         explain(errors, &["csa: out of memory"]);
     }
+    match output.fault() {
+        None | Some(ErrorKind::BrokenPipe) => {}
+        Some(kind) => explain_unwritten(errors, kind),
+    }
     status
+}
+
+fn explain_unwritten<E: Write>(errors: &mut E, kind: ErrorKind) {
+    explain(
+        errors,
+        &["csa: standard output can't be written: ", reason_of(kind)],
+    );
 }
 
 // Runs the command; the status says where memory ran out.

@@ -2,7 +2,7 @@
 //! [NAME=FOLDER]..`.
 
 ghost use Rattle.std.specs.Prelude.{◌≡◌, ◌≢◌, ◌≤◌, ◌⊎◌, [], All, length, map};
-ghost use Rattle.std.specs.Prelude.{slice_get, Some, string_bytes, IfOk, ℕ};
+ghost use Rattle.std.specs.Prelude.{slice_get, Some, string_bytes, IfOk, IfSome, MatchOption, ℕ};
 ghost use Rattle.std.specs.Io.KnownBytes.{Appends};
 ghost use Rattle.command_requests.specs.Ending.{status_of};
 ghost use Rattle.command_requests.specs.declared.statuses.TheConstants.{ACCEPTED, INPUT_OUTPUT, OUT_OF_MEMORY};
@@ -14,7 +14,8 @@ ghost use Rattle.workers.specs.Carrying.{AllCarriedOut};
 ghost use Rattle.workers.specs.Learned.{LoaderLearns};
 ghost use Rattle.workers.specs.Ordering.{route_to};
 ghost use Rattle.workers.specs.Sessions.{AreServedSince, MayClose};
-ghost use Rattle.csa_program.specs.Door.{AreCountedOff, AreServedEnds};
+ghost use Rattle.csa_program.specs.Door.{AreAsMany, AreCountedOff};
+ghost use Rattle.csa_program.specs.Hosting.{AreHosted, AreSessionsOf};
 ghost use Rattle.csa_program.specs.Serving.{IsServerEnd, counts_of, form_with, port_text, served_text};
 ghost use Rattle.feed_plans.specs.Planning.{IsPlanNow};
 
@@ -23,7 +24,8 @@ use crate::explaining::{Explains, warn_of_idle_feed};
 use crate::folders::warn_of_folders;
 use crate::logging::{LoaderErrors, SessionLog, SharedErrors, log_load};
 use crate::machine::Machine;
-use crate::sockets::Door;
+use crate::requests::Requests;
+use crate::sockets::{Door, Visit, Visitor};
 use clock_days::instant;
 use command_requests::{Ends, NamedFolder, PlanText, ServeRequest};
 use csa_commands::{
@@ -49,23 +51,20 @@ use workers::{
     Client, Clients, Feeds, LoadRefusal, Loaded, PointForm, Ran, Served, WorkersFault, run_shelves,
 };
 
-/// The folders of the feeds that may be loaded.
+/// The feeds that may be loaded: those of what is asked for.
 #[derive(Drop)]
 struct Folders<'a, H> {
     disk: &'a H,
     alloc: Global,
+    request: &'a ServeRequest<'a>,
     names: Vec<String>,
-    feeds: &'a [NamedFolder<'a>],
-    /// What is asked for, and the bytes of the zone's file: a plan is made of them for each load.
-    asked: &'a PlanText<'a>,
+    /// The bytes of the zone's file: with them a plan is made for each load.
     zone_bytes: Vec<u8>,
     /// The plan that was made when the server began.
     first: Plan,
-    /// Whether each load is logged.
-    is_logged: bool,
-    ghost named: { length names.items ≡ length feeds.now },
-    ghost texts: { map string_bytes names.items ≡ map (λ feed. feed.name.now) feeds.now },
-    ghost made: { IsPlanNow asked.now zone_bytes.items first },
+    ghost named: { length names.items ≡ length request.now.feeds.items },
+    ghost texts: { map string_bytes names.items ≡ map (λ feed. feed.name.now) request.now.feeds.items },
+    ghost made: { IsPlanNow request.now.plan zone_bytes.items first },
 }
 
 impl<'a, H: Disk + Explains + Clock + Sync> Feeds for Folders<'a, H> {
@@ -75,10 +74,10 @@ impl<'a, H: Disk + Explains + Clock + Sync> Feeds for Folders<'a, H> {
 
     // Those of the folder that goes with the feed's name, of which nothing was read yet.
     ghost are_files = { λ folders place files.
-        (slice_get (map (λ feed. feed.folder.now) folders.feeds.now) place ≡ Some files.folder.now)
+        (slice_get (map (λ feed. feed.folder.now) folders.request.now.feeds.items) place ≡ Some files.folder.now)
         × (files.reads ≡ []) };
 
-    ghost is_plan = { λ folders plan. IsPlanNow folders.asked.now folders.zone_bytes.items plan };
+    ghost is_plan = { λ folders plan. IsPlanNow folders.request.now.plan folders.zone_bytes.items plan };
 
     fn names(&self) -> &[String] {
         &self.names
@@ -86,14 +85,19 @@ impl<'a, H: Disk + Explains + Clock + Sync> Feeds for Folders<'a, H> {
 
     // The zone was made of the same bytes before, so only memory can be missing.
     fn plan(&self, alloc: Global) -> Result<Plan, AllocError> {
-        match plan_at(alloc, self.asked, &self.zone_bytes, instant(self.disk)) {
+        match plan_at(
+            alloc,
+            &self.request.plan,
+            &self.zone_bytes,
+            instant(self.disk),
+        ) {
             Ok(plan) => Ok(plan),
             Err(_) => Err(AllocError),
         }
     }
 
     fn files(&self, place: usize) -> Option<FolderFiles<'a, H>> {
-        match self.feeds.get(place) {
+        match self.request.feeds.get(place) {
             Some(feed) => Some(FolderFiles::new(self.disk, feed.folder)),
             None => None,
         }
@@ -111,10 +115,10 @@ impl<'a, H: Disk + Explains + Clock + Sync> Feeds for Folders<'a, H> {
         begun: Option<Instant>,
         outcome: Result<Loaded, LoadRefusal>,
     ) {
-        let Some(feed) = self.feeds.get(place) else {
+        let Some(feed) = self.request.feeds.get(place) else {
             return;
         };
-        if self.is_logged {
+        if self.request.log {
             log_load(
                 self.disk,
                 self.alloc,
@@ -158,18 +162,23 @@ pub fn run<
     let folders = Folders {
         disk: rt,
         alloc,
+        request: &request,
         names,
-        feeds: &request.feeds,
-        asked: &request.plan,
         zone_bytes,
         first,
-        is_logged: request.log,
     };
     if !request.feeds.is_empty() {
         warn_of_bases(alloc, &image, &folders.first, errors);
     }
     warn_of_folders(rt, &request.feeds, errors);
-    listen(rt, &request, image, &folders, output, errors)
+    let bound = match bound_at(rt, request.port) {
+        Ok(bound) => bound,
+        Err(error) => return unheard(alloc, errors, request.port, error.kind()),
+    };
+    let errors = Mutex::new(errors);
+    let shared = SharedErrors::of(rt, alloc, &errors);
+    let (status, _hosted) = listen(&bound, image, &folders, &shared, output);
+    status
 }
 
 // The bytes of the zone's file, and the plan of a feed that is loaded now.
@@ -201,87 +210,59 @@ fn name_of(alloc: Global, feed: &NamedFolder<'_>) -> Result<String, AllocError>
     String::from_str(alloc, feed.name)
 }
 
-// Listens at the port, and serves whoever comes.
+// Prints the port, serves whoever comes to it, and prints how many sessions there were. What was served comes back with
+// the status, and none if the server ended before that, or without counts. Whatever the server's threads report goes
+// through one lock.
 fn listen<
-    H: Disk
-        + Explains
-        + Clock
-        + Net<Listener = TcpListener, Stream = TcpStream>
-        + Threads
-        + Wait
-        + Sync,
+    'd,
+    'f,
+    'e,
+    H: Disk + Explains + Clock + Threads + Wait + Sync,
     O: Write,
     E: Write + Send,
 >(
-    rt: &H,
-    request: &ServeRequest<'_>,
+    bound: &'d Bound,
     image: Verified,
-    folders: &Folders<'_, H>,
+    folders: &Folders<'f, H>,
+    errors: &'d SharedErrors<'e, H, E>,
     output: &mut O,
-    errors: &mut E,
-) -> u8
-    ensures { IsServerEnd request.now.sessions (O.contents output.old) (O.contents output.new) result }
+) -> (u8, Option<Hosted<'d, SharedErrors<'e, H, E>>>)
+    ensures end { MatchOption result.1 ((result.0 ≡ INPUT_OUTPUT) ⊎ (result.0 ≡ OUT_OF_MEMORY))
+        (λ hosted. IsServerEnd bound.now.port (O.contents output.old) (O.contents output.new)
+        hosted.served hosted.door.failed result.0) }
+    ensures many { IfSome result.1 (λ hosted.
+        AreAsMany folders.now.request.now.sessions (length hosted.served) hosted.door.failed) }
+    ensures hosted { IfSome result.1 (λ hosted. AreHosted (form_with folders.now.request.now.legs)
+        ⟦<Visitor<'d, SharedErrors<'e, H, E>> as Client>⟧.opens
+        ⟦<Requests<TcpStream, Option<Visit<'d, SharedErrors<'e, H, E>>>> as Read>⟧.remaining
+        ⟦<TcpStream as Write>⟧.contents
+        folders.now.request.now.workers.number hosted.door.came hosted.served) }
 {
-    let alloc = folders.alloc;
-    let Ok(made) = shelves_of(alloc, image, request.workers.number) else {
-        return status::OUT_OF_MEMORY;
+    let request = folders.request;
+    let Ok(made) = shelves_of(folders.alloc, image, request.workers.number) else {
+        return (status::OUT_OF_MEMORY, None);
     };
-    let (listener, port) = match listener_at(rt, request.port) {
-        Ok(bound) => bound,
-        Err(error) => return unheard(alloc, errors, request.port, error.kind()),
-    };
-    let begun = tell_port(alloc, port, output);
+    let begun = tell_port(folders.alloc, bound.port, output);
     if begun != status::ACCEPTED {
-        return begun;
+        return (begun, None);
     }
-    let errors = Mutex::new(errors);
-    match serve_at(rt, &listener, request, made, folders, &errors) {
-        Ok((ends, is_deaf)) => tell_served(alloc, ends, is_deaf, output),
-        Err(_) => status::OUT_OF_MEMORY,
+    let log = if request.log { Some(errors) } else { None };
+    let door = Door::new(&bound.listener, request.sessions, log);
+    let loader_errors = LoaderErrors::of(errors.another());
+    match serve_door::<Brand, _, _, _>(door, made, folders, loader_errors) {
+        Ok(hosted) => (tell_served(folders.alloc, &hosted, output), Some(hosted)),
+        Err(_) => (status::OUT_OF_MEMORY, None),
     }
 }
 
-// Serves whoever comes, and returns how many sessions ended in each way, and whether accepting failed. Whatever the
-// server's threads report goes through one lock.
-fn serve_at<H: Disk + Explains + Clock + Threads + Wait + Sync, E: Write + Send>(
-    rt: &H,
-    listener: &TcpListener,
-    request: &ServeRequest<'_>,
-    made: (Shelves, ShelfLoader, Vec<ShelfSeat>),
-    folders: &Folders<'_, H>,
-    errors: &Mutex<E>,
-) -> Result<(Ends, bool), WorkersFault>
-    requires loader { made.1.table ≡ made.0 }
-    requires seats { All (λ seat. seat.table ≡ made.0) made.2.items }
-    requires new { SeatsHanded made.0 (length made.2.items) made.2.items }
-    requires some { 1 ≤ length made.2.items }
-    requires few { length made.2.items ≤ 16 }
-    ensures { IfOk result (λ ran. AreServedEnds request.now.sessions ran.0 ran.1) }
-{
-    let shared = SharedErrors::of(rt, folders.alloc, errors);
-    let log = if request.log { Some(&shared) } else { None };
-    let door = Door::new(listener, request.sessions, log);
-    let loader_errors = LoaderErrors::of(shared.another());
-    serve_door::<Brand, _, _, _>(
-        rt,
-        door,
-        made,
-        folders,
-        form_of(request.legs),
-        loader_errors,
-    )
+/// What a server served, and the door to which the clients came.
+#[derive(Drop)]
+struct Hosted<'d, L> {
+    served: Served<Requests<TcpStream, Option<Visit<'d, L>>>, TcpStream>,
+    door: Door<'d, L>,
 }
 
-// How many sessions ended in each way, and whether accepting failed.
-fn end_of<'d, R, W, L: SessionLog + Sync>(served: &Served<R, W>, door: &Door<'d, L>) -> (Ends, bool)
-    ensures ends { result.0 ≡ counts_of served.now }
-    ensures deaf { result.1 ≡ door.now.failed }
-{
-    (ends_of(served), door.has_failed())
-}
-
-// Serves whoever comes to the door, at shelves of a name: how many sessions ended in each way, and whether accepting
-// failed.
+// Serves whoever comes to the door, at shelves of a name, in the form that is asked for.
 fn serve_door<
     'd,
     'f,
@@ -290,13 +271,11 @@ fn serve_door<
     L: SessionLog + Sync,
     E: Write + Send + Drop,
 >(
-    rt: &H,
     door: Door<'d, L>,
     made: (Shelves, ShelfLoader, Vec<ShelfSeat>),
     folders: &Folders<'f, H>,
-    form: PointForm,
     errors: E,
-) -> Result<(Ends, bool), WorkersFault>
+) -> Result<Hosted<'d, L>, WorkersFault>
     requires named { made.0 ≡ B.table }
     requires loader { made.1.table ≡ made.0 }
     requires seats { All (λ seat. seat.table ≡ made.0) made.2.items }
@@ -304,12 +283,27 @@ fn serve_door<
     requires some { 1 ≤ length made.2.items }
     requires few { length made.2.items ≤ 16 }
     requires nobody { door.came ≡ [] }
-    ensures { (wanted : ℕ) → AreCountedOff wanted door.entry.left door.entry.accepted
+    ensures many { (wanted : ℕ) → AreCountedOff wanted door.entry.left door.entry.accepted
         door.entry.is_endless door.entry.failed []
-        → IfOk result (λ ran. AreServedEnds wanted ran.0 ran.1) }
+        → IfOk result (λ hosted. AreAsMany wanted (length hosted.served) hosted.door.failed) }
+    ensures sessions { IfOk result (λ hosted. AreSessionsOf (form_with folders.now.request.now.legs)
+        ⟦<Visitor<'d, L> as Client>⟧.opens ⟦<Requests<TcpStream, Option<Visit<'d, L>>> as Read>⟧.remaining
+        ⟦<TcpStream as Write>⟧.contents made.2.items hosted.door.came hosted.served) }
 {
-    let ran = serve_all::<B, _, _, _, _>(rt, door, made, folders, form, errors)?;
-    Ok(end_of(&ran.served, &ran.clients))
+    let form = form_of(folders.request.legs);
+    let ran = serve_all::<B, _, _, _, _>(door, made, folders, form, errors)?;
+    Ok(Hosted {
+        served: ran.served,
+        door: ran.clients,
+    })
+}
+
+// How many sessions ended in each way, and whether accepting failed.
+fn end_of<'d, L: SessionLog + Sync>(hosted: &Hosted<'d, L>) -> (Ends, bool)
+    ensures ends { result.0 ≡ counts_of hosted.now.served }
+    ensures deaf { result.1 ≡ hosted.now.door.failed }
+{
+    (ends_of(&hosted.served), hosted.door.has_failed())
 }
 
 // Serves whoever comes at these shelves, until nobody is left. Whose bytes they bring makes no difference: what is said
@@ -322,7 +316,6 @@ fn serve_all<
     H: Disk + Explains + Clock + Threads + Wait + Sync,
     E: Write + Send + Drop,
 >(
-    rt: &H,
     clients: K,
     made: (Shelves, ShelfLoader, Vec<ShelfSeat>),
     folders: &Folders<'f, H>,
@@ -351,14 +344,14 @@ fn serve_all<
         (⟦<Folders<'f, H> as Feeds>⟧.are_files folders.now) ⟦<FolderFiles<'f, H> as FeedFiles>⟧.holds
         ⟦<FolderFiles<'f, H> as FeedFiles>⟧.reads ⟦<FolderFiles<'f, H> as FeedFiles>⟧.failures
         ⟦<FolderFiles<'f, H> as FeedFiles>⟧.failed
-        (IsPlanNow folders.now.asked.now folders.now.zone_bytes.items) (length folders.now.names.items)
+        (IsPlanNow folders.now.request.now.plan folders.now.zone_bytes.items) (length folders.now.names.items)
         ran.orders ran.used made.1.answers ran.loader.answers) }
     ensures learns { IfOk result (λ ran. LoaderLearns (known_of made.1.view) made.1.answers
         (known_of ran.loader.view) ran.loader.answers) }
 {
     let (shelves, loader, seats) = made;
     run_shelves::<B, _, _, _, _, _, _>(
-        rt,
+        folders.disk,
         folders.alloc,
         clients,
         shelves,
@@ -371,14 +364,24 @@ fn serve_all<
     )
 }
 
-// What listens at the port, and at which one, if that one is free.
-fn listener_at<H: Net<Listener = TcpListener, Stream = TcpStream>>(
+/// What listens, and at which port.
+#[derive(Drop)]
+struct Bound {
+    listener: TcpListener,
+    port: u16,
+}
+
+// What listens at the port, if it is free.
+fn bound_at<H: Net<Listener = TcpListener, Stream = TcpStream>>(
     rt: &H,
     port: u16,
-) -> io::Result<(TcpListener, u16)> {
+) -> io::Result<Bound> {
     let listener = TcpListener::bind(rt, (Ipv4Addr::LOCALHOST, port))?;
     let address = listener.local_addr()?;
-    Ok((listener, address.port()))
+    Ok(Bound {
+        listener,
+        port: address.port(),
+    })
 }
 
 // In which form profiles are replied.
@@ -454,11 +457,17 @@ fn port_line(alloc: Global, port: u16) -> Result<String, AllocError>
 
 // Prints how many sessions there were. The status is that of their ends and of the door, unless the line
 // can't be printed.
-fn tell_served<O: Write>(alloc: Global, ends: Ends, is_deaf: bool, output: &mut O) -> u8
-    ensures status { (result ≡ status_of is_deaf ends) ⊎ (result ≡ INPUT_OUTPUT) ⊎ (result ≡ OUT_OF_MEMORY) }
+fn tell_served<'d, L: SessionLog + Sync, O: Write>(
+    alloc: Global,
+    hosted: &Hosted<'d, L>,
+    output: &mut O,
+) -> u8
+    ensures status { (result ≡ status_of hosted.now.door.failed (counts_of hosted.now.served))
+        ⊎ (result ≡ INPUT_OUTPUT) ⊎ (result ≡ OUT_OF_MEMORY) }
     ensures printed { (result ≢ INPUT_OUTPUT) × (result ≢ OUT_OF_MEMORY) →
-        Appends (O.contents output.old) (O.contents output.new) (served_text ends) }
+        Appends (O.contents output.old) (O.contents output.new) (served_text (counts_of hosted.now.served)) }
 {
+    let (ends, is_deaf) = end_of(hosted);
     let status = ends.status(is_deaf);
     match served_line(alloc, ends) {
         Ok(line) => status::write_text(output, line.as_str(), status),

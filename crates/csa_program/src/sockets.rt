@@ -148,6 +148,7 @@ impl<'a, L> Door<'a, L> {
 
     // The client behind a connection, who came.
     fn visitor(&mut self, stream: TcpStream) -> Visitor<'a, L>
+        ensures stream { result.stream ≡ stream }
         ensures left { self.new.left ≡ self.old.left }
         ensures endless { self.new.is_endless ≡ self.old.is_endless }
         ensures failed { self.new.failed ≡ self.old.failed }

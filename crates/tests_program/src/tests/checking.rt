@@ -104,7 +104,7 @@ fn journeys_are_judged(rt: HostRuntime) -> Result<(), Fail> {
     try_lines(&rt, JOURNEYS)
 }
 
-/// A line that finds no room is told by the status.
+/// A line that finds no room is told by the status, and on standard error.
 #[test]
 fn a_line_that_cannot_be_written_is_told(rt: HostRuntime) -> Result<(), Fail> {
     let bytes = Words::to_bytes(rt.alloc(), &sample_words())?;
@@ -114,7 +114,9 @@ fn a_line_that_cannot_be_written_is_told(rt: HostRuntime) -> Result<(), Fail> {
     let mut errors = Vec::new(rt.alloc());
     let mut input: &[u8] = &bytes;
     let status = run(&rt, &words, &mut input, &mut output, &mut errors, false);
+    let told = "csa: standard output can't be written: an input or output error\n";
     assert_eq!(rt; status, 3);
+    assert!(rt; errors.as_slice() == told.as_bytes());
     Ok(())
 }
 

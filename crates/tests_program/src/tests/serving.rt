@@ -98,7 +98,8 @@ fn a_port_that_is_taken(rt: HostRuntime) -> Result<(), Fail> {
         ("20240115", ""),
         (
             "20240116",
-            "csa: warning: the image's clocks count from 1705276800, those of a feed that is loaded from 1705363200\n",
+            "csa: warning: the image's clocks count from 1705276800 (2024-01-15T00:00:00Z), those of a feed that is \
+loaded from 1705363200 (2024-01-16T00:00:00Z)\n",
         ),
     ] {
         let outcome = outcome_of(&rt, &words_at(port.as_str(), first), &image);

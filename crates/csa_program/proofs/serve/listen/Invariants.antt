@@ -1,4 +1,4 @@
-use Rattle.csa_program.proofs.serve.serve_at.Given as goal
+use Rattle.csa_program.proofs.serve.listen.Given as goal
 
 -- the shelves that were just made
 abbrev pub ghosts-serve_door : goal.ghosts-serve_door

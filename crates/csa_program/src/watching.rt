@@ -1,0 +1,70 @@
+//! Whether standard output could be written.
+
+ghost use Rattle.std.specs.Prelude.{◌≡◌, None};
+ghost use Rattle.std.specs.Io.{WritesAtMost};
+ghost use Rattle.std.specs.Io.KnownBytes.{WriteAppends};
+ghost use Rattle.csa_program.specs.Watching.{first_fault, write_fault};
+
+use std::io;
+use std::io::{ErrorKind, Write};
+
+/// A writer of which it is kept why it couldn't be written at first.
+#[derive(Drop)]
+pub struct Watched<W> {
+    writer: W,
+    fault: Option<ErrorKind>,
+}
+
+impl<W> Watched<W> {
+    /// It could be written so far.
+    pub fn of(writer: W) -> Watched<W>
+        ensures writer { result.writer ≡ writer }
+        ensures whole { result.fault ≡ None }
+    {
+        Watched {
+            writer,
+            fault: None,
+        }
+    }
+
+    /// Why it couldn't be written at first. A write that was interrupted is tried again, so it isn't one.
+    pub fn fault(&self) -> Option<ErrorKind>
+        ensures { result ≡ self.now.fault }
+    {
+        self.fault
+    }
+}
+
+impl<W: Write> Write for Watched<W> {
+    ghost contents = { λ watched. W.contents watched.writer };
+
+    fn write(&mut self, bytes: &[u8]) -> io::Result<usize>
+        ensures bound { WritesAtMost result bytes.now }
+        ensures bytes { WriteAppends (W.contents self.old.writer) (W.contents self.new.writer) result bytes.now }
+        ensures fault { self.new.fault ≡ first_fault self.old.fault bytes.now result }
+    {
+        let result = self.writer.write(bytes);
+        if self.fault.is_none() {
+            self.fault = fault_of(bytes, &result);
+        }
+        result
+    }
+
+    fn flush(&mut self) -> io::Result<()> {
+        self.writer.flush()
+    }
+}
+
+// Why these bytes weren't written, if none of them was, although there are some.
+fn fault_of(bytes: &[u8], outcome: &io::Result<usize>) -> Option<ErrorKind>
+    ensures { result ≡ write_fault bytes.now outcome.now }
+{
+    match outcome {
+        Ok(0) if !bytes.is_empty() => Some(ErrorKind::WriteZero),
+        Ok(_) => None,
+        Err(error) => match error.kind() {
+            ErrorKind::Interrupted => None,
+            kind => Some(kind),
+        },
+    }
+}
