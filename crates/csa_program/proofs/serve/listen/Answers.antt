@@ -3,11 +3,23 @@ use Rattle.command_requests.specs.declared.statuses.TheConstants.{ACCEPTED}
 use Rattle.csa_program.proofs.ServerEnds.{served_end}
 use Rattle.csa_program.proofs.serve.listen.Goals as goal
 
-pub returns-in-Ok-serve_at : goal.returns-in-Ok-serve_at
-returns-in-Ok-serve_at g c =
+-- the status and the line are those of what was served
+pub returns-in-Ok-serve_door-clause-end : goal.returns-in-Ok-serve_door-clause-end
+returns-in-Ok-serve_door-clause-end g c =
     let begun = c.tell_port-begun in
     let told = c.tell_served in
-    let ran = c.in-Ok-serve_at in
+    let hosted = c.in-Ok-serve_door.hosted in
     let accepted : begun.result ≡ ACCEPTED = search rules in
-    served_end _ _ (g.O.Write.contents begun.new.output) (g.O.Write.contents told.new.output) c.in-Ok-listener_at.bound.1 ran.ends ran.is_deaf told.result
-    ran.ensures (begun.ensures.printed accepted) told.ensures.status told.ensures.printed
+    served_end c.args.bound.now.port _ (g.O.Write.contents begun.new.output) (g.O.Write.contents told.new.output)
+    hosted.served hosted.door.failed told.result (begun.ensures.printed accepted) told.ensures.status told.ensures.printed
+
+-- as many as are asked for
+pub returns-in-Ok-serve_door-clause-many : goal.returns-in-Ok-serve_door-clause-many
+returns-in-Ok-serve_door-clause-many g c =
+    c.in-Ok-serve_door.ensures.many c.args.folders.now.request.now.sessions c.new-door.ensures.counted
+
+-- at the seats that were just made
+pub returns-in-Ok-serve_door-clause-hosted : goal.returns-in-Ok-serve_door-clause-hosted
+returns-in-Ok-serve_door-clause-hosted g c =
+    let made = c.in-Ok-shelves_of.made in
+    (made.0, made.2.items, c.in-Ok-shelves_of.ensures.new, c.in-Ok-serve_door.ensures.sessions)
