@@ -9,7 +9,7 @@ ghost use Rattle.departure_lines.specs.declared.form.LineForm.{LineForm};
 ghost use Rattle.csa_commands.specs.declared.wanted_stops.NoList.TheVariants.{UnknownStop};
 ghost use Rattle.csa_commands.specs.Ending.{Ends, EndsUndone};
 ghost use Rattle.csa_commands.specs.Departing.{AreAllPrinted, ArePrinted, AreShownBy, IsNoneAsked};
-ghost use Rattle.csa_commands.specs.Departing.{form_of, window_asked};
+ghost use Rattle.csa_commands.specs.Departing.{form_of, list_status, window_asked};
 
 use crate::explaining::{explain, is_file};
 use crate::question::{explain_end, explain_line, window_reason};
@@ -110,6 +110,7 @@ fn explain_list<H: Files + AllocGlobal, E: Write>(
     failure: NoList,
     errors: &mut E,
 ) -> u8
+    ensures kind { result ≡ list_status failure }
     ensures status { EndsUndone result }
     ensures refused { result ≡ REFUSED → (line : ℕ) × (failure ≡ UnknownStop line) }
 {
