@@ -19,7 +19,7 @@ use Rattle.timetable.specs.TimetableValue.{TimetableValue}
 use Rattle.csa_commands.specs.Building.{IfRefused}
 use Rattle.csa_commands.specs.Folders.{AreTablesOf, HoldsOfRead, IsBuildRefusal, IsBuiltFrom, MayBeOf}
 use Rattle.csa_commands.specs.declared.build.Failure.{Failure}
-use Rattle.csa_commands.specs.declared.build.Failure.TheVariants.{Refused, Unreadable, Unwritable, OutOfMemory}
+use Rattle.csa_commands.specs.declared.build.Failure.TheVariants.{Refused, Unreadable, Unwritten, OutOfMemory}
 
 -- what was read in all was read since nothing had been
 read_since : (content : Content) (ts : List Table) {began then : List ℕ} {old new : List FileRead} → then ≡ began → old ≡ []
@@ -46,7 +46,7 @@ pub refused_weaker : (failure : Failure) (A B : LoadFault → Type 0) → ((faul
     → IfRefused failure A → IfRefused failure B
 refused_weaker (Refused fault) A B follows is = λ unless. follows fault (is unless)
 refused_weaker (Unreadable path) A B follows is = tt
-refused_weaker (Unwritable path reason) A B follows is = tt
+refused_weaker (Unwritten path kind) A B follows is = tt
 refused_weaker OutOfMemory A B follows is = tt
 
 -- over files of a folder, as they began and as they are then

@@ -1,13 +1,11 @@
 -- The line that `csa build` prints of an image that it made.
-use Rattle.std.specs.Prelude.{◌≡◌, ◌≢◌, List, ℕ, Option, ◌++◌, codes, decimal}
-use Rattle.std.specs.declared.io.ErrorKind.{ErrorKind}
-use Rattle.std.specs.declared.io.ErrorKind.TheVariants.{OutOfMemory as WasOutOfMemory}
+use Rattle.std.specs.Prelude.{List, ℕ, Option, ◌++◌, codes, decimal}
 use Rattle.std.specs.Io.KnownBytes.{Appends}
 use Rattle.connections.specs.declared.report.Report.{Report}
 use Rattle.feed_loader.specs.Refused.{IsWantOfMemory}
 use Rattle.feed_loader.specs.declared.fault.LoadFault.{LoadFault}
 use Rattle.csa_commands.specs.declared.build.Failure.{Failure}
-use Rattle.csa_commands.specs.declared.build.Failure.TheVariants.{Refused, Unreadable, Unwritable, OutOfMemory}
+use Rattle.csa_commands.specs.declared.build.Failure.TheVariants.{Refused, Unreadable, Unwritten, OutOfMemory}
 use Rattle.command_requests.specs.declared.plans.PlanText.{PlanText}
 use Rattle.feed_files.specs.Files.{MayGive}
 use Rattle.timetable.specs.NamesValue.{NamesValue}
@@ -18,15 +16,8 @@ use Rattle.csa_commands.specs.Folders.{IsBuiltFrom}
 abbrev pub IfRefused : Failure → (LoadFault → Type 0) → Type 0
 IfRefused (Refused fault) Is = ¬ (IsWantOfMemory fault) → Is fault
 IfRefused (Unreadable path) Is = Unit {0}
-IfRefused (Unwritable path reason) Is = Unit {0}
+IfRefused (Unwritten path kind) Is = Unit {0}
 IfRefused OutOfMemory Is = Unit {0}
-
--- the file at a path can't be written, or memory ran out, by the kind of the error
-abbrev pub IsUnwritten : ErrorKind → List ℕ → Failure → Type 0
-IsUnwritten kind path (Refused fault) = ⊥
-IsUnwritten kind path (Unreadable at) = ⊥
-IsUnwritten kind path (Unwritable at reason) = (kind ≢ WasOutOfMemory) × (at.now ≡ path)
-IsUnwritten kind path OutOfMemory = kind ≡ WasOutOfMemory
 
 -- how much the image has
 unfoldable pub made_text : Report → List ℕ

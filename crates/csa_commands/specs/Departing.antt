@@ -2,6 +2,8 @@
 use Rattle.std.specs.Prelude.{◌≡◌, ◌≢◌, ◌⊎◌, ℕ, List, Option, None}
 use Rattle.std.specs.Io.KnownBytes.{Appends}
 use Rattle.std.specs.Str.Lines.{lines}
+use Rattle.std.specs.declared.io.ErrorKind.{ErrorKind}
+use Rattle.std.specs.declared.io.ErrorKind.TheVariants as kinds
 use Rattle.criteria.specs.declared.name.CriterionName.{CriterionName}
 use Rattle.timetable.specs.NamesValue.{NamesValue}
 use Rattle.timetable.specs.declared.query.QueryFault.{QueryFault}
@@ -13,6 +15,7 @@ use Rattle.journeys.specs.declared.question.Window.{Window}
 use Rattle.answer_replies.specs.Valuing.{arrival_told, by_arrival, by_trips, by_walking, trips_told, walking_told}
 use Rattle.command_requests.specs.declared.requests.DeparturesForm.{DeparturesForm}
 use Rattle.command_requests.specs.declared.requests.DeparturesRequest.{DeparturesRequest}
+use Rattle.command_requests.specs.declared.statuses.TheConstants.{INPUT_OUTPUT, OUT_OF_MEMORY, REFUSED}
 use Rattle.departure_lines.specs.Naming.{AreWanted, IsUnknownLine}
 use Rattle.departure_lines.specs.Showing.{AreShown}
 use Rattle.departure_lines.specs.declared.form.LineForm.{LineForm}
@@ -56,6 +59,20 @@ IsUnknown names (UnknownStop number) = (list : List ℕ) × IsUnknownLine names 
 IsUnknown names Unreadable = Unit
 IsUnknown names NotText = Unit
 IsUnknown names OutOfMemory = Unit
+
+-- a list can't be read, by the kind of the error: memory ran out, it isn't text, or else
+abbrev pub IsUnlisted : ErrorKind → NoList → Type 0
+IsUnlisted kind (UnknownStop number) = ⊥
+IsUnlisted kind Unreadable = (kind ≢ kinds.OutOfMemory) × (kind ≢ kinds.InvalidData)
+IsUnlisted kind NotText = kind ≡ kinds.InvalidData
+IsUnlisted kind OutOfMemory = kind ≡ kinds.OutOfMemory
+
+-- the status of a list that wants no stops
+abbrev pub list_status : NoList → ℕ
+list_status (UnknownStop number) = REFUSED
+list_status Unreadable = INPUT_OUTPUT
+list_status NotText = INPUT_OUTPUT
+list_status OutOfMemory = OUT_OF_MEMORY
 
 -- the departures from the stops that are wanted were added to what was printed before, and nothing else
 abbrev pub ArePrinted : CriterionName → DeparturesForm → ImageValue → Destination → Wanted → Option (List ℕ) → Option (List ℕ) → Type 0

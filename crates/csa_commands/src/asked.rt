@@ -3,6 +3,7 @@
 ghost use Rattle.std.specs.Prelude.{◌≡◌};
 ghost use Rattle.command_requests.specs.declared.statuses.TheConstants.{ACCEPTED, OUT_OF_MEMORY, REFUSED};
 ghost use Rattle.csa_commands.specs.Commands.{IsDone, IsRefusedAs};
+ghost use Rattle.csa_commands.specs.Ending.{Ends};
 
 use crate::windows::{Departures, warn_of_window};
 use crate::{departures, info, journey, profile, status, stops, upgrade, verify};
@@ -79,6 +80,7 @@ pub fn answer<H: Files + AllocGlobal, O: Write, E: Write>(
     errors: &mut E,
     warnings: bool,
 ) -> u8
+    ensures status { Ends result }
     ensures printed { result ≡ ACCEPTED
         → IsDone image.now asked.entry (O.contents output.old) (O.contents output.new) }
     ensures refused { result ≡ REFUSED
@@ -100,6 +102,7 @@ fn do_asked<H: Files + AllocGlobal, O: Write, E: Write>(
     output: &mut O,
     errors: &mut E,
 ) -> u8
+    ensures status { Ends result }
     ensures printed { result ≡ ACCEPTED
         → IsDone image.now asked.entry (O.contents output.old) (O.contents output.new) }
     ensures refused { result ≡ REFUSED

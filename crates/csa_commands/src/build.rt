@@ -8,11 +8,11 @@ ghost use Rattle.feed_files.specs.Reading.{Content};
 ghost use Rattle.feed_files.specs.Reads.{AreRead, SomeWereRead, all_tables};
 ghost use Rattle.feed_loader.specs.Refused.{IsLoadRefusal, IsLoaded};
 ghost use Rattle.gtfs_rows.specs.declared.fault.Table.{Table};
-ghost use Rattle.csa_commands.specs.Building.{IfRefused, IsReported, IsUnwritten, changed_text, made_text, report_line};
+ghost use Rattle.csa_commands.specs.Building.{IfRefused, IsReported, changed_text, made_text, report_line};
 ghost use Rattle.csa_commands.specs.Ending.{Ends};
 ghost use Rattle.csa_commands.specs.Folders.{IsBuildRefusal, IsBuiltFrom, IsRefusedBuild};
 
-use crate::explaining::{explain_refused, reason_of};
+use crate::explaining::explain_refused;
 use crate::planning::{PlanFailure, plan_of};
 use crate::progress::{Progress, ReportedFiles, Reports, load_reported};
 use crate::refusal::refuse_feed;
@@ -34,8 +34,8 @@ enum Failure<'a> {
     Refused(LoadFault),
     /// The file at the path can't be read.
     Unreadable(&'a str),
-    /// The file at the path can't be written, for this reason.
-    Unwritable(&'a str, &'static str),
+    /// The file at the path can't be written, by an error of this kind.
+    Unwritten(&'a str, ErrorKind),
     OutOfMemory,
 }
 
@@ -77,9 +77,7 @@ pub fn run<H: Files + Disk + AllocGlobal + Clock, O: Write, E: Write>(
             refuse_feed(alloc, output, fault)
         }
         Err(Failure::Unreadable(path)) => status::report_unread_zone(rt, errors, path),
-        Err(Failure::Unwritable(path, reason)) => {
-            status::report_unwritten(alloc, errors, path, reason)
-        }
+        Err(Failure::Unwritten(path, kind)) => status::report_unwritten(errors, path, kind),
         Err(Failure::OutOfMemory) => status::OUT_OF_MEMORY,
     }
 }
@@ -133,7 +131,7 @@ fn build_reported<'a, H: Files + AllocGlobal, F: FeedFiles, R: Reports>(
     };
     files.report_writing(out);
     if let Err(error) = put_image(rt, out, image.words()) {
-        return Err(write_failure(error.kind(), out));
+        return Err(Failure::Unwritten(out, error.kind()));
     }
     files.report_written(out, image.words().len());
     Ok(Built {
@@ -141,16 +139,6 @@ fn build_reported<'a, H: Files + AllocGlobal, F: FeedFiles, R: Reports>(
         plan,
         report,
     })
-}
-
-// Why the file at a path isn't written, by the kind of the error.
-fn write_failure<'a>(kind: ErrorKind, path: &'a str) -> Failure<'a>
-    ensures { IsUnwritten kind path.now result }
-{
-    match kind {
-        ErrorKind::OutOfMemory => Failure::OutOfMemory,
-        _ => Failure::Unwritable(path, reason_of(kind)),
-    }
 }
 
 // Prints the line of counts. It refuses nothing.

@@ -7,11 +7,12 @@ ghost use Rattle.journeys.specs.Questions.{AsksAll, IsRefusedOfAll};
 ghost use Rattle.command_requests.specs.declared.statuses.TheConstants.{ACCEPTED, OUT_OF_MEMORY, REFUSED};
 ghost use Rattle.departure_lines.specs.declared.form.LineForm.{LineForm};
 ghost use Rattle.csa_commands.specs.declared.wanted_stops.NoList.TheVariants.{UnknownStop};
+ghost use Rattle.csa_commands.specs.Ending.{Ends, EndsUndone};
 ghost use Rattle.csa_commands.specs.Departing.{AreAllPrinted, ArePrinted, AreShownBy, IsNoneAsked};
-ghost use Rattle.csa_commands.specs.Departing.{form_of, window_asked};
+ghost use Rattle.csa_commands.specs.Departing.{form_of, list_status, window_asked};
 
 use crate::explaining::{explain, is_file};
-use crate::question::{explain_end, explain_unknown, window_reason};
+use crate::question::{explain_end, explain_line, window_reason};
 use crate::refusal::Refusal;
 use crate::status;
 use crate::wanted_stops::{NoList, wanted_from};
@@ -36,6 +37,7 @@ pub fn run<H: Files + AllocGlobal, O: Write, E: Write>(
     output: &mut O,
     errors: &mut E,
 ) -> u8
+    ensures status { Ends result }
     ensures printed { result ≡ ACCEPTED
         → AreAllPrinted image.now request.entry (O.contents output.old) (O.contents output.new) }
     ensures refused { result ≡ REFUSED
@@ -68,11 +70,12 @@ fn print_all<O: Write>(
     output: &mut O,
 ) -> u8
     requires { CanBeAsked image.now.timetable.stops destination.now }
+    ensures status { Ends result }
+    ensures not_refused { result ≢ REFUSED }
     ensures printed { result ≡ ACCEPTED → ArePrinted request.entry.criterion request.entry.form image.now
         destination.now
         wanted.now
         (O.contents output.old) (O.contents output.new) }
-    ensures not_refused { result ≢ REFUSED }
     ensures silent { result ≡ OUT_OF_MEMORY → O.contents output.new ≡ O.contents output.old }
 {
     match text_by_name(alloc, image, destination, request, wanted) {
@@ -107,13 +110,14 @@ fn explain_list<H: Files + AllocGlobal, E: Write>(
     failure: NoList,
     errors: &mut E,
 ) -> u8
-    ensures not_accepted { result ≢ ACCEPTED }
+    ensures kind { result ≡ list_status failure }
+    ensures status { EndsUndone result }
     ensures refused { result ≡ REFUSED → (line : ℕ) × (failure ≡ UnknownStop line) }
 {
     let path = request.from.unwrap_or("");
     match failure {
         NoList::UnknownStop(line) => {
-            explain_line(rt.alloc(), path, line, errors);
+            explain_line(path, line, errors);
             status::REFUSED
         }
         NoList::Unreadable => {
@@ -134,12 +138,6 @@ fn explain_from<H: Files, E: Write>(rt: &H, path: &str, errors: &mut E) {
     if !is_file(rt, path) {
         let line = "csa: --from is a file of stop_ids here; for one stop use csa profile";
         explain(errors, &[line]);
-    }
-}
-
-fn explain_line<E: Write>(alloc: Global, path: &str, line: usize, errors: &mut E) {
-    if let Ok(place) = format!(in alloc; "{path}, line {line}") {
-        explain_unknown("--from", place.as_str(), errors);
     }
 }
 

@@ -1,8 +1,9 @@
 //! `csa journey IMAGE TEXT QUERY`.
 
-ghost use Rattle.std.specs.Prelude.{◌≡◌, ◌⊎◌, IfOk, string_bytes};
+ghost use Rattle.std.specs.Prelude.{◌≡◌, IfOk, string_bytes};
 ghost use Rattle.std.specs.Io.KnownBytes.{Appends};
-ghost use Rattle.command_requests.specs.declared.statuses.TheConstants.{ACCEPTED, INPUT_OUTPUT, OUT_OF_MEMORY, REFUSED};
+ghost use Rattle.command_requests.specs.declared.statuses.TheConstants.{ACCEPTED, OUT_OF_MEMORY, REFUSED};
+ghost use Rattle.csa_commands.specs.Ending.{Ends, EndsUndone};
 ghost use Rattle.csa_commands.specs.Judging.{IsAccepted, IsFaulty, IsVerdict, times_line};
 ghost use Rattle.csa_commands.specs.Refusing.{refusal_line};
 
@@ -40,6 +41,7 @@ pub fn run<O: Write, E: Write>(
     output: &mut O,
     errors: &mut E,
 ) -> u8
+    ensures status { Ends result }
     ensures accepted { result ≡ ACCEPTED → IsAccepted image.now request.entry.question request.entry.text.now
         (O.contents output.old) (O.contents output.new) }
     ensures refused { result ≡ REFUSED → IsFaulty image.now request.entry.question request.entry.text.now
@@ -73,7 +75,7 @@ fn line_of(alloc: Global, times: Times) -> Result<String, AllocError>
 
 /// Prints why a journey is refused, and explains it.
 fn refuse<O: Write, E: Write>(alloc: Global, refusal: Refusal, output: &mut O, errors: &mut E) -> u8
-    ensures status { (result ≡ REFUSED) ⊎ (result ≡ INPUT_OUTPUT) ⊎ (result ≡ OUT_OF_MEMORY) }
+    ensures status { EndsUndone result }
     ensures printed { result ≡ REFUSED
         → Appends (O.contents output.old) (O.contents output.new) (refusal_line refusal) }
     ensures silent { result ≡ OUT_OF_MEMORY → O.contents output.new ≡ O.contents output.old }

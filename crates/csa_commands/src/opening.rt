@@ -25,11 +25,14 @@ struct Reason(ImageFault);
 impl fmt::Display for Reason {
     fn fmt<W: fmt::Write>(&self, f: &mut fmt::Formatter<W>) -> fmt::Result {
         match self.0 {
-            ImageFault::BadMagic => {
-                f.write_str("it is no image of csa: it doesn't begin like one")
-            }
+            ImageFault::BadMagic => f.write_str(
+                "it isn't an image made by `csa build`: it doesn't begin like one",
+            ),
+            ImageFault::BadLayout => f.write_str(
+                "its layout is neither 1 nor 2: use the csa that built it, or build it again",
+            ),
             ImageFault::BadLength => f.write_str(
-                "its size isn't the one that its counts give: it was cut off, or is no image",
+                "its size isn't the one that its header says: it is empty, was cut off, or isn't an image",
             ),
             fault => write!(f, "{fault}"),
         }
@@ -58,7 +61,8 @@ pub fn open_image<H: Files + AllocGlobal, I: Read, O: Write, E: Write>(
     let words = match image_words(rt, path, input) {
         Ok(words) => words,
         Err(ImageFileFault::OddLength) => {
-            let reason = "it is no image: its size isn't a multiple of four bytes";
+            let reason =
+                "its size isn't a multiple of four bytes: it was cut off, or isn't an image";
             return Err(refuse(
                 rt.alloc(),
                 path,

@@ -5,7 +5,6 @@ ghost use Rattle.std.specs.Io.KnownBytes.{Appends};
 ghost use Rattle.std.specs.List.{AllZip};
 ghost use Rattle.csa_commands.specs.Picturing.{IsDrawn, IsDrawnAs, IsPictureOf};
 
-use crate::explaining::reason_of;
 use answer_pictures::{Axis, JourneyLine, heading_of, journey_line, picture};
 use command_requests::ProfileRequest;
 use criteria::Told;
@@ -109,15 +108,8 @@ fn line_of<C: Told>(
     journey_line(alloc, image, departure.time, told, &departure.journey)
 }
 
-/// Writes a picture into the file at the path; why it can't be written, if it can't.
-pub fn write_picture<H: Files>(rt: &H, path: &str, text: &str) -> Result<(), &'static str> {
-    match write_file(rt, path, text) {
-        Ok(()) => Ok(()),
-        Err(error) => Err(reason_of(error.kind())),
-    }
-}
-
-fn write_file<H: Files>(rt: &H, path: &str, text: &str) -> io::Result<()> {
+/// Writes a picture into the file at the path.
+pub fn write_picture<H: Files>(rt: &H, path: &str, text: &str) -> io::Result<()> {
     let mut file = File::create(rt, path)?;
     write_whole(&mut file, text)
 }

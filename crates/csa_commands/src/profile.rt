@@ -4,6 +4,7 @@ ghost use Rattle.std.specs.Prelude.{◌≡◌, ◌≢◌, IfOk, string_bytes};
 ghost use Rattle.std.specs.Io.KnownBytes.{Appends};
 ghost use Rattle.timetable.specs.Queries.{IsAskable};
 ghost use Rattle.command_requests.specs.declared.statuses.TheConstants.{ACCEPTED, OUT_OF_MEMORY, REFUSED};
+ghost use Rattle.csa_commands.specs.Ending.{Ends};
 ghost use Rattle.csa_commands.specs.Answering.{IsNoRequest, IsPrinted, IsProfile, IsShown, IsShownBy};
 ghost use Rattle.csa_commands.specs.Listing.{form_text};
 
@@ -48,6 +49,7 @@ pub fn run<H: Files + AllocGlobal, O: Write, E: Write>(
     output: &mut O,
     errors: &mut E,
 ) -> u8
+    ensures status { Ends result }
     ensures printed { result ≡ ACCEPTED → IsPrinted image.now request.entry (O.contents output.old)
         (O.contents output.new) }
     ensures refused { result ≡ REFUSED → IsNoRequest image.now request.entry (O.contents output.old)
@@ -71,15 +73,16 @@ fn print_profile<H: Files + AllocGlobal, O: Write, E: Write>(
     output: &mut O,
     errors: &mut E,
 ) -> u8
+    ensures status { Ends result }
+    ensures not_refused { result ≢ REFUSED }
     ensures printed { result ≡ ACCEPTED
         → Appends (O.contents output.old) (O.contents output.new) (string_bytes profile.now.text) }
-    ensures not_refused { result ≢ REFUSED }
     ensures silent { result ≡ OUT_OF_MEMORY → O.contents output.new ≡ O.contents output.old }
 {
     if let (Some(path), Some(picture)) = (request.picture, &profile.picture)
-        && let Err(reason) = write_picture(rt, path, picture.as_str())
+        && let Err(error) = write_picture(rt, path, picture.as_str())
     {
-        return status::report_unwritten(rt.alloc(), errors, path, reason);
+        return status::report_unwritten(errors, path, error.kind());
     }
     status::write_text(output, profile.text.as_str(), status::ACCEPTED)
 }

@@ -1,11 +1,12 @@
 //! The query of an image that the command line asks, or what is wrong with it.
 
-ghost use Rattle.std.specs.Prelude.{◌≡◌, ◌⊎◌, MatchResult};
+ghost use Rattle.std.specs.Prelude.{◌≡◌, MatchResult};
 ghost use Rattle.std.specs.Io.KnownBytes.{Appends};
 ghost use Rattle.timetable.specs.Queries.{IsAskable};
 ghost use Rattle.journeys.specs.Questions.{Asks, IsRefused};
-ghost use Rattle.command_requests.specs.declared.statuses.TheConstants.{INPUT_OUTPUT, OUT_OF_MEMORY, REFUSED};
+ghost use Rattle.command_requests.specs.declared.statuses.TheConstants.{OUT_OF_MEMORY, REFUSED};
 ghost use Rattle.csa_commands.specs.Asking.{window_of};
+ghost use Rattle.csa_commands.specs.Ending.{EndsUndone};
 ghost use Rattle.csa_commands.specs.Refusing.{refusal_line};
 ghost use Rattle.csa_commands.specs.declared.refusal.Refusal.TheVariants.{Query as OfQuery};
 
@@ -49,7 +50,7 @@ pub fn refuse_question<O: Write, E: Write>(
     output: &mut O,
     errors: &mut E,
 ) -> u8
-    ensures status { (result ≡ REFUSED) ⊎ (result ≡ INPUT_OUTPUT) ⊎ (result ≡ OUT_OF_MEMORY) }
+    ensures status { EndsUndone result }
     ensures printed { result ≡ REFUSED
         → Appends (O.contents output.old) (O.contents output.new) (refusal_line (OfQuery fault)) }
     ensures silent { result ≡ OUT_OF_MEMORY → O.contents output.new ≡ O.contents output.old }
@@ -92,17 +93,18 @@ pub fn window_reason(after: u32, until: u32, by: u32) -> &'static str {
     }
 }
 
-/// Says that an option's stop is no stop of the image, if it is none.
-pub fn explain_end<'a, E: Write>(image: &Verified, option: &'a str, stop: &'a str, errors: &mut E) {
+/// Why a stop_id is refused. An image doesn't know stations, so it may be one.
+const UNKNOWN: &str = "no stop of the image has this stop_id \
+(stations aren't stops: give a platform's stop_id, which `csa stops IMAGE TEXT` lists)";
+
+/// Says that an option's stop is no stop of the image, if it is none. It takes no memory.
+pub fn explain_end<E: Write>(image: &Verified, option: &str, stop: &str, errors: &mut E) {
     if image.find(stop.as_bytes()).is_none() {
-        explain_unknown(option, stop, errors);
+        let _ = write!(errors, "csa: {option} {stop:?}: {UNKNOWN}\n");
     }
 }
 
-/// Says that what an option gives, a stop_id or a line of a file, is no stop of the image. An image doesn't know
-/// stations, so it may be one.
-pub fn explain_unknown<'a, E: Write>(option: &'a str, given: &'a str, errors: &mut E) {
-    let reason = ": no stop of the image has this stop_id \
-(stations aren't stops: give a platform's stop_id, which `csa stops IMAGE TEXT` lists)";
-    explain(errors, &["csa: ", option, " ", given, reason]);
+/// Says that a line of the file of `--from` is no stop of the image. It takes no memory.
+pub fn explain_line<E: Write>(path: &str, line: usize, errors: &mut E) {
+    let _ = write!(errors, "csa: --from {path}, line {line}: {UNKNOWN}\n");
 }

@@ -1,10 +1,12 @@
 //! Refusals as they are printed: a number, a name and the places, each after a space.
 
-ghost use Rattle.std.specs.Prelude.{◌≡◌, ◌⊎◌, ◌++◌, IfOk, OnOk, string_bytes};
+ghost use Rattle.std.specs.Prelude.{◌≡◌, ◌⊎◌, ◌++◌, IfOk, OnOk, Some, string_bytes};
 ghost use Rattle.std.specs.Io.KnownBytes.{Appends};
 ghost use Rattle.command_requests.specs.declared.statuses.TheConstants.{INPUT_OUTPUT, OUT_OF_MEMORY, REFUSED};
 ghost use Rattle.feed_loader.specs.Refused.{IsWantOfMemory};
+ghost use Rattle.journeys.specs.Numbers.{text_number};
 ghost use Rattle.journeys.specs.Texts.{number_text};
+ghost use Rattle.journeys.specs.declared.text_fault.TextFault.TheVariants.{BadText as OfText};
 ghost use Rattle.csa_commands.specs.Listing.{word_text};
 ghost use Rattle.csa_commands.specs.Refusing.{feed_places, image_places, journey_places, refusal_line, refusal_places};
 ghost use Rattle.csa_commands.specs.Refusing.{RefusesFeed, refusal_status, refusal_told};
@@ -46,7 +48,7 @@ impl Refusal {
             Refusal::Image(fault) => fault.number(),
             Refusal::Feed(fault) => fault.number(),
             Refusal::Query(fault) => fault.number(),
-            Refusal::BadText => TextFault::BadText.number().unwrap_or_default(),
+            Refusal::BadText => bad_text_number(),
             Refusal::Journey(fault) => fault.number(),
         }
     }
@@ -64,6 +66,13 @@ impl Refusal {
             Refusal::Journey(fault) => fault.name(),
         }
     }
+}
+
+// The number by which a text that spells no journey is told.
+fn bad_text_number() -> u8
+    ensures { Some result ≡ text_number OfText }
+{
+    80
 }
 
 /// The line of a refusal.

@@ -1,13 +1,14 @@
 //! Exit statuses, and what is written with them.
 
 ghost use Rattle.std.specs.Prelude.{◌≡◌, ◌≢◌, ◌⊎◌, IfErr, IfOk, string_bytes, true};
+ghost use Rattle.std.specs.declared.io.ErrorKind.TheVariants.{OutOfMemory as WasOutOfMemory};
 ghost use Rattle.std.specs.Io.KnownBytes.{Appends};
 ghost use Rattle.command_requests.specs.declared.statuses.TheConstants.{INPUT_OUTPUT, OUT_OF_MEMORY, REFUSED};
 ghost use Rattle.csa_commands.specs.Ending.{EndsUndone};
 ghost use Rattle.csa_commands.specs.Refusing.{refusal_line};
 ghost use Rattle.csa_commands.specs.Writing.{IsBegun};
 
-use crate::explaining::{explain_zone_named, shown_path, unread_reason};
+use crate::explaining::{explain, explain_zone_named, reason_of, shown_path, unread_reason};
 use crate::refusal::{Refusal, refusal_line};
 pub use command_requests::statuses::{
     ACCEPTED, COMMAND_LINE, INPUT_OUTPUT, OUT_OF_MEMORY, REFUSED,
@@ -104,13 +105,12 @@ pub(crate) fn print_refusal_as<O: Write>(
     }
 }
 
-/// Reports a file that can't be read, with the system's reason: the status of a file that can't be read, or of memory
-/// that ran out.
-pub fn report_unreadable<H: Files + AllocGlobal, E: Write>(rt: &H, errors: &mut E, path: &str) -> u8
-    ensures { (result ≡ INPUT_OUTPUT) ⊎ (result ≡ OUT_OF_MEMORY) }
+/// Reports a file that can't be read, with the system's reason; the status of that.
+pub fn report_unreadable<H: Files, E: Write>(rt: &H, errors: &mut E, path: &str) -> u8
+    ensures { result ≡ INPUT_OUTPUT }
 {
     let reason = unread_reason(rt, path);
-    report_failed_file(rt.alloc(), errors, path, "read", reason)
+    report_failed_file(errors, path, "read", reason)
 }
 
 /// Reports a zone's file that can't be read, and how that zone is spelled if the system has a file of this name.
@@ -119,39 +119,36 @@ pub fn report_unread_zone<H: Files + AllocGlobal, E: Write>(
     errors: &mut E,
     path: &str,
 ) -> u8
-    ensures { (result ≡ INPUT_OUTPUT) ⊎ (result ≡ OUT_OF_MEMORY) }
+    ensures { result ≡ INPUT_OUTPUT }
 {
     let status = report_unreadable(rt, errors, path);
     explain_zone_named(rt, path, errors);
     status
 }
 
-/// Reports a file that can't be written, with the system's reason.
-pub(crate) fn report_unwritten<E: Write>(
-    alloc: Global,
-    errors: &mut E,
-    path: &str,
-    reason: &str,
-) -> u8
-    ensures { (result ≡ INPUT_OUTPUT) ⊎ (result ≡ OUT_OF_MEMORY) }
+/// Reports a file that can't be written, with the system's reason. The status is that of such a file; or, if the error
+/// is that memory ran out, the status of that, and nothing is said.
+pub(crate) fn report_unwritten<E: Write>(errors: &mut E, path: &str, kind: ErrorKind) -> u8
+    ensures memory { kind ≡ WasOutOfMemory → result ≡ OUT_OF_MEMORY }
+    ensures unwritten { kind ≢ WasOutOfMemory → result ≡ INPUT_OUTPUT }
+    ensures either { (result ≡ INPUT_OUTPUT) ⊎ (result ≡ OUT_OF_MEMORY) }
 {
-    report_failed_file(alloc, errors, path, "written", reason)
+    match kind {
+        ErrorKind::OutOfMemory => OUT_OF_MEMORY,
+        _ => report_failed_file(errors, path, "written", reason_of(kind)),
+    }
 }
 
-// Reports what can't be done to a file, and why.
-fn report_failed_file<E: Write>(
-    alloc: Global,
+// Reports what can't be done to a file, and why. It takes no memory.
+fn report_failed_file<'a, E: Write>(
     errors: &mut E,
-    path: &str,
-    what: &str,
-    reason: &str,
+    path: &'a str,
+    what: &'a str,
+    reason: &'a str,
 ) -> u8
-    ensures { (result ≡ INPUT_OUTPUT) ⊎ (result ≡ OUT_OF_MEMORY) }
+    ensures { result ≡ INPUT_OUTPUT }
 {
     let path = shown_path(path);
-    write_line(
-        errors,
-        format!(in alloc; "csa: {path} can't be {what}: {reason}\n"),
-        INPUT_OUTPUT,
-    )
+    explain(errors, &["csa: ", path, " can't be ", what, ": ", reason]);
+    INPUT_OUTPUT
 }

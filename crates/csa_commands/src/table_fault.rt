@@ -36,7 +36,10 @@ pub fn explain_failed<H: Files + AllocGlobal, E: Write>(
 ) {
     if let Ok(path) = Path::new(folder).join(rt.alloc(), table.file_name()) {
         let reason = failed_reason(rt, path.as_str());
-        explain(errors, &["csa: ", path.as_str(), ": ", reason]);
+        explain(
+            errors,
+            &["csa: ", path.as_str(), " can't be read: ", reason],
+        );
     }
 }
 

@@ -9,14 +9,13 @@ ghost use Rattle.image_layout.specs.declared.layout.TheConstants.{LAYOUT};
 ghost use Rattle.image_layout.specs.Fields.{layout_of};
 ghost use Rattle.image_layout.specs.Image.{IsImage};
 
-use crate::explaining::reason_of;
 use crate::writing::put_image;
 use crate::{status, verify};
 use command_requests::UpgradeRequest;
 use image_verifier::Verified;
 use image_writer::write;
 use std::alloc::{AllocError, Global};
-use std::io::{ErrorKind, Write};
+use std::io::Write;
 use std::rt::Files;
 
 /// Writes the image in the layout that is written today, and prints its counts as `verify` does. It refuses nothing.
@@ -38,10 +37,7 @@ pub fn run<H: Files + AllocGlobal, O: Write, E: Write>(
     };
     match put_image(rt, request.out, &words) {
         Ok(()) => verify::run(rt.alloc(), image, output),
-        Err(error) => match error.kind() {
-            ErrorKind::OutOfMemory => status::OUT_OF_MEMORY,
-            kind => { status::report_unwritten(rt.alloc(), errors, request.out, reason_of(kind)) }
-        },
+        Err(error) => status::report_unwritten(errors, request.out, error.kind()),
     }
 }
 

@@ -3,7 +3,7 @@
 ghost use Rattle.std.specs.Prelude.{◌≢◌, None, IfErr, IfOk, MatchResult};
 ghost use Rattle.std.specs.Str.Lines.{lines};
 ghost use Rattle.departure_lines.specs.Naming.{AreWanted};
-ghost use Rattle.csa_commands.specs.Departing.{IsListed, IsUnknown, IsWantedFrom};
+ghost use Rattle.csa_commands.specs.Departing.{IsListed, IsUnknown, IsUnlisted, IsWantedFrom};
 
 use departure_lines::{ListFault, Wanted};
 use image_verifier::Verified;
@@ -45,11 +45,18 @@ fn read_list<H: Files + AllocGlobal>(rt: &H, image: &Verified, path: &str) -> Re
 {
     match fs::read_to_string(rt, path) {
         Ok(text) => wanted_of(rt.alloc(), image, text.as_str()),
-        Err(error) => match error.kind() {
-            ErrorKind::OutOfMemory => Err(NoList::OutOfMemory),
-            ErrorKind::InvalidData => Err(NoList::NotText),
-            _ => Err(NoList::Unreadable),
-        },
+        Err(error) => Err(unlisted(error.kind())),
+    }
+}
+
+// Why a list can't be read, by the kind of the error.
+fn unlisted(kind: ErrorKind) -> NoList
+    ensures { IsUnlisted kind result }
+{
+    match kind {
+        ErrorKind::OutOfMemory => NoList::OutOfMemory,
+        ErrorKind::InvalidData => NoList::NotText,
+        _ => NoList::Unreadable,
     }
 }
 

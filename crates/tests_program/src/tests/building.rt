@@ -192,7 +192,7 @@ answers points 0 read 0 walk 120
 asks profile feed.csa --from Q --to P --after 00:00:00 --until 01:00:00 --by 01:00:00 --criterion arrival
 answers points 0 read 0 walk 120
 asks profile feed.csa --from S --to P --after 00:00:00 --until 01:00:00 --by 01:00:00 --criterion arrival
-tells csa: --from S: no stop of the image has this stop_id \
+tells csa: --from \"S\": no stop of the image has this stop_id \
 (stations aren't stops: give a platform's stop_id, which `csa stops IMAGE TEXT` lists)
 answers refused 31 UnknownStop
 rows feed/transfers.txt from_stop_id,to_stop_id,transfer_type,min_transfer_time | S,S,2,180
@@ -234,7 +234,7 @@ ends 3
 folder unread
 folder unread/agency.txt
 run build unread no_such_folder/unread.csa --first 20240115 --days 1 --zone fixed:0
-tells csa: unread/agency.txt: it is a folder
+tells csa: unread/agency.txt can't be read: it is a folder
 prints refused 101 FileFailed agency.txt
 ends 3
 remove unread/agency.txt
@@ -242,7 +242,7 @@ tells csa: unread: no file agency.txt
 answers refused 1 MissingFile agency.txt 0
 rows unread/agency.txt agency_timezone | Etc/UTC
 folder unread/stops.txt
-tells csa: unread/stops.txt: it is a folder
+tells csa: unread/stops.txt can't be read: it is a folder
 prints refused 101 FileFailed stops.txt
 ends 3
 remove unread

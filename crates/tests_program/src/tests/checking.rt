@@ -88,11 +88,11 @@ run journey - 'no journey' --from A --to A --after 07:00:00 --until 09:00:00 --b
 tells csa: --from and --to are the same stop
 answers refused 32 SameStop
 run journey - 'no journey' --from A --to D --after 07:00:00 --until 09:00:00 --by 10:00:00
-tells csa: --to D: no stop of the image has this stop_id \
+tells csa: --to \"D\": no stop of the image has this stop_id \
 (stations aren't stops: give a platform's stop_id, which `csa stops IMAGE TEXT` lists)
 answers refused 31 UnknownStop
 run journey - 'no journey' --from d --to C --after 07:00:00 --until 09:00:00 --by 10:00:00
-tells csa: --from d: no stop of the image has this stop_id \
+tells csa: --from \"d\": no stop of the image has this stop_id \
 (stations aren't stops: give a platform's stop_id, which `csa stops IMAGE TEXT` lists)
 answers refused 31 UnknownStop
 run journey - 'no journey' --from A --to D --after 07:00:00 --until 9:0:0 --by 10:00:00
@@ -125,14 +125,19 @@ const EXPLAINED: &str = "
 sample
 cut 3
 run verify -
-tells csa: standard input: it is no image: its size isn't a multiple of four bytes
+tells csa: standard input: its size isn't a multiple of four bytes: it was cut off, or isn't an image
 answers refused 51 OddLength
 cut 184
-tells csa: standard input: its size isn't the one that its counts give: it was cut off, or is no image
+tells csa: standard input: its size isn't the one that its header says: it is empty, was cut off, or isn't an image
 answers refused 63 BadLength
 zeros 50
-tells csa: standard input: it is no image of csa: it doesn't begin like one
+tells csa: standard input: it isn't an image made by `csa build`: it doesn't begin like one
 answers refused 61 BadMagic
+sample
+set 1 3
+run verify -
+tells csa: standard input: its layout is neither 1 nor 2: use the csa that built it, or build it again
+answers refused 62 BadLayout
 sample
 set 9 4294967295
 run verify -

@@ -352,7 +352,7 @@ answers stops 0 points 0 read 0
 
 # What can't be asked.
 asks departures - --to D --after 07:00:00 --until 09:00:00 --by 10:00:00 --criterion arrival
-tells csa: --to D: no stop of the image has this stop_id \
+tells csa: --to \"D\": no stop of the image has this stop_id \
 (stations aren't stops: give a platform's stop_id, which `csa stops IMAGE TEXT` lists)
 answers refused 31 UnknownStop
 asks departures - --to C --after 07:00:00 --until 06:00:00 --by 10:00:00 --criterion arrival

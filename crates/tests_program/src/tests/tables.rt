@@ -286,7 +286,7 @@ remove base_feed/stops.txt
 tells csa: base_feed: no file stops.txt
 answers refused 1 MissingFile stops.txt 0
 folder base_feed/stops.txt
-tells csa: base_feed/stops.txt: it is a folder
+tells csa: base_feed/stops.txt can't be read: it is a folder
 prints refused 101 FileFailed stops.txt
 ends 3
 remove base_feed/stops.txt

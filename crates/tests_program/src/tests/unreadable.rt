@@ -9,7 +9,7 @@ base
 run build base_feed unread.csa --first 20240115 --days 1 --zone fixed:0
 remove base_feed/stops.txt
 folder base_feed/stops.txt
-tells csa: base_feed/stops.txt: it is a folder
+tells csa: base_feed/stops.txt can't be read: it is a folder
 prints refused 101 FileFailed stops.txt
 ends 3
 lacks unread.csa
@@ -18,7 +18,7 @@ with stops.txt 1 A,A
 
 remove base_feed/trips.txt
 folder base_feed/trips.txt
-tells csa: base_feed/trips.txt: it is a folder
+tells csa: base_feed/trips.txt can't be read: it is a folder
 prints refused 101 FileFailed trips.txt
 ends 3
 lacks unread.csa
@@ -27,7 +27,7 @@ with trips.txt 1 R,S,T1
 
 remove base_feed/stop_times.txt
 folder base_feed/stop_times.txt
-tells csa: base_feed/stop_times.txt: it is a folder
+tells csa: base_feed/stop_times.txt can't be read: it is a folder
 prints refused 101 FileFailed stop_times.txt
 ends 3
 lacks unread.csa
@@ -36,7 +36,7 @@ with stop_times.txt 1 T1,08:00:00,08:00:00,A,1
 
 remove base_feed/calendar.txt
 folder base_feed/calendar.txt
-tells csa: base_feed/calendar.txt: it is a folder
+tells csa: base_feed/calendar.txt can't be read: it is a folder
 prints refused 101 FileFailed calendar.txt
 ends 3
 lacks unread.csa
@@ -44,21 +44,21 @@ remove base_feed/calendar.txt
 with calendar.txt 1 S,1,1,1,1,1,1,1,20240115,20240115
 
 folder base_feed/calendar_dates.txt
-tells csa: base_feed/calendar_dates.txt: it is a folder
+tells csa: base_feed/calendar_dates.txt can't be read: it is a folder
 prints refused 101 FileFailed calendar_dates.txt
 ends 3
 lacks unread.csa
 remove base_feed/calendar_dates.txt
 
 folder base_feed/transfers.txt
-tells csa: base_feed/transfers.txt: it is a folder
+tells csa: base_feed/transfers.txt can't be read: it is a folder
 prints refused 101 FileFailed transfers.txt
 ends 3
 lacks unread.csa
 remove base_feed/transfers.txt
 
 folder base_feed/frequencies.txt
-tells csa: base_feed/frequencies.txt: it is a folder
+tells csa: base_feed/frequencies.txt can't be read: it is a folder
 prints refused 101 FileFailed frequencies.txt
 ends 3
 lacks unread.csa
@@ -67,7 +67,7 @@ remove base_feed/frequencies.txt
 # The first of two is printed.
 folder base_feed/transfers.txt
 folder base_feed/frequencies.txt
-tells csa: base_feed/transfers.txt: it is a folder
+tells csa: base_feed/transfers.txt can't be read: it is a folder
 prints refused 101 FileFailed transfers.txt
 ends 3
 lacks unread.csa
