@@ -6,7 +6,7 @@ use Rattle.lines.specs.Counting.{failures_of, inner_of}
 use Rattle.load_orders.specs.Asking.{OrderRoute, WorkerOrdersValue}
 use Rattle.orders.specs.Ordering.{OrderValue}
 use Rattle.shelf_steps.specs.declared.views.Known.{Known}
-use Rattle.session.specs.Learning.{Learns, TellPublished}
+use Rattle.session.specs.Learning.{AreFromPublished, Learns, TellPublished}
 use Rattle.session.specs.declared.fault.Ended.{Ended}
 use Rattle.session.specs.declared.fault.SessionFault.{SessionFault}
 use Rattle.answer_replies.specs.declared.point_form.PointForm.{PointForm}
@@ -43,6 +43,16 @@ module _ {C R W : Type 0} (form : PointForm) (opens : C → Result (R × W) Conn
       (0 < failures_of now.reader) (0 < failures_of now.writer) a asked b asked_then
   IsServed number client None end a asked b asked_then = (fault : ConnFault) × opens client (Err fault) × IsUnopened end a asked b asked_then
 
+  -- so they are, and each profile in the session's turns, unless memory or a version was wanting, is answered exactly, over the accepted image
+  -- that this history published as the version that is told
+  abbrev pub IsExact : Known → ℕ → C → Option (Streams R W) → End → SeatValue → List OrderValue → SeatValue → List OrderValue → Type 0
+  IsExact history number client (Some now) end a asked b asked_then =
+      (was : R × W) × opens client (Ok was)
+      × (session : IsSession form number end (remaining was.0) (remaining (inner_of now.reader)) (contents was.1) (contents (inner_of now.writer))
+      (0 < failures_of now.reader) (0 < failures_of now.writer) a asked b asked_then)
+      × AreFromPublished history form session.serves.turns
+  IsExact history number client None end a asked b asked_then = (fault : ConnFault) × opens client (Err fault) × IsUnopened end a asked b asked_then
+
   -- over seats with these numbers, values, and parts of their shelves' one history that they know
   module _ {S : Type 0} (number : S → ℕ) (value : S → SeatValue) (known : S → Known) where
     -- a client is served at this seat, which learns meanwhile: each profile is answered over the image that the history published as its
@@ -65,22 +75,22 @@ module _ {C R W : Type 0} (form : PointForm) (opens : C → Result (R × W) Conn
         (m : S) × (between : List OrderValue) × IsServedAt client session a asked m between × AreServed clients sessions m between b asked_then
     AreServed _ _ _ _ _ _ = ⊥
 
-    -- so they are, and each profile in their sessions is told over the image that this history published as the version that is told
-    abbrev pub AreTold : Known → List C → List (Session R W) → S → List OrderValue → S → List OrderValue → Type 0
-    AreTold learned [] [] a asked b asked_then = (b ≡ a) × (asked_then ≡ asked)
-    AreTold learned (client ∷ clients) (session ∷ sessions) a asked b asked_then =
+    -- so they are, and each profile in their sessions is answered exactly, as this history has it
+    abbrev pub AreExact : Known → List C → List (Session R W) → S → List OrderValue → S → List OrderValue → Type 0
+    AreExact history [] [] a asked b asked_then = (b ≡ a) × (asked_then ≡ asked)
+    AreExact history (client ∷ clients) (session ∷ sessions) a asked b asked_then =
         (m : S) × (between : List OrderValue)
-        × IsServed (number a) client session.0 session.1 (value a) asked (value m) between × TellPublished learned (value a) (value m)
-        × AreTold learned clients sessions m between b asked_then
-    AreTold learned _ _ a asked b asked_then = ⊥
+        × IsExact history (number a) client session.0 session.1 (value a) asked (value m) between
+        × AreExact history clients sessions m between b asked_then
+    AreExact history _ _ a asked b asked_then = ⊥
 
     -- over notices of these versions, and what the workers' orders go by
     module _ {N : Type 0} (noted : N → ℕ) (route : OrderRoute) where
-      -- a worker's share: these are these clients' sessions at its seat, told over what the seat knows in the end to be published, all that was
-      -- asked for in them was asked for by these orders, which go this way, and the seat is so then
+      -- a worker's share: these are these clients' sessions at its seat; if it held nothing, each profile in them is answered exactly, as the
+      -- history has it that the seat knows in the end; all that was ordered in them was asked of these orders, which go this way
       abbrev pub IsShare : S → List C → WorkerOrdersValue N → List (Session R W) → S → Type 0
       IsShare seat clients orders sessions last = AreServed clients sessions seat [] last orders.asked
-          × AreTold (known last) clients sessions seat [] last orders.asked × IsAskedBy noted route orders
+          × ((value seat).held ≡ None → AreExact (known last) clients sessions seat [] last orders.asked) × IsAskedBy noted route orders
 
       -- the sessions are the workers' shares, one behind the other: at each of the seats one hand of clients was served, with these orders, and it
       -- is so then

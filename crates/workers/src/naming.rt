@@ -1,6 +1,7 @@
 //! Workers at shelves without a lock, under a name that the caller picks.
 
 ghost use Rattle.std.specs.Prelude.{◌≡◌, ◌≤◌, [], All, length, IfOk};
+ghost use Rattle.epochs.specs.Pinned.{PinnedAreLeftAlone};
 ghost use Rattle.epochs.specs.ShelfSeats.{NoticeValue, ShelfSeatValue};
 ghost use Rattle.shelf_steps.specs.Events.{known_of};
 ghost use Rattle.workers.specs.Carrying.{AllCarriedOut};
@@ -11,6 +12,7 @@ ghost use Rattle.workers.specs.Sessions.{AreServedSince, MayClose};
 use crate::clients::{Client, Clients};
 use crate::feeds::Feeds;
 use crate::running::{Ran, WorkersFault, run_workers};
+use epochs::laws::pinned_images_are_left_alone;
 use epochs::{
     Named, NamedLoader, NamedNotice, NamedSeat, NamedShelves, ShelfLoader, ShelfSeat, Shelves,
 };
@@ -21,7 +23,12 @@ use std::io::Write;
 use std::sync::Wait;
 use std::thread::Threads;
 
-/// `run_workers` at these shelves: their notices are of them by their type. The seats come back without the name.
+/// Serves all clients and loads the feeds that they order, as [`run_workers`] does, at shelves without a lock. The seats
+/// come back without the shelves' name.
+///
+/// This contract is the headline of the program. Clause `shares`: each profile in each session is answered exactly, over
+/// the image that was published as the version that is told. Clause `pinned`: no image is collected while a seat has it
+/// pinned. Clauses `loads` and `learns`: the published images are those of the bytes that the feeds' files gave.
 pub fn run_shelves<
     B: Named + Send + Sync,
     C: Client + Drop + Send,
@@ -64,7 +71,9 @@ pub fn run_shelves<
         ran.orders ran.used loader.answers ran.loader.answers) }
     ensures learns { IfOk result (λ ran. LoaderLearns (known_of loader.view) loader.answers
         (known_of ran.loader.view) ran.loader.answers) }
+    ensures pinned { PinnedAreLeftAlone }
 {
+    pinned_images_are_left_alone();
     let room = Vec::with_capacity(alloc, seats.len())?;
     let seats = named_seats::<B>(alloc, seats)?;
     let shelves = NamedShelves::<B>::of(shelves);

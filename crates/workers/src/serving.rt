@@ -4,7 +4,7 @@ ghost use Rattle.std.specs.Prelude.{◌≡◌, ◌∷◌, ◌++◌, [], None, If
 ghost use Rattle.lines.specs.Counting.{inner_of};
 ghost use Rattle.session.specs.Learning.{Learns, TellPublished};
 ghost use Rattle.session.specs.Turns.{AgreeOnNotices};
-ghost use Rattle.workers.specs.Sessions.{AreServed, AreTold, IsServed, MayClose};
+ghost use Rattle.workers.specs.Sessions.{AreExact, AreServed, IsServed, MayClose};
 ghost use Rattle.workers.specs.declared.served.End.{End};
 
 use crate::clients::{Client, ConnFault};
@@ -84,8 +84,8 @@ impl<'a, R: Wait, N: Drop, T: Versions<Notice = N>, G: Gate> Worker<'a, R, T, G>
         ensures served { AreServed self.now.desk.form C.opens C.Reader.remaining C.Writer.contents T.number T.value
             T.known
             result.0.taker.taken result.0.served seat (O.asked orders) result.0.seat (O.asked result.1) }
-        ensures told { AreTold self.now.desk.form C.opens C.Reader.remaining C.Writer.contents T.number T.value
-            T.known (T.known result.0.seat)
+        ensures exact { (T.value seat).held ≡ None → AreExact self.now.desk.form C.opens C.Reader.remaining
+            C.Writer.contents T.number T.value (T.known result.0.seat)
             result.0.taker.taken result.0.served seat (O.asked orders) result.0.seat (O.asked result.1) }
     {
         for _ in self.rt.forever() {

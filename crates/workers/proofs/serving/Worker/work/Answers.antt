@@ -2,7 +2,7 @@ use Rattle.std.proofs.Common.{refl, sym, subst, ◌∙◌}
 use Rattle.session.proofs.LearnLemmas.{learns_on, learns_same}
 use Rattle.workers.specs.Sessions.{AreServed}
 use Rattle.workers.proofs.Ending.{may_close, serves_next, serves_none}
-use Rattle.workers.proofs.Told.{told}
+use Rattle.workers.proofs.Told.{exact}
 use Rattle.workers.proofs.serving.Worker.work.Goals as goal
 
 pub loop-init : goal.loop-init
@@ -50,13 +50,14 @@ close-requires-clause-closes g c =
     c.in-Some-next.client one.result.0 one.result.1 c.loop.seat one.new.seat (g.O.Orders.asked c.loop.orders) (g.O.Orders.asked one.new.orders)
     c.requires.closes c.loop.invariant.fits is.fits (is.session, is.number, is.learns, is.profiles, is.idle)
 
--- what was told while a client was served is told still
-pub returns-in-None-next-clause-told : goal.returns-in-None-next-clause-told
-returns-in-None-next-clause-told g c =
+-- what was told exactly while a client was served is so still
+pub returns-in-None-next-clause-exact : goal.returns-in-None-next-clause-exact
+returns-in-None-next-clause-exact g c = λ idle.
     let was = c.loop.invariant in
     let asked = g.O.Orders.asked in
     let served = subst (λ clients. AreServed c.args.self.now.desk.form g.C.Client.opens g.C.Reader.Read.remaining g.C.Writer.Write.contents
     g.T.Versions.number g.T.Versions.value g.T.Versions.known clients c.loop.served
     c.args.seat (asked c.args.orders) c.loop.seat (asked c.loop.orders)) (sym c.in-None-next.ensures.taken) was.served in
-    told c.args.self.now.desk.form g.C.Client.opens g.C.Reader.Read.remaining g.C.Writer.Write.contents
-    g.T.Versions.number g.T.Versions.value g.T.Versions.known _ c.loop.served c.args.seat c.loop.seat (asked c.args.orders) (asked c.loop.orders) served
+    exact c.args.self.now.desk.form g.C.Client.opens g.C.Reader.Read.remaining g.C.Writer.Write.contents
+    g.T.Versions.number g.T.Versions.value g.T.Versions.known _ c.loop.served c.args.seat c.loop.seat (asked c.args.orders) (asked c.loop.orders)
+    idle served
