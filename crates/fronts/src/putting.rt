@@ -159,7 +159,8 @@ pub fn put<C: Criterion>(
     Ok(new)
 }
 
-/// Puts one point before a list if it is no worse than all of that list's front: so it is the only point of the new one.
+/// Puts one point before a list if it is no worse than all of that list's front: so it is the only point of the new
+/// one.
 #[inline(always)]
 pub fn put_alone<C: Criterion>(
     criterion: &C,
