@@ -1,7 +1,7 @@
 //! Fronts put before lists.
 
 ghost use Rattle.std.specs.Prelude.{◌≡◌, ◌+◌, ◌++◌, ◌∷◌, [], ℕ, ◌<◌, ◌≤◌, take, drop, length, true};
-ghost use Rattle.std.specs.Prelude.{Contains, IfOk, OnOk};
+ghost use Rattle.std.specs.Prelude.{Contains, IfOk, OnOk, OnErr};
 ghost use Rattle.criteria.specs.Laws.{Admits};
 ghost use Rattle.fronts.specs.Front.{front, departure_of, points_from, Extends};
 ghost use Rattle.fronts.specs.Entries.{AreEntries};
@@ -14,7 +14,8 @@ use std::alloc::AllocError;
 
 /// A length as a 32-bit index. Past 2^32 - 1 there is none, as if memory had run out.
 pub fn place_of(len: usize) -> Result<u32, AllocError>
-    ensures { IfOk result (λ place. place ≡ len) }
+    ensures place { IfOk result (λ place. place ≡ len) }
+    ensures full { OnErr result (4294967295 < len) }
 {
     if len > u32::MAX as usize {
         return Err(AllocError);

@@ -85,7 +85,8 @@ fn beats<C: Criterion>(criterion: &C, slot: &Label<C::V>, value: &C::V) -> bool
 
 // A number as the tag of a label. From 2^32 - 1 on there is no room.
 fn slot_tag(number: usize) -> Result<u32, AllocError>
-    ensures { IfOk result (λ tag. (tag ≡ number) × (tag < no_tag)) }
+    ensures tag { IfOk result (λ tag. (tag ≡ number) × (tag < no_tag)) }
+    ensures full { OnErr result (no_tag ≤ number) }
 {
     let tag = place_of(number)?;
     if tag >= NO_TAG {

@@ -72,12 +72,12 @@ returns-clause-same g c k other =
 pub returns-in_err-tag-clause-err : goal.returns-in_err-tag-clause-err
 returns-in_err-tag-clause-err g c =
     let labels = c.args.labels.now in
-    on_err c.from_residual-in_err-tag.result _ (runs_stay (g.C.Criterion.rules c.args.criterion.now) labels labels [] c.requires.labels
+    on_err c.from_residual.result _ (runs_stay (g.C.Criterion.rules c.args.criterion.now) labels labels [] c.requires.labels
     (λ l h. absurd (not_in_nil l h)) refl (put_none labels.labels.items []))
 
 pub returns-in_err-tag-clause-needed : goal.returns-in_err-tag-clause-needed
 returns-in_err-tag-clause-needed g c =
-    on_err c.from_residual-in_err-tag.result _ (free g (goal.at.returns-in_err-tag-clause-needed g c).After-some_no_worse c.if-some_no_worse.false)
+    on_err c.from_residual.result _ (free g (goal.at.returns-in_err-tag-clause-needed g c).After-some_no_worse c.if-some_no_worse.false)
 
 pub returns-in_err-keep_others-clause-err : goal.returns-in_err-keep_others-clause-err
 returns-in_err-keep_others-clause-err g c =

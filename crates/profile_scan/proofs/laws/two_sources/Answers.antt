@@ -27,12 +27,12 @@ returns-clause-same g c =
 
 -- the first scan was broken off: nothing was asked of the other source
 pub returns-in_err-found-clause-err : goal.returns-in_err-found-clause-err
-returns-in_err-found-clause-err g c = on_err c.from_residual-in_err-found.result _ c.in_err-found.ensures.err
+returns-in_err-found-clause-err g c = on_err c.from_residual.result _ c.in_err-found.ensures.err
 
 pub returns-in_err-found-clause-other_err : goal.returns-in_err-found-clause-other_err
 returns-in_err-found-clause-other_err g c =
     let read = reverse (window (g.A.ConnSource.timetable c.args.one.now) c.args.query.now) in
-    on_err c.from_residual-in_err-found.result _ (0, taken_none (g.B.ConnSource.log c.args.other.now) read)
+    on_err c.from_residual.result _ (0, taken_none (g.B.ConnSource.log c.args.other.now) read)
 
 -- the second was: the first source was asked for all of them
 pub returns-in_err-again-clause-err : goal.returns-in_err-again-clause-err
