@@ -1,18 +1,19 @@
 -- Labels put where a run has room, or at the end.
-use Rattle.std.proofs.Common.{◌≡◌, ℕ, ◌+◌, ◌-◌, ◌<◌, ◌≤◌, not, List, [], ◌∷◌, ◌++◌, length, take, drop, set, Contains}
+use Rattle.std.proofs.Common.{◌≡◌, ℕ, ◌+◌, ◌-◌, ◌<◌, ◌≤◌, Bool, false, not, List, [], ◌∷◌, ◌++◌, length, take, drop, set, Contains}
 use Rattle.std.proofs.Common.{inl, inr, refl, sym, ◌∙◌, ap, subst, arith, append_assoc, length-append, length-drop}
 use Rattle.std.proofs.Common.{get_or-set_same, get_or-set_other}
 use Rattle.std.proofs.lemmas.Bool.{cases_eq}
 use Rattle.std.proofs.lemmas.List.{take-append-drop, take_at, drop_at, length-take-le}
 use Rattle.std.proofs.lemmas.Slice.{drop-append-drop}
 use Rattle.std.proofs.lemmas.List.Elements.{Contains-append_cases, Contains-append_left, Contains-append_right, Contains-push_cases}
-use Rattle.reasoning.proofs.ListLemmas.{from_filter}
+use Rattle.reasoning.proofs.ListLemmas.{extends_none, from_filter}
 use Rattle.criteria.specs.Laws.{Rules, Admits}
 use Rattle.fronts.specs.declared.labels.Label.{Label}
 use Rattle.fronts.specs.declared.run_labels.Run.{Run}
-use Rattle.fronts.specs.RunLabels.{AreApart, AreRuns, ArePut, labels_in, no_run, run_at}
-use Rattle.fronts.specs.Offered.{others}
-use Rattle.fronts.proofs.Growth.{same_part}
+use Rattle.fronts.specs.RunLabels.{AreApart, AreRuns, AreRunLabels, ArePut, ArePartlyPut, StayRunLabels, labels_in, no_run, run_at}
+use Rattle.fronts.specs.declared.run_labels.RunLabels.{RunLabels}
+use Rattle.fronts.specs.Offered.{is_beaten, others}
+use Rattle.fronts.proofs.Growth.{extends_long, same_part}
 
 -- what is in a part is in the whole
 pub in_part : {X : Type 0} (xs : List X) (r c : ℕ) (x : X) → Contains (take c (drop r xs)) x → Contains xs x
@@ -92,6 +93,33 @@ module _ {V : Type 0} where
         ];
       }
 
+  -- nothing of what is put at the end, all of it, or all of it with room behind
+  pub put_none : (old new : List (Label V)) → ArePartlyPut old new old
+  put_none old new = record { extends = extends_none old; only = λ l h. inl h }
+
+  pub put_once : (old new mid : List (Label V)) → mid ≡ old ++ new → ArePartlyPut old new mid
+  put_once old new mid e = record {
+    extends = (new, e);
+    only = λ l h. Contains-append_cases old new l (subst (λ (xs : List (Label V)). Contains xs l) e h);
+  }
+
+  pub put_twice : (old new mid now : List (Label V)) → mid ≡ old ++ new → now ≡ mid ++ drop 1 new → ArePartlyPut old new now
+  put_twice old new mid now e_mid e_now =
+      let rest = drop 1 new in
+      let e : now ≡ old ++ (new ++ rest) = e_now ∙ ap (λ (xs : List (Label V)). xs ++ rest) e_mid ∙ append_assoc old new rest in
+      record {
+        extends = (new ++ rest, e);
+        only = λ l h. elim (Contains-append_cases old (new ++ rest) l (subst (λ (xs : List (Label V)). Contains xs l) e h)) [
+          | inl was ↦ inl was
+          | inr more ↦ elim (Contains-append_cases new rest l more) [ inl is ↦ inr is | inr behind ↦ inr (in_rest new 1 l behind) ]
+        ];
+      }
+
+  -- a run among them has the labels that it had
+  pub partly_same : (old new now : List (Label V)) (run : Run) → run.count ≤ run.room → run.first + run.room ≤ length old
+      → ArePartlyPut old new now → labels_in now run ≡ labels_in old run
+  partly_same old new now run counted within put = same_part old now put.extends run.first run.count (omega arith)
+
 swap : (a b : Run) → AreApart a b → AreApart b a
 swap a b apart = elim apart [ inl before ↦ inr before | inr after ↦ inl after ]
 
@@ -138,3 +166,30 @@ with_admitted rules labels run v label admitted fits l h = elim (Contains-push_c
   | inl stays ↦ admitted l (in_part labels run.first run.count l (from_filter (λ x. not (rules.no_worse v x.value)) (labels_in labels run) l stays).0)
   | inr e ↦ subst (λ (x : Label _). Admits rules x.value) e fits
 ]
+
+-- labels of trips where no run has changed, and of what was to be put at the end maybe not all is there
+pub runs_stay : {V : Type 0} (rules : Rules V) (old now : RunLabels V) (new : List (Label V)) → AreRunLabels rules old
+    → ((l : Label V) → Contains new l → Admits rules l.value) → now.runs.items ≡ old.runs.items
+    → ArePartlyPut old.labels.items new now.labels.items → StayRunLabels rules old now
+runs_stay {V} rules old now new are fits same put =
+    let grows = extends_long old.labels.items now.labels.items put.extends in
+    record {
+      labels = record {
+        runs = subst (λ (runs : List Run). AreRuns runs (length now.labels.items)) (sym same) (record {
+          counted = are.runs.counted;
+          within = λ k. let within = are.runs.within k in omega arith;
+          apart = are.runs.apart;
+        });
+        admitted = λ l h. elim (put.only l h) [ inl was ↦ are.admitted l was | inr is ↦ fits l is ];
+      };
+      long = ap length same;
+      same = λ trip. ap (λ (runs : List Run). labels_in now.labels.items (run_at runs trip)) same
+          ∙ partly_same old.labels.items new now.labels.items (run_at old.runs.items trip) (are.runs.counted trip) (are.runs.within trip) put;
+    }
+
+-- a value that none of a run's labels betters isn't beaten
+pub run_unbeaten : {V : Type 0} (rules : Rules V) (runs : List Run) (labels part : List (Label V)) (trip : ℕ) (run : Run) (v : V)
+    (some : Bool) → run ≡ run_at runs trip → part ≡ labels_in labels run → some ≡ is_beaten rules part v → some ≡ false
+    → is_beaten rules (labels_in labels (run_at runs trip)) v ≡ false
+run_unbeaten {V} rules runs labels part trip run v some run_is part_is is none =
+    sym (ap (λ (ls : List (Label V)). is_beaten rules ls v) (part_is ∙ ap (labels_in labels) run_is)) ∙ sym is ∙ none

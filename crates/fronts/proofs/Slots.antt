@@ -11,9 +11,9 @@ use Rattle.criteria.specs.Laws.{Rules, Admits, IsTotal}
 use Rattle.fronts.specs.declared.labels.Label.{Label}
 use Rattle.fronts.specs.declared.labels.Labels.{Labels}
 use Rattle.fronts.specs.Offered.{is_beaten, others}
-use Rattle.fronts.specs.RunLabels.{run_at, run_labels}
+use Rattle.fronts.specs.RunLabels.{StayRunLabels, run_at, run_labels, runs_of}
 use Rattle.fronts.specs.SlotLabels.{AreSlots, label_in, no_tag, slot_label, slot_or}
-use Rattle.fronts.specs.Labels.{AreLabels, labels_at}
+use Rattle.fronts.specs.Labels.{AreLabels, StayLabels, labels_at}
 use Rattle.fronts.proofs.Runs.{in_part}
 
 -- slots and runs
@@ -159,3 +159,18 @@ module _ {V : Type 0} (rules : Rules V) (labels : Labels V) (are : AreLabels rul
 
   pub labels_admitted : Contains (labels_at labels trip) l → Admits rules l.value
   labels_admitted h = admitted_by (slice_get labels.slots.items trip) refl h
+
+-- labels of which neither slots nor runs have changed
+pub labels_stay : {V : Type 0} (rules : Rules V) (old now : Labels V) → AreLabels rules old → now.slots.items ≡ old.slots.items
+    → StayRunLabels rules old.runs now.runs → StayLabels rules old now
+labels_stay {V} rules old now are slots stay = record {
+  labels = record {
+    slots = subst (AreSlots rules) (sym slots) are.slots;
+    runs = stay.labels;
+    total = λ some. are.total (subst (λ (xs : List (Label V)). 0 < length xs) slots some);
+    partial = λ some. are.partial (subst (λ (n : ℕ). 0 < n) stay.long some);
+  };
+  long = ap (λ (xs : List (Label V)). length xs + length (runs_of now.runs)) slots ∙ ap (λ (n : ℕ). length old.slots.items + n) stay.long;
+  same = λ trip. ap (λ (xs : List (Label V)). slot_or (slice_get xs trip) (run_labels now.runs trip)) slots
+      ∙ ap (λ (xs : List (Label V)). slot_or (slice_get old.slots.items trip) xs) (stay.same trip);
+}

@@ -1,5 +1,5 @@
 -- Labels of many trips: under a total criterion each trip's one label in its slot, else those of each in a run.
-use Rattle.std.specs.Prelude.{ℕ, ◌+◌, ◌<◌, List, length, slice_get}
+use Rattle.std.specs.Prelude.{◌≡◌, ℕ, ◌+◌, ◌<◌, List, length, slice_get}
 use Rattle.criteria.specs.Laws.{Rules, IsTotal}
 use Rattle.fronts.specs.RunLabels.{AreRunLabels, run_labels, runs_of}
 use Rattle.fronts.specs.SlotLabels.{AreSlots, slot_or}
@@ -20,3 +20,9 @@ pub record AreLabels {V : Type 0} (rules : Rules V) (labels : Labels V) : Type 0
   pub runs : AreRunLabels rules labels.runs
   pub total : 0 < length labels.slots.items → IsTotal rules
   pub partial : 0 < length (runs_of labels.runs) → IsTotal rules → ⊥
+
+-- labels of trips that stay as they were, each trip's
+pub record StayLabels {V : Type 0} (rules : Rules V) (old new : Labels V) : Type 0 where
+  pub labels : AreLabels rules new
+  pub long : trips_of new ≡ trips_of old
+  pub same : (trip : ℕ) → labels_at new trip ≡ labels_at old trip

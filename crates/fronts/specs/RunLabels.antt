@@ -1,5 +1,6 @@
 -- Labels of many trips, those of each in a run.
 use Rattle.std.specs.Prelude.{◌≡◌, ◌⊎◌, ℕ, ◌+◌, ◌≤◌, List, take, drop, length, slice_index_or, Contains}
+use Rattle.reasoning.specs.Lists.{Extends}
 use Rattle.criteria.specs.Laws.{Rules, Admits}
 use Rattle.fronts.specs.declared.labels.Label.{Label}
 use Rattle.fronts.specs.declared.run_labels.Run.{Run}
@@ -49,3 +50,15 @@ pub record ArePut {V : Type 0} (old : List (Label V)) (run : Run) (new : List (L
       → labels_in now other ≡ labels_in old other
   pub apart : (other : Run) → other.first + other.room ≤ length old → AreApart other run → AreApart other placed
   pub only : (l : Label V) → Contains now l → Contains old l ⊎ Contains new l
+
+-- labels that were to stand in a run and may not all be there: what was before is, where it was, and behind it none
+-- but new ones
+pub record ArePartlyPut {V : Type 0} (old new now : List (Label V)) : Type 0 where
+  pub extends : Extends old now
+  pub only : (l : Label V) → Contains now l → Contains old l ⊎ Contains new l
+
+-- labels of trips that stay as they were, each trip's
+pub record StayRunLabels {V : Type 0} (rules : Rules V) (old new : RunLabels V) : Type 0 where
+  pub labels : AreRunLabels rules new
+  pub long : length (runs_of new) ≡ length (runs_of old)
+  pub same : (trip : ℕ) → run_labels new trip ≡ run_labels old trip

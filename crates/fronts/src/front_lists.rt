@@ -116,8 +116,8 @@ impl<C: Criterion> FrontLists<C> {
         self.steps.get(tag).copied()
     }
 
-    /// Takes the ridden values in after a footpath, and returns the new list. The old one stays as it was. If memory runs
-    /// out, no list is made.
+    /// Takes the ridden values in after a footpath, and returns the new list. The old one stays as it was. If memory
+    /// runs out, no list is made.
     #[inline(always)]
     pub fn insert(
         &mut self,

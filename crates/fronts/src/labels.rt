@@ -3,10 +3,10 @@
 //! A criterion that is total needs one label a trip, which is in the trip's slot; of any other the labels of a trip are
 //! in a run. Which it is, is known when the program is compiled: each call asks the criterion, and not the labels.
 
-ghost use Rattle.std.specs.Prelude.{◌≡◌, ◌++◌, ◌∷◌, [], ℕ, ◌<◌, cond, length, not, IfOk, OnOk};
+ghost use Rattle.std.specs.Prelude.{◌≡◌, ◌++◌, ◌∷◌, [], ℕ, ◌<◌, cond, length, not, IfOk, OnOk, OnErr, false};
 ghost use Rattle.criteria.specs.Laws.{Admits};
 ghost use Rattle.fronts.specs.Offered.{is_beaten, others};
-ghost use Rattle.fronts.specs.Labels.{AreLabels, labels_at, trips_of};
+ghost use Rattle.fronts.specs.Labels.{AreLabels, StayLabels, labels_at, trips_of};
 
 use crate::run_labels::{RunLabels, offer_run};
 use crate::slot_labels::{count_at, empty_slots, label_of, offer_slot};
@@ -82,7 +82,8 @@ pub fn labels_of<'a, C: Criterion>(
 }
 
 /// Adds a value with its tag to the labels of a trip, unless one of them is no worse, and drops those that it is no
-/// worse than. Returns whether it was added.
+/// worse than. Returns whether it was added. If memory runs out, the labels of each trip stay as they were; a value
+/// that isn't added needs none.
 #[inline(always)]
 pub fn offer_label<C: Criterion>(
     criterion: &C,
@@ -105,6 +106,8 @@ pub fn offer_label<C: Criterion>(
               value;
           tag = tag;
         } ∷ []) (labels_at labels.old trip)) }
+    ensures err { OnErr result (StayLabels (C.rules criterion.now) labels.old labels.new) }
+    ensures needed { OnErr result (is_beaten (C.rules criterion.now) (labels_at labels.old trip) value ≡ false) }
 {
     if criterion.is_total() {
         return offer_slot(criterion, &mut labels.slots, trip, value, tag);

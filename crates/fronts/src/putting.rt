@@ -1,7 +1,7 @@
 //! Fronts put before lists.
 
 ghost use Rattle.std.specs.Prelude.{◌≡◌, ◌+◌, ◌++◌, ◌∷◌, [], ℕ, ◌<◌, ◌≤◌, take, drop, length, true};
-ghost use Rattle.std.specs.Prelude.{Contains, IfOk, OnOk};
+ghost use Rattle.std.specs.Prelude.{Contains, IfOk, OnOk, OnErr};
 ghost use Rattle.criteria.specs.Laws.{Admits};
 ghost use Rattle.fronts.specs.Front.{front, departure_of, points_from, Extends};
 ghost use Rattle.fronts.specs.Entries.{AreEntries};
@@ -14,7 +14,8 @@ use std::alloc::AllocError;
 
 /// A length as a 32-bit index. Past 2^32 - 1 there is none, as if memory had run out.
 pub fn place_of(len: usize) -> Result<u32, AllocError>
-    ensures { IfOk result (λ place. place ≡ len) }
+    ensures place { IfOk result (λ place. place ≡ len) }
+    ensures full { OnErr result (4294967295 < len) }
 {
     if len > u32::MAX as usize {
         return Err(AllocError);
@@ -159,7 +160,8 @@ pub fn put<C: Criterion>(
     Ok(new)
 }
 
-/// Puts one point before a list if it is no worse than all of that list's front: so it is the only point of the new one.
+/// Puts one point before a list if it is no worse than all of that list's front: so it is the only point of the new
+/// one.
 #[inline(always)]
 pub fn put_alone<C: Criterion>(
     criterion: &C,

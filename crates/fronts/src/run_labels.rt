@@ -6,12 +6,13 @@
 //! once.
 
 ghost use Rattle.std.specs.Prelude.{◌≡◌, ◌+◌, ◌++◌, ◌∷◌, [], ℕ, ◌<◌, ◌≤◌, cond, not, take, drop, length, replicate};
-ghost use Rattle.std.specs.Prelude.{Contains, IfOk, OnOk};
+ghost use Rattle.std.specs.Prelude.{Contains, IfOk, OnOk, OnErr, false};
 ghost use Rattle.criteria.specs.Laws.{Rules, Admits};
 ghost use Rattle.fronts.specs.declared.labels.Label.{Label};
 ghost use Rattle.fronts.specs.declared.run_labels.Run.{Run};
 ghost use Rattle.fronts.specs.Offered.{is_beaten, others};
-ghost use Rattle.fronts.specs.RunLabels.{AreRunLabels, ArePut, labels_in, no_run, run_labels, runs_of};
+ghost use Rattle.fronts.specs.RunLabels.{AreRunLabels, ArePut, ArePartlyPut, StayRunLabels, labels_in, no_run};
+ghost use Rattle.fronts.specs.RunLabels.{run_labels, runs_of};
 
 use crate::labels::Label;
 use crate::putting::place_of;
@@ -144,7 +145,8 @@ fn write_over<V: Copy>(labels: &mut Vec<Label<V>>, first: u32, new: &[Label<V>])
 // Puts labels at the end, with room for nearly as many again.
 fn append<V: Copy>(labels: &mut Vec<Label<V>>, new: &[Label<V>]) -> Result<Run, AllocError>
     requires some { 0 < length new.now }
-    ensures { IfOk result (λ placed. (run : Run) → ArePut labels.old.items run new.now placed labels.new.items) }
+    ensures put { IfOk result (λ placed. (run : Run) → ArePut labels.old.items run new.now placed labels.new.items) }
+    ensures err { OnErr result (ArePartlyPut labels.old.items new.now labels.new.items) }
 {
     let first = place_of(labels.len())?;
     labels.extend_from_slice(new)?;
@@ -158,7 +160,8 @@ fn append<V: Copy>(labels: &mut Vec<Label<V>>, new: &[Label<V>]) -> Result<Run, 
 fn put<V: Copy>(labels: &mut Vec<Label<V>>, run: Run, new: &[Label<V>]) -> Result<Run, AllocError>
     requires some { 0 < length new.now }
     requires within { run.first + run.room ≤ length labels.old.items }
-    ensures { IfOk result (λ placed. ArePut labels.old.items run new.now placed labels.new.items) }
+    ensures put { IfOk result (λ placed. ArePut labels.old.items run new.now placed labels.new.items) }
+    ensures err { OnErr result (ArePartlyPut labels.old.items new.now labels.new.items) }
 {
     let count = place_of(new.len())?;
     if count > run.room {
@@ -169,7 +172,8 @@ fn put<V: Copy>(labels: &mut Vec<Label<V>>, run: Run, new: &[Label<V>]) -> Resul
 }
 
 /// Adds a value with its tag to the labels of a trip, unless one of them is no worse, and drops those that it is no
-/// worse than. Returns whether it was added.
+/// worse than. Returns whether it was added. If memory runs out, the labels of each trip stay as they were; a value
+/// that isn't added needs none.
 pub fn offer_run<C: Criterion>(
     criterion: &C,
     labels: &mut RunLabels<C::V>,
@@ -191,6 +195,8 @@ pub fn offer_run<C: Criterion>(
               value;
           tag = tag;
         } ∷ []) (run_labels labels.old trip)) }
+    ensures err { OnErr result (StayRunLabels (C.rules criterion.now) labels.old labels.new) }
+    ensures needed { OnErr result (is_beaten (C.rules criterion.now) (run_labels labels.old trip) value ≡ false) }
 {
     let run = labels.runs[trip as usize];
     if some_no_worse(criterion, part(&labels.labels, run), &value) {

@@ -3,7 +3,7 @@
 //! That one is enough where the criterion is total: of two labels the better one stays.
 
 ghost use Rattle.std.specs.Prelude.{◌≡◌, ◌++◌, ◌∷◌, [], ℕ, ◌<◌, ◌≤◌, cond, nat_eq, not, length};
-ghost use Rattle.std.specs.Prelude.{IfOk, OnOk, slice_get, Some};
+ghost use Rattle.std.specs.Prelude.{IfOk, OnOk, OnErr, slice_get, Some, false};
 ghost use Rattle.criteria.specs.Laws.{Admits, IsTotal};
 ghost use Rattle.fronts.specs.declared.labels.Label.{Label};
 ghost use Rattle.fronts.specs.Offered.{is_beaten, others};
@@ -85,7 +85,8 @@ fn beats<C: Criterion>(criterion: &C, slot: &Label<C::V>, value: &C::V) -> bool
 
 // A number as the tag of a label. From 2^32 - 1 on there is no room.
 fn slot_tag(number: usize) -> Result<u32, AllocError>
-    ensures { IfOk result (λ tag. (tag ≡ number) × (tag < no_tag)) }
+    ensures tag { IfOk result (λ tag. (tag ≡ number) × (tag < no_tag)) }
+    ensures full { OnErr result (no_tag ≤ number) }
 {
     let tag = place_of(number)?;
     if tag >= NO_TAG {
@@ -95,7 +96,7 @@ fn slot_tag(number: usize) -> Result<u32, AllocError>
 }
 
 /// Replaces the label in a trip's slot by a value with its tag, unless the label there is no worse. Returns whether it
-/// did.
+/// did. From tag 2^32 - 1 on it fails, as if memory had run out, if it were to replace the label; then no slot changes.
 #[inline(always)]
 pub fn offer_slot<C: Criterion>(
     criterion: &C,
@@ -120,6 +121,8 @@ pub fn offer_slot<C: Criterion>(
               value;
           tag = tag;
         } ∷ []) (slot_label slots.old.items trip)) }
+    ensures err { OnErr result (slots.new.items ≡ slots.old.items) }
+    ensures needed { OnErr result (is_beaten (C.rules criterion.now) (slot_label slots.old.items trip) value ≡ false) }
 {
     let slot = slots[trip as usize];
     if beats(criterion, &slot, &value) {

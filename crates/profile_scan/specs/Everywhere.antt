@@ -88,11 +88,14 @@ pub record AnswersFrom {K V : Type 0} {c : _} (rules : Rules V) (t : TimetableVa
       (Counts t q) (IsPlain t q.target) (journey_value rules t) p
   pub direct : IsWay t q.target q.source (walk_from profiles q.source)
 
--- the same of every stop but the target of what was asked, each by the query from there
+-- the same of every stop but the target of what was asked, each by the query from there; and of the target itself, from
+-- which nobody can ask: there the journeys are those that come back to it, and the walk is its loop
 pub record AnswerAll {K V : Type 0} {c : _} (rules_of : K → Rules V) (t : TimetableValue)
     (profiles : Profiles K V c) : Type 0 where
   pub each : (stop : ℕ) → stop < t.stops → stop ≢ (destination_of profiles).target
       → AnswersFrom (rules_of (criterion_of_profiles profiles)) t (query_from (destination_of profiles) stop) profiles
+  pub at_target : AnswersFrom (rules_of (criterion_of_profiles profiles)) t
+      (query_from (destination_of profiles) (destination_of profiles).target) profiles
   pub long : stops_of profiles ≡ t.stops
   pub origins : AreOrigins (criterion_of_profiles profiles) t.stops profiles.state.origins
   pub ways : length (ways_of profiles.asked.ways) ≡ t.stops

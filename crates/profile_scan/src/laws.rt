@@ -3,7 +3,7 @@
 //! Each is a function whose contract is the law, for every criterion with its laws. Most have no code and speak of the
 //! definitions alone; `found_answers` speaks of one answer, and the last two run the scan over two sources.
 
-ghost use Rattle.std.specs.Prelude.{◌≡◌, ◌++◌, IfOk, OnOk, map, reverse};
+ghost use Rattle.std.specs.Prelude.{◌≡◌, ◌++◌, ℕ, IfOk, OnOk, OnErr, map, reverse, take};
 ghost use Rattle.timetable.specs.Journeys.{Counts};
 ghost use Rattle.timetable.specs.Queries.{IsAskable};
 ghost use Rattle.profile_scan.specs.Answered.{IsAnswered};
@@ -19,7 +19,6 @@ ghost use Rattle.profile_scan.specs.LawStatements.{WindowIsReadBackward};
 use crate::answering::profile;
 use crate::found::Found;
 use criteria::Criterion;
-use image_verifier::Verified;
 use sources::{ConnSource, Decoded, InPlace};
 use std::alloc::{AllocError, Global};
 use timetable::Query;
@@ -79,7 +78,7 @@ pub fn found_answers<C: Criterion>(found: &Found<C>)
 }
 
 /// Two sources of one timetable give a query the same points, tags aside, and each is asked once for each connection of
-/// the window.
+/// the window. The only error is that memory runs out; then each was asked for a beginning of them.
 pub fn two_sources<A: ConnSource, B: ConnSource, C: Criterion>(
     alloc: Global,
     one: &mut A,
@@ -98,26 +97,50 @@ pub fn two_sources<A: ConnSource, B: ConnSource, C: Criterion>(
     ensures log { OnOk result (A.log one.new ≡ A.log one.old ++ reverse (window (A.timetable one.old) query.now)) }
     ensures other_log { OnOk result
         (B.log other.new ≡ B.log other.old ++ reverse (window (A.timetable one.old) query.now)) }
+    ensures err { OnErr result ((n : ℕ)
+        × (A.log one.new ≡ A.log one.old ++ take n (reverse (window (A.timetable one.old) query.now)))) }
+    ensures other_err { OnErr result ((n : ℕ)
+        × (B.log other.new ≡ B.log other.old ++ take n (reverse (window (A.timetable one.old) query.now)))) }
 {
     let found = profile(alloc, one, criterion, query)?;
     let again = profile(alloc, other, criterion, query)?;
     Ok((found, again))
 }
 
-/// An image read in place and its lists decoded give a query the same points, tags aside.
-pub fn both_sources<C: Criterion>(
+/// An image read in place and its lists decoded, as any two sources of one timetable: the same points, tags aside, and
+/// each is asked once for each connection of the window, or a beginning of them if memory runs out.
+pub fn both_sources<'a, C: Criterion>(
     alloc: Global,
-    image: &Verified,
+    in_place: &mut InPlace<'a>,
+    decoded: &mut Decoded,
     criterion: &C,
     query: &Query,
 ) -> Result<(Found<C>, Found<C>), AllocError>
-    requires { IsAskable image.now.timetable.stops query.now }
+    requires askable { IsAskable (⟦<InPlace<'a> as ConnSource>⟧.timetable in_place.old).stops query.now }
+    requires alike { ⟦<Decoded as ConnSource>⟧.timetable decoded.old
+        ≡ ⟦<InPlace<'a> as ConnSource>⟧.timetable in_place.old }
     ensures answers { IfOk result
-        (λ found. Answers criterion.now (C.rules criterion.now) image.now.timetable query.now found.0
-        × Answers criterion.now (C.rules criterion.now) image.now.timetable query.now found.1) }
+        (λ found. Answers criterion.now (C.rules criterion.now)
+        (⟦<InPlace<'a> as ConnSource>⟧.timetable in_place.old) query.now found.0
+        × Answers criterion.now (C.rules criterion.now)
+        (⟦<InPlace<'a> as ConnSource>⟧.timetable in_place.old) query.now found.1) }
     ensures same { IfOk result (λ found. map untagged (listed found.0) ≡ map untagged (listed found.1)) }
+    ensures timetable { ⟦<InPlace<'a> as ConnSource>⟧.timetable in_place.new
+        ≡ ⟦<InPlace<'a> as ConnSource>⟧.timetable in_place.old }
+    ensures decoded_timetable { ⟦<Decoded as ConnSource>⟧.timetable decoded.new
+        ≡ ⟦<Decoded as ConnSource>⟧.timetable decoded.old }
+    ensures log { OnOk result (⟦<InPlace<'a> as ConnSource>⟧.log in_place.new
+        ≡ ⟦<InPlace<'a> as ConnSource>⟧.log in_place.old
+        ++ reverse (window (⟦<InPlace<'a> as ConnSource>⟧.timetable in_place.old) query.now)) }
+    ensures decoded_log { OnOk result (⟦<Decoded as ConnSource>⟧.log decoded.new
+        ≡ ⟦<Decoded as ConnSource>⟧.log decoded.old
+        ++ reverse (window (⟦<InPlace<'a> as ConnSource>⟧.timetable in_place.old) query.now)) }
+    ensures err { OnErr result ((n : ℕ) × (⟦<InPlace<'a> as ConnSource>⟧.log in_place.new
+        ≡ ⟦<InPlace<'a> as ConnSource>⟧.log in_place.old
+        ++ take n (reverse (window (⟦<InPlace<'a> as ConnSource>⟧.timetable in_place.old) query.now)))) }
+    ensures decoded_err { OnErr result ((n : ℕ) × (⟦<Decoded as ConnSource>⟧.log decoded.new
+        ≡ ⟦<Decoded as ConnSource>⟧.log decoded.old
+        ++ take n (reverse (window (⟦<InPlace<'a> as ConnSource>⟧.timetable in_place.old) query.now)))) }
 {
-    let mut in_place = InPlace::new(image);
-    let mut decoded = Decoded::of(alloc, image)?;
-    two_sources(alloc, &mut in_place, &mut decoded, criterion, query)
+    two_sources(alloc, in_place, decoded, criterion, query)
 }

@@ -50,8 +50,8 @@ impl<C: Criterion> Profiles<C> {
         self.destination
     }
 
-    /// The best departures from a stop other than the target, by departure, then by the criterion's order. Their tags
-    /// are of use to `found_from` alone.
+    /// The best departures from a stop, by departure, then by the criterion's order; from the target itself those of
+    /// journeys that come back to it. Their tags are of use to `found_from` alone.
     pub fn points(&self, stop: u32) -> &[Point<C::V>]
         requires { stop < stops_of self.now }
         ensures { result.now ≡ listed_from self.now stop }
@@ -59,7 +59,7 @@ impl<C: Criterion> Profiles<C> {
         &self.lists[stop as usize]
     }
 
-    /// The seconds of the footpath from a stop to the target, if there is one.
+    /// The seconds of the footpath from a stop to the target, if there is one; of the target itself those of its loop.
     pub fn direct_walk(&self, stop: u32) -> Option<u32>
         requires { stop < length (ways_of self.now.asked.ways) }
         ensures { result ≡ walk_from self.now stop }
@@ -122,8 +122,9 @@ fn lists_in_order<C: Criterion>(
     Ok(lists)
 }
 
-/// Answers a query from every stop but its target, by one scan: of each exactly the points of all journeys from there
-/// that count, which no other such point dominates, in order.
+/// Answers a query from every stop, by one scan: of each exactly the points of all journeys from there that count, which
+/// no other such point dominates, in order. From the target itself, where no query can be asked, these are the journeys
+/// that come back to it.
 ///
 /// Each connection of the window is asked for once for all stops, from the last to the first. The only error is that
 /// memory runs out; then a beginning of them was asked for.

@@ -307,9 +307,17 @@ fn give_one_answer(alloc: Global, words: &[u32]) -> Result<bool, Fail> {
     if ASKED.check(image.stops()).is_err() {
         return Ok(false);
     }
-    let (in_place, decoded) = laws::both_sources(alloc, &image, &ArrivalTrips, &ASKED)?;
-    laws::found_answers(&in_place);
-    Ok(depart_together(&in_place, &decoded))
+    let mut in_place = InPlace::new(&image);
+    let mut decoded = Decoded::of(alloc, &image)?;
+    let (found, again) = laws::both_sources(
+        alloc,
+        &mut in_place,
+        &mut decoded,
+        &ArrivalTrips,
+        &ASKED,
+    )?;
+    laws::found_answers(&found);
+    Ok(depart_together(&found, &again))
 }
 
 /// The image in place and its lists decoded: as many points, each with the same departure.

@@ -1,11 +1,11 @@
-use Rattle.std.proofs.Common.{◌+◌, ◌++◌, ◌∷◌, [], cond, not, length, sym, ◌∙◌, ap, arith}
-use Rattle.std.proofs.lemmas.Result.{IfOk-weaker, on_ok_weaker}
+use Rattle.std.proofs.Common.{◌+◌, ◌++◌, ◌∷◌, [], cond, not, length, refl, sym, ◌∙◌, ap, arith}
+use Rattle.std.proofs.lemmas.Result.{IfOk-weaker, on_err_weaker, on_ok_weaker}
 use Rattle.criteria.specs.Laws.{IsTotal}
 use Rattle.fronts.specs.declared.labels.Label.{Label}
 use Rattle.fronts.specs.Offered.{is_beaten, others}
 use Rattle.fronts.specs.RunLabels.{run_labels, runs_of}
 use Rattle.fronts.specs.SlotLabels.{slot_or}
-use Rattle.fronts.proofs.Slots.{if_ok_both, in_slot, in_slots, no_slot, no_slots}
+use Rattle.fronts.proofs.Slots.{if_ok_both, in_slot, in_slots, labels_stay, no_slot, no_slots}
 use Rattle.fronts.proofs.labels.offer_label.Goals as goal
 
 pub offer_slot-requires-clause-trip : goal.offer_slot-requires-clause-trip
@@ -115,3 +115,38 @@ returns-clause-taken g c =
     let here = no_slot labels.slots.items (run_labels labels.runs trip) trip none in
     IfOk-weaker c.offer_run.result _ _ (λ stands taken. no_slot labels.slots.items (run_labels c.offer_run.new.labels trip) trip none
     ∙ taken ∙ ap (λ xs. cond stands (others rules c.args.value xs ++ new ∷ []) xs) (sym here)) c.offer_run.ensures.taken
+
+pub returns-then-is_total-clause-err : goal.returns-then-is_total-clause-err
+returns-then-is_total-clause-err g c =
+    let labels = c.args.labels.now in
+    on_err_weaker c.offer_slot.result (λ same. labels_stay (g.C.Criterion.rules c.args.criterion.now) labels (record {
+      slots = c.offer_slot.new.slots;
+      runs = labels.runs;
+    }) c.requires.labels same (record { labels = c.requires.labels.runs; long = refl; same = λ trip. refl })) c.offer_slot.ensures.err
+
+pub returns-then-is_total-clause-needed : goal.returns-then-is_total-clause-needed
+returns-then-is_total-clause-needed g c =
+    let labels = c.args.labels.now in
+    let trip = c.args.trip in
+    let rules = g.C.Criterion.rules c.args.criterion.now in
+    let below = in_slots (IsTotal rules) trip (length labels.slots.items) (length (runs_of labels.runs))
+    c.requires.trip c.requires.labels.partial (c.is_total.ensures.total c.if-is_total.true) in
+    on_err_weaker c.offer_slot.result (λ free. ap (λ xs. is_beaten rules xs c.args.value)
+    (in_slot labels.slots.items (run_labels labels.runs trip) trip below) ∙ free) c.offer_slot.ensures.needed
+
+pub returns-clause-err : goal.returns-clause-err
+returns-clause-err g c =
+    let labels = c.args.labels.now in
+    on_err_weaker c.offer_run.result (λ stay. labels_stay (g.C.Criterion.rules c.args.criterion.now) labels (record {
+      slots = labels.slots;
+      runs = c.offer_run.new.labels;
+    }) c.requires.labels refl stay) c.offer_run.ensures.err
+
+pub returns-clause-needed : goal.returns-clause-needed
+returns-clause-needed g c =
+    let labels = c.args.labels.now in
+    let trip = c.args.trip in
+    let rules = g.C.Criterion.rules c.args.criterion.now in
+    let none = no_slots (IsTotal rules) (length labels.slots.items) c.requires.labels.total (c.is_total.ensures.partial c.if-is_total.false) in
+    on_err_weaker c.offer_run.result (λ free. ap (λ xs. is_beaten rules xs c.args.value)
+    (no_slot labels.slots.items (run_labels labels.runs trip) trip none) ∙ free) c.offer_run.ensures.needed

@@ -86,9 +86,9 @@ made g c =
     let grows = extends_long c.args.items.now.items c.leave_front.new.items.items
     (extends_on c.args.items.now.items c.push_others.new.items.items c.leave_front.new.items.items
     c.in_ok-push_others.ensures.extends c.in_ok-leave_front.ensures.extends) in
-    let new_is = c.in_ok-new.ensures in
-    let rest_is = c.in_ok-rest.ensures in
-    let count_is = c.in_ok-count.ensures in
+    let new_is = c.in_ok-new.ensures.place in
+    let rest_is = c.in_ok-rest.ensures.place in
+    let count_is = c.in_ok-count.ensures.place in
     put_all rules (g.met.C.Criterion.laws c.args.criterion.now) c.args.entries.now.items c.deref.result.now
     c.push.new.self.items c.args.items.now.items c.leave_front.new.items.items c.args.departure c.args.place
     c.in_ok-new.new c.args.points.now e c.index.result.now x

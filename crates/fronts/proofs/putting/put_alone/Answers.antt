@@ -20,9 +20,10 @@ made g c =
       tag = x.tag;
       value = x.value;
     } in
+    let new_is = c.in_ok-new.ensures.place in
     put_one rules (g.met.C.Criterion.laws c.args.criterion.now) c.args.entries.now.items c.push.new.self.items
     c.args.items.now c.args.place c.in_ok-new.new x e c.index.result.now c.requires.entries c.requires.may
-    c.requires.outdone refl refl refl c.index.ensures c.follow-next.ensures c.in_ok-push.ensures.items (omega arith)
+    c.requires.outdone refl refl refl c.index.ensures c.follow-next.ensures c.in_ok-push.ensures.items (omega (arith, new_is))
 
 pub returns-clause-entries : goal.returns-clause-entries
 returns-clause-entries g c = (made g c).are

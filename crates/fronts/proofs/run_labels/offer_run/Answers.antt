@@ -1,11 +1,38 @@
-use Rattle.std.proofs.Common.{◌≡◌, List, ◌++◌, ◌∷◌, [], length, Contains, inl, inr, ◌∙◌, ap, subst}
+use Rattle.std.proofs.Common.{◌≡◌, List, ◌++◌, ◌∷◌, [], false, length, Contains, inl, inr, refl, ◌∙◌, ap, subst}
 use Rattle.std.proofs.lemmas.List.{get_or_default}
+use Rattle.reasoning.proofs.ListLemmas.{not_in_nil}
+use Rattle.reasoning.proofs.OptionLemmas.{on_err}
 use Rattle.fronts.specs.declared.labels.Label.{Label}
 use Rattle.fronts.specs.declared.run_labels.Run.{Run}
-use Rattle.fronts.specs.RunLabels.{ArePut, labels_in, no_run, run_at}
-use Rattle.fronts.specs.Offered.{others}
-use Rattle.fronts.proofs.Runs.{run_there, runs_put, with_admitted}
+use Rattle.fronts.specs.RunLabels.{ArePut, labels_in, no_run, run_at, run_labels}
+use Rattle.fronts.specs.Offered.{is_beaten, others}
+use Rattle.fronts.proofs.Runs.{put_none, run_there, run_unbeaten, runs_put, runs_stay, with_admitted}
+use Rattle.fronts.proofs.run_labels.offer_run.Given as given
+use Rattle.fronts.proofs.run_labels.offer_run.Goals.{After-deref-3, After-some_no_worse}
 use Rattle.fronts.proofs.run_labels.offer_run.Goals as goal
+
+-- the labels that stay, and the new one
+kept_are : (g : given.Over) (c : goal.After-deref-3 g) → c.deref-3.result.now
+    ≡ others (g.C.Criterion.rules c.args.criterion.now) c.args.value (labels_in c.args.labels.now.labels.items c.index-run.result.now)
+    ++ record { value = c.args.value; tag = c.in_ok-tag.tag } ∷ []
+kept_are g c =
+    let rules = g.C.Criterion.rules c.args.criterion.now in
+    let run = c.index-run.result.now in
+    let label : Label g.row.C-V.Denot = record { value = c.args.value; tag = c.in_ok-tag.tag } in
+    c.deref-3.ensures.value ∙ c.in_ok-push.ensures.items
+    ∙ ap (λ (xs : List (Label g.row.C-V.Denot)). xs ++ label ∷ []) (c.in_ok-keep_others.ensures
+    ∙ ap (others rules c.args.value) (c.part-2.ensures
+    ∙ ap (λ (xs : List (Label g.row.C-V.Denot)). labels_in xs run) c.deref-2.ensures.value))
+
+-- none of the trip's labels is as good
+free : (g : given.Over) (c : goal.After-some_no_worse g) → c.some_no_worse.result ≡ false
+    → is_beaten (g.C.Criterion.rules c.args.criterion.now) (run_labels c.args.labels.now c.args.trip) c.args.value ≡ false
+free g c none =
+    let runs = c.args.labels.now.runs.items in
+    let run = c.index-run.result.now in
+    run_unbeaten (g.C.Criterion.rules c.args.criterion.now) runs c.args.labels.now.labels.items c.part.result.now c.args.trip run c.args.value
+    c.some_no_worse.result (c.index-run.ensures ∙ get_or_default runs c.args.trip run no_run c.requires.trip)
+    (c.part.ensures ∙ ap (λ (xs : List (Label g.row.C-V.Denot)). labels_in xs run) c.deref.ensures.value) c.some_no_worse.ensures none
 
 pub returns-clause-labels : goal.returns-clause-labels
 returns-clause-labels g c =
@@ -18,12 +45,8 @@ returns-clause-labels g c =
     let are = c.requires.labels in
     let label : Label g.row.C-V.Denot = record { value = c.args.value; tag = c.in_ok-tag.tag } in
     let run_is = c.index-run.ensures ∙ get_or_default runs c.args.trip run no_run c.requires.trip in
-    let put = subst (λ (r : Run). ArePut old r c.deref-3.result.now placed now) run_is c.in_ok-labels.ensures in
-    let new_is : c.deref-3.result.now ≡ others rules c.args.value (labels_in old run) ++ label ∷ [] =
-    c.deref-3.ensures.value ∙ c.in_ok-push.ensures.items
-    ∙ ap (λ (xs : List (Label g.row.C-V.Denot)). xs ++ label ∷ []) (c.in_ok-keep_others.ensures
-    ∙ ap (others rules c.args.value) (c.part-2.ensures
-    ∙ ap (λ (xs : List (Label g.row.C-V.Denot)). labels_in xs run) c.deref-2.ensures.value)) in
+    let put = subst (λ (r : Run). ArePut old r c.deref-3.result.now placed now) run_is c.in_ok-labels.ensures.put in
+    let new_is = kept_are g (goal.at.returns-clause-labels g c).After-deref-3 in
     record {
       runs = runs_put runs c.args.trip placed c.requires.trip (length old) (length now) are.runs put.counted put.within put.longer put.apart;
       admitted = λ l h. elim (put.only l h) [
@@ -42,6 +65,52 @@ returns-clause-same g c k other =
     let placed = c.in_ok-labels.field-0 in
     let are = c.requires.labels.runs in
     let run_is = c.index-run.ensures ∙ get_or_default runs c.args.trip run no_run c.requires.trip in
-    let put = subst (λ (r : Run). ArePut old r c.deref-3.result.now placed now) run_is c.in_ok-labels.ensures in
+    let put = subst (λ (r : Run). ArePut old r c.deref-3.result.now placed now) run_is c.in_ok-labels.ensures.put in
     ap (labels_in now) (run_there runs c.args.trip placed c.requires.trip k other)
     ∙ put.others (run_at runs k) (are.counted k) (are.within k) (are.apart k c.args.trip other)
+
+pub returns-in_err-tag-clause-err : goal.returns-in_err-tag-clause-err
+returns-in_err-tag-clause-err g c =
+    let labels = c.args.labels.now in
+    on_err c.from_residual.result _ (runs_stay (g.C.Criterion.rules c.args.criterion.now) labels labels [] c.requires.labels
+    (λ l h. absurd (not_in_nil l h)) refl (put_none labels.labels.items []))
+
+pub returns-in_err-tag-clause-needed : goal.returns-in_err-tag-clause-needed
+returns-in_err-tag-clause-needed g c =
+    on_err c.from_residual.result _ (free g (goal.at.returns-in_err-tag-clause-needed g c).After-some_no_worse c.if-some_no_worse.false)
+
+pub returns-in_err-keep_others-clause-err : goal.returns-in_err-keep_others-clause-err
+returns-in_err-keep_others-clause-err g c =
+    let labels = c.args.labels.now in
+    on_err c.from_residual-in_err-keep_others.result _ (runs_stay (g.C.Criterion.rules c.args.criterion.now) labels _ [] c.requires.labels
+    (λ l h. absurd (not_in_nil l h)) refl (put_none labels.labels.items []))
+
+pub returns-in_err-keep_others-clause-needed : goal.returns-in_err-keep_others-clause-needed
+returns-in_err-keep_others-clause-needed g c =
+    on_err c.from_residual-in_err-keep_others.result _
+    (free g (goal.at.returns-in_err-keep_others-clause-needed g c).After-some_no_worse c.if-some_no_worse.false)
+
+pub returns-in_err-push-clause-err : goal.returns-in_err-push-clause-err
+returns-in_err-push-clause-err g c =
+    let labels = c.args.labels.now in
+    on_err c.from_residual-in_err-push.result _ (runs_stay (g.C.Criterion.rules c.args.criterion.now) labels _ [] c.requires.labels
+    (λ l h. absurd (not_in_nil l h)) refl (put_none labels.labels.items []))
+
+pub returns-in_err-push-clause-needed : goal.returns-in_err-push-clause-needed
+returns-in_err-push-clause-needed g c =
+    on_err c.from_residual-in_err-push.result _ (free g (goal.at.returns-in_err-push-clause-needed g c).After-some_no_worse c.if-some_no_worse.false)
+
+pub returns-in_err-labels-clause-err : goal.returns-in_err-labels-clause-err
+returns-in_err-labels-clause-err g c =
+    let rules = g.C.Criterion.rules c.args.criterion.now in
+    let labels = c.args.labels.now in
+    let run = c.index-run.result.now in
+    let label : Label g.row.C-V.Denot = record { value = c.args.value; tag = c.in_ok-tag.tag } in
+    let new_is = kept_are g (goal.at.returns-in_err-labels-clause-err g c).After-deref-3 in
+    on_err c.from_residual-in_err-labels.result _ (runs_stay rules labels _ c.deref-3.result.now c.requires.labels
+    (λ l h. with_admitted rules labels.labels.items run c.args.value label c.requires.labels.admitted c.requires.value l
+    (subst (λ (xs : List (Label g.row.C-V.Denot)). Contains xs l) new_is h)) refl c.in_err-labels.ensures.err)
+
+pub returns-in_err-labels-clause-needed : goal.returns-in_err-labels-clause-needed
+returns-in_err-labels-clause-needed g c =
+    on_err c.from_residual-in_err-labels.result _ (free g (goal.at.returns-in_err-labels-clause-needed g c).After-some_no_worse c.if-some_no_worse.false)

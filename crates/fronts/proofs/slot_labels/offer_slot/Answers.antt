@@ -57,8 +57,8 @@ returns-clause-taken g c =
     let slots = c.args.slots.now.items in
     let slot = c.index.result.now in
     let new : Label g.row.C-V.Denot = record { value = c.args.value; tag = c.in_ok-tag.tag } in
-    let tag_is : c.in_ok-tag.tag ≡ c.args.tag = c.in_ok-tag.ensures.0 in
-    let below = c.in_ok-tag.ensures.1 in
+    let tag_is : c.in_ok-tag.tag ≡ c.args.tag = c.in_ok-tag.ensures.tag.0 in
+    let below = c.in_ok-tag.ensures.tag.1 in
     let named : c.in_ok-tag.tag ≡ no_tag → ⊥ = λ e. omega (arith, below, e) in
     label_put rules slots c.args.trip slot new
     (slice_get_read slots (length slots) c.args.trip slot refl c.requires.trip c.index.ensures) c.requires.trip

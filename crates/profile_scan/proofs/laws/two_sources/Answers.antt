@@ -1,9 +1,12 @@
-use Rattle.std.proofs.Common.{subst}
+use Rattle.std.proofs.Common.{◌++◌, ◌∙◌, length, reverse, take, ap, subst}
+use Rattle.reasoning.proofs.OptionLemmas.{on_err}
 use Rattle.timetable.specs.TimetableValue.{TimetableValue}
 use Rattle.profile_scan.specs.Found.{listed}
 use Rattle.profile_scan.specs.LawStatements.{CanScan}
 use Rattle.profile_scan.specs.Points.{IsAnswer}
+use Rattle.profile_scan.specs.Window.{window}
 use Rattle.profile_scan.proofs.Answer.{one_answer}
+use Rattle.profile_scan.proofs.LogLemmas.{taken_all, taken_none}
 use Rattle.profile_scan.proofs.laws.two_sources.Goals as goal
 
 pub returns-clause-same : goal.returns-clause-same
@@ -21,3 +24,29 @@ returns-clause-same g c =
     one_answer rules (g.met.C.Criterion.laws c.args.criterion.now) (g.A.ConnSource.timetable c.args.one.now)
     c.args.query.now can (listed c.in_ok-found.found) (listed c.in_ok-again.again)
     c.in_ok-found.ensures.answers.answer again
+
+-- the first scan was broken off: nothing was asked of the other source
+pub returns-in_err-found-clause-err : goal.returns-in_err-found-clause-err
+returns-in_err-found-clause-err g c = on_err c.from_residual.result _ c.in_err-found.ensures.err
+
+pub returns-in_err-found-clause-other_err : goal.returns-in_err-found-clause-other_err
+returns-in_err-found-clause-other_err g c =
+    let read = reverse (window (g.A.ConnSource.timetable c.args.one.now) c.args.query.now) in
+    on_err c.from_residual.result _ (0, taken_none (g.B.ConnSource.log c.args.other.now) read)
+
+-- the second was: the first source was asked for all of them
+pub returns-in_err-again-clause-err : goal.returns-in_err-again-clause-err
+returns-in_err-again-clause-err g c =
+    let read = reverse (window (g.A.ConnSource.timetable c.args.one.now) c.args.query.now) in
+    on_err c.from_residual-in_err-again.result _ (
+      length read,
+      taken_all (g.A.ConnSource.log c.args.one.now) read (g.A.ConnSource.log c.profile.new.source) c.in_ok-found.ensures.log,
+    )
+
+pub returns-in_err-again-clause-other_err : goal.returns-in_err-again-clause-other_err
+returns-in_err-again-clause-other_err g c =
+    let was = c.in_err-again.ensures.err in
+    on_err c.from_residual-in_err-again.result _ (
+      was.0,
+      was.1 ∙ ap (λ (t : TimetableValue). g.B.ConnSource.log c.args.other.now ++ take was.0 (reverse (window t c.args.query.now))) c.requires.alike,
+    )

@@ -1,7 +1,14 @@
 use Rattle.std.proofs.Common.{◌≡◌, ◌++◌, ℕ, List, Contains, length, reverse, take, slice_get, refl, sym, ◌∙◌, ap, subst}
 use Rattle.reasoning.proofs.OptionLemmas.{on_err}
 use Rattle.bags.specs.Bag.{points_of}
+use Rattle.bags.specs.declared.point.Point.{Point}
 use Rattle.timetable.specs.declared.query.Query.{Query}
+use Rattle.timetable.specs.Journeys.{Counts}
+use Rattle.profile_scan.specs.Values.{journey_value}
+use Rattle.profile_scan.specs.Plain.{IsPlain}
+use Rattle.profile_scan.specs.Points.{IsAnswer}
+use Rattle.profile_scan.specs.Matching.{IsAttained}
+use Rattle.profile_scan.specs.Story.{told}
 use Rattle.profile_scan.specs.LawStatements.{CanScan}
 use Rattle.profile_scan.specs.Window.{window}
 use Rattle.profile_scan.specs.Destinations.{query_from}
@@ -81,22 +88,30 @@ returns-clause-answers g c =
     let start = c.first_at-start.result in
     let origins = c.in_ok-state.ensures.state.origins in
     let ways = c.in_ok-ways.ensures in
+    let from : (stop : ℕ)
+    → IsAnswer rules t (query_from d stop) (points_in (slice_get lists stop))
+    × ((p : Point g.row.C-V.Denot) → Contains (points_in (slice_get lists stop)) p → IsAttained
+    (told t.footpaths (story_from state stop)).journey (Counts t (query_from d stop)) (IsPlain t d.target)
+    (journey_value rules t) p) =
+    λ stop.
+    let q = query_from d stop in
+    let can : CanScan t q = record {
+      legal = g.met.S.ConnSource.legal c.args.source.now;
+      limits = g.met.S.ConnSource.limits c.args.source.now;
+      in_time = c.requires.small.2;
+    } in
+    let bag = found_bag rules state.origins (λ k o at. bag_under g.C.Criterion.rules o.found.criterion criterion (points_of o.found)
+    (origins.under k o at) o.found.kept) stop in
+    let matches = subst (λ (asked : Query). HasFoundFrom rules t asked start state stop) c.query_from.ensures (c.in_ok-state.ensures.found stop) in
+    answered_from rules laws t q can start c.first_at-start.ensures (story_from state stop) (found_from state.origins stop)
+    (points_in (slice_get lists stop)) matches bag (c.in_ok-lists.ensures.lists stop) in
     record {
-      each = λ stop lt other.
-          let q = query_from d stop in
-          let can : CanScan (g.S.ConnSource.timetable c.args.source.now)
-          (query_from c.args.destination.now stop) = record {
-            legal = g.met.S.ConnSource.legal c.args.source.now;
-            limits = g.met.S.ConnSource.limits
-                c.args.source.now;
-            in_time = c.requires.small.2;
-          } in
-          let bag = found_bag rules state.origins (λ k o at. bag_under g.C.Criterion.rules o.found.criterion criterion (points_of o.found)
-          (origins.under k o at) o.found.kept) stop in
-          let matches = subst (λ (asked : Query). HasFoundFrom rules t asked start state stop) c.query_from.ensures (c.in_ok-state.ensures.found stop) in
-          let a = answered_from rules laws t q can start c.first_at-start.ensures (story_from state stop) (found_from state.origins stop)
-          (points_in (slice_get lists stop)) matches bag (c.in_ok-lists.ensures.lists stop) in
-          record { answer = a.0; attained = a.1; direct = ways.each stop lt };
+      each = λ stop lt other. record { answer = (from stop).0; attained = (from stop).1; direct = ways.each stop lt };
+      at_target = record {
+        answer = (from d.target).0;
+        attained = (from d.target).1;
+        direct = ways.each d.target c.requires.target;
+      };
       long = c.in_ok-lists.ensures.long ∙ origins.long;
       origins = origins;
       ways = ways.long;
