@@ -14,8 +14,8 @@ ghost use Rattle.load_orders.specs.declared.ways.LoadAnswer.{LoadAnswer};
 use crate::names::place_of;
 use crate::notes::Notes;
 use crate::queue::{
-    Another, Known, Loads, MOST_WAITING, Moves, Order, OrderReceiver, OrderRule, OrderSender, Tries,
-    Waiting,
+    Another, Known, Loads, MOST_WAITING, Moves, Order, OrderReceiver, OrderRule, OrderSender,
+    Tries, Waiting,
 };
 use crate::ways::{LoadAnswer, UsedWay, WayBack, way_back};
 use crossbeam_channel::{Pass, TrySendError, bounded_with};
