@@ -34,12 +34,22 @@ impl Model for OrderMark {
     ghost also_owns = { λ _. ftrue };
 }
 
-/// What an end of the queue knows: the orders that it put or took, in order, how often it tried to put one, and whether
-/// it puts and takes: what is split from it for a try does neither. No value of it is made.
+/// What an end of the queue is for. No value of it is made.
+pub enum Role {
+    /// Orders are put there.
+    Puts,
+    /// Orders are taken there.
+    Takes,
+    /// Neither: it was split off for a try, and let go.
+    Rests,
+}
+
+/// What an end of the queue knows: the orders that it put or took, in order, how often it tried to put one, and what it
+/// is for. No value of it is made.
 pub struct Known {
     pub orders: LinkedList<OrderMark>,
     pub tries: u64,
-    pub live: bool,
+    pub role: Role,
 }
 
 /// A rule of queues of orders, which each order that is put or taken and each try keeps. Of how it begins nothing is
@@ -51,7 +61,8 @@ pub trait OrderRule<N: Drop>: Protocol<Order<N>, Known> {
     ghost kept: { IsKept Self.holds };
 }
 
-/// The rule: the queue holds at most four orders.
+/// The rule: the queue holds at most four orders, and each order that was put was taken once or waits there, and no
+/// other was or does.
 pub struct Waiting;
 
 impl<N: Drop> Protocol<Order<N>, Known> for Waiting {
@@ -100,7 +111,18 @@ impl Split<Known> for Tries {
     ghost right = { λ view. let_go };
 }
 
-/// One end more, which has put and taken nothing.
+/// The end at which orders are taken. Nothing was taken there.
+pub struct Loads;
+
+impl Split<Known> for Loads {
+    ghost use Rattle.load_orders.specs.Queue.{nothing_taken};
+
+    ghost left = { λ view. view };
+
+    ghost right = { λ view. nothing_taken };
+}
+
+/// One end more at which orders are put. Nothing was put there.
 pub struct Another;
 
 impl Split<Known> for Another {

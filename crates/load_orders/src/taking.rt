@@ -14,8 +14,8 @@ ghost use Rattle.load_orders.specs.declared.ways.LoadAnswer.{LoadAnswer};
 use crate::names::place_of;
 use crate::notes::Notes;
 use crate::queue::{
-    Another, Known, MOST_WAITING, Moves, Order, OrderReceiver, OrderRule, OrderSender, Tries,
-    Waiting,
+    Another, Known, Loads, MOST_WAITING, Moves, Order, OrderReceiver, OrderRule, OrderSender,
+    Tries, Waiting,
 };
 use crate::ways::{LoadAnswer, UsedWay, WayBack, way_back};
 use crossbeam_channel::{Pass, TrySendError, bounded_with};
@@ -35,9 +35,10 @@ pub struct OrderEnd<N: Drop, P: OrderRule<N> = Waiting> {
 }
 
 impl<N: Drop, P: OrderRule<N>> Model for OrderEnd<N, P> {
-    ghost use Rattle.std.specs.Prelude.{◌≡◌, true};
+    ghost use Rattle.std.specs.Prelude.{◌≡◌};
     ghost use Rattle.crossbeam_channel.specs.Claims.{IsSeatAt, view as view_of};
     ghost use Rattle.crossbeam_channel.specs.Ends.{sends_on, ruled_capacity};
+    ghost use Rattle.load_orders.specs.declared.queue.Role.{Role};
     ghost use Rattle.load_orders.specs.Queue.{EndValue};
 
     ghost Value = { EndValue };
@@ -50,7 +51,7 @@ impl<N: Drop, P: OrderRule<N>> Model for OrderEnd<N, P> {
     } };
 
     ghost invariant = { λ s. IsSeatAt (sends_on s.sender) s.pass × (ruled_capacity (sends_on s.sender) ≡ 4)
-        × ((view_of s.pass).live ≡ true) };
+        × ((view_of s.pass).role ≡ Role.Puts) };
 }
 
 /// A worker's end of the queue: it takes orders of feeds by their names, whose versions are published at the shelves.
@@ -145,9 +146,10 @@ pub struct LoaderOrders<N: Drop, P: OrderRule<N> = Waiting> {
 }
 
 impl<N: Drop, P: OrderRule<N>> Model for LoaderOrders<N, P> {
-    ghost use Rattle.std.specs.Prelude.{◌≡◌, true};
+    ghost use Rattle.std.specs.Prelude.{◌≡◌};
     ghost use Rattle.crossbeam_channel.specs.Claims.{IsSeatAt, view as view_of};
     ghost use Rattle.crossbeam_channel.specs.Ends.{receives_on};
+    ghost use Rattle.load_orders.specs.declared.queue.Role.{Role};
     ghost use Rattle.load_orders.specs.Telling.{LoaderOrdersValue};
 
     ghost Value = { LoaderOrdersValue N };
@@ -160,7 +162,7 @@ impl<N: Drop, P: OrderRule<N>> Model for LoaderOrders<N, P> {
       over = s.over;
     } };
 
-    ghost invariant = { λ s. IsSeatAt (receives_on s.receiver) s.pass × ((view_of s.pass).live ≡ true) };
+    ghost invariant = { λ s. IsSeatAt (receives_on s.receiver) s.pass × ((view_of s.pass).role ≡ Role.Takes) };
 }
 
 /// An empty queue for four orders: its first end, and the loader's.
@@ -172,7 +174,7 @@ pub fn order_queue<N: Drop>(alloc: Global) -> Result<(OrderEnd<N>, LoaderOrders<
     ensures unfinished { IfOk result (λ ends. ends.1.over ≡ false) }
 {
     let (sender, receiver, mut pass) = bounded_with(alloc, MOST_WAITING)?;
-    let taking = sender.another::<Another>(&mut pass);
+    let taking = sender.another::<Loads>(&mut pass);
     let loader = LoaderOrders {
         receiver,
         pass: taking,

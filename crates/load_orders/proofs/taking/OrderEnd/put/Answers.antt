@@ -11,8 +11,8 @@ pub try_send_as-requires-clause-rule : goal.try_send_as-requires-clause-rule
 try_send_as-requires-clause-rule g c =
     let pass = c.another.new.pass in
     let v = view_of pass in
-    let live = ap (λ known. known.live) c.another.ensures.rule.0 ∙ c.self.invariant.2 in (
+    let puts = ap (λ known. known.role) c.another.ensures.rule.0 ∙ c.self.invariant.2 in (
       subst (λ n. Pushes g.P.Protocol.holds n pass.id v c.args.order (IsOneMore v c.args.order)) (sym c.self.invariant.1)
-          (g.met.P.OrderRule.kept.puts pass.id v c.args.order live),
+          (g.met.P.OrderRule.kept.puts pass.id v c.args.order puts),
       λ items views holds at. (views, pass.id, holds, at),
     )
