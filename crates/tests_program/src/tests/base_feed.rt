@@ -1,7 +1,7 @@
 //! The feed of examples/base in a folder `base_feed`, and the same with one record changed.
 
 use crate::tests::running::Machine;
-use std::alloc::{AllocError, Global};
+use std::alloc::AllocError;
 use std::fs;
 use std::test::Fail;
 
@@ -23,16 +23,28 @@ T2,08:20:00,08:20:00,C,2",
     }
 }
 
-/// Lines of which the one at a place, from 0 for the first, is another; each is ended.
-fn changed(alloc: Global, lines: &str, mut place: u32, record: &str) -> Result<String, AllocError> {
-    let mut text = String::new(alloc);
+/// Adds lines of which the one at a place, from 0 for the first, is another; each is ended.
+fn add_lines(
+    text: &mut String,
+    lines: &str,
+    mut place: u32,
+    record: &str,
+) -> Result<(), AllocError> {
     for line in lines.split('\n') {
         text.push_str(if place == 0 { record } else { line })?;
         text.push_str("\n")?;
         place = place.wrapping_sub(1);
     }
-    Ok(text)
+    Ok(())
 }
+
+const FILES: [&str; 5] = [
+    "agency.txt",
+    "stops.txt",
+    "trips.txt",
+    "calendar.txt",
+    "stop_times.txt",
+];
 
 fn write<R: Machine>(rt: &R, file: &str, text: &str) -> Result<(), Fail> {
     let path = format!(in rt.alloc(); "base_feed/{file}")?;
@@ -42,14 +54,8 @@ fn write<R: Machine>(rt: &R, file: &str, text: &str) -> Result<(), Fail> {
 /// Makes the folder, and its files.
 pub(crate) fn make<R: Machine>(rt: &R) -> Result<(), Fail> {
     fs::create_dir(rt, "base_feed")?;
-    for file in [
-        "agency.txt",
-        "stops.txt",
-        "trips.txt",
-        "calendar.txt",
-        "stop_times.txt",
-    ] {
-        write(rt, file, lines_of(file))?;
+    for file in FILES.iter() {
+        write(rt, *file, lines_of(*file))?;
     }
     Ok(())
 }
@@ -66,6 +72,7 @@ pub(crate) fn change<R: Machine>(rt: &R, words: &str) -> Result<(), Fail> {
     let Ok(place) = place.parse() else {
         return Err(Fail::new("the number of a record"));
     };
-    let text = changed(rt.alloc(), lines_of(file), place, record)?;
+    let mut text = String::new(rt.alloc());
+    add_lines(&mut text, lines_of(file), place, record)?;
     write(rt, file, text.as_str())
 }

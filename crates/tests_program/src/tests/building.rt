@@ -1,6 +1,6 @@
 //! `csa build` over folders: what is counted, what is written, and what is refused.
 
-use crate::tests::transcript::try_lines;
+use crate::tests::transcript::try_transcripts;
 use std::fs;
 use std::test::Fail;
 
@@ -114,11 +114,6 @@ answers refused 18 BadHeadway frequencies.txt 1
 remove built.csa
 remove base_feed
 ";
-
-#[test]
-fn the_base_feed_is_built(rt: HostRuntime) -> Result<(), Fail> {
-    try_lines(&rt, BASE)
-}
 
 const FEEDS: &str = "
 # One trip that stands still for a while, as its times are told: each hop takes a second at least, or is refused.
@@ -248,11 +243,6 @@ ends 3
 remove unread
 ";
 
-#[test]
-fn feeds_are_built_or_refused(rt: HostRuntime) -> Result<(), Fail> {
-    try_lines(&rt, FEEDS)
-}
-
 /// A zone file of a rule of central Europe (TZif, RFC 9636).
 const CENTRAL_EUROPE: &[u8] = b"TZif2\0\0\0\0\0\0\0\0\0\0\0\0\0\0\0\
 \0\0\0\0\0\0\0\0\0\0\0\0\0\0\0\0\0\0\0\x01\0\0\0\x01\0\0\0\0\0\0\0\
@@ -286,7 +276,7 @@ remove east
 ";
 
 #[test]
-fn a_zone_file_is_read(rt: HostRuntime) -> Result<(), Fail> {
+fn feeds_are_built_or_refused(rt: HostRuntime) -> Result<(), Fail> {
     fs::write(&rt, "zone_file", CENTRAL_EUROPE)?;
-    try_lines(&rt, ZONE_FILE)
+    try_transcripts(&rt, &[ZONE_FILE, BASE, FEEDS])
 }

@@ -1,8 +1,10 @@
 //! `csa verify` and `csa journey` over the sample image, changes of it, and bytes that are no image.
 
-use crate::tests::transcript::try_lines;
+use crate::tests::running::Machine;
+use crate::tests::transcript::try_transcripts;
 use csa_program::run;
 use image_layout::{Words, sample_words};
+use std::net::{Net, TcpListener, TcpStream};
 use std::test::Fail;
 
 const IMAGES: &str = "
@@ -54,11 +56,6 @@ cut 200000
 answers refused 61 BadMagic
 ";
 
-#[test]
-fn images_are_verified(rt: HostRuntime) -> Result<(), Fail> {
-    try_lines(&rt, IMAGES)
-}
-
 const JOURNEYS: &str = "
 # By the change at B, and straight on.
 sample
@@ -99,23 +96,32 @@ run journey - 'no journey' --from A --to D --after 07:00:00 --until 9:0:0 --by 1
 complains 64
 ";
 
-#[test]
-fn journeys_are_judged(rt: HostRuntime) -> Result<(), Fail> {
-    try_lines(&rt, JOURNEYS)
+/// The status of `csa verify` over an image, where its lines go to a room of some bytes.
+fn verified_into<R: Machine + Net<Listener = TcpListener, Stream = TcpStream>>(
+    rt: &R,
+    image: &[u8],
+    room: &mut [u8],
+    errors: &mut Vec<u8>,
+) -> u8 {
+    let (mut input, mut output) = (image, room);
+    run(
+        rt,
+        &["csa", "verify", "-"],
+        &mut input,
+        &mut output,
+        errors,
+        false,
+    )
 }
 
 /// A line that finds no room is told by the status, and on standard error.
 #[test]
 fn a_line_that_cannot_be_written_is_told(rt: HostRuntime) -> Result<(), Fail> {
-    let bytes = Words::to_bytes(rt.alloc(), &sample_words())?;
-    let words = ["csa", "verify", "-"];
-    let mut room = [0u8; 4];
-    let mut output: &mut [u8] = &mut room;
+    let image = Words::to_bytes(rt.alloc(), &sample_words())?;
     let mut errors = Vec::new(rt.alloc());
-    let mut input: &[u8] = &bytes;
-    let status = run(&rt, &words, &mut input, &mut output, &mut errors, false);
+    let status = verified_into(&rt, &image, &mut [0u8; 4], &mut errors);
     let told = "csa: standard output can't be written: an input or output error\n";
-    assert_eq!(rt; status, 3);
+    assert!(rt; status == 3);
     assert!(rt; errors.as_slice() == told.as_bytes());
     Ok(())
 }
@@ -168,6 +174,6 @@ answers refused 88 OutsideWindow
 ";
 
 #[test]
-fn refusals_are_explained(rt: HostRuntime) -> Result<(), Fail> {
-    try_lines(&rt, EXPLAINED)
+fn images_and_journeys_are_judged(rt: HostRuntime) -> Result<(), Fail> {
+    try_transcripts(&rt, &[IMAGES, JOURNEYS, EXPLAINED])
 }

@@ -1,6 +1,6 @@
 //! Command lines that ask for nothing, or for help.
 
-use crate::tests::transcript::try_lines;
+use crate::tests::transcript::try_transcripts;
 use std::test::Fail;
 
 const COMMAND_LINES: &str = "
@@ -122,5 +122,5 @@ complains 3
 
 #[test]
 fn command_lines_are_judged(rt: HostRuntime) -> Result<(), Fail> {
-    try_lines(&rt, COMMAND_LINES)
+    try_transcripts(&rt, &[COMMAND_LINES])
 }

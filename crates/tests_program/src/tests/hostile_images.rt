@@ -1,6 +1,6 @@
 //! Images with one thing wrong, and with several: the first fault is told.
 
-use crate::tests::transcript::try_lines;
+use crate::tests::transcript::try_transcripts;
 use std::test::Fail;
 
 const CHANGES: &str = "
@@ -225,5 +225,5 @@ answers ok stops 3 trips 2 connections 3 footpaths 3
 
 #[test]
 fn the_first_fault_is_told(rt: HostRuntime) -> Result<(), Fail> {
-    try_lines(&rt, CHANGES)
+    try_transcripts(&rt, &[CHANGES])
 }

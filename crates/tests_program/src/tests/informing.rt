@@ -1,6 +1,6 @@
 //! `csa info` and `csa days`: what an image has, and which service days a feed has.
 
-use crate::tests::transcript::try_lines;
+use crate::tests::transcript::try_transcripts;
 use std::test::Fail;
 
 const IMAGES: &str = "
@@ -109,11 +109,6 @@ run info -
 answers refused 51 OddLength
 ";
 
-#[test]
-fn images_are_described(rt: HostRuntime) -> Result<(), Fail> {
-    try_lines(&rt, IMAGES)
-}
-
 const DAYS: &str = "
 # A feed of one day.
 base
@@ -185,6 +180,6 @@ answers refused 1 MissingFile agency.txt 0
 ";
 
 #[test]
-fn days_of_feeds_are_listed(rt: HostRuntime) -> Result<(), Fail> {
-    try_lines(&rt, DAYS)
+fn images_and_feeds_are_described(rt: HostRuntime) -> Result<(), Fail> {
+    try_transcripts(&rt, &[IMAGES, DAYS])
 }

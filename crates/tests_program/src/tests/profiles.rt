@@ -1,6 +1,6 @@
 //! Profiles as a user asks for them: each line, and that `csa journey` accepts each journey that is printed.
 
-use crate::tests::transcript::try_lines;
+use crate::tests::transcript::try_transcripts;
 use std::fs;
 use std::test::Fail;
 
@@ -129,11 +129,6 @@ tells csa: no stop_id contains \"b\" (stop names and stations aren't searched)
 ends 0
 ";
 
-#[test]
-fn best_departures_are_printed(rt: HostRuntime) -> Result<(), Fail> {
-    try_lines(&rt, ANSWERS)
-}
-
 const WALKS: &str = "
 # A footpath from A to B of two minutes: who may set out later walks to the second trip; who may not has two best departures.
 image 1346458435 1 3 2 3 4 7 1705276800 0 0 1 28800 29400 0 3 1 2 29400 30600 0 3 1 2 29520 30000 1 3 0 1 3 4 0 0 0 120 1 0 2 0 0 1 2 3 5 7 20240115 20240115 1413694017 3298353
@@ -204,11 +199,6 @@ answers points 2 read 3 walk none
 judge A C 07:00:00 09:00:00 10:00:00 ride 0 0 walk 1 1 60 ride 2 2 | ok dep 08:00:00 arr 08:20:00
 ";
 
-#[test]
-fn footpaths_are_walked(rt: HostRuntime) -> Result<(), Fail> {
-    try_lines(&rt, WALKS)
-}
-
 const DRAWN: &str = "
 sample
 asks profile - --from A --to C --after 07:00:00 --until 09:00:00 --by 10:00:00 --criterion arrival --picture answer.svg
@@ -235,7 +225,7 @@ complains 64
 /// The answer is drawn beside its lines; a picture that can't be written is told, and nothing is printed.
 #[test]
 fn an_answer_is_drawn(rt: HostRuntime) -> Result<(), Fail> {
-    try_lines(&rt, DRAWN)?;
+    try_transcripts(&rt, &[DRAWN])?;
     let drawn = fs::read(&rt, "answer.svg")?;
     assert!(rt; drawn.starts_with(b"<svg ") && drawn.ends_with(b"</svg>\n"));
     fs::remove_file(&rt, "answer.svg")?;
@@ -384,6 +374,6 @@ answers {\"points\":3,\"read\":3,\"stops\":2}
 ";
 
 #[test]
-fn departures_from_each_stop_are_printed(rt: HostRuntime) -> Result<(), Fail> {
-    try_lines(&rt, DEPARTURES)
+fn best_departures_are_printed(rt: HostRuntime) -> Result<(), Fail> {
+    try_transcripts(&rt, &[ANSWERS, WALKS, DEPARTURES])
 }

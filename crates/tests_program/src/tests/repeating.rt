@@ -1,6 +1,6 @@
 //! Trips that repeat, in images: `csa build` writes their repeats, and `csa upgrade` keeps them.
 
-use crate::tests::transcript::try_lines;
+use crate::tests::transcript::try_transcripts;
 use std::test::Fail;
 
 const REPEATS: &str = "
@@ -43,5 +43,5 @@ remove new.csa
 
 #[test]
 fn repeats_are_kept(rt: HostRuntime) -> Result<(), Fail> {
-    try_lines(&rt, REPEATS)
+    try_transcripts(&rt, &[REPEATS])
 }

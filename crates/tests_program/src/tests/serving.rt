@@ -1,11 +1,8 @@
 //! `csa serve`: what is told of wrong words. How it serves is tried over the built program
 //! (`.ci/server`), and over workers.
 
-use crate::tests::running::outcome_of;
-use crate::tests::transcript::try_lines;
-use image_layout::{Words, sample_words};
-use std::alloc::Global;
-use std::fs;
+use crate::tests::transcript::try_transcripts;
+use std::alloc::{AllocError, Global};
 use std::net::{Ipv4Addr, TcpListener};
 use std::test::Fail;
 
@@ -54,64 +51,54 @@ run serve --image - --port 0 --workers 2 --sessions 1 --first 20240115 --days 1 
 answers refused 51 OddLength
 ";
 
+/// A port that is taken, PORT, is reported, and before it that clocks of a feed would count from
+/// another base than the image's, and each feed that has no folder.
+const TAKEN: &str = "
+sample
+folder fast_feed
+file flat_feed
+run serve --image - --port PORT --workers 2 --sessions 1 --first 20240115 --days 1 --zone fixed:0 \
+slow=slow_feed fast=fast_feed flat=flat_feed
+tells csa: warning: feed slow: slow_feed: no such file or folder
+tells csa: warning: feed flat: flat_feed: not a folder
+tells csa: can't listen at port PORT: it is in use
+ends 3
+run serve --image - --port PORT --workers 2 --sessions 1 --first 20240116 --days 1 --zone fixed:0 \
+slow=slow_feed fast=fast_feed flat=flat_feed
+tells csa: warning: the image's clocks count from 1705276800 (2024-01-15T00:00:00Z), those of a feed that is \
+loaded from 1705363200 (2024-01-16T00:00:00Z)
+tells csa: warning: feed slow: slow_feed: no such file or folder
+tells csa: warning: feed flat: flat_feed: not a folder
+tells csa: can't listen at port PORT: it is in use
+ends 3
+remove fast_feed
+remove flat_feed
+";
+
+/// Adds a text with a number in the place of each PORT.
+fn add_with_port(text: &mut String, transcript: &str, port: &str) -> Result<(), AllocError> {
+    let mut is_first = true;
+    for piece in transcript.split("PORT") {
+        if !is_first {
+            text.push_str(port)?;
+        }
+        text.push_str(piece)?;
+        is_first = false;
+    }
+    Ok(())
+}
+
+/// The transcript of a port that is taken.
+fn taken(alloc: Global, port: u16) -> Result<String, AllocError> {
+    let port = format!(in alloc; "{port}")?;
+    let mut text = String::new(alloc);
+    add_with_port(&mut text, TAKEN, port.as_str())?;
+    Ok(text)
+}
+
 #[test]
 fn what_cannot_be_served_is_told(rt: HostRuntime) -> Result<(), Fail> {
-    try_lines(&rt, WRONG_WORDS)
-}
-
-/// The sample, from the standard input, to one session, beside three feeds whose days begin so.
-fn words_at<'a>(port: &'a str, first: &'a str) -> [&'a str; 19] {
-    [
-        "csa",
-        "serve",
-        "--image",
-        "-",
-        "--port",
-        port,
-        "--workers",
-        "2",
-        "--sessions",
-        "1",
-        "--first",
-        first,
-        "--days",
-        "1",
-        "--zone",
-        "fixed:0",
-        "slow=slow_feed",
-        "fast=fast_feed",
-        "flat=flat_feed",
-    ]
-}
-
-/// A port that is taken is reported, and before it that clocks of a feed would count from another base than the
-/// image's, and each feed that has no folder.
-#[test]
-fn a_port_that_is_taken(rt: HostRuntime) -> Result<(), Fail> {
-    let alloc: Global = rt.alloc();
     let listener = TcpListener::bind(&rt, (Ipv4Addr::LOCALHOST, 0))?;
-    let port = format!(in alloc; "{}", listener.local_addr()?.port())?;
-    let image = Words::to_bytes(alloc, &sample_words())?;
-    fs::create_dir(&rt, "fast_feed")?;
-    fs::write(&rt, "flat_feed", "")?;
-    for (first, warned) in [
-        ("20240115", ""),
-        (
-            "20240116",
-            "csa: warning: the image's clocks count from 1705276800 (2024-01-15T00:00:00Z), those of a feed that is \
-loaded from 1705363200 (2024-01-16T00:00:00Z)\n",
-        ),
-    ] {
-        let outcome = outcome_of(&rt, &words_at(port.as_str(), first), &image);
-        let taken = format!(in alloc;
-            "{warned}csa: warning: feed slow: slow_feed: no such file or folder\n\
-csa: warning: feed flat: flat_feed: not a folder\ncsa: can't listen at port {port}: it is in use\n"
-        )?;
-        assert_eq!(&rt; outcome.status, 3);
-        assert!(&rt; outcome.output.is_empty());
-        assert!(&rt; outcome.errors.as_slice() == taken.as_bytes());
-    }
-    fs::remove_dir(&rt, "fast_feed")?;
-    fs::remove_file(&rt, "flat_feed")?;
-    Ok(())
+    let taken = taken(rt.alloc(), listener.local_addr()?.port())?;
+    try_transcripts(&rt, &[WRONG_WORDS, taken.as_str()])
 }

@@ -7,6 +7,7 @@ use image_layout::{Words, sample_words};
 use std::alloc::Global;
 use std::io::{Read, Write};
 use std::net::{Ipv4Addr, Net, Shutdown, TcpListener, TcpStream};
+use std::process::Abort;
 use std::sync::{Mutex, Wait};
 use std::test::Fail;
 use std::time::Duration;
@@ -99,6 +100,20 @@ fn replies_at<R: Machine + Net<Listener = TcpListener, Stream = TcpStream>>(
     Ok(replies)
 }
 
+/// What the server printed and told, its status, and what the client read.
+fn expect_served<R: Machine + Abort>(
+    rt: &R,
+    status: u8,
+    replies: Option<&[u8]>,
+    printed: &[u8],
+    told: &[u8],
+) {
+    assert!(rt; status == 0);
+    assert!(rt; replies == Some(REPLIES.as_bytes()));
+    assert!(rt; printed.ends_with(b"\nserved 1\n"));
+    assert!(rt; told.ends_with(b"loaded slow version 2\n"));
+}
+
 /// Each line has its reply, and the loader reports the version that the folder became.
 #[test]
 fn a_client_beside_its_server(rt: HostRuntime) -> Result<(), Fail> {
@@ -117,10 +132,12 @@ fn a_client_beside_its_server(rt: HostRuntime) -> Result<(), Fail> {
         },
         move || -> Option<Vec<u8>> { replies_at(rt, port_of(rt, printed)?).ok() },
     );
-    assert_eq!(rt; status, 0);
-    assert_eq!(rt; replies.as_deref(), Some(REPLIES.as_bytes()));
-    assert!(rt; printed.lock(rt).ends_with(b"\nserved 1\n"));
-    assert!(rt; told.lock(rt).ends_with(b"loaded slow version 2\n"));
-    fs::remove_dir_all(rt, "base_feed")?;
-    Ok(())
+    expect_served(
+        rt,
+        status,
+        replies.as_deref(),
+        &printed.lock(rt),
+        &told.lock(rt),
+    );
+    Ok(fs::remove_dir_all(rt, "base_feed")?)
 }

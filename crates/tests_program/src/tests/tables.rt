@@ -1,6 +1,6 @@
 //! `csa tables` over folders: a small feed, and what is told of changes to it.
 
-use crate::tests::transcript::try_lines;
+use crate::tests::transcript::try_transcripts;
 use std::test::Fail;
 
 const CHANGES: &str = "
@@ -313,5 +313,5 @@ remove feed.zip
 
 #[test]
 fn tables_are_judged(rt: HostRuntime) -> Result<(), Fail> {
-    try_lines(&rt, CHANGES)
+    try_transcripts(&rt, &[CHANGES])
 }

@@ -1,6 +1,6 @@
 //! Journeys over a town of four stops, with one thing wrong and with two: the first fault is told.
 
-use crate::tests::transcript::try_lines;
+use crate::tests::transcript::try_transcripts;
 use std::test::Fail;
 
 /// The image has seven connections of four trips with all kinds of flags, and footpaths from A to B
@@ -86,11 +86,6 @@ judge A D 07:00:00 09:00:00 10:00:00 ride 0 0 walk 1 1 0 ride 1 1 walk 2 2 0 rid
 judge A D 07:00:00 09:00:00 10:00:00 ride 0 0 walk 1 1 0 ride 1 1 walk 2 2 0 ride 3 3 | ok dep 08:00:00 arr 08:40:00
 ";
 
-#[test]
-fn faults_are_told_in_order(rt: HostRuntime) -> Result<(), Fail> {
-    try_lines(&rt, TOWN)
-}
-
 const TEXTS: &str = "
 # Texts that are no journeys.
 sample
@@ -117,6 +112,6 @@ judge A C 07:00:00 09:00:00 10:00:00 ride 0 0 ride | refused 80 BadText
 ";
 
 #[test]
-fn texts_are_no_journeys(rt: HostRuntime) -> Result<(), Fail> {
-    try_lines(&rt, TEXTS)
+fn faults_of_journeys_are_told_in_order(rt: HostRuntime) -> Result<(), Fail> {
+    try_transcripts(&rt, &[TOWN, TEXTS])
 }

@@ -104,6 +104,16 @@ impl<'a> Stage<'a> {
         }
     }
 
+    /// One more line stands ready that is to be printed.
+    fn prints(&mut self, line: &str) -> Result<(), Fail> {
+        Ok(add_line(&mut self.printed, line, "\n")?)
+    }
+
+    /// One more line stands ready that is to be told among the errors.
+    fn tells(&mut self, line: &str) -> Result<(), Fail> {
+        Ok(add_line(&mut self.told, line, "\n")?)
+    }
+
     fn take_image(&mut self, image: Vec<u32>) {
         self.image = image;
         self.bytes = usize::MAX;
@@ -118,11 +128,16 @@ fn number(text: &str) -> Result<u32, Fail> {
     }
 }
 
-fn image_of(alloc: Global, text: &str) -> Result<Vec<u32>, Fail> {
-    let mut words = Vec::new(alloc);
+fn add_numbers(words: &mut Vec<u32>, text: &str) -> Result<(), Fail> {
     for word in text.split(' ') {
         words.push(number(word)?)?;
     }
+    Ok(())
+}
+
+fn numbers(alloc: Global, text: &str) -> Result<Vec<u32>, Fail> {
+    let mut words = Vec::new(alloc);
+    add_numbers(&mut words, text)?;
     Ok(words)
 }
 
@@ -161,6 +176,16 @@ fn sample_of(alloc: Global, layout: &str) -> Result<Vec<u32>, AllocError> {
     match layout {
         "2" => second_sample_words().to_vec(alloc),
         _ => sample_words().to_vec(alloc),
+    }
+}
+
+/// The image that a line asks for.
+fn image_of(alloc: Global, kind: &str, text: &str) -> Result<Vec<u32>, Fail> {
+    match kind {
+        "image" => numbers(alloc, text),
+        "sample" => Ok(sample_of(alloc, text)?),
+        "zeros" => Ok(zeros(alloc, number(text)?)?),
+        _ => Ok(named_stop(alloc, number(text)?)?),
     }
 }
 
@@ -214,21 +239,43 @@ fn words_without_warnings<'a>(alloc: Global, text: &'a str) -> Result<Vec<&'a st
 /// criterion, or the legs.
 fn asked<'a>(alloc: Global, command: &'a str, text: &'a str) -> Result<Vec<&'a str>, Fail> {
     let mut words = vec![in alloc; "csa", command, "-"]?;
+    add_query(&mut words, text, command == "profile")?;
+    Ok(words)
+}
+
+const QUERY: [&str; 5] = ["--from", "--to", "--after", "--until", "--by"];
+
+/// Adds the words of a query, and what is asked.
+fn add_query<'a>(words: &mut Vec<&'a str>, text: &'a str, is_profile: bool) -> Result<(), Fail> {
     let mut rest = text;
-    for flag in ["--from", "--to", "--after", "--until", "--by"] {
+    for flag in QUERY.iter() {
         let Some((word, more)) = rest.split_once(' ') else {
             return Err(Fail::new("a query of five words, and what is asked"));
         };
-        words.push(flag)?;
+        words.push(*flag)?;
         words.push(word)?;
         rest = more;
     }
-    if command == "profile" {
+    if is_profile {
         words.push("--no-warnings")?;
         words.push("--criterion")?;
     }
-    words.push(rest)?;
-    Ok(words)
+    Ok(words.push(rest)?)
+}
+
+/// Takes the words of the next command.
+fn take_command<'a>(
+    alloc: Global,
+    stage: &mut Stage<'a>,
+    kind: &'a str,
+    rest: &'a str,
+) -> Result<(), Fail> {
+    let words = match kind {
+        "run" => words_of(alloc, rest)?,
+        "asks" => words_without_warnings(alloc, rest)?,
+        command => asked(alloc, command, rest)?,
+    };
+    stage.take_words(words)
 }
 
 fn add_line(text: &mut String, line: &str, end: &str) -> Result<(), AllocError> {
@@ -244,21 +291,36 @@ fn remove<R: Machine>(rt: &R, path: &str) -> Result<(), Fail> {
     }
 }
 
-/// Makes an empty file, or adds a line to the one that was made last.
-fn write<'a, R: Machine>(
+fn write<R: Machine>(rt: &R, path: &str, bytes: &[u8]) -> Result<(), Fail> {
+    Ok(fs::write(rt, path, bytes)?)
+}
+
+fn make_folder<R: Machine>(rt: &R, path: &str) -> Result<(), Fail> {
+    Ok(fs::create_dir(rt, path)?)
+}
+
+/// Makes an empty file.
+fn begin_file<'a, R: Machine>(rt: &R, stage: &mut Stage<'a>, path: &'a str) -> Result<(), Fail> {
+    stage.path = path;
+    stage.text.clear();
+    write(rt, path, b"")
+}
+
+/// Adds a line to the file that was made last.
+fn write_line<R: Machine>(
     rt: &R,
-    stage: &mut Stage<'a>,
-    kind: &str,
-    rest: &'a str,
+    stage: &mut Stage<'_>,
+    line: &str,
+    end: &str,
 ) -> Result<(), Fail> {
-    if kind == "file" {
-        stage.path = rest;
-        stage.text.clear();
-    } else {
-        let end = if kind == "crlf" { "\r\n" } else { "\n" };
-        add_line(&mut stage.text, rest, end)?;
+    add_line(&mut stage.text, line, end)?;
+    write(rt, stage.path, stage.text.as_bytes())
+}
+
+fn add_rows(rows: &mut String, lines: &str) -> Result<(), AllocError> {
+    for line in lines.split(" | ") {
+        add_line(rows, line, "\n")?;
     }
-    fs::write(rt, stage.path, stage.text.as_str())?;
     Ok(())
 }
 
@@ -268,10 +330,14 @@ fn write_rows<R: Machine>(rt: &R, text: &str) -> Result<(), Fail> {
         return Err(Fail::new("a file and its lines"));
     };
     let mut rows = String::new(rt.alloc());
-    for line in lines.split(" | ") {
-        add_line(&mut rows, line, "\n")?;
-    }
-    Ok(fs::write(rt, path, rows.as_str())?)
+    add_rows(&mut rows, lines)?;
+    write(rt, path, rows.as_bytes())
+}
+
+/// Puts the bytes of the input into a file.
+fn save<R: Machine>(rt: &R, stage: &Stage<'_>, path: &str) -> Result<(), Fail> {
+    let input = stage.input(rt.alloc())?;
+    write(rt, path, &input)
 }
 
 /// Runs the command on the input.
@@ -307,24 +373,62 @@ fn first_word(text: &str) -> Option<&str> {
     Some(word)
 }
 
-/// A text in which the seconds at the ends of lines are `#`.
-fn masked(alloc: Global, text: &str) -> Result<String, AllocError> {
-    let mut masked = String::new(alloc);
+/// Adds what stands behind the word `seconds`: a number that ends its line is `#`.
+fn add_masked(masked: &mut String, piece: &str) -> Result<(), AllocError> {
+    masked.push_str(" seconds ")?;
+    match piece.split_once('\n') {
+        Some((seconds, rest)) if seconds.contains('.') => {
+            masked.push_str("#\n")?;
+            masked.push_str(rest)
+        }
+        _ => masked.push_str(piece),
+    }
+}
+
+fn mask(masked: &mut String, text: &str) -> Result<(), AllocError> {
     let mut is_first = true;
     for piece in text.split(" seconds ") {
-        if !is_first {
-            masked.push_str(" seconds ")?;
-        }
-        match piece.split_once('\n') {
-            Some((seconds, rest)) if !is_first && seconds.contains('.') => {
-                masked.push_str("#\n")?;
-                masked.push_str(rest)?;
-            }
-            _ => masked.push_str(piece)?,
+        if is_first {
+            masked.push_str(piece)?;
+        } else {
+            add_masked(masked, piece)?;
         }
         is_first = false;
     }
+    Ok(())
+}
+
+/// A text in which the seconds at the ends of lines are `#`.
+fn masked(alloc: Global, text: &str) -> Result<String, AllocError> {
+    let mut masked = String::new(alloc);
+    mask(&mut masked, text)?;
     Ok(masked)
+}
+
+/// Something of a command is as it is to be.
+fn demand<R: Abort>(rt: &R, words: &[&str], is_right: bool, what: &str) {
+    assert!(rt; is_right, "{what} of {words:?}");
+}
+
+/// A command ends with a status.
+fn demand_status<R: Abort>(rt: &R, words: &[&str], outcome: &Outcome, status: u32) {
+    assert_eq!(rt; u32::from(outcome.status), status, "{words:?}");
+}
+
+/// The command printed and told the lines that stand ready, and ended with a status.
+fn compare<R: Machine + Abort>(
+    rt: &R,
+    stage: &Stage<'_>,
+    outcome: &Outcome,
+    status: &str,
+) -> Result<(), Fail> {
+    let (printed, told) = (stage.printed.as_str(), stage.told.as_str());
+    let is_told = is_told(rt.alloc(), printed, told, &outcome.errors)?;
+    let is_printed = outcome.output.as_slice() == printed.as_bytes();
+    demand(rt, &stage.words, is_printed, "the output");
+    demand(rt, &stage.words, is_told, "the errors");
+    demand_status(rt, &stage.words, outcome, number(status)?);
+    Ok(())
 }
 
 /// The command prints and tells the lines that stand ready, and ends with a status.
@@ -334,17 +438,7 @@ fn expect_lines<R: Machine + Net<Listener = TcpListener, Stream = TcpStream> + A
     status: &str,
 ) -> Result<(), Fail> {
     let outcome = run_on_stage(rt, stage)?;
-    let is_printed = outcome.output.as_slice() == stage.printed.as_bytes();
-    let is_told = is_told(
-        rt.alloc(),
-        stage.printed.as_str(),
-        stage.told.as_str(),
-        &outcome.errors,
-    )?;
-    let words = &stage.words;
-    assert!(rt; is_printed, "the output of {words:?}");
-    assert!(rt; is_told, "the errors of {words:?}");
-    assert_eq!(rt; u32::from(outcome.status), number(status)?, "{words:?}");
+    compare(rt, stage, &outcome, status)?;
     stage.printed.clear();
     stage.told.clear();
     Ok(())
@@ -371,8 +465,8 @@ fn answer_changed<R: Machine + Net<Listener = TcpListener, Stream = TcpStream> +
     let Some((word, answer)) = text.split_once(" | ") else {
         return Err(Fail::new("a word of the sample and an answer"));
     };
-    stage.take_image(sample_of(rt.alloc(), "")?);
-    set(&mut stage.image, word)?;
+    take_input(rt.alloc(), stage, "sample", "")?;
+    take_input(rt.alloc(), stage, "set", word)?;
     expect_last(rt, stage, answer)
 }
 
@@ -385,8 +479,15 @@ fn judge<'a, R: Machine + Net<Listener = TcpListener, Stream = TcpStream> + Abor
     let Some((journey, answer)) = text.split_once(" | ") else {
         return Err(Fail::new("a journey and its answer"));
     };
-    stage.take_words(asked(rt.alloc(), "journey", journey)?)?;
+    take_command(rt.alloc(), stage, "journey", journey)?;
     expect_last(rt, stage, answer)
+}
+
+/// The command printed something, or told something, and not both, and ended with a status.
+fn compare_any<R: Abort>(rt: &R, words: &[&str], outcome: &Outcome, prints: bool, status: u32) {
+    demand(rt, words, outcome.output.is_empty() != prints, "the output");
+    demand(rt, words, outcome.errors.is_empty() == prints, "the errors");
+    demand_status(rt, words, outcome, status);
 }
 
 /// The command prints something, or tells something, and not both, and ends with a status.
@@ -398,16 +499,7 @@ fn expect_any<R: Machine + Net<Listener = TcpListener, Stream = TcpStream> + Abo
 ) -> Result<(), Fail> {
     stage.all_compared()?;
     let outcome = run_on_stage(rt, stage)?;
-    let words = &stage.words;
-    assert!(rt;
-        outcome.output.is_empty() != prints,
-        "the output of {words:?}"
-    );
-    assert!(rt;
-        outcome.errors.is_empty() == prints,
-        "the errors of {words:?}"
-    );
-    assert_eq!(rt; u32::from(outcome.status), status, "{words:?}");
+    compare_any(rt, &stage.words, &outcome, prints, status);
     Ok(())
 }
 
@@ -418,17 +510,48 @@ fn expect_held<R: Machine + Abort>(rt: &R, stage: &Stage<'_>, path: &str) -> Res
     Ok(())
 }
 
+fn expect_none<R: Machine + Abort>(rt: &R, path: &str) -> Result<(), Fail> {
+    let is_there = fs::read(rt, path).is_ok();
+    assert!(rt; !is_there, "there is a file {path}");
+    Ok(())
+}
+
 /// Makes another input.
 fn take_input(alloc: Global, stage: &mut Stage<'_>, kind: &str, rest: &str) -> Result<(), Fail> {
     match kind {
-        "image" => stage.take_image(image_of(alloc, rest)?),
-        "sample" => stage.take_image(sample_of(alloc, rest)?),
-        "zeros" => stage.take_image(zeros(alloc, number(rest)?)?),
-        "name" => stage.take_image(named_stop(alloc, number(rest)?)?),
-        "set" => set(&mut stage.image, rest)?,
-        _ => stage.bytes = number(rest)? as usize,
+        "set" => set(&mut stage.image, rest),
+        "cut" => {
+            stage.bytes = number(rest)? as usize;
+            Ok(())
+        }
+        _ => {
+            stage.take_image(image_of(alloc, kind, rest)?);
+            Ok(())
+        }
     }
-    Ok(())
+}
+
+/// Makes files and folders, takes them away, or looks at one.
+fn follow_files<'a, R: Machine + Abort>(
+    rt: &R,
+    stage: &mut Stage<'a>,
+    kind: &str,
+    rest: &'a str,
+) -> Result<(), Fail> {
+    match kind {
+        "folder" => make_folder(rt, rest),
+        "file" => begin_file(rt, stage, rest),
+        "has" => write_line(rt, stage, rest, "\n"),
+        "crlf" => write_line(rt, stage, rest, "\r\n"),
+        "rows" => write_rows(rt, rest),
+        "remove" => remove(rt, rest),
+        "base" => base_feed::make(rt),
+        "with" => base_feed::change(rt, rest),
+        "saves" => save(rt, stage, rest),
+        "holds" => expect_held(rt, stage, rest),
+        "lacks" => expect_none(rt, rest),
+        _ => Err(Fail::new("no line of a transcript")),
+    }
 }
 
 /// Does what a line says.
@@ -446,44 +569,48 @@ fn follow<'a, R: Machine + Net<Listener = TcpListener, Stream = TcpStream> + Abo
             kind,
             rest,
         ),
-        "folder" => Ok(fs::create_dir(rt, rest)?),
-        "file" | "has" | "crlf" => write(rt, stage, kind, rest),
-        "rows" => write_rows(rt, rest),
-        "remove" => remove(rt, rest),
-        "base" => base_feed::make(rt),
-        "with" => base_feed::change(rt, rest),
-        "run" => stage.take_words(words_of(rt.alloc(), rest)?),
-        "asks" => stage.take_words(words_without_warnings(rt.alloc(), rest)?),
-        "profile" => stage.take_words(asked(rt.alloc(), "profile", rest)?),
+        "run" | "asks" | "profile" => take_command(rt.alloc(), stage, kind, rest),
         "judge" => judge(rt, stage, rest),
-        "prints" => Ok(add_line(&mut stage.printed, rest, "\n")?),
-        "tells" => Ok(add_line(&mut stage.told, rest, "\n")?),
+        "prints" => stage.prints(rest),
+        "tells" => stage.tells(rest),
         "ends" => expect_lines(rt, stage, rest),
         "answers" => expect_last(rt, stage, rest),
         "word" => answer_changed(rt, stage, rest),
         "complains" => expect_any(rt, stage, false, number(rest)?),
         "helps" => expect_any(rt, stage, true, 0),
-        "saves" => {
-            let input = stage.input(rt.alloc())?;
-            Ok(fs::write(rt, rest, input.as_slice())?)
-        }
-        "holds" => expect_held(rt, stage, rest),
-        "lacks" => {
-            assert!(rt; fs::read(rt, rest).is_err(), "there is a file {rest}");
-            Ok(())
-        }
-        _ => Err(Fail::new("no line of a transcript")),
+        _ => follow_files(rt, stage, kind, rest),
     }
 }
 
 /// Tries each line of a transcript in turn.
-pub(crate) fn try_lines<R: Machine + Net<Listener = TcpListener, Stream = TcpStream> + Abort>(
+fn follow_all<'a, R: Machine + Net<Listener = TcpListener, Stream = TcpStream> + Abort>(
+    rt: &R,
+    stage: &mut Stage<'a>,
+    transcript: &'a str,
+) -> Result<(), Fail> {
+    for line in transcript.split('\n') {
+        follow(rt, stage, line)?;
+    }
+    stage.ended()
+}
+
+/// Tries a transcript, with nothing left of those before it.
+fn try_one<R: Machine + Net<Listener = TcpListener, Stream = TcpStream> + Abort>(
     rt: &R,
     transcript: &str,
 ) -> Result<(), Fail> {
     let mut stage = Stage::empty(rt.alloc());
-    for line in transcript.split('\n') {
-        follow(rt, &mut stage, line)?;
+    follow_all(rt, &mut stage, transcript)
+}
+
+/// Tries transcripts one after another. A test of its own for each costs a proof that the machine
+/// has all that the program needs, each time.
+pub(crate) fn try_transcripts<R: Machine + Net<Listener = TcpListener, Stream = TcpStream> + Abort>(
+    rt: &R,
+    transcripts: &[&str],
+) -> Result<(), Fail> {
+    for transcript in transcripts {
+        try_one(rt, *transcript)?;
     }
-    stage.ended()
+    Ok(())
 }

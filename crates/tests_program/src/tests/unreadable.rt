@@ -1,6 +1,6 @@
 //! Files of a feed that can't be read: `csa build` prints which one it is.
 
-use crate::tests::transcript::try_lines;
+use crate::tests::transcript::try_transcripts;
 use std::test::Fail;
 
 const UNREAD: &str = "
@@ -76,5 +76,5 @@ remove base_feed
 
 #[test]
 fn files_that_cannot_be_read_are_printed(rt: HostRuntime) -> Result<(), Fail> {
-    try_lines(&rt, UNREAD)
+    try_transcripts(&rt, &[UNREAD])
 }

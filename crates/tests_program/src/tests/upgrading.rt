@@ -1,6 +1,6 @@
 //! `csa upgrade`: what is written, and what stays as it was.
 
-use crate::tests::transcript::try_lines;
+use crate::tests::transcript::try_transcripts;
 use std::test::Fail;
 
 const UPGRADES: &str = "
@@ -57,5 +57,5 @@ complains 64
 
 #[test]
 fn images_are_upgraded(rt: HostRuntime) -> Result<(), Fail> {
-    try_lines(&rt, UPGRADES)
+    try_transcripts(&rt, &[UPGRADES])
 }
