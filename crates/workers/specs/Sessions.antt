@@ -53,6 +53,17 @@ module _ {C R W : Type 0} (form : PointForm) (opens : C → Result (R × W) Conn
       × AreFromPublished history form session.serves.turns
   IsExact history number client None end a asked b asked_then = (fault : ConnFault) × opens client (Err fault) × IsUnopened end a asked b asked_then
 
+  -- over seats with these numbers and values
+  module _ {S : Type 0} (number : S → ℕ) (value : S → SeatValue) where
+    -- the clients are served at this seat one after the other, and each profile in their sessions is answered exactly, as this history has it
+    abbrev pub AreExact : Known → List C → List (Session R W) → S → List OrderValue → S → List OrderValue → Type 0
+    AreExact history [] [] a asked b asked_then = (b ≡ a) × (asked_then ≡ asked)
+    AreExact history (client ∷ clients) (session ∷ sessions) a asked b asked_then =
+        (m : S) × (between : List OrderValue)
+        × IsExact history (number a) client session.0 session.1 (value a) asked (value m) between
+        × AreExact history clients sessions m between b asked_then
+    AreExact history _ _ a asked b asked_then = ⊥
+
   -- over seats with these numbers, values, and parts of their shelves' one history that they know
   module _ {S : Type 0} (number : S → ℕ) (value : S → SeatValue) (known : S → Known) where
     -- a client is served at this seat, which learns meanwhile: each profile is answered over the image that the history published as its
@@ -75,22 +86,14 @@ module _ {C R W : Type 0} (form : PointForm) (opens : C → Result (R × W) Conn
         (m : S) × (between : List OrderValue) × IsServedAt client session a asked m between × AreServed clients sessions m between b asked_then
     AreServed _ _ _ _ _ _ = ⊥
 
-    -- so they are, and each profile in their sessions is answered exactly, as this history has it
-    abbrev pub AreExact : Known → List C → List (Session R W) → S → List OrderValue → S → List OrderValue → Type 0
-    AreExact history [] [] a asked b asked_then = (b ≡ a) × (asked_then ≡ asked)
-    AreExact history (client ∷ clients) (session ∷ sessions) a asked b asked_then =
-        (m : S) × (between : List OrderValue)
-        × IsExact history (number a) client session.0 session.1 (value a) asked (value m) between
-        × AreExact history clients sessions m between b asked_then
-    AreExact history _ _ a asked b asked_then = ⊥
-
     -- over notices of these versions, and what the workers' orders go by
     module _ {N : Type 0} (noted : N → ℕ) (route : OrderRoute) where
       -- a worker's share: these are these clients' sessions at its seat; if it held nothing, each profile in them is answered exactly, as the
       -- history has it that the seat knows in the end; all that was ordered in them was asked of these orders, which go this way
       abbrev pub IsShare : S → List C → WorkerOrdersValue N → List (Session R W) → S → Type 0
       IsShare seat clients orders sessions last = AreServed clients sessions seat [] last orders.asked
-          × ((value seat).held ≡ None → AreExact (known last) clients sessions seat [] last orders.asked) × IsAskedBy noted route orders
+          × ((value seat).held ≡ None → AreExact number value (known last) clients sessions seat [] last orders.asked)
+          × IsAskedBy noted route orders
 
       -- the sessions are the workers' shares, one behind the other: at each of the seats one hand of clients was served, with these orders, and it
       -- is so then
