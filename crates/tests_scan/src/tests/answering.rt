@@ -309,8 +309,13 @@ fn give_one_answer(alloc: Global, words: &[u32]) -> Result<bool, Fail> {
     }
     let mut in_place = InPlace::new(&image);
     let mut decoded = Decoded::of(alloc, &image)?;
-    let (found, again) =
-        laws::both_sources(alloc, &mut in_place, &mut decoded, &ArrivalTrips, &ASKED)?;
+    let (found, again) = laws::both_sources(
+        alloc,
+        &mut in_place,
+        &mut decoded,
+        &ArrivalTrips,
+        &ASKED,
+    )?;
     laws::found_answers(&found);
     Ok(depart_together(&found, &again))
 }
