@@ -75,7 +75,7 @@ module _ {C R W : Type 0} (form : PointForm) (opens : C → Result (R × W) Conn
     AreTold learned _ _ a asked b asked_then = ⊥
 
     -- over notices of these versions, and what the workers' orders go by
-    module _ {N : Type 0} (noted : N → ℕ) (route : OrderRoute) where
+    module _ {N : Type 0} (noted : N → ℕ) (route : OrderRoute N) where
       -- a worker's share: these are these clients' sessions at its seat, told over what the seat knows in the end to be published, all that was
       -- asked for in them was asked for by these orders, which go this way, and the seat is so then
       abbrev pub IsShare : S → List C → WorkerOrdersValue N → List (Session R W) → S → Type 0
