@@ -366,7 +366,10 @@ fn taken_of_closed<'a, R: Wait>(
     let _ = worker.order("fast");
     keeper.take_in(worker.into_used());
     keeper.close(rt);
-    let words = [take_and_answer(rt, &mut orders), take_and_answer(rt, &mut orders)];
+    let words = [
+        take_and_answer(rt, &mut orders),
+        take_and_answer(rt, &mut orders),
+    ];
     Ok((words, keeper.finish(orders).is_some()))
 }
 
