@@ -14,7 +14,7 @@ module _ {C R W : Type 0} (form : PointForm) (opens : C → Result (R × W) Conn
   -- these are the sessions of all clients who came, one for each, served at these seats and replied in this form
   abbrev pub AreSessionsOf : List ShelfSeatValue → List C → List (Session R W) → Type 0
   AreSessionsOf seats came sessions =
-      (route : OrderRoute) × (orders : List (WorkerOrdersValue NoticeValue)) × (lasts : List ShelfSeatValue)
+      (route : OrderRoute NoticeValue) × (orders : List (WorkerOrdersValue NoticeValue)) × (lasts : List ShelfSeatValue)
       × AreServedSince form opens remaining contents (λ (seat : ShelfSeatValue). seat.number) (λ seat. seat.shown) (λ seat. known_of seat.view)
       (λ (notice : NoticeValue). notice.version) route [] came seats orders sessions lasts
 
