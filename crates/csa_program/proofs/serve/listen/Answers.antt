@@ -21,5 +21,5 @@ returns-in-Ok-serve_door-clause-many g c =
 -- at the seats that were just made
 pub returns-in-Ok-serve_door-clause-hosted : goal.returns-in-Ok-serve_door-clause-hosted
 returns-in-Ok-serve_door-clause-hosted g c =
-    let made = c.in-Ok-shelves_of.made in
-    (made.0, made.2.items, c.in-Ok-shelves_of.ensures.new, c.in-Ok-serve_door.ensures.sessions)
+    let made = c.in-Ok.made in
+    (made.0, made.2.items, c.in-Ok.ensures.new, c.in-Ok-serve_door.ensures.sessions)

@@ -1,4 +1,4 @@
-use Rattle.std.proofs.Common.{◌∙◌, map, sym, subst}
+use Rattle.std.proofs.Common.{◌≡◌, ◌∙◌, map, sym, subst, IfOk, None}
 use Rattle.std.proofs.lemmas.List.{length-map}
 use Rattle.csa_program.specs.Door.{AreCountedOff}
 use Rattle.workers.specs.Ordering.{route_to}
@@ -22,5 +22,6 @@ returns-clause-many g c wanted counted =
 pub returns-clause-sessions : goal.returns-clause-sessions
 returns-clause-sessions g c =
     let ran = c.in_ok-ran.ran in
-    all_sessions _ _ _ c.form_of-form.result _ c.args.door.came ran.clients.came (route_to c.args.folders.now.names.items ran.orders.queue)
-    c.args.made.2.items ran.seats.items ran.asked ran.served c.form_of-form.ensures c.requires.nobody c.in_ok-ran.ensures.shares
+    all_sessions (λ visitor result. IfOk result (λ opened. opened.1 ≡ visitor.stream)) (λ _. None) (λ _. None) c.form_of-form.result _
+    c.args.door.came ran.clients.came (route_to c.args.folders.now.names.items ran.orders.queue) c.args.made.2.items ran.seats.items ran.asked
+    ran.served c.form_of-form.ensures c.requires.nobody c.in_ok-ran.ensures.shares
