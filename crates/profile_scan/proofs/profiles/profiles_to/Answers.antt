@@ -94,17 +94,17 @@ returns-clause-answers g c =
     (told t.footpaths (story_from state stop)).journey (Counts t (query_from d stop)) (IsPlain t d.target)
     (journey_value rules t) p) =
     λ stop.
-        let q = query_from d stop in
-        let can : CanScan t q = record {
-          legal = g.met.S.ConnSource.legal c.args.source.now;
-          limits = g.met.S.ConnSource.limits c.args.source.now;
-          in_time = c.requires.small.2;
-        } in
-        let bag = found_bag rules state.origins (λ k o at. bag_under g.C.Criterion.rules o.found.criterion criterion (points_of o.found)
-        (origins.under k o at) o.found.kept) stop in
-        let matches = subst (λ (asked : Query). HasFoundFrom rules t asked start state stop) c.query_from.ensures (c.in_ok-state.ensures.found stop) in
-        answered_from rules laws t q can start c.first_at-start.ensures (story_from state stop) (found_from state.origins stop)
-        (points_in (slice_get lists stop)) matches bag (c.in_ok-lists.ensures.lists stop) in
+    let q = query_from d stop in
+    let can : CanScan t q = record {
+      legal = g.met.S.ConnSource.legal c.args.source.now;
+      limits = g.met.S.ConnSource.limits c.args.source.now;
+      in_time = c.requires.small.2;
+    } in
+    let bag = found_bag rules state.origins (λ k o at. bag_under g.C.Criterion.rules o.found.criterion criterion (points_of o.found)
+    (origins.under k o at) o.found.kept) stop in
+    let matches = subst (λ (asked : Query). HasFoundFrom rules t asked start state stop) c.query_from.ensures (c.in_ok-state.ensures.found stop) in
+    answered_from rules laws t q can start c.first_at-start.ensures (story_from state stop) (found_from state.origins stop)
+    (points_in (slice_get lists stop)) matches bag (c.in_ok-lists.ensures.lists stop) in
     record {
       each = λ stop lt other. record { answer = (from stop).0; attained = (from stop).1; direct = ways.each stop lt };
       at_target = record {
