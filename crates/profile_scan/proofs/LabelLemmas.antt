@@ -12,7 +12,7 @@ use Rattle.fronts.specs.Labels.{AreLabels, labels_at}
 use Rattle.fronts.specs.Offered.{is_beaten, others}
 use Rattle.fronts.proofs.Slots.{labels_admitted}
 use Rattle.profile_scan.specs.Steps.{TakesIn}
-use Rattle.profile_scan.specs.Adding.{IsRelabelled, label_points, one_way, trip_points}
+use Rattle.profile_scan.specs.Adding.{IsRelabelled, label_points, one_way, only_if, trip_points}
 
 into_map : {X Y : Type 0} (f : X → Y) (xs : List X) (x : X) → Contains xs x → Contains (map f xs) (f x)
 into_map f [] x h = absurd (not_in_nil x h)
@@ -132,3 +132,14 @@ module _ {V : Type 0} (rules : Rules V) (laws : Laws rules) (old new : List (Lab
       → TakesIn rules (one_way 0 v fits) (label_points old) (label_points new)
   offered_takes true admitted fit is taken named = stands_takes admitted fit taken (named refl)
   offered_takes false admitted fit is taken named = falls_takes (beaten (is_beaten rules old v) is) taken
+
+-- a value that a label betters is taken in as it is, whether it is offered or not
+pub beaten_takes : {V : Type 0} (rules : Rules V) (labels : List (Label V)) (v : V) (fits : ℕ → Type 0) (P : Type 0)
+    → is_beaten rules labels v ≡ true → TakesIn rules (only_if P (one_way 0 v fits)) (label_points labels) (label_points labels)
+beaten_takes rules labels v fits P above = record {
+  only = λ q h. inl h;
+  kept = λ d w a c. c;
+  covered = λ way opened.
+      let l = one_passes (λ x. rules.no_worse x.value v) labels above in
+      (as_point l.0, into_map as_point labels l.0 l.1, omega arith, l.2);
+}

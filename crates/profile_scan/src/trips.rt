@@ -19,7 +19,7 @@ use crate::stops::Stops;
 use crate::story::Exit;
 use bags::Point;
 use criteria::Criterion;
-use fronts::{Labels, no_labels, offer_label};
+use fronts::{Labels, labels_of, no_labels, offer_label, some_no_worse};
 use std::alloc::{AllocError, Global};
 use timetable::{Connection, Footpath, Query};
 
@@ -74,7 +74,7 @@ impl<C: Criterion> Trips<C> {
     }
 
     // Offers the labels of the connection's trip one point of the stop where it ends, unless that is bettered after the
-    // ride.
+    // ride. Mostly a label is no worse already: so the labels are asked first, and the bound about what they leave.
     fn change_by(
         &mut self,
         asked: &Asked<C>,
@@ -93,6 +93,10 @@ impl<C: Criterion> Trips<C> {
             (one_way 0 point.now.value (IsExit tags (Changes hop.now.place point.now.tag))))
             self.old self.new) }
     {
+        let labels = labels_of(&asked.criterion, &self.labels, hop.connection.trip);
+        if some_no_worse(&asked.criterion, labels, &point.value) {
+            return Ok(());
+        }
         let ridden = asked.criterion.ride(&point.value);
         if is_bettered(&asked.criterion, hop.bound, &ridden) {
             return Ok(());

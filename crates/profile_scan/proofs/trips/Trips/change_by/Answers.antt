@@ -1,14 +1,39 @@
-use Rattle.std.proofs.Common.{◌≡◌, false, sym, ◌∙◌, ap, subst}
+use Rattle.std.proofs.Common.{◌≡◌, List, Contains, false, sym, ◌∙◌, ap, subst}
 use Rattle.std.proofs.lemmas.Bool.{true≢false}
 use Rattle.criteria.specs.Laws.{Admits}
+use Rattle.fronts.specs.declared.labels.Label.{Label}
+use Rattle.fronts.specs.Labels.{labels_at}
+use Rattle.fronts.specs.Offered.{is_beaten}
+use Rattle.fronts.proofs.Slots.{labels_admitted}
 use Rattle.profile_scan.specs.Bound.{is_bettered}
 use Rattle.profile_scan.specs.Matching.{from_to}
 use Rattle.profile_scan.specs.Story.{IsExit, told}
 use Rattle.profile_scan.specs.Adding.{one_way, trip_points}
 use Rattle.profile_scan.specs.declared.story.Exit.TheVariants.{Changes}
+use Rattle.profile_scan.proofs.LabelLemmas.{beaten_takes}
 use Rattle.profile_scan.proofs.Offers.{takes_if, takes_unless, on_ok_more}
 use Rattle.profile_scan.proofs.PartLemmas.{changes_none}
 use Rattle.profile_scan.proofs.trips.Trips.change_by.Goals as goal
+
+pub some_no_worse-requires-clause-points : goal.some_no_worse-requires-clause-points
+some_no_worse-requires-clause-points g c l h =
+    labels_admitted (g.C.Criterion.rules c.args.asked.now.criterion) c.args.self.now.labels c.requires.trip.labels
+    c.args.hop.now.connection.trip l (subst (λ (ls : List (Label g.row.C-V.Denot)). Contains ls l) c.labels_of-labels.ensures h)
+
+pub returns-then-some_no_worse-clause-takes : goal.returns-then-some_no_worse-clause-takes
+returns-then-some_no_worse-clause-takes g c walks steps set_outs before all ext_before ext =
+    let rules = g.C.Criterion.rules c.args.asked.now.criterion in
+    let p = c.args.point.now in
+    let labels = labels_at c.args.self.now.labels c.args.hop.now.connection.trip in
+    let above = ap (λ (ls : List (Label g.row.C-V.Denot)). is_beaten rules ls p.value) (sym c.labels_of-labels.ensures)
+    ∙ sym c.some_no_worse.ensures ∙ c.if-some_no_worse.true in
+    beaten_takes rules labels p.value (IsExit (from_to (told walks before) (told walks all)) (Changes c.args.hop.now.place p.tag))
+    (is_bettered rules c.args.hop.now.bound.now (rules.ride p.value) ≡ false) above
+
+pub returns-then-some_no_worse-clause-trip : goal.returns-then-some_no_worse-clause-trip
+returns-then-some_no_worse-clause-trip g c =
+    changes_none (g.C.Criterion.rules c.args.asked.now.criterion) c.args.hop.now.connection.trip c.args.self.now
+    c.requires.trip
 
 pub is_bettered-requires-clause-value : goal.is_bettered-requires-clause-value
 is_bettered-requires-clause-value g c =
