@@ -410,11 +410,6 @@ fn demand<R: Abort>(rt: &R, words: &[&str], is_right: bool, what: &str) {
     assert!(rt; is_right, "{what} of {words:?}");
 }
 
-/// A command ends with a status.
-fn demand_status<R: Abort>(rt: &R, words: &[&str], outcome: &Outcome, status: u32) {
-    assert_eq!(rt; u32::from(outcome.status), status, "{words:?}");
-}
-
 /// The command printed and told the lines that stand ready, and ended with a status.
 fn compare<R: Machine + Abort>(
     rt: &R,
@@ -427,7 +422,8 @@ fn compare<R: Machine + Abort>(
     let is_printed = outcome.output.as_slice() == printed.as_bytes();
     demand(rt, &stage.words, is_printed, "the output");
     demand(rt, &stage.words, is_told, "the errors");
-    demand_status(rt, &stage.words, outcome, number(status)?);
+    let is_ended = u32::from(outcome.status) == number(status)?;
+    demand(rt, &stage.words, is_ended, "the status");
     Ok(())
 }
 
@@ -487,7 +483,7 @@ fn judge<'a, R: Machine + Net<Listener = TcpListener, Stream = TcpStream> + Abor
 fn compare_any<R: Abort>(rt: &R, words: &[&str], outcome: &Outcome, prints: bool, status: u32) {
     demand(rt, words, outcome.output.is_empty() != prints, "the output");
     demand(rt, words, outcome.errors.is_empty() == prints, "the errors");
-    demand_status(rt, words, outcome, status);
+    demand(rt, words, u32::from(outcome.status) == status, "the status");
 }
 
 /// The command prints something, or tells something, and not both, and ends with a status.
