@@ -36,7 +36,7 @@ counts_are {R} {W} sessions =
 
 module _ {C R W S N : Type 0} (form : PointForm) (opens : C → Result (R × W) ConnFault → Type 0)
     (remaining : R → Option (List ℕ)) (contents : W → Option (List ℕ))
-    (number : S → ℕ) (value : S → SeatValue) (known : S → Known) (noted : N → ℕ) (route : OrderRoute) where
+    (number : S → ℕ) (value : S → SeatValue) (known : S → Known) (noted : N → ℕ) (route : OrderRoute N) where
   -- one session for each client of a hand
   hand_many : (clients : List C) (sessions : List (Session R W)) (a b : S) (asked asked_then : List OrderValue)
       → AreServed form opens remaining contents number value known clients sessions a asked b asked_then → length sessions ≡ length clients

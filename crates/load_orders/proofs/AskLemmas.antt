@@ -7,11 +7,11 @@ use Rattle.load_orders.specs.Asking.{AreAsked, Does, HasAsked, Hears, IsFirst, I
 use Rattle.load_orders.specs.Asking.{IsPutAt, nothing_asked, once_tried, order_of, route_of, unasked}
 use Rattle.load_orders.specs.Queue.{EndValue, QueueId}
 use Rattle.load_orders.specs.Ways.{WayValue}
-use Rattle.load_orders.specs.declared.queue.Known.{Known}
-use Rattle.load_orders.specs.declared.queue.Order.{Order}
+use Rattle.load_orders.specs.declared.queue.Arrival.{Arrival}
+use Rattle.load_orders.specs.declared.queue.Side.{Side}
 use Rattle.load_orders.specs.declared.ways.LoadAnswer.{LoadAnswer}
 
-module _ {N : Type 0} (holds : List (Order N) → List Known → Type 0) (noted : N → ℕ) where
+module _ {N : Type 0} (holds : List (Arrival N) → List Side → Type 0) (noted : N → ℕ) where
   one_more : (orders : List OrderValue) (order : OrderValue) (a b c : WorkerOrdersValue N) → AreAsked holds noted orders a b
       → Does holds noted order.feed order.outcome b c → IsNoted order b c → AreAsked holds noted (orders ++ order ∷ []) a c
   one_more [] order a b c is does same = (
@@ -27,11 +27,11 @@ module _ {N : Type 0} (holds : List (Order N) → List Known → Type 0) (noted 
       → IsNoted order b c → HasAsked holds noted c
   asked_once_more order b c is does noted_so =
       let all = one_more b.asked order (nothing_asked (route_of b) is.0) b c is.1 does noted_so in
-      let here = subst (λ (route : OrderRoute). AreAsked holds noted (b.asked ++ order ∷ []) (nothing_asked route is.0) c) (sym noted_so.0) all in
+      let here = subst (λ (route : OrderRoute N). AreAsked holds noted (b.asked ++ order ∷ []) (nothing_asked route is.0) c) (sym noted_so.0) all in
       (is.0, subst (λ (orders : List OrderValue). AreAsked holds noted orders (nothing_asked (route_of c) is.0) c) (sym noted_so.1) here)
 
   -- what an order did shows whatever was asked for before
-  does_so : (feed : List ℕ) (outcome : Outcome) (names : List (List ℕ)) (end end_then : EndValue) (asked asked_then : List OrderValue)
+  does_so : (feed : List ℕ) (outcome : Outcome) (names : List (List ℕ)) (end end_then : EndValue N) (asked asked_then : List OrderValue)
       (heard heard_then : List (WayValue N))
       → Does holds noted feed outcome (unasked names end heard) (unasked names end_then heard_then)
       → Does holds noted feed outcome (record { names = names; end = end; asked = asked; heard = heard })
@@ -50,20 +50,20 @@ module _ {N : Type 0} (holds : List (Order N) → List Known → Type 0) (noted 
   does_so feed (Outcome.Waited (Err OrderFault.LoaderGone)) names end end_then asked asked_then heard heard_then does = does
 
   -- one order more, by what it did at the end of the queue and what was heard of it
-  pub asked_more : (order : OrderValue) (names : List (List ℕ)) (end end_then : EndValue) (asked asked_then : List OrderValue)
+  pub asked_more : (order : OrderValue) (names : List (List ℕ)) (end end_then : EndValue N) (asked asked_then : List OrderValue)
       (heard heard_then : List (WayValue N)) → HasAsked holds noted (record { names = names; end = end; asked = asked; heard = heard })
       → Does holds noted order.feed order.outcome (unasked names end heard) (unasked names end_then heard_then)
       → end_then.queue ≡ end.queue → asked_then ≡ asked ++ order ∷ []
       → HasAsked holds noted (record { names = names; end = end_then; asked = asked_then; heard = heard_then })
   asked_more order names end end_then asked asked_then heard heard_then is does queue grows =
-      let To : QueueId → OrderRoute = λ q. record { names = names; queue = q } in
+      let To : QueueId N → OrderRoute N = λ q. record { names = names; queue = q } in
       let before : WorkerOrdersValue N = record { names = names; end = end; asked = asked; heard = heard } in
       let after : WorkerOrdersValue N = record { names = names; end = end_then; asked = asked_then; heard = heard_then } in
       asked_once_more order before after is
       (does_so order.feed order.outcome names end end_then asked asked_then heard heard_then does) (ap To queue, grows)
 
   -- an order that was put, or for which there was no room
-  pub does_put : (feed : List ℕ) (place : ℕ) (outcome : Result (Unit {0}) OrderFault) (names : List (List ℕ)) (end end_then : EndValue)
+  pub does_put : (feed : List ℕ) (place : ℕ) (outcome : Result (Unit {0}) OrderFault) (names : List (List ℕ)) (end end_then : EndValue N)
       (heard : List (WayValue N)) → IsFirst names feed place → OnOk outcome (IsPutAt end (order_of place) end_then)
       → IfErr outcome (λ fault. IsTurnedAway holds end fault × (end_then ≡ once_tried end))
       → Does holds noted feed (Outcome.Put outcome) (unasked names end heard) (unasked names end_then heard)
@@ -75,10 +75,20 @@ module _ {N : Type 0} (holds : List (Order N) → List Known → Type 0) (noted 
   does_put feed place (Err OrderFault.LoaderGone) names end end_then heard first put refused = ((place, first), refused.1, refl)
 
   -- an order that was waited for
-  pub does_wait : (feed : List ℕ) (told : Result (ℕ × N) OrderFault) (names : List (List ℕ)) (end end_then : EndValue)
+  pub does_wait : (feed : List ℕ) (told : Result (ℕ × N) OrderFault) (names : List (List ℕ)) (end end_then : EndValue N)
       (heard heard_then : List (WayValue N)) → IfOk told (λ r. noted r.1 ≡ r.0)
       → IfOk told (λ r. Hears feed (Some (LoadAnswer.Published r.1)) (unasked names end heard) (unasked names end_then heard_then))
       → IfErr told (λ fault. RefusesVersion holds feed fault (unasked names end heard) (unasked names end_then heard_then))
       → Does holds noted feed (Outcome.Waited (version_told told)) (unasked names end heard) (unasked names end_then heard_then)
   does_wait feed (Ok r) names end end_then heard heard_then version hears refused = (r.1, version, hears)
   does_wait feed (Err fault) names end end_then heard heard_then version hears refused = refused
+
+  -- why none came shows whatever was asked for before
+  pub refused_so : (feed : List ℕ) (told : Result (ℕ × N) OrderFault) (names : List (List ℕ)) (end end_then : EndValue N)
+      (asked asked_then : List OrderValue) (heard heard_then : List (WayValue N))
+      → IfErr told (λ fault. RefusesVersion holds feed fault (unasked names end heard) (unasked names end_then heard_then))
+      → IfErr told (λ fault. RefusesVersion holds feed fault (record { names = names; end = end; asked = asked; heard = heard })
+      (record { names = names; end = end_then; asked = asked_then; heard = heard_then }))
+  refused_so feed (Ok r) names end end_then asked asked_then heard heard_then refused = refused
+  refused_so feed (Err fault) names end end_then asked asked_then heard heard_then refused =
+      does_so feed (Outcome.Waited (Err fault)) names end end_then asked asked_then heard heard_then refused

@@ -5,32 +5,32 @@ use Rattle.orders.specs.declared.fault.OrderFault.{OrderFault}
 use Rattle.orders.specs.declared.ordered.Outcome.{Outcome}
 use Rattle.load_orders.specs.Queue.{EndValue, Held, QueueId}
 use Rattle.load_orders.specs.Ways.{WayId, WayValue, heard_at}
-use Rattle.load_orders.specs.declared.queue.Order.{Order}
-use Rattle.load_orders.specs.declared.queue.Known.{Known}
+use Rattle.load_orders.specs.declared.queue.Arrival.{Arrival}
 use Rattle.load_orders.specs.declared.queue.OrderMark.{OrderMark}
+use Rattle.load_orders.specs.declared.queue.Side.{Side}
 use Rattle.load_orders.specs.declared.ways.LoadAnswer.{LoadAnswer}
 
 pub record WorkerOrdersValue (N : Type 0) : Type 0 where
   pub names : List (List ℕ)  -- of the feeds, by place
-  pub end : EndValue  -- by which it orders feeds, by place
+  pub end : EndValue N  -- by which it orders feeds, by place
   pub asked : List OrderValue  -- all orders that were asked for here, refused ones too
   pub heard : List (WayValue N)  -- the ways back at which it waited, with what was heard there
 
 -- what a worker's orders go by: the names of the feeds, by place, and the queue
-pub record OrderRoute : Type 0 where
+pub record OrderRoute (N : Type 0) : Type 0 where
   pub names : List (List ℕ)
-  pub queue : QueueId
+  pub queue : QueueId N
 
-abbrev pub route_of : {N : Type 0} → WorkerOrdersValue N → OrderRoute
+abbrev pub route_of : {N : Type 0} → WorkerOrdersValue N → OrderRoute N
 route_of orders = record { names = orders.names; queue = orders.end.queue }
 
 -- nothing was asked for yet, by an end that may have tried to put orders
-abbrev pub nothing_asked : {N : Type 0} → OrderRoute → ℕ → WorkerOrdersValue N
+abbrev pub nothing_asked : {N : Type 0} → OrderRoute N → ℕ → WorkerOrdersValue N
 nothing_asked route tries =
     record { names = route.names; end = record { queue = route.queue; orders = []; tries = tries }; asked = []; heard = [] }
 
 -- what is asked for isn't looked at
-abbrev pub unasked : {N : Type 0} → List (List ℕ) → EndValue → List (WayValue N) → WorkerOrdersValue N
+abbrev pub unasked : {N : Type 0} → List (List ℕ) → EndValue N → List (WayValue N) → WorkerOrdersValue N
 unasked names end heard = record { names = names; end = end; asked = []; heard = heard }
 
 -- the first feed of this name
@@ -56,11 +56,11 @@ abbrev pub awaited_order : ℕ → WayId → OrderMark
 awaited_order place way = record { feed = place; way = Some way }
 
 -- the end, once it has tried to put an order, and none was put
-abbrev pub once_tried : EndValue → EndValue
+abbrev pub once_tried : {N : Type 0} → EndValue N → EndValue N
 once_tried end = record end { tries = end.tries + 1 }
 
 -- this order is put, by one try
-abbrev pub IsPutAt : EndValue → OrderMark → EndValue → Type 0
+abbrev pub IsPutAt : {N : Type 0} → EndValue N → OrderMark → EndValue N → Type 0
 IsPutAt before order after = (after.orders ≡ before.orders ++ order ∷ []) × (after.tries ≡ before.tries + 1)
 
 -- an order of the first feed of this name is put
@@ -86,15 +86,15 @@ abbrev pub IsNoted : {N : Type 0} → OrderValue → WorkerOrdersValue N → Wor
 IsNoted order before after = (route_of after ≡ route_of before) × (after.asked ≡ before.asked ++ order ∷ [])
 
 -- over the rule of the queue: what it holds, and what its ends know
-module _ {N : Type 0} (holds : List (Order N) → List Known → Type 0) where
+module _ {N : Type 0} (holds : List (Arrival N) → List Side → Type 0) where
   -- why the queue takes no order: it held four at one moment since this try began
-  abbrev pub IsTurnedAway : EndValue → OrderFault → Type 0
-  IsTurnedAway end OrderFault.OrdersFull = Held holds 4 (λ known. (known.orders ≡ end.orders) × (known.tries ≡ end.tries + 1))
+  abbrev pub IsTurnedAway : EndValue N → OrderFault → Type 0
+  IsTurnedAway end OrderFault.OrdersFull = Held holds 4 (Side.Putting end.orders (end.tries + 1))
   IsTurnedAway end OrderFault.LoaderGone = ⊤
   IsTurnedAway end _ = ⊥
 
   -- why no order is put that would be waited for: nothing was tried where there was no memory for a way back
-  abbrev pub IsNotAwaited : EndValue → OrderFault → EndValue → Type 0
+  abbrev pub IsNotAwaited : EndValue N → OrderFault → EndValue N → Type 0
   IsNotAwaited end OrderFault.OutOfMemory end_then = end_then ≡ end
   IsNotAwaited end fault end_then = IsTurnedAway end fault × (end_then ≡ once_tried end)
 

@@ -12,10 +12,11 @@ pub record AnsweredValue (N : Type 0) : Type 0 where
 
 -- the loader's end of a queue
 pub record LoaderOrdersValue (N : Type 0) : Type 0 where
-  pub queue : QueueId
+  pub queue : QueueId N
   pub taken : List OrderMark  -- in order
   pub answered : List (AnsweredValue N)  -- in order
   pub over : Bool  -- it asked for another one, and none came
+  pub closed : Bool  -- the queue was closed for it
 
 -- each order that was taken was answered
 abbrev pub AllAnswered : {N : Type 0} → LoaderOrdersValue N → Type 0

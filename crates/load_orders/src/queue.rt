@@ -4,8 +4,8 @@ ghost use Rattle.std.specs.Prelude.{Option};
 ghost use Rattle.atomic_table.specs.Seated.{TableId};
 
 use crate::ways::WayBack;
-use crossbeam_channel::protocol::{Lesson, Outcome, Protocol, Split};
-use crossbeam_channel::{RuledReceiver, RuledSender};
+use crossbeam_channel::protocol::{Join, Lesson, Outcome, Protocol, Split};
+use crossbeam_channel::{Pass, RuledReceiver, RuledSender};
 use std::alloc::Global;
 use std::collections::LinkedList;
 use std::marker::{Model, PhantomData};
@@ -34,32 +34,70 @@ impl Model for OrderMark {
     ghost also_owns = { λ _. ftrue };
 }
 
-/// What an end of the queue knows: the orders that it put or took, in order, how often it tried to put one, and whether
-/// it puts and takes: what is split from it for a try does neither. No value of it is made.
-pub struct Known {
-    pub orders: LinkedList<OrderMark>,
-    pub tries: u64,
-    pub live: bool,
+/// What waits in the queue.
+#[derive(Drop)]
+pub enum Arrival<N: Drop> {
+    /// An order.
+    Order { order: Order<N> },
+    /// The loader that takes this takes no more.
+    Closing,
+}
+
+/// What the end knows that keeps the queue. No value of it is made.
+pub struct KeeperView {
+    /// The orders that were put at the ends that came back.
+    pub put: LinkedList<OrderMark>,
+    /// Those that the loader had taken, once it came back.
+    pub taken: LinkedList<OrderMark>,
+    /// How many ends are out at which orders are put.
+    pub out: u64,
+    /// How many are out at which they are taken.
+    pub loading: u64,
+    /// How often the queue was closed.
+    pub closings: u64,
+    /// How many closings the loader had taken, once it came back.
+    pub ended: u64,
+}
+
+/// What an end of the queue knows. No value of it is made.
+pub enum Side {
+    /// The end that keeps the queue.
+    Keeping {
+        view: KeeperView,
+    },
+    /// An end at which orders are put: which were, in order, and how often it was tried.
+    Putting {
+        orders: LinkedList<OrderMark>,
+        tries: u64,
+    },
+    /// An end at which they are taken: which were, in order, and how many closings.
+    Taking {
+        orders: LinkedList<OrderMark>,
+        ended: u64,
+    },
+    /// What is left of an end that came back, or that was split off for a try.
+    Rests,
 }
 
 /// A rule of queues of orders, which each order that is put or taken and each try keeps. Of how it begins nothing is
 /// said here, nor that there may be one end more: so that it held of some orders at some moment, only the queue itself
 /// can say.
-pub trait OrderRule<N: Drop>: Protocol<Order<N>, Known> {
+pub trait OrderRule<N: Drop>: Protocol<Arrival<N>, Side> {
     ghost use Rattle.load_orders.specs.Queue.{IsKept};
 
     ghost kept: { IsKept Self.holds };
 }
 
-/// The rule: the queue holds at most four orders.
+/// The rule: at most four wait, each order that was put was taken once or waits, and no other was or does; and none
+/// waits once the loader has taken a closing.
 pub struct Waiting;
 
-impl<N: Drop> Protocol<Order<N>, Known> for Waiting {
-    ghost use Rattle.load_orders.specs.Queue.{nothing, waiting};
+impl<N: Drop> Protocol<Arrival<N>, Side> for Waiting {
+    ghost use Rattle.load_orders.specs.Queue.{new_queue, waiting};
 
     ghost holds = { waiting };
 
-    ghost first = { nothing };
+    ghost first = { new_queue };
 }
 
 impl<N: Drop> OrderRule<N> for Waiting {
@@ -68,51 +106,83 @@ impl<N: Drop> OrderRule<N> for Waiting {
     ghost kept = { four_at_most };
 }
 
-/// An order joins the queue, or leaves it. No value of it is made.
+/// An arrival joins the queue, or leaves it. No value of it is made.
 pub struct Moves<P> {
     rule: PhantomData<P>,
 }
 
-impl<N: Drop, P> Outcome<Order<N>, Known> for Moves<P> {
+impl<N: Drop, P> Outcome<Arrival<N>, Side> for Moves<P> {
     ghost use Rattle.load_orders.specs.Queue.{IsOneMore};
 
     ghost then = { IsOneMore };
 }
 
-impl<N: Drop, P: OrderRule<N>> Lesson<Order<N>, Known> for Moves<P> {
-    ghost use Rattle.std.specs.Prelude.{◌≡◌, ℕ, List};
-    ghost use mathlib.Core.Option.{some};
-    ghost use lib.ListN.{get_elem?};
-    ghost use Rattle.load_orders.specs.declared.queue.Known.{Known};
+impl<N: Drop, P: OrderRule<N>> Lesson<Arrival<N>, Side> for Moves<P> {
+    ghost use Rattle.load_orders.specs.Queue.{IsHeldBeside};
 
-    ghost fact = { λ view items. (views : List Known) × (pass : ℕ) × P.Protocol.holds items views
-        × (get_elem? views pass ≡ some view) };
+    ghost fact = { IsHeldBeside P.Protocol.holds };
 }
 
-/// An end tries to put an order. What is split from it for that puts and takes nothing, and is let go.
+/// An end tries to put an order. What is split from it for that is let go.
 pub struct Tries;
 
-impl Split<Known> for Tries {
-    ghost use Rattle.load_orders.specs.Queue.{let_go, tried};
+impl Split<Side> for Tries {
+    ghost use Rattle.load_orders.specs.Queue.{tried};
+    ghost use Rattle.load_orders.specs.declared.queue.Side.{Side};
 
-    ghost left = { λ view. tried view };
+    ghost left = { tried };
 
-    ghost right = { λ view. let_go };
+    ghost right = { λ view. Side.Rests };
 }
 
-/// One end more, which has put and taken nothing.
-pub struct Another;
+/// An end goes out, at which no order was put yet.
+pub struct GoesOut;
 
-impl Split<Known> for Another {
-    ghost use Rattle.load_orders.specs.Queue.{nothing};
+impl Split<Side> for GoesOut {
+    ghost use Rattle.load_orders.specs.Queue.{new_end, with_end_out};
 
-    ghost left = { λ view. view };
+    ghost left = { with_end_out };
 
-    ghost right = { λ view. nothing };
+    ghost right = { λ view. new_end };
 }
 
-/// A worker's end of the queue, which puts orders.
-pub type OrderSender<N, P> = RuledSender<Order<N>, Known, P, Global>;
+/// The loader's end goes out, at which none was taken yet.
+pub struct Loads;
+
+impl Split<Side> for Loads {
+    ghost use Rattle.load_orders.specs.Queue.{new_loader, with_loader_out};
+
+    ghost left = { with_loader_out };
+
+    ghost right = { λ view. new_loader };
+}
+
+/// An end comes back.
+pub struct ComesBack;
+
+impl Join<Side> for ComesBack {
+    ghost use Rattle.load_orders.specs.Queue.{with_back};
+    ghost use Rattle.load_orders.specs.declared.queue.Side.{Side};
+
+    ghost both = { with_back };
+
+    ghost spent = { Side.Rests };
+}
+
+/// Once all ends are back, and the loader has taken a closing: what was taken is what was put.
+pub struct AllBack;
+
+impl<N: Drop> Lesson<Arrival<N>, Side> for AllBack {
+    ghost use Rattle.load_orders.specs.Queue.{KnowsAllTaken};
+
+    ghost fact = { λ view items. KnowsAllTaken view };
+}
+
+/// The end of the queue that keeps it, or at which orders are put.
+pub type OrderSender<N, P> = RuledSender<Arrival<N>, Side, P, Global>;
 
 /// The loader's end of the queue, which takes orders.
-pub type OrderReceiver<N, P> = RuledReceiver<Order<N>, Known, P, Global>;
+pub type OrderReceiver<N, P> = RuledReceiver<Arrival<N>, Side, P, Global>;
+
+/// What an end of the queue knows, as a claim to it.
+pub type OrderPass<N> = Pass<Arrival<N>, Side>;

@@ -1,9 +1,12 @@
 //! The queue of load orders, and the way back to who waits.
 
 ghost use Rattle.std.specs.Prelude.{◌≡◌, []};
+ghost use Rattle.load_orders.specs.Telling.{AllAnswered};
 
 use epochs::{Answer, Edition, PinFault, Versions};
-use load_orders::{LoadAnswer, LoaderOrders, OrderFault, Orders, WorkerOrders, order_queue};
+use load_orders::{
+    LoadAnswer, LoaderOrders, OrderFault, OrderKeeper, Orders, WorkerOrders, order_queue,
+};
 use std::alloc::{AllocError, Global};
 use std::marker::Model;
 use std::process::Abort;
@@ -117,22 +120,32 @@ impl Loader {
 
     /// The name of the next order's feed.
     fn next_words<R: Wait>(&mut self, rt: &R) -> &'static str {
-        let Some(order) = self.orders.next(rt) else {
-            return "nothing";
-        };
-        let feed = order.feed;
-        self.orders.answer(rt, order, LoadAnswer::Unnoticed);
-        match feed {
-            0 => "slow",
-            1 => "fast",
-            _ => "another",
-        }
+        take_and_answer(rt, &mut self.orders)
     }
 }
 
-/// Two workers' ends of a queue and the loader's, while they are there.
+/// Takes the next order and answers it: the name of its feed.
+fn take_and_answer<R: Wait>(rt: &R, orders: &mut LoaderOrders<u64>) -> &'static str
+    requires answered { AllAnswered orders.old }
+    ensures answered { AllAnswered orders.new }
+    ensures queue { orders.new.queue ≡ orders.old.queue }
+{
+    let Some(order) = orders.next(rt) else {
+        return "nothing";
+    };
+    let feed = order.feed;
+    orders.answer(rt, order, LoadAnswer::Unnoticed);
+    match feed {
+        0 => "slow",
+        1 => "fast",
+        _ => "another",
+    }
+}
+
+/// The end that keeps a queue, two workers' and the loader's, while they are there.
 #[derive(Drop)]
 struct Ends<'a, R: Wait> {
+    keeper: Option<OrderKeeper<u64>>,
     workers: Vec<Worker<'a, R>>,
     loader: Option<Loader>,
 }
@@ -144,11 +157,14 @@ fn new_ends<'a, R: Wait>(
     shelves: &'a Numbers<'a, R>,
 ) -> Result<Ends<'a, R>, AllocError> {
     let rt = shelves.rt;
-    let (mut end, loader) = order_queue(alloc)?;
+    let (mut keeper, loader) = order_queue(alloc)?;
+    let one = keeper.another_end()?;
+    let other = keeper.another_end()?;
     let mut workers = Vec::with_capacity(alloc, 2)?;
-    workers.push(WorkerOrders::new(rt, alloc, names, shelves, end.another()?))?;
-    workers.push(WorkerOrders::new(rt, alloc, names, shelves, end))?;
+    workers.push(WorkerOrders::new(rt, alloc, names, shelves, one))?;
+    workers.push(WorkerOrders::new(rt, alloc, names, shelves, other))?;
     Ok(Ends {
+        keeper: Some(keeper),
         workers,
         loader: Some(Loader::new(loader)),
     })
@@ -182,7 +198,7 @@ impl<'a, R: Wait> Ends<'a, R> {
     /// | `one orders FEED`, `other orders FEED` | the worker orders the feed |
     /// | `one awaits FEED`, `other awaits FEED` | the worker orders it and waits |
     /// | `loader takes` | the loader takes an order and answers it: its feed |
-    /// | `loader goes`, `workers go` | their ends are let go |
+    /// | `loader goes`, `workers go` | their ends are let go, those of the workers with the one that keeps the queue |
     fn answer(&mut self, rt: &R, deed: &str) -> &'static str {
         match deed {
             "loader goes" => {
@@ -191,6 +207,7 @@ impl<'a, R: Wait> Ends<'a, R> {
             }
             "workers go" => {
                 self.workers.clear();
+                self.keeper = None;
                 "gone"
             }
             "loader takes" => self.take(rt),
@@ -299,7 +316,8 @@ fn tells<'a, R: Threads + Wait + Sync + Abort>(
     expected: Result<(u64, u64), OrderFault>,
 ) -> Result<(), Fail> {
     let rt = shelves.rt;
-    let (end, loader) = order_queue(alloc)?;
+    let (mut keeper, loader) = order_queue(alloc)?;
+    let end = keeper.another_end()?;
     let mut worker = WorkerOrders::new(rt, alloc, names, shelves, end);
     let (version, feed) = told(rt, &mut worker, Loader::new(loader), answer);
     assert!(rt; version == expected && feed == Some(1));
@@ -333,6 +351,36 @@ fn each_answer<R: Threads + Wait + Sync + Abort>(
 fn answers_are_told(rt: HostRuntime) -> Result<(), Fail> {
     let names = two_names(rt.alloc())?;
     each_answer(&rt, rt.alloc(), &names)
+}
+
+/// What the loader takes of a queue that was closed behind one order, and whether all that was put was taken.
+fn taken_of_closed<'a, R: Wait>(
+    alloc: Global,
+    names: &'a [String],
+    shelves: &'a Numbers<'a, R>,
+) -> Result<([&'static str; 2], bool), AllocError> {
+    let rt = shelves.rt;
+    let (mut keeper, mut orders) = order_queue(alloc)?;
+    let end = keeper.another_end()?;
+    let mut worker = WorkerOrders::new(rt, alloc, names, shelves, end);
+    let _ = worker.order("fast");
+    keeper.take_in(worker.into_used());
+    keeper.close(rt);
+    let words = [
+        take_and_answer(rt, &mut orders),
+        take_and_answer(rt, &mut orders),
+    ];
+    Ok((words, keeper.finish(orders).is_some()))
+}
+
+/// A queue that is closed gives the order that was put before, and no more, though the end that keeps it is there.
+#[test]
+fn a_closed_queue_gives_no_more(rt: HostRuntime) -> Result<(), Fail> {
+    let names = two_names(rt.alloc())?;
+    let shelves = Numbers { rt: &rt };
+    let (words, all) = taken_of_closed(rt.alloc(), &names, &shelves)?;
+    assert!(rt; words == ["fast", "nothing"] && all);
+    Ok(())
 }
 
 /// Four orders wait.

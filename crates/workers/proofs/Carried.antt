@@ -14,7 +14,7 @@ use Rattle.workers.specs.declared.drawing.DrawnFiles.{DrawnFiles}
 module _ {N D : Type 0} (noted : N → ℕ) (are_files : ℕ → D → Type 0) (holds : D → Holds) (reads : D → List FileRead) (failures : D → ℕ)
     (failed : D → List (List ℕ)) (is_plan : Plan → Type 0) (places : ℕ) where
   -- one more behind the others
-  pub carried_also : (queue : QueueId) (earlier orders : List OrderMark) (used : List (Option (DrawnFiles D N))) (answered : List (AnsweredValue N))
+  pub carried_also : (queue : QueueId N) (earlier orders : List OrderMark) (used : List (Option (DrawnFiles D N))) (answered : List (AnsweredValue N))
       (order : OrderMark) (files : Option (DrawnFiles D N)) (answer : AnsweredValue N) (before between after : List LoaderAnswer)
       → AreCarriedOut noted are_files holds reads failures failed is_plan places queue earlier orders used answered before between
       → IsCarriedOut noted are_files holds reads failures failed is_plan places queue ((earlier ++ orders) ++ order ∷ []) order files answer between after
@@ -39,7 +39,7 @@ module _ {N D : Type 0} (noted : N → ℕ) (are_files : ℕ → D → Type 0) (
       )
 
   -- each order that was taken was answered
-  pub each_answered : (queue : QueueId) (earlier orders : List OrderMark) (used : List (Option (DrawnFiles D N))) (answered : List (AnsweredValue N))
+  pub each_answered : (queue : QueueId N) (earlier orders : List OrderMark) (used : List (Option (DrawnFiles D N))) (answered : List (AnsweredValue N))
       (before after : List LoaderAnswer)
       → AreCarriedOut noted are_files holds reads failures failed is_plan places queue earlier orders used answered before after
       → length answered ≡ length orders
@@ -52,7 +52,7 @@ module _ {N D : Type 0} (noted : N → ℕ) (are_files : ℕ → D → Type 0) (
       ap suc (each_answered queue (earlier ++ o ∷ []) orders used answered carried.0 after carried.2)
 
   -- nothing was taken
-  pub carries_nothing : (queue : QueueId) (a : LoaderOrdersValue N) (used : List (Option (DrawnFiles D N))) (before : List LoaderAnswer)
+  pub carries_nothing : (queue : QueueId N) (a : LoaderOrdersValue N) (used : List (Option (DrawnFiles D N))) (before : List LoaderAnswer)
       → a.taken ≡ [] → a.answered ≡ [] → used ≡ []
       → AreCarriedOut noted are_files holds reads failures failed is_plan places queue [] a.taken used a.answered before before
   carries_nothing queue a used before none unanswered unused =
@@ -63,7 +63,7 @@ module _ {N D : Type 0} (noted : N → ℕ) (are_files : ℕ → D → Type 0) (
       subst (λ orders. Carried orders used a.answered) (sym none) (subst (λ files. Carried [] files a.answered) (sym unused) of_none)
 
   -- an order more was taken and carried out
-  pub carries_also : (queue : QueueId) (m taken b : LoaderOrdersValue N) (used used_then : List (Option (DrawnFiles D N))) (order : OrderMark)
+  pub carries_also : (queue : QueueId N) (m taken b : LoaderOrdersValue N) (used used_then : List (Option (DrawnFiles D N))) (order : OrderMark)
       (before between after : List LoaderAnswer)
       → AreCarriedOut noted are_files holds reads failures failed is_plan places queue [] m.taken used m.answered before between
       → taken.queue ≡ queue → taken.taken ≡ m.taken ++ order ∷ [] → taken.answered ≡ m.answered → b.taken ≡ taken.taken
@@ -74,9 +74,9 @@ module _ {N D : Type 0} (noted : N → ℕ) (are_files : ℕ → D → Type 0) (
   carries_also queue m taken b used used_then order before between after so_far same_queue took same_answers same_taken also =
       let Carried = λ (orders : List OrderMark) (files : List (Option (DrawnFiles D N))) (answered : List (AnsweredValue N)).
       AreCarriedOut noted are_files holds reads failures failed is_plan places queue [] orders files answered before after in
-      let One = λ (at : QueueId) (orders : List OrderMark).
+      let One = λ (at : QueueId N) (orders : List OrderMark).
       IsCarriedOut noted are_files holds reads failures failed is_plan places at orders order also.1 also.0 between after in
-      let at_queue = subst (λ (at : QueueId). One at taken.taken) same_queue also.4 in
+      let at_queue = subst (λ (at : QueueId N). One at taken.taken) same_queue also.4 in
       let one = subst (λ (orders : List OrderMark). One queue orders) took at_queue in
       let more : Carried (m.taken ++ order ∷ []) (used ++ also.1 ∷ []) (m.answered ++ also.0 ∷ []) =
       carried_also queue [] m.taken used m.answered order also.1 also.0 before between after so_far one in
@@ -87,12 +87,12 @@ module _ {N D : Type 0} (noted : N → ℕ) (are_files : ℕ → D → Type 0) (
       subst (λ taken. Carried taken used_then b.answered) (sym orders) with_files
 
   -- the same, once none came
-  pub all_carried : (queue : QueueId) (m b : LoaderOrdersValue N) (used : List (Option (DrawnFiles D N))) (before after : List LoaderAnswer)
+  pub all_carried : (queue : QueueId N) (m b : LoaderOrdersValue N) (used : List (Option (DrawnFiles D N))) (before after : List LoaderAnswer)
       → AreCarriedOut noted are_files holds reads failures failed is_plan places queue [] m.taken used m.answered before after
       → b.queue ≡ queue → b.taken ≡ m.taken → b.answered ≡ m.answered → b.over ≡ true
       → AllCarriedOut noted are_files holds reads failures failed is_plan places b used before after
   all_carried queue m b used before after so_far same_queue same_taken same_answers over =
-      let Carried = λ (at : QueueId) (orders : List OrderMark) (answered : List (AnsweredValue N)).
+      let Carried = λ (at : QueueId N) (orders : List OrderMark) (answered : List (AnsweredValue N)).
       AreCarriedOut noted are_files holds reads failures failed is_plan places at [] orders used answered before after in
       let with_answers = subst (λ answered. Carried queue m.taken answered) (sym same_answers) so_far in
       let with_orders = subst (λ taken. Carried queue taken b.answered) (sym same_taken) with_answers in

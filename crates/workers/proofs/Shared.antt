@@ -1,11 +1,14 @@
 -- Workers' shares, put together.
-use Rattle.std.proofs.Common.{◌≡◌, ◌∙◌, ◌+◌, ◌++◌, ◌∷◌, ℕ, List, [], Option, Result, length, map, refl, sym, subst, ap, arith}
+use Rattle.std.proofs.Common.{◌≡◌, ◌∙◌, ◌+◌, ◌-◌, ◌++◌, ◌∷◌, ℕ, List, [], Option, Result, length, map, refl, sym, subst, ap, arith}
 use Rattle.std.proofs.lemmas.List.{append_assoc, append-nil, length-append, map-append}
 use Rattle.epochs.specs.Seats.{SeatValue}
 use Rattle.load_orders.specs.Asking.{OrderRoute, WorkerOrdersValue}
+use Rattle.load_orders.specs.Queue.{KeeperValue, QueueId, with_one_out, with_orders}
+use Rattle.load_orders.specs.declared.queue.OrderMark.{OrderMark}
 use Rattle.shelf_steps.specs.declared.views.Known.{Known}
 use Rattle.answer_replies.specs.declared.point_form.PointForm.{PointForm}
 use Rattle.workers.specs.Ends.{Session}
+use Rattle.workers.specs.Ordering.{IsKeeperOf, put_by}
 use Rattle.workers.specs.Sessions.{AreAllServed, AreShares, IsShare}
 use Rattle.std.specs.Prelude.{IsPermutation, flat_map}
 use Rattle.client_queue.specs.Ends.{DealerValue, nothing_put, out_once_more}
@@ -25,7 +28,7 @@ flat_also (first ∷ hands) hand =
 
 module _ {C R W S N : Type 0} (form : PointForm) (opens : C → Result (R × W) ConnFault → Type 0)
     (remaining : R → Option (List ℕ)) (contents : W → Option (List ℕ))
-    (number : S → ℕ) (value : S → SeatValue) (known : S → Known) (noted : N → ℕ) (route : OrderRoute) where
+    (number : S → ℕ) (value : S → SeatValue) (known : S → Known) (noted : N → ℕ) (route : OrderRoute N) where
   -- one share more behind the others
   pub shares_also : (seats : List S) (hands : List (List C)) (used : List (WorkerOrdersValue N)) (ends : List (Session R W)) (lasts : List S)
       (seat : S) (hand : List C) (orders : WorkerOrdersValue N) (share : List (Session R W)) (last : S)
@@ -139,3 +142,41 @@ one_more_out {C} dealer dealer_then workers workers_then worker more before grow
     let With : ℕ → DealerView C = λ n. record nothing_put { out = n } in
     let Also : DealerView C → DealerView C = λ v. record v { out = v.out + 1 } in
     ap (λ d. d.view) more ∙ ap Also before ∙ ap With (sym longer)
+
+-- a worker's orders behind the others
+pub put_also : {N : Type 0} (workers : List (WorkerOrdersValue N)) (orders : WorkerOrdersValue N)
+    → put_by (workers ++ orders ∷ []) ≡ put_by workers ++ orders.end.orders
+put_also [] orders = append-nil orders.end.orders
+put_also (first ∷ workers) orders =
+    ap (λ list. first.end.orders ++ list) (put_also workers orders) ∙ sym (append_assoc first.end.orders (put_by workers) orders.end.orders)
+
+-- the workers that are left have their ends of the queue of orders, and none was back
+pub keeper_none : {N H : Type 0} (queue : QueueId N) (keeper : KeeperValue N) (all left : List H) (used : List (WorkerOrdersValue N))
+    → IsKeeperOf queue [] (length all) keeper → left ≡ all → used ≡ [] → IsKeeperOf queue (put_by used) (length left) keeper
+keeper_none {N} {H} queue keeper all left used before same none =
+    let At = λ (list : List (WorkerOrdersValue N)). IsKeeperOf queue (put_by list) (length all) keeper in
+    let unused : IsKeeperOf queue (put_by used) (length all) keeper = subst At (sym none) before in
+    subst (λ (list : List H). IsKeeperOf queue (put_by used) (length list) keeper) (sym same) unused
+
+-- the next worker's end is back
+pub keeper_next : {N H : Type 0} (queue : QueueId N) (keeper keeper_then : KeeperValue N) (left left_then : List H) (worker : H)
+    (used used_then : List (WorkerOrdersValue N)) (orders : WorkerOrdersValue N)
+    → IsKeeperOf queue (put_by used) (length left) keeper → left ≡ worker ∷ left_then → used_then ≡ used ++ orders ∷ []
+    → keeper_then ≡ with_orders keeper orders.end.orders → IsKeeperOf queue (put_by used_then) (length left_then) keeper_then
+keeper_next {N} queue keeper keeper_then left left_then worker used used_then orders before step grows back =
+    let Kept : List OrderMark → ℕ → KeeperValue N = λ put out. record { queue = queue; put = put; out = out; closings = 0 } in
+    let With : KeeperValue N → KeeperValue N = λ k. with_orders k orders.end.orders in
+    let longer = ap length step in
+    let shorter : length left - 1 ≡ length left_then = omega (arith, longer) in
+    let put : put_by used_then ≡ put_by used ++ orders.end.orders = ap put_by grows ∙ put_also used orders in
+    back ∙ ap With before ∙ ap (Kept (put_by used ++ orders.end.orders)) shorter ∙ ap (λ list. Kept list (length left_then)) (sym put)
+
+-- an end more goes out, to one worker more
+pub keeper_out : {N H : Type 0} (queue : QueueId N) (keeper keeper_then : KeeperValue N) (workers workers_then : List H) (worker : H)
+    → IsKeeperOf queue [] (length workers) keeper → keeper_then ≡ with_one_out keeper → workers_then ≡ workers ++ worker ∷ []
+    → IsKeeperOf queue [] (length workers_then) keeper_then
+keeper_out {N} queue keeper keeper_then workers workers_then worker before more grows =
+    let longer : length workers_then ≡ length workers + 1 = ap length grows ∙ length-append workers (worker ∷ []) in
+    let Out : ℕ → KeeperValue N = λ out. record { queue = queue; put = []; out = out; closings = 0 } in
+    let Also : KeeperValue N → KeeperValue N = λ k. with_one_out k in
+    more ∙ ap Also before ∙ ap Out (sym longer)

@@ -27,7 +27,7 @@ module _ {N D : Type 0} (noted : N → ℕ) (are_files : ℕ → D → Type 0) (
     (failed : D → List (List ℕ)) (is_plan : Plan → Type 0) (places : ℕ) where
   -- the files of the feed at this place, drawn when just these orders had been taken from this queue, are loaded, and the answer is what came of
   -- that; or there is no such feed, and none are drawn
-  abbrev pub IsLoadOf : QueueId → List OrderMark → ℕ → Option (DrawnFiles D N) → LoadAnswer N → List LoaderAnswer → List LoaderAnswer → Type 0
+  abbrev pub IsLoadOf : QueueId N → List OrderMark → ℕ → Option (DrawnFiles D N) → LoadAnswer N → List LoaderAnswer → List LoaderAnswer → Type 0
   IsLoadOf queue taken feed (Some drawn) answer before after =
       (plan : Plan) × (outcome : Result (Loaded × Option N) LoadRefusal) × IsDrawnAt queue taken drawn × are_files feed drawn.first.value × is_plan plan
       × IsOutcome noted (holds drawn.first.value) (reads drawn.first.value) (reads drawn.files) plan before outcome after
@@ -37,13 +37,13 @@ module _ {N D : Type 0} (noted : N → ℕ) (are_files : ℕ → D → Type 0) (
 
   -- the last of these orders is carried out: its own feed is loaded, of files that are drawn for it, and by its own way back it is told what came
   -- of that very load
-  abbrev pub IsCarriedOut : QueueId → List OrderMark → OrderMark → Option (DrawnFiles D N) → AnsweredValue N
+  abbrev pub IsCarriedOut : QueueId N → List OrderMark → OrderMark → Option (DrawnFiles D N) → AnsweredValue N
       → List LoaderAnswer → List LoaderAnswer → Type 0
   IsCarriedOut queue taken order files answered before after =
       IsToldBack order.way answered.answer answered.told × IsLoadOf queue taken order.feed files answered.answer before after
 
   -- behind earlier ones of this queue orders are carried out in turn, each once, and each has files of its own
-  abbrev pub AreCarriedOut : QueueId → List OrderMark → List OrderMark → List (Option (DrawnFiles D N)) → List (AnsweredValue N)
+  abbrev pub AreCarriedOut : QueueId N → List OrderMark → List OrderMark → List (Option (DrawnFiles D N)) → List (AnsweredValue N)
       → List LoaderAnswer → List LoaderAnswer → Type 0
   AreCarriedOut queue earlier [] [] [] before after = after ≡ before
   AreCarriedOut queue earlier (order ∷ orders) (files ∷ others) (answered ∷ rest) before after =

@@ -5,5 +5,5 @@ use Rattle.load_orders.specs.declared.queue.OrderMark.{OrderMark}
 use Rattle.workers.specs.declared.drawing.DrawnFiles.{DrawnFiles}
 
 -- the files were drawn when just these orders had been taken from this queue
-abbrev pub IsDrawnAt : {D N : Type 0} → QueueId → List OrderMark → DrawnFiles D N → Type 0
+abbrev pub IsDrawnAt : {D N : Type 0} → QueueId N → List OrderMark → DrawnFiles D N → Type 0
 IsDrawnAt queue taken drawn = (drawn.end.value.queue ≡ queue) × (drawn.end.value.taken ≡ taken)

@@ -6,3 +6,4 @@ pub mod Carrying
 pub mod Ordering
 pub mod Drawing
 pub mod Learned
+pub mod Lines

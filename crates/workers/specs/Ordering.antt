@@ -1,18 +1,32 @@
 -- What workers' orders go by, and what they did.
-use Rattle.std.specs.Prelude.{◌≡◌, ℕ, List, String, map, string_bytes}
+use Rattle.std.specs.Prelude.{◌≡◌, ℕ, List, [], String, IsPermutation, flat_map, map, string_bytes}
 use Rattle.std.specs.Global.{Global}
 use Rattle.load_orders.specs.Asking.{HasAsked, OrderRoute, WorkerOrdersValue, route_of}
-use Rattle.load_orders.specs.Queue.{QueueId, waiting}
+use Rattle.load_orders.specs.Queue.{EndValue, KeeperValue, QueueId, waiting}
+use Rattle.load_orders.specs.Telling.{LoaderOrdersValue}
+use Rattle.load_orders.specs.declared.queue.OrderMark.{OrderMark}
 use Rattle.workers.specs.declared.shares.RouteTo.{RouteTo}
 
 -- orders of feeds of these names, by this queue
-abbrev pub route_to : List (String Global) → QueueId → OrderRoute
+abbrev pub route_to : {N : Type 0} → List (String Global) → QueueId N → OrderRoute N
 route_to names queue = record { names = map string_bytes names; queue = queue }
 
 -- a worker's orders, over notices of these versions, go this way: each that was asked for did at this queue what it was answered
-abbrev pub IsAskedBy : {N : Type 0} → (N → ℕ) → OrderRoute → WorkerOrdersValue N → Type 0
+abbrev pub IsAskedBy : {N : Type 0} → (N → ℕ) → OrderRoute N → WorkerOrdersValue N → Type 0
 IsAskedBy noted route orders = (route_of orders ≡ route) × HasAsked waiting noted orders
 
 -- two that go by the same queue, and the same feeds
-abbrev pub GoesBy : {N F : Type 0} → RouteTo N F → RouteTo N F → Type 0
+abbrev pub GoesBy : {N F : Type 0} → RouteTo (EndValue N) F → RouteTo (KeeperValue N) F → Type 0
 GoesBy route other = (route.end.value.queue ≡ other.end.value.queue) × (route.feeds.value ≡ other.feeds.value)
+
+-- the orders that were put at these workers' ends of the queue, end after end
+abbrev pub put_by : {N : Type 0} → List (WorkerOrdersValue N) → List OrderMark
+put_by workers = flat_map (λ orders. orders.end.orders) workers
+
+-- the loader took what these workers put, each order once, and nothing else
+abbrev pub AreAllTaken : {N : Type 0} → List (WorkerOrdersValue N) → LoaderOrdersValue N → Type 0
+AreAllTaken workers loader = IsPermutation (put_by workers) loader.taken
+
+-- of this queue so many ends are out, these orders were put at those that are back, and it isn't closed
+abbrev pub IsKeeperOf : {N : Type 0} → QueueId N → List OrderMark → ℕ → KeeperValue N → Type 0
+IsKeeperOf queue put out keeper = keeper ≡ record { queue = queue; put = put; out = out; closings = 0 }

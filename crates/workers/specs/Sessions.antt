@@ -87,7 +87,7 @@ module _ {C R W : Type 0} (form : PointForm) (opens : C → Result (R × W) Conn
     AreServed _ _ _ _ _ _ = ⊥
 
     -- over notices of these versions, and what the workers' orders go by
-    module _ {N : Type 0} (noted : N → ℕ) (route : OrderRoute) where
+    module _ {N : Type 0} (noted : N → ℕ) (route : OrderRoute N) where
       -- a worker's share: these are these clients' sessions at its seat; if it held nothing, each profile in them is answered exactly, as the
       -- history has it that the seat knows in the end; all that was ordered in them was asked of these orders, which go this way
       abbrev pub IsShare : S → List C → WorkerOrdersValue N → List (Session R W) → S → Type 0

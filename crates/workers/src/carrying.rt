@@ -1,11 +1,13 @@
 //! The loader: order after order.
 
-ghost use Rattle.std.specs.Prelude.{◌≡◌, ◌≤◌, ◌∷◌, ◌++◌, [], ℕ, Option, Result, length};
+ghost use Rattle.std.specs.Prelude.{◌≡◌, ◌≤◌, ◌∷◌, ◌++◌, [], ℕ, OnOk, Option, Result, length};
+ghost use Rattle.std.specs.Io.KnownBytes.{Appends};
 ghost use Rattle.feed_loader.specs.declared.plan.Plan.{Plan};
 ghost use Rattle.load_orders.specs.Queue.{mark_of};
 ghost use Rattle.load_orders.specs.Telling.{AnsweredValue};
 ghost use Rattle.workers.specs.Carrying.{AllCarriedOut, FailedAsTold, IsCarriedOut, IsLoadOf};
 ghost use Rattle.workers.specs.Learned.{LoaderLearns};
+ghost use Rattle.workers.specs.Lines.{outcome_line};
 ghost use Rattle.workers.specs.Loading.{IsOutcome, load_answer};
 ghost use Rattle.workers.specs.declared.drawing.DrawnFiles.{DrawnFiles};
 
@@ -183,12 +185,14 @@ fn answer_of<N>(outcome: Result<(Loaded, Option<N>), LoadRefusal>) -> LoadAnswer
     }
 }
 
-// Tells what came of an order. It takes no memory.
+// Writes what came of an order. It takes no memory.
 fn tell<E: Write>(
     errors: &mut E,
     name: &str,
     outcome: Result<Loaded, LoadRefusal>,
-) -> io::Result<()> {
+) -> io::Result<()>
+    ensures { OnOk result (Appends (E.contents errors.old) (E.contents errors.new) (outcome_line name.now outcome)) }
+{
     match outcome {
         Ok(loaded) => write!(errors, "loaded {name} version {}\n", loaded.version),
         Err(refusal) => write!(errors, "load {name} refused {refusal}\n"),

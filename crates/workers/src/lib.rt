@@ -17,7 +17,7 @@ mod shares;
 pub use clients::{Client, Clients, ConnFault};
 pub use drawing::{DrawnFiles, UsedFiles};
 pub use feeds::Feeds;
-pub use load_orders::LoaderOrders;
+pub use load_orders::UsedLoader;
 pub use loading::{Loaded, load_one};
 pub use naming::run_shelves;
 pub use refusal::LoadRefusal;

@@ -6,7 +6,7 @@ ghost use Rattle.epochs.specs.ShelfSeats.{NoticeValue, ShelfSeatValue};
 ghost use Rattle.shelf_steps.specs.Events.{known_of};
 ghost use Rattle.workers.specs.Carrying.{AllCarriedOut};
 ghost use Rattle.workers.specs.Learned.{LoaderLearns};
-ghost use Rattle.workers.specs.Ordering.{route_to};
+ghost use Rattle.workers.specs.Ordering.{AreAllTaken, route_to};
 ghost use Rattle.workers.specs.Sessions.{AreServedSince, MayClose};
 
 use crate::clients::{Client, Clients};
@@ -65,6 +65,7 @@ pub fn run_shelves<
         (λ seat. seat.number) (λ seat. seat.shown) (λ seat. known_of seat.view)
         (λ (notice : NoticeValue). notice.version) (route_to (F.named feeds.now) ran.orders.queue)
         (K.came clients) (K.came ran.clients) seats.items ran.asked ran.served ran.seats.items) }
+    ensures taken { IfOk result (λ ran. AreAllTaken ran.asked ran.orders) }
     ensures loads { IfOk result (λ ran. AllCarriedOut (λ (notice : NoticeValue). notice.version)
         (F.are_files feeds.now) F.Files.holds F.Files.reads
         F.Files.failures F.Files.failed (F.is_plan feeds.now) (length (F.named feeds.now))

@@ -32,15 +32,20 @@ impl LoadRefusal {
 /// The number, the name and the places, each after a space, as in `8 IdTwice stops.txt 3`. Where no
 /// shelf is free, the places are the counts of all shelves, as in `94 ShelvesFull 1 1 1 1 1 1 1 0`.
 impl fmt::Display for LoadRefusal {
+    ghost use Rattle.std.specs.Prelude.{Some};
+    ghost use Rattle.workers.specs.Lines.{refusal_text};
+
+    ghost output = { λ refusal. Some (refusal_text refusal) };
+
     fn fmt<W: fmt::Write>(&self, f: &mut fmt::Formatter<W>) -> fmt::Result {
         match self {
-            LoadRefusal::Load(fault) => write!(f, "{fault}"),
+            LoadRefusal::Load(fault) => {
+                let fault = FeedFault(*fault);
+                write!(f, "{fault}")
+            }
             LoadRefusal::Publish(fault) => {
-                write!(f, "{} {}", fault.number(), fault.name())?;
-                match fault {
-                    PublishFault::ShelvesFull { counts } => write_counts(f, counts),
-                    PublishFault::VersionsSpent | PublishFault::OutOfMemory => Ok(()),
-                }
+                let fault = ShelfFault(*fault);
+                write!(f, "{fault}")
             }
         }
     }
@@ -48,9 +53,74 @@ impl fmt::Display for LoadRefusal {
 
 impl Error for LoadRefusal {}
 
-fn write_counts<W: fmt::Write>(f: &mut fmt::Formatter<W>, counts: &[u8; 8]) -> fmt::Result {
-    for count in counts {
-        write!(f, " {count}")?;
+// Why there is no image of a feed, as it is printed.
+#[derive(Clone, Copy, Drop)]
+struct FeedFault(LoadFault);
+
+impl fmt::Display for FeedFault {
+    ghost use Rattle.std.specs.Prelude.{Some};
+    ghost use Rattle.workers.specs.Lines.{fault_text};
+
+    ghost output = { λ told. Some (fault_text told.0) };
+
+    fn fmt<W: fmt::Write>(&self, f: &mut fmt::Formatter<W>) -> fmt::Result {
+        let number = self.0.number();
+        let name = self.0.name();
+        match self.0 {
+            LoadFault::Table(fault) => {
+                let file = fault.table.file_name();
+                let row = fault.row;
+                write!(f, "{number} {name} {file} {row}")
+            }
+            LoadFault::FileFailed(table) => {
+                let file = table.file_name();
+                write!(f, "{number} {name} {file}")
+            }
+            LoadFault::Day(_) => write!(f, "{number} {name}"),
+            LoadFault::Footpaths(_) => write!(f, "{number} {name}"),
+            LoadFault::Image(_) => write!(f, "{number} {name}"),
+        }
     }
-    Ok(())
+}
+
+// Why an image isn't published, as it is printed.
+#[derive(Clone, Copy, Drop)]
+struct ShelfFault(PublishFault);
+
+impl fmt::Display for ShelfFault {
+    ghost use Rattle.std.specs.Prelude.{Some};
+    ghost use Rattle.workers.specs.Lines.{publish_text};
+
+    ghost output = { λ told. Some (publish_text told.0) };
+
+    fn fmt<W: fmt::Write>(&self, f: &mut fmt::Formatter<W>) -> fmt::Result {
+        let number = self.0.number();
+        let name = self.0.name();
+        match self.0 {
+            PublishFault::ShelvesFull { counts } => {
+                let counts = Counts(counts);
+                write!(f, "{number} {name}{counts}")
+            }
+            PublishFault::VersionsSpent => write!(f, "{number} {name}"),
+            PublishFault::OutOfMemory => write!(f, "{number} {name}"),
+        }
+    }
+}
+
+// The counts of all shelves, as they are printed.
+#[derive(Clone, Copy, Drop)]
+struct Counts([u8; 8]);
+
+impl fmt::Display for Counts {
+    ghost use Rattle.std.specs.Prelude.{Some};
+    ghost use Rattle.workers.specs.Lines.{counts_text};
+
+    ghost output = { λ counts. Some (counts_text counts.0) };
+
+    fn fmt<W: fmt::Write>(&self, f: &mut fmt::Formatter<W>) -> fmt::Result {
+        for count in self.0.iter() {
+            write!(f, " {count}")?;
+        }
+        Ok(())
+    }
 }

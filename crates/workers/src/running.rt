@@ -4,7 +4,7 @@ ghost use denote.Param.Send.{IsSend, IsSync};
 ghost use Rattle.std.specs.Prelude.{◌≡◌, ◌≤◌, ◌++◌, ◌∷◌, [], All, length, IfOk, OnOk};
 ghost use Rattle.workers.specs.Carrying.{AllCarriedOut};
 ghost use Rattle.workers.specs.Learned.{LoaderLearns};
-ghost use Rattle.workers.specs.Ordering.{route_to};
+ghost use Rattle.workers.specs.Ordering.{AreAllTaken, route_to};
 ghost use Rattle.workers.specs.Sessions.{AreServedSince, IsShare, MayClose};
 
 use crate::carrying::Loading;
@@ -13,10 +13,10 @@ use crate::drawing::UsedFiles;
 use crate::feeds::Feeds;
 use crate::served::Served;
 use crate::serving::Worker;
-use crate::shares::{LoadsAt, RouteTo, Share, ShareAt, deal_and_join};
+use crate::shares::{LoadsAt, RouteTo, Share, ShareAt, close_and_join, deal_and_join};
 use client_queue::client_queue;
 use epochs::{Loads, Versions};
-use load_orders::{LoaderOrders, Notes, UsedOrders, WorkerOrders, order_queue};
+use load_orders::{LoaderOrders, Notes, UsedLoader, UsedOrders, WorkerOrders, order_queue};
 use orders::Gate;
 use session::{Desk, PointForm};
 use std::alloc::{AllocError, Global};
@@ -46,8 +46,8 @@ pub struct Ran<C: Client, K, S, L, N: Drop, D> {
     pub clients: K,
     /// The workers' seats, in their order.
     pub seats: Vec<S>,
-    /// The loader's end of the queue of orders.
-    pub orders: LoaderOrders<N>,
+    /// What the loader took and answered.
+    pub orders: UsedLoader<N>,
     /// The loader's seat.
     pub loader: L,
     /// The workers' orders, seat after seat: contracts alone see them.
@@ -98,6 +98,7 @@ where
         T.Versions.number T.Versions.value T.Versions.known
         T.Versions.noted (route_to (F.named feeds.now) ran.orders.queue) (K.came clients) (K.came ran.clients)
         seats.items ran.asked ran.served ran.seats.items) }
+    ensures taken { IfOk result (λ ran. AreAllTaken ran.asked ran.orders) }
     ensures loads { IfOk result (λ ran. AllCarriedOut T.Versions.noted (F.are_files feeds.now) F.Files.holds
         F.Files.reads F.Files.failures F.Files.failed (F.is_plan feeds.now) (length (F.named feeds.now)) ran.orders
         ran.used (T.Loads.answers loader) (T.Loads.answers ran.loader)) }
@@ -125,6 +126,7 @@ where
                 T.Versions.noted (route_to (F.named feeds.entry.now) ran.orders.queue)
                 (K.came clients) (K.came ran.clients)
                 seats.items ran.asked ran.served ran.seats.items) }
+            ensures taken { IfOk result (λ ran. AreAllTaken ran.asked ran.orders) }
             ensures loads { IfOk result (λ ran.
                 AllCarriedOut T.Versions.noted (F.are_files feeds.entry.now) F.Files.holds F.Files.reads
                 F.Files.failures F.Files.failed
@@ -179,7 +181,7 @@ where
             let mut workers = Vec::new(alloc);
             for seat in seats {
                 let taker = dealer.taker()?;
-                let end = asks.another()?;
+                let end = asks.another_end()?;
                 // Made here too.
                 let nobody_yet = Served::new();
                 let way = RouteTo::of(&end, feeds);
@@ -214,20 +216,22 @@ where
                 };
                 also(&mut workers, worker)?;
             }
-            let served = deal_and_join(rt, shelves, form, clients, dealer, workers, room, route);
-            // No order is refused for want of a loader before all sessions have ended.
-            drop(asks);
-            let (orders, loader, used) = loading.join(rt);
+            let served = deal_and_join(
+                rt, shelves, form, clients, dealer, workers, room, &mut asks, route,
+            );
             match served {
-                Ok((clients, served, seats, asked)) => Ok(Ran {
-                    served,
-                    clients,
-                    seats,
-                    orders,
-                    loader,
-                    asked,
-                    used,
-                }),
+                Ok((clients, served, seats, asked)) => match close_and_join(rt, asks, loading) {
+                    Some((orders, loader, used)) => Ok(Ran {
+                        served,
+                        clients,
+                        seats,
+                        orders,
+                        loader,
+                        asked,
+                        used,
+                    }),
+                    None => Err(WorkersFault),
+                },
                 Err(fault) => Err(fault),
             }
         },

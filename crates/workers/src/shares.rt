@@ -1,8 +1,10 @@
 //! What the workers and the loader hand on when they are joined.
 
-ghost use Rattle.std.specs.Prelude.{◌≡◌, ◌≤◌, [], All, length, map, IfOk};
+ghost use Rattle.std.specs.Prelude.{◌≡◌, ◌≤◌, [], All, IsPermutation, length, map, IfOk, IfSome};
 ghost use Rattle.client_queue.specs.Ends.{nothing_put};
-ghost use Rattle.workers.specs.Ordering.{GoesBy, route_to};
+ghost use Rattle.workers.specs.Carrying.{AllCarriedOut};
+ghost use Rattle.workers.specs.Learned.{LoaderLearns};
+ghost use Rattle.workers.specs.Ordering.{GoesBy, IsKeeperOf, put_by, route_to};
 ghost use Rattle.workers.specs.Sessions.{AreAllServed, AreServedSince, IsReadyToJoin};
 
 use crate::clients::{Client, Clients};
@@ -14,7 +16,7 @@ use crate::served::Served;
 use client_queue::{Dealer, Taker};
 use epochs::{Loads, Versions};
 use feed_loader::FeedFiles;
-use load_orders::{LoaderOrders, Notes, OrderEnd, UsedOrders};
+use load_orders::{LoaderOrders, Notes, OrderEnd, OrderKeeper, UsedLoader, UsedOrders};
 use session::PointForm;
 use std::snapshot::Snapshot;
 use std::sync::Wait;
@@ -30,14 +32,14 @@ pub(crate) struct Share<C: Client + Drop, S> {
 
 /// What workers' orders go by, as contracts see it: the queue of an end of it, and the feeds.
 #[derive(Drop)]
-pub(crate) struct RouteTo<N: Drop, F> {
-    pub end: Snapshot<OrderEnd<N>>,
+pub(crate) struct RouteTo<E, F> {
+    pub end: Snapshot<E>,
     pub feeds: Snapshot<F>,
 }
 
-impl<N: Drop, F> RouteTo<N, F> {
+impl<E, F> RouteTo<E, F> {
     /// To the queue of this end, for these feeds.
-    pub(crate) fn of(end: &OrderEnd<N>, feeds: &F) -> RouteTo<N, F>
+    pub(crate) fn of(end: &E, feeds: &F) -> RouteTo<E, F>
         ensures end { result.end.value ≡ end.now }
         ensures feeds { result.feeds.value ≡ feeds.now }
     {
@@ -57,7 +59,7 @@ pub(crate) struct ShareAt<C: Drop, N: Drop, T: Versions, F> {
     pub taker: Snapshot<Taker<C>>,
     pub seat: Snapshot<T::Seat>,
     pub form: PointForm,
-    pub route: RouteTo<N, F>,
+    pub route: RouteTo<OrderEnd<N>, F>,
 }
 
 impl<C: Drop, N: Drop, T: Versions, F> ShareAt<C, N, T, F> {
@@ -67,7 +69,7 @@ impl<C: Drop, N: Drop, T: Versions, F> ShareAt<C, N, T, F> {
         taker: &Taker<C>,
         seat: &T::Seat,
         form: PointForm,
-        route: RouteTo<N, F>,
+        route: RouteTo<OrderEnd<N>, F>,
     ) -> ShareAt<C, N, T, F>
         ensures shelves { result.shelves.value ≡ shelves.now }
         ensures taker { result.taker.value ≡ taker.now }
@@ -153,7 +155,8 @@ impl<
 }
 
 /// Puts all clients in the queue, and joins the workers once it was closed for each: the clients' source, the workers'
-/// shares, put together, their seats, in the room for these, and the orders of each.
+/// shares, put together, their seats, in the room for these, and the orders of each. Their ends of the queue of orders
+/// are back then.
 pub(crate) fn deal_and_join<
     C: Client + Drop,
     K: Clients<C> + Drop,
@@ -170,7 +173,8 @@ pub(crate) fn deal_and_join<
     mut dealer: Dealer<C>,
     workers: Vec<PromisedHandle<(Share<C, S>, UsedOrders<N>), ShareAt<C, N, T, F>>>,
     room: Vec<S>,
-    route: RouteTo<N, F>,
+    asks: &mut OrderKeeper<N>,
+    route: RouteTo<OrderKeeper<N>, F>,
 ) -> Result<
     (
         K,
@@ -187,6 +191,8 @@ pub(crate) fn deal_and_join<
     requires some { 1 ≤ length workers.items }
     requires out { dealer.view ≡ record nothing_put { out = length workers.items } }
     requires room { room.items ≡ [] }
+    requires keeper { IsKeeperOf route.end.value.queue [] (length workers.items) asks.old }
+    ensures back { IfOk result (λ ran. IsKeeperOf route.end.value.queue (put_by ran.3) 0 asks.new) }
     ensures none_left { IfOk result (λ ran. K.none_left ran.0) }
     ensures holds { IfOk result (λ ran. (fact : K.Fact) → K.holds clients fact → K.holds ran.0 fact) }
     ensures fits { IfOk result (λ ran. All (T.fits shelves.now) ran.2.items) }
@@ -196,7 +202,7 @@ pub(crate) fn deal_and_join<
         (map (λ worker. worker.promise.seat.value) workers.items) ran.3 ran.1 ran.2.items) }
 {
     let source = deal_all(rt, clients, &mut dealer, workers.len());
-    match join_workers(rt, shelves, form, dealer, workers, room, route) {
+    match join_workers(rt, shelves, form, dealer, workers, room, asks, route) {
         Ok((served, seats, orders)) => Ok((source, served, seats, orders)),
         Err(fault) => Err(fault),
     }
@@ -218,7 +224,8 @@ fn join_workers<
     mut dealer: Dealer<C>,
     workers: Vec<PromisedHandle<(Share<C, S>, UsedOrders<N>), ShareAt<C, N, T, F>>>,
     room: Vec<S>,
-    route: RouteTo<N, F>,
+    asks: &mut OrderKeeper<N>,
+    route: RouteTo<OrderKeeper<N>, F>,
 ) -> Result<(Served<C::Reader, C::Writer>, Vec<S>, Notes<UsedOrders<N>>), WorkersFault>
     requires shelves { All (λ worker. worker.promise.shelves.value ≡ shelves.now) workers.items }
     requires forms { All (λ worker. worker.promise.form ≡ form) workers.items }
@@ -227,6 +234,8 @@ fn join_workers<
     requires some { 1 ≤ length workers.items }
     requires out { IsReadyToJoin dealer.view (length workers.items) }
     requires room { room.items ≡ [] }
+    requires keeper { IsKeeperOf route.end.value.queue [] (length workers.items) asks.old }
+    ensures back { IfOk result (λ joined. IsKeeperOf route.end.value.queue (put_by joined.2) 0 asks.new) }
     ensures fits { IfOk result (λ joined. All (T.fits shelves.now) joined.1.items) }
     ensures shares { IfOk result (λ joined. AreAllServed form C.opens C.Reader.remaining C.Writer.contents
         T.number T.value T.known T.noted (route_to (F.named route.feeds.value) route.end.value.queue)
@@ -251,10 +260,45 @@ fn join_workers<
         dealer.take_back(taker);
         served.join(share);
         orders.note(&used);
+        asks.take_in(used);
         let Ok(()) = seats.push(seat) else {
             return Err(WorkersFault);
         };
     }
     dealer.all_were_taken();
     Ok((served, seats, orders))
+}
+
+/// Closes the queue of orders, once all workers' ends are back, and joins the loader: its end, its seat and the files
+/// that it used. It took what was put, each order once. None if it left before the queue was closed.
+pub(crate) fn close_and_join<
+    L: Drop,
+    N: Drop,
+    D: FeedFiles + Drop,
+    T: Versions<Notice = N> + Loads<Loader = L>,
+    F: Feeds<Files = D>,
+    R: Threads + Wait,
+>(
+    rt: &R,
+    mut asks: OrderKeeper<N>,
+    loading: PromisedHandle<(LoaderOrders<N>, L, UsedFiles<D, N>), LoadsAt<T, F, N>>,
+) -> Option<(UsedLoader<N>, L, UsedFiles<D, N>)>
+    requires queue { loading.promise.orders.value.queue ≡ asks.queue }
+    requires back { asks.out ≡ 0 }
+    ensures all { IfSome result (λ done. IsPermutation asks.put done.0.taken) }
+    ensures queue { IfSome result (λ done. done.0.queue ≡ asks.queue) }
+    ensures loads { IfSome result (λ done. T.Loads.loads loading.promise.shelves.value done.1) }
+    ensures carried { IfSome result (λ done. AllCarriedOut T.Versions.noted (F.are_files loading.promise.feeds.value)
+        D.holds D.reads D.failures D.failed (F.is_plan loading.promise.feeds.value)
+        (length (F.named loading.promise.feeds.value)) done.0 done.2
+        (T.Loads.answers loading.promise.seat.value) (T.Loads.answers done.1)) }
+    ensures learns { IfSome result (λ done. LoaderLearns (T.Loads.learned loading.promise.seat.value)
+        (T.Loads.answers loading.promise.seat.value) (T.Loads.learned done.1) (T.Loads.answers done.1)) }
+{
+    asks.close(rt);
+    let (orders, seat, used) = loading.join(rt);
+    match asks.finish(orders) {
+        Some(orders) => Some((orders, seat, used)),
+        None => None,
+    }
 }

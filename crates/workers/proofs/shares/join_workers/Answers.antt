@@ -1,14 +1,14 @@
-use Rattle.std.proofs.Common.{rules, ◌≡◌, ◌∙◌, All, true, suc, sym, subst, refl, map, ap, arith, length}
+use Rattle.std.proofs.Common.{rules, ◌≡◌, ◌∙◌, ℕ, All, true, suc, sym, subst, refl, map, ap, arith, length}
 use Rattle.std.proofs.lemmas.List.Elements.{All-nil, All-push}
 use Rattle.std.specs.Prelude.{IsPermutation}
 use Rattle.client_queue.specs.Ends.{times}
 use Rattle.std.specs.Prelude.{String, List}
 use Rattle.std.specs.Global.{Global}
 use Rattle.load_orders.specs.Queue.{QueueId}
-use Rattle.workers.specs.Ordering.{GoesBy, route_to}
+use Rattle.workers.specs.Ordering.{GoesBy, IsKeeperOf, put_by, route_to}
 use Rattle.workers.specs.Sessions.{AreAllServed, IsShare}
 use Rattle.answer_replies.specs.declared.point_form.PointForm.{PointForm}
-use Rattle.workers.proofs.Shared.{joined_none, joined_next, joined_all}
+use Rattle.workers.proofs.Shared.{joined_none, joined_next, joined_all, keeper_next, keeper_none}
 use Rattle.workers.proofs.shares.join_workers.Goals as goal
 
 pub loop-worker-init : goal.loop-worker-init
@@ -36,7 +36,16 @@ loop-worker-init g c =
           g.T.Versions.number g.T.Versions.value g.T.Versions.known
           g.T.Versions.noted (route_to (g.F.Feeds.named c.args.route.feeds.value) c.args.route.end.value.queue)
           _ _ _ _ _ _ _ refl ready.nothing_back c.none-orders.ensures c.new-served.ensures c.requires.room;
+      keeper = keeper_none _ _ _ _ _ c.requires.keeper items c.none-orders.ensures;
     }
+
+-- the worker's end is one of the keeper's queue
+pub take_in-requires : goal.take_in-requires
+take_in-requires g c =
+    let was = c.loop-worker.invariant in
+    let routes = subst (λ workers. All (λ worker. GoesBy worker.promise.route c.args.route) workers) c.in-Some.ensures.steps.0 was.routes in
+    let route = routes 0 c.in-Some.worker (omega arith) in
+    ap (λ route. route.queue) c.join-share.ensures.2.2.0 ∙ route.0 ∙ sym (ap (λ keeper. keeper.queue) was.keeper)
 
 -- one worker more is joined, whose taker came back because the queue was closed for it
 pub loop-worker-preserved : goal.loop-worker-preserved
@@ -51,13 +60,13 @@ loop-worker-preserved g c =
     let done = pair.0 in
     let routes = subst (λ workers. All (λ worker. GoesBy worker.promise.route c.args.route) workers) step.0 was.routes in
     let route = routes 0 c.in-Some.worker (omega arith) in
-    let Share = λ (form : PointForm) (names : List (String Global)) (queue : QueueId).
+    let Share = λ (form : PointForm) (names : List (String Global)) (queue : QueueId _).
     IsShare form g.C.Client.opens g.C.Reader.Read.remaining g.C.Writer.Write.contents
     g.T.Versions.number g.T.Versions.value g.T.Versions.known g.T.Versions.noted (route_to names queue)
     c.in-Some.worker.promise.seat.value done.taker.taken pair.1 done.served done.seat in
     let by_form = subst (λ (form : PointForm). Share form (g.F.Feeds.named c.in-Some.worker.promise.route.feeds.value)
     c.in-Some.worker.promise.route.end.value.queue) (forms 0 c.in-Some.worker (omega arith)) c.join-share.ensures.2 in
-    let by_queue = subst (λ (queue : QueueId). Share c.args.form (g.F.Feeds.named c.in-Some.worker.promise.route.feeds.value) queue)
+    let by_queue = subst (λ (queue : QueueId _). Share c.args.form (g.F.Feeds.named c.in-Some.worker.promise.route.feeds.value) queue)
     route.0 by_form in
     let share = subst (λ feeds. Share c.args.form (g.F.Feeds.named feeds) c.args.route.end.value.queue) route.1 by_queue in
     let fits = subst (λ shelves. g.T.Versions.fits shelves done.seat) (at 0 c.in-Some.worker (omega arith)) c.join-share.ensures.1 in
@@ -90,6 +99,7 @@ loop-worker-preserved g c =
           g.T.Versions.noted (route_to (g.F.Feeds.named c.args.route.feeds.value) c.args.route.end.value.queue)
           _ _ _ _ _ _ _ _ _ _ _ _ done.taker.taken pair.1 done.served done.seat c.in-Some.worker was.joined step.0
           (ap (λ v. v.taken) view) c.note.ensures c.join.ensures c.in-Ok.ensures.items share;
+      keeper = keeper_next _ _ _ _ _ _ _ _ pair.1 was.keeper step.0 c.note.ensures c.take_in.ensures;
     }
 
 -- all were
@@ -113,4 +123,5 @@ returns g c =
     g.T.Versions.number g.T.Versions.value g.T.Versions.known
     g.T.Versions.noted (route_to (g.F.Feeds.named c.args.route.feeds.value) c.args.route.end.value.queue) c.args.dealer.view.sent
     (map (λ worker. worker.promise.seat.value) workers) c.loop-worker.orders c.loop-worker.served c.loop-worker.seats.items) items served in
-    record { fits = was.fit; shares = shares }
+    let kept = subst (λ (n : ℕ). IsKeeperOf c.args.route.end.value.queue (put_by c.loop-worker.orders) n c.loop-worker.asks) none was.keeper in
+    record { back = kept; fits = was.fit; shares = shares }

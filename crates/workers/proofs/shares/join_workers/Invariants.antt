@@ -1,6 +1,6 @@
 use Rattle.std.proofs.Common.{◌≡◌, ◌+◌, All, length}
 use Rattle.std.specs.Vec.Iter.{into_iter_items, into_iter_len}
-use Rattle.workers.specs.Ordering.{GoesBy, route_to}
+use Rattle.workers.specs.Ordering.{GoesBy, IsKeeperOf, put_by, route_to}
 use Rattle.workers.proofs.Shared.{Joined}
 use Rattle.workers.proofs.shares.join_workers.Given as goal
 
@@ -24,4 +24,5 @@ invariant-loop-worker g l = record {
       g.T.Versions.noted (route_to (g.F.Feeds.named l.fn.route.feeds.value) l.fn.route.end.value.queue)
       (λ worker. worker.promise.seat.value) (into_iter_items l.initial.worker-iterator) (into_iter_items l.worker-iterator)
       l.dealer.view.taken l.orders l.served l.seats.items;
+  keeper : IsKeeperOf l.fn.route.end.value.queue (put_by l.orders) (length (into_iter_items l.worker-iterator)) l.asks;
 }

@@ -1,8 +1,9 @@
 use Rattle.std.proofs.Common.{rules, ◌≡◌, All, [], ◌∷◌, ◌∙◌, suc, subst, arith, ap, length}
 use Rattle.std.proofs.lemmas.List.Elements.{All-nil, All-push}
 use Rattle.client_queue.specs.Ends.{nothing_put}
-use Rattle.workers.proofs.Shared.{one_more_out, seated_none, seated_next, seated_all}
+use Rattle.workers.proofs.Shared.{keeper_out, one_more_out, seated_none, seated_next, seated_all}
 use mathlib.Core.Path.{sym}
+use Rattle.std.specs.Prelude.{IsPermutation}
 use Rattle.load_orders.specs.Queue.{QueueId}
 use Rattle.workers.specs.Carrying.{AllCarriedOut}
 use Rattle.workers.specs.Learned.{LoaderLearns}
@@ -20,7 +21,7 @@ spawn_with-begun-requires-clause-runs g c =
     × (c.in_ok-end.end.orders ≡ [])
     × MayClose c.captures.form g.C.Client.opens g.C.Reader.Read.remaining g.C.Writer.Write.contents
     g.T.Versions.number g.T.Versions.value g.T.Versions.known (g.T.Versions.fits c.captures.shelves.now) g.C.Client.closes =
-    (fits, ap (λ taker. taker.taken) c.in_ok-taker.ensures.taker, c.new-nobody_yet.ensures, c.in_ok-end.ensures.another, c.requires.15) in
+    (fits, ap (λ taker. taker.taken) c.in_ok-taker.ensures.taker, c.new-nobody_yet.ensures, c.in_ok-end.ensures.nothing, c.requires.15) in
     λ κs within. (
       ready,
       (search rules, search rules, search rules, search rules, search rules, search rules, search rules, search rules, search rules, search rules),
@@ -56,11 +57,11 @@ loop-seat-preserved g c =
       routes = subst (λ workers. All (λ worker. GoesBy worker.promise.route c.of-route.result) workers) (sym items)
           (All-push (λ worker. GoesBy worker.promise.route c.of-route.result) _ worker was.routes (
             ap (λ promise. promise.route.end.value.queue) promise ∙ ap (λ route. route.end.value.queue) c.of.ensures.route
-                ∙ ap (λ end. end.queue) c.of-way.ensures.end ∙ c.in_ok-end.ensures.queue ∙ was.asks,
+                ∙ ap (λ end. end.queue) c.of-way.ensures.end ∙ c.in_ok-end.ensures.queue ∙ ap (λ keeper. keeper.queue) was.asks,
             ap (λ promise. promise.route.feeds.value) promise ∙ ap (λ route. route.feeds.value) c.of.ensures.route ∙ c.of-way.ensures.feeds
                 ∙ sym c.of-route.ensures.feeds,
           ));
-      asks = ap (λ end. end.queue) c.another.ensures.same ∙ was.asks;
+      asks = keeper_out _ _ _ _ _ _ was.asks c.in_ok-end.ensures.out items;
       dealer = one_more_out _ _ _ _ _ out was.dealer items;
       seated = seated_next _ _ _ _ _ _ worker c.in-Some.seat was.seated step.0 items
           (ap (λ promise. promise.seat.value) promise ∙ c.of.ensures.seat);
@@ -80,24 +81,37 @@ loop-seat-init g c =
       forms = subst (λ workers. All (λ worker. worker.promise.form ≡ c.captures.form) workers) (sym none) (All-nil _);
       queues = subst (λ workers. All (λ worker. worker.promise.taker.value.queue ≡ c.in_ok-dealer.dealer.queue) workers) (sym none) (All-nil _);
       routes = subst (λ workers. All (λ worker. GoesBy worker.promise.route c.of-route.result) workers) (sym none) (All-nil _);
-      asks = ap (λ end. end.queue) (sym c.of-route.ensures.end);
+      asks = c.in_ok-asks.ensures.keeper ∙ ap (λ queue. record { queue = queue; put = []; out = 0; closings = 0 })
+          (ap (λ end. end.queue) (sym c.of-route.ensures.end))
+          ∙ ap (λ list. record { queue = c.of-route.result.end.value.queue; put = []; out = length list; closings = 0 }) (sym none);
       dealer = c.in_ok-dealer.ensures ∙ ap (λ list. record nothing_put { out = length list }) (sym none);
       seated = seated_none _ _ _ none;
     }
 
+-- the loader takes from the queue that is closed then
+pub close_and_join-requires-clause-queue : goal.close_and_join-requires-clause-queue
+close_and_join-requires-clause-queue g c =
+    let promised = c.in-Ok.ensures.ok in
+    ap (λ orders. orders.queue) (ap (λ promise. promise.orders.value) promised ∙ c.of-promise.ensures.orders)
+    ∙ sym c.in_ok-asks.ensures.queue ∙ sym (ap (λ end. end.queue) c.of-route.ensures.end)
+    ∙ sym (ap (λ keeper. keeper.queue) c.in-Ok-served.ensures.back)
+
+pub close_and_join-requires-clause-back : goal.close_and_join-requires-clause-back
+close_and_join-requires-clause-back g c = ap (λ keeper. keeper.out) c.in-Ok-served.ensures.back
+
 -- there was a worker at each seat, and all were joined; and so was the loader
-pub returns-in-Ok-served : goal.returns-in-Ok-served
-returns-in-Ok-served g c =
+pub returns-in-Ok-served-in-Some : goal.returns-in-Ok-served-in-Some
+returns-in-Ok-served-in-Some g c =
     let was = c.loop-seat.invariant in
     let none = sym was.len ∙ c.in-None.ensures.steps.0 in
     let seats = seated_all _ _ _ _ was.seated none ∙ c.into_iter-seat-iterator.ensures.into_iter_gives.0 in
     let ran = c.in-Ok-served in
-    let done = c.join-orders.result in
+    let joined = c.in-Some.ensures in
+    let done = (c.in-Some.orders, c.in-Some.loader, c.in-Some.used) in
     let promised = c.in-Ok.ensures.ok in
-    let queue : c.of-route.result.end.value.queue ≡ done.0.queue =
-    ap (λ end. end.queue) c.of-route.ensures.end ∙ c.in_ok-asks.ensures.queue
-    ∙ sym (ap (λ orders. orders.queue) (ap (λ promise. promise.orders.value) promised ∙ c.of-promise.ensures.orders))
-    ∙ sym c.join-orders.ensures.1 in
+    let kept = ran.ensures.back in
+    let queue : c.of-route.result.end.value.queue ≡ done.0.queue = sym (joined.queue ∙ ap (λ keeper. keeper.queue) kept) in
+    let taken = subst (λ list. IsPermutation list done.0.taken) (ap (λ keeper. keeper.put) kept) joined.all in
     let at_seats = subst (λ seats. AreServedSince c.captures.form g.C.Client.opens g.C.Reader.Read.remaining g.C.Writer.Write.contents
     g.T.Versions.number g.T.Versions.value g.T.Versions.known
     g.T.Versions.noted (route_to (g.F.Feeds.named c.of-route.result.feeds.value) c.of-route.result.end.value.queue)
@@ -107,7 +121,7 @@ returns-in-Ok-served g c =
     g.T.Versions.noted (route_to (g.F.Feeds.named feeds) c.of-route.result.end.value.queue)
     (g.K.Clients.came c.captures.clients) (g.K.Clients.came ran.clients) c.captures.seats.items ran.asked ran.served ran.seats.items)
     c.of-route.ensures.feeds at_seats in
-    let shares = subst (λ (queue : QueueId). AreServedSince c.captures.form g.C.Client.opens g.C.Reader.Read.remaining g.C.Writer.Write.contents
+    let shares = subst (λ (queue : QueueId _). AreServedSince c.captures.form g.C.Client.opens g.C.Reader.Read.remaining g.C.Writer.Write.contents
     g.T.Versions.number g.T.Versions.value g.T.Versions.known
     g.T.Versions.noted (route_to (g.F.Feeds.named c.captures.feeds.now) queue)
     (g.K.Clients.came c.captures.clients) (g.K.Clients.came ran.clients) c.captures.seats.items ran.asked ran.served ran.seats.items)
@@ -117,21 +131,22 @@ returns-in-Ok-served g c =
     let at_feeds = subst (λ feeds. AllCarriedOut g.T.Versions.noted (g.F.Feeds.are_files feeds) g.F.Files.FeedFiles.holds g.F.Files.FeedFiles.reads
     g.F.Files.FeedFiles.failures g.F.Files.FeedFiles.failed
     (g.F.Feeds.is_plan feeds) (length (g.F.Feeds.named feeds)) done.0 done.2
-    (g.T.Loads.answers c.in-Ok.loading.promise.seat.value) (g.T.Loads.answers done.1)) feeds c.join-orders.ensures.2 in
+    (g.T.Loads.answers c.in-Ok.loading.promise.seat.value) (g.T.Loads.answers done.1)) feeds joined.carried in
     let loader = subst (λ shelves. g.T.Loads.loads shelves done.1) (ap (λ promise. promise.shelves.value) promised ∙ c.of-promise.ensures.shelves)
-    c.join-orders.ensures.0 in
+    joined.loads in
     let loads = subst (λ seat. AllCarriedOut g.T.Versions.noted (g.F.Feeds.are_files c.captures.feeds.now)
     g.F.Files.FeedFiles.holds g.F.Files.FeedFiles.reads g.F.Files.FeedFiles.failures g.F.Files.FeedFiles.failed
     (g.F.Feeds.is_plan c.captures.feeds.now) (length (g.F.Feeds.named c.captures.feeds.now)) done.0 done.2
     (g.T.Loads.answers seat) (g.T.Loads.answers done.1)) seat at_feeds in
     let learns = subst (λ seat. LoaderLearns (g.T.Loads.learned seat) (g.T.Loads.answers seat) (g.T.Loads.learned done.1) (g.T.Loads.answers done.1))
-    seat c.join-orders.ensures.3 in
+    seat joined.learns in
     record {
       none_left = ran.ensures.none_left;
       holds = ran.ensures.holds;
       seats = ran.ensures.fits;
       loader = loader;
       shares = shares;
+      taken = taken;
       loads = loads;
       learns = learns;
     }

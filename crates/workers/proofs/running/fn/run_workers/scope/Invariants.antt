@@ -1,7 +1,7 @@
-use Rattle.std.proofs.Common.{◌≡◌, ◌++◌, All, length, map}
+use Rattle.std.proofs.Common.{◌≡◌, ◌++◌, [], All, length, map}
 use Rattle.std.specs.Vec.Iter.{into_iter_items, into_iter_len}
 use Rattle.client_queue.specs.Ends.{nothing_put}
-use Rattle.workers.specs.Ordering.{GoesBy}
+use Rattle.workers.specs.Ordering.{GoesBy, IsKeeperOf}
 use Rattle.workers.proofs.running.fn.run_workers.scope.Given as goal
 
 -- the seats that are left may be used at the shelves, and at each of the others there is a worker, who takes clients from the queue
@@ -15,7 +15,7 @@ invariant-loop-seat g l = record {
   forms : All (λ worker. worker.promise.form ≡ l.form) l.workers.items;
   queues : All (λ worker. worker.promise.taker.value.queue ≡ l.dealer.queue) l.workers.items;
   routes : All (λ worker. GoesBy worker.promise.route l.route) l.workers.items;
-  asks : l.asks.queue ≡ l.route.end.value.queue;
+  asks : IsKeeperOf l.route.end.value.queue [] (length l.workers.items) l.asks;
   dealer : l.dealer.view ≡ record nothing_put { out = length l.workers.items };
   seated : into_iter_items l.initial.seat-iterator ≡ map (λ worker. worker.promise.seat.value) l.workers.items ++ into_iter_items l.seat-iterator;
 }

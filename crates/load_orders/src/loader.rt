@@ -1,0 +1,157 @@
+//! The loader's end of the queue.
+
+ghost use Rattle.std.specs.Prelude.{◌≡◌, ◌++◌, ◌∷◌, [], IfNone, MatchOption, Option, false, is_none, true};
+ghost use Rattle.load_orders.specs.Queue.{Held, mark_of};
+ghost use Rattle.load_orders.specs.Telling.{AllAnswered, IsToldBack};
+ghost use Rattle.load_orders.specs.Ways.{WayValue};
+ghost use Rattle.load_orders.specs.declared.queue.Side.{Side};
+
+use crate::notes::Notes;
+use crate::queue::{Arrival, Moves, Order, OrderPass, OrderReceiver, OrderRule, Waiting};
+use crate::ways::{LoadAnswer, UsedWay, WayBack};
+use std::marker::Model;
+use std::sync::Wait;
+use timetable::Kept;
+
+/// What the loader answered to an order. Contracts see the answer, and where it was told.
+#[derive(Drop)]
+pub struct Answered<N: Drop> {
+    answer: Kept<LoadAnswer<N>>,
+    told: Option<UsedWay<N>>,
+}
+
+impl<N: Drop> Model for Answered<N> {
+    ghost use Rattle.load_orders.specs.Telling.{AnsweredValue};
+
+    ghost Value = { AnsweredValue N };
+
+    ghost view = { λ a. record { answer = a.answer.value; told = a.told } };
+}
+
+/// The loader's end of the queue. Contracts see which queue, the orders that it took, and what it answered, in order,
+/// whether it asked for another and none came, and whether the queue was closed for it.
+#[derive(Drop)]
+pub struct LoaderOrders<N: Drop, P: OrderRule<N> = Waiting> {
+    pub(crate) receiver: OrderReceiver<N, P>,
+    pub(crate) pass: OrderPass<N>,
+    pub(crate) answered: Notes<Answered<N>>,
+    pub(crate) over: bool,
+    pub(crate) closed: bool,
+}
+
+impl<N: Drop, P: OrderRule<N>> Model for LoaderOrders<N, P> {
+    ghost use Rattle.crossbeam_channel.specs.Claims.{IsSeatAt, view as view_of};
+    ghost use Rattle.crossbeam_channel.specs.Ends.{receives_on};
+    ghost use Rattle.load_orders.specs.Queue.{IsTakingSide, orders_of};
+    ghost use Rattle.load_orders.specs.Telling.{LoaderOrdersValue};
+
+    ghost Value = { LoaderOrdersValue N };
+
+    ghost view = { λ s. record {
+      queue = (s.pass.table_id, s.pass.me.0.of);
+      taken = orders_of (view_of s.pass);
+      answered = s.answered;
+      over = s.over;
+      closed = s.closed;
+    } };
+
+    ghost invariant = { λ s. IsSeatAt (receives_on s.receiver) s.pass × IsTakingSide s.closed (view_of s.pass) };
+}
+
+/// The loader's end once it has come back, with what it took and answered. It takes no bytes.
+#[derive(Drop)]
+pub struct UsedLoader<N: Drop> {
+    pub(crate) known: Kept<OrderPass<N>>,
+    pub(crate) answered: Notes<Answered<N>>,
+    pub(crate) over: bool,
+    pub(crate) closed: bool,
+}
+
+impl<N: Drop> Model for UsedLoader<N> {
+    ghost use Rattle.crossbeam_channel.specs.Claims.{view as view_of};
+    ghost use Rattle.load_orders.specs.Queue.{orders_of};
+    ghost use Rattle.load_orders.specs.Telling.{LoaderOrdersValue};
+
+    ghost Value = { LoaderOrdersValue N };
+
+    ghost view = { λ s. record {
+      queue = (s.known.value.table_id, s.known.value.me.0.of);
+      taken = orders_of (view_of s.known.value);
+      answered = s.answered;
+      over = s.over;
+      closed = s.closed;
+    } };
+}
+
+impl<N: Drop, P: OrderRule<N>> LoaderOrders<N, P> {
+    /// Takes the order that waits longest, or waits for one, once each order taken before was answered. None comes if
+    /// the queue was closed for the loader, and then none ever comes; or if it was empty at one moment, and all other
+    /// ends are gone: that they are gone, tests show, and no contract.
+    pub fn next<R: Wait>(&mut self, rt: &R) -> Option<Order<N>>
+        requires { AllAnswered self.old }
+        ensures queue { self.new.queue ≡ self.old.queue }
+        ensures taken { MatchOption result (self.new.taken ≡ self.old.taken) (λ order. self.new.taken
+            ≡ self.old.taken ++ mark_of order ∷ []) }
+        ensures answered { self.new.answered ≡ self.old.answered }
+        ensures over { self.new.over ≡ is_none result }
+        ensures none { IfNone result (self.new.closed ≡ false → Held P.Protocol.holds 0
+            (Side.Taking self.old.taken 0)) }
+        ensures closed { self.old.closed ≡ true → self.new.closed ≡ true }
+    {
+        let order = self.take(rt);
+        self.over = order.is_none();
+        order
+    }
+
+    // Takes the order that waits longest, or waits for one; or is told that the queue is closed.
+    fn take<R: Wait>(&mut self, rt: &R) -> Option<Order<N>>
+        ensures queue { self.new.queue ≡ self.old.queue }
+        ensures taken { MatchOption result (self.new.taken ≡ self.old.taken) (λ order. self.new.taken
+            ≡ self.old.taken ++ mark_of order ∷ []) }
+        ensures answered { self.new.answered ≡ self.old.answered }
+        ensures none { IfNone result (self.new.closed ≡ false → Held P.Protocol.holds 0
+            (Side.Taking self.old.taken 0)) }
+        ensures closed { self.old.closed ≡ true → self.new.closed ≡ true }
+    {
+        if self.closed {
+            return None;
+        }
+        match self.receiver.recv_as::<Moves<P>, R>(rt, &mut self.pass) {
+            Ok(Arrival::Order { order }) => Some(order),
+            Ok(Arrival::Closing) => {
+                self.closed = true;
+                None
+            }
+            Err(_) => None,
+        }
+    }
+
+    /// Tells whoever waits for the order what came of it, by the order's own way back. Nobody may
+    /// wait for it, or wait any more.
+    pub fn answer<R: Wait>(&mut self, rt: &R, order: Order<N>, answer: LoadAnswer<N>)
+        ensures queue { self.new.queue ≡ self.old.queue }
+        ensures taken { self.new.taken ≡ self.old.taken }
+        ensures over { self.new.over ≡ self.old.over }
+        ensures closed { self.new.closed ≡ self.old.closed }
+        ensures told { (told : Option (WayValue N)) × IsToldBack order.way_back answer told
+            × (self.new.answered ≡ self.old.answered ++ record { answer = answer; told = told } ∷ []) }
+    {
+        let kept = Kept::of(&answer);
+        let told = tell_back(rt, order.way_back, answer);
+        self.answered.note(&Answered { answer: kept, told });
+    }
+}
+
+// Tells whoever waits by a way back, if there is one.
+fn tell_back<R: Wait, N: Drop>(
+    rt: &R,
+    way_back: Option<WayBack<N>>,
+    answer: LoadAnswer<N>,
+) -> Option<UsedWay<N>>
+    ensures { IsToldBack way_back answer result }
+{
+    match way_back {
+        Some(way) => Some(way.tell(rt, answer)),
+        None => None,
+    }
+}
