@@ -90,28 +90,28 @@ loop-seat-init g c =
 
 -- the loader takes from the queue that is closed then
 pub close_and_join-requires-clause-queue : goal.close_and_join-requires-clause-queue
-close_and_join-requires-clause-queue g c =
+close_and_join-requires-clause-queue g c κs within =
     let promised = c.in-Ok.ensures.ok in
     ap (λ orders. orders.queue) (ap (λ promise. promise.orders.value) promised ∙ c.of-promise.ensures.orders)
     ∙ sym c.in_ok-asks.ensures.queue ∙ sym (ap (λ end. end.queue) c.of-route.ensures.end)
     ∙ sym (ap (λ keeper. keeper.queue) c.in-Ok-served.ensures.back)
 
 pub close_and_join-requires-clause-back : goal.close_and_join-requires-clause-back
-close_and_join-requires-clause-back g c = ap (λ keeper. keeper.out) c.in-Ok-served.ensures.back
+close_and_join-requires-clause-back g c κs within = ap (λ keeper. keeper.out) c.in-Ok-served.ensures.back
 
 -- there was a worker at each seat, and all were joined; and so was the loader
-pub returns-in-Ok-served-in-Some : goal.returns-in-Ok-served-in-Some
-returns-in-Ok-served-in-Some g c =
+pub returns-in-Some-close_and_join : goal.returns-in-Some-close_and_join
+returns-in-Some-close_and_join g c =
     let was = c.loop-seat.invariant in
     let none = sym was.len ∙ c.in-None.ensures.steps.0 in
     let seats = seated_all _ _ _ _ was.seated none ∙ c.into_iter-seat-iterator.ensures.into_iter_gives.0 in
     let ran = c.in-Ok-served in
-    let joined = c.in-Some.ensures in
-    let done = (c.in-Some.orders, c.in-Some.loader, c.in-Some.used) in
+    let after = c.in-Some-close_and_join in
+    let joined = after.ensures in
     let promised = c.in-Ok.ensures.ok in
     let kept = ran.ensures.back in
-    let queue : c.of-route.result.end.value.queue ≡ done.0.queue = sym (joined.queue ∙ ap (λ keeper. keeper.queue) kept) in
-    let taken = subst (λ list. IsPermutation list done.0.taken) (ap (λ keeper. keeper.put) kept) joined.all in
+    let queue : c.of-route.result.end.value.queue ≡ after.orders.queue = sym (joined.queue ∙ ap (λ keeper. keeper.queue) kept) in
+    let taken = subst (λ list. IsPermutation list after.orders.taken) (ap (λ keeper. keeper.put) kept) joined.all in
     let at_seats = subst (λ seats. AreServedSince c.captures.form g.C.Client.opens g.C.Reader.Read.remaining g.C.Writer.Write.contents
     g.T.Versions.number g.T.Versions.value g.T.Versions.known
     g.T.Versions.noted (route_to (g.F.Feeds.named c.of-route.result.feeds.value) c.of-route.result.end.value.queue)
@@ -130,15 +130,15 @@ returns-in-Ok-served-in-Some g c =
     let seat = ap (λ promise. promise.seat.value) promised ∙ c.of-promise.ensures.seat in
     let at_feeds = subst (λ feeds. AllCarriedOut g.T.Versions.noted (g.F.Feeds.are_files feeds) g.F.Files.FeedFiles.holds g.F.Files.FeedFiles.reads
     g.F.Files.FeedFiles.failures g.F.Files.FeedFiles.failed
-    (g.F.Feeds.is_plan feeds) (length (g.F.Feeds.named feeds)) done.0 done.2
-    (g.T.Loads.answers c.in-Ok.loading.promise.seat.value) (g.T.Loads.answers done.1)) feeds joined.carried in
-    let loader = subst (λ shelves. g.T.Loads.loads shelves done.1) (ap (λ promise. promise.shelves.value) promised ∙ c.of-promise.ensures.shelves)
+    (g.F.Feeds.is_plan feeds) (length (g.F.Feeds.named feeds)) after.orders after.used
+    (g.T.Loads.answers c.in-Ok.loading.promise.seat.value) (g.T.Loads.answers after.loader)) feeds joined.carried in
+    let loader = subst (λ shelves. g.T.Loads.loads shelves after.loader) (ap (λ promise. promise.shelves.value) promised ∙ c.of-promise.ensures.shelves)
     joined.loads in
     let loads = subst (λ seat. AllCarriedOut g.T.Versions.noted (g.F.Feeds.are_files c.captures.feeds.now)
     g.F.Files.FeedFiles.holds g.F.Files.FeedFiles.reads g.F.Files.FeedFiles.failures g.F.Files.FeedFiles.failed
-    (g.F.Feeds.is_plan c.captures.feeds.now) (length (g.F.Feeds.named c.captures.feeds.now)) done.0 done.2
-    (g.T.Loads.answers seat) (g.T.Loads.answers done.1)) seat at_feeds in
-    let learns = subst (λ seat. LoaderLearns (g.T.Loads.learned seat) (g.T.Loads.answers seat) (g.T.Loads.learned done.1) (g.T.Loads.answers done.1))
+    (g.F.Feeds.is_plan c.captures.feeds.now) (length (g.F.Feeds.named c.captures.feeds.now)) after.orders after.used
+    (g.T.Loads.answers seat) (g.T.Loads.answers after.loader)) seat at_feeds in
+    let learns = subst (λ seat. LoaderLearns (g.T.Loads.learned seat) (g.T.Loads.answers seat) (g.T.Loads.learned after.loader) (g.T.Loads.answers after.loader))
     seat joined.learns in
     record {
       none_left = ran.ensures.none_left;
