@@ -12,7 +12,7 @@ ghost use Rattle.shelf_steps.specs.declared.views.View.{View};
 ghost use Rattle.epochs.specs.ShelfSeats.{NoticeValue, SeatsHanded, ShelfSeatValue};
 ghost use Rattle.workers.specs.Carrying.{AllCarriedOut};
 ghost use Rattle.workers.specs.Learned.{LoaderLearns};
-ghost use Rattle.workers.specs.Ordering.{route_to};
+ghost use Rattle.workers.specs.Ordering.{AreAllTaken, route_to};
 ghost use Rattle.workers.specs.Sessions.{AreServedSince, MayClose};
 ghost use Rattle.csa_program.specs.Door.{AreAsMany, AreCountedOff};
 ghost use Rattle.csa_program.specs.Hosting.{AreHosted, AreSessionsOf};
@@ -340,6 +340,7 @@ fn serve_all<
         (λ seat. seat.number) (λ seat. seat.shown) (λ seat. known_of seat.view)
         (λ (notice : NoticeValue). notice.version) (route_to folders.now.names.items ran.orders.queue)
         (K.came clients) (K.came ran.clients) made.2.items ran.asked ran.served ran.seats.items) }
+    ensures taken { IfOk result (λ ran. AreAllTaken ran.asked ran.orders) }
     ensures loads { IfOk result (λ ran. AllCarriedOut (λ (notice : NoticeValue). notice.version)
         (⟦<Folders<'f, H> as Feeds>⟧.are_files folders.now) ⟦<FolderFiles<'f, H> as FeedFiles>⟧.holds
         ⟦<FolderFiles<'f, H> as FeedFiles>⟧.reads ⟦<FolderFiles<'f, H> as FeedFiles>⟧.failures
