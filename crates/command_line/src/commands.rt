@@ -369,7 +369,14 @@ fn command_of<'a>(alloc: Global, task: Task) -> Result<Command<'a>, AllocError> 
 }
 
 // The command of this name.
-fn task_named(tasks: &[Task], name: &str) -> Option<Task> {
+fn task_named(name: &str) -> Option<Task> {
+    match task_among(image_tasks(), name) {
+        Some(task) => Some(task),
+        None => task_among(other_tasks(), name),
+    }
+}
+
+fn task_among(tasks: &[Task], name: &str) -> Option<Task> {
     for task in tasks {
         if task.name == name {
             return Some(*task);
@@ -385,14 +392,21 @@ fn usage_of(alloc: Global, task: Task) -> Result<String, AllocError> {
     command.render_usage()
 }
 
-/// The line of usage of a command, none if there is no such command.
+fn program_usage(alloc: Global) -> Result<String, AllocError> {
+    let mut command = program(alloc)?;
+    command.render_usage()
+}
+
+/// Whether there is a command of this name.
+pub(crate) fn is_command(name: &str) -> bool {
+    task_named(name).is_some()
+}
+
+/// The line of usage of a command, or that of the program if there is no such command.
 pub(crate) fn usage(alloc: Global, name: &str) -> Result<String, AllocError> {
-    if let Some(task) = task_named(image_tasks(), name) {
-        return usage_of(alloc, task);
-    }
-    match task_named(other_tasks(), name) {
+    match task_named(name) {
         Some(task) => usage_of(alloc, task),
-        None => Ok(String::new(alloc)),
+        None => program_usage(alloc),
     }
 }
 

@@ -1,7 +1,7 @@
 //! From words to a request, or to what is said of them.
 
-use crate::commands::{program, usage};
-use crate::values::{clock, count, named_folder, number, port, zone};
+use crate::commands::{is_command, program, usage};
+use crate::values::{clock, count, month_name, named_folder, number, port, spelled_date, zone};
 use clap::error::ErrorKind;
 use clap::{ArgMatches, Error};
 use command_requests::{
@@ -101,15 +101,62 @@ fn is_workers(value: &str) -> bool {
     }
 }
 
-fn unread_of(alloc: Global, error: &Error) -> Unread {
+/// How clap ends what it says of a mistake.
+const HINT: &str = "\nFor more information, try '--help'.\n";
+
+/// How the usage begins in what clap says of a mistake.
+const USAGE: &str = "\nUsage: ";
+
+/// What clap says of words that begin with a command, or with none if its name is empty.
+fn unread_of(alloc: Global, error: &Error, command: &str) -> Unread {
     if error.kind() == ErrorKind::OutOfMemory {
         return Unread::OutOfMemory;
     }
-    match error.to_string(alloc) {
-        Ok(text) if error.use_stderr() => Unread::Mistake(text),
-        Ok(text) => Unread::Help(text),
-        Err(_) => Unread::OutOfMemory,
+    let Ok(text) = error.to_string(alloc) else {
+        return Unread::OutOfMemory;
+    };
+    if !error.use_stderr() {
+        return Unread::Help(text);
     }
+    let is_unknown = error.kind() == ErrorKind::UnknownArgument;
+    match with_hint(alloc, command, text.as_str(), is_unknown) {
+        Ok(whole) => Unread::Mistake(whole),
+        Err(_) => Unread::Mistake(text),
+    }
+}
+
+/// What clap says of a mistake, with the command whose help says more. If the program itself has no such option, clap
+/// shows the usage of a similar one; that of the program is put in its place.
+fn with_hint(
+    alloc: Global,
+    command: &str,
+    text: &str,
+    is_unknown: bool,
+) -> Result<String, AllocError> {
+    let Some(said) = text.strip_suffix(HINT) else {
+        return format!(in alloc; "{text}");
+    };
+    if is_unknown && command.is_empty() {
+        let (said, _) = said.rsplit_once(USAGE).unwrap_or((said, ""));
+        return with_usage(alloc, command, said);
+    }
+    let hint = hint(alloc, command)?;
+    format!(in alloc; "{said}\n{hint}")
+}
+
+/// The line that says whose help says more: that of a command, or of the program if its name is empty.
+fn hint(alloc: Global, command: &str) -> Result<String, AllocError> {
+    let space = if command.is_empty() { "" } else { " " };
+    format!(in alloc; "For more information, try 'csa{space}{command} --help'.\n")
+}
+
+/// The command with which the words behind the program's name begin; empty if that word is none.
+fn command_in<'a, S: AsStr>(words: &'a [S]) -> &'a str {
+    let Some(word) = words.get(1) else {
+        return "";
+    };
+    let word = word.as_str();
+    if is_command(word) { word } else { "" }
 }
 
 /// What the words ask for; the first is the program's name.
@@ -119,7 +166,7 @@ pub fn read<'a, S: AsStr>(alloc: Global, words: &'a [S]) -> Result<Request<'a>, 
     };
     match command.try_get_matches_from(words) {
         Ok(matches) => request_in(alloc, &matches),
-        Err(error) => Err(unread_of(alloc, &error)),
+        Err(error) => Err(unread_of(alloc, &error, command_in(words))),
     }
 }
 
@@ -166,12 +213,7 @@ fn wrong_value(alloc: Global, command: &str, matches: &ArgMatches<'_>) -> Unread
         if let Some(value) = matches.get_str(option)
             && !form.is_kept(value)
         {
-            let rule = form.rule();
-            return mistake(
-                alloc,
-                command,
-                format!(in alloc; "error: --{option} {value:?}: {rule}\n"),
-            );
+            return mistake(alloc, command, wrong_form(alloc, option, *form, value));
         }
     }
     mistake(
@@ -179,6 +221,25 @@ fn wrong_value(alloc: Global, command: &str, matches: &ArgMatches<'_>) -> Unread
         command,
         format!(in alloc; "error: a value has a wrong form\n"),
     )
+}
+
+/// What is said of an option whose value has a wrong form.
+fn wrong_form(alloc: Global, option: &str, form: Form, value: &str) -> Result<String, AllocError> {
+    if let (Form::Day, Some(date)) = (form, spelled_date(value)) {
+        let reason = no_date(alloc, date)?;
+        return format!(in alloc; "error: --{option} {value:?}: {reason}\n");
+    }
+    let rule = form.rule();
+    format!(in alloc; "error: --{option} {value:?}: {rule}\n")
+}
+
+/// What is said of a year, a month and a day that are no date.
+fn no_date(alloc: Global, date: (u32, u32, u32)) -> Result<String, AllocError> {
+    let (year, month, day) = date;
+    match month_name(month) {
+        Some(name) => format!(in alloc; "there is no such date: {day} {name} {year}"),
+        None => format!(in alloc; "there is no such date: month {month} of {year}"),
+    }
 }
 
 fn wrong_feed(alloc: Global, word: &str) -> Unread {
@@ -197,7 +258,7 @@ fn feed_named_twice(alloc: Global, word: &str) -> Unread {
     )
 }
 
-/// What is wrong with the words of a command, and its usage if there is memory for it.
+/// What is wrong with the words of a command, and its usage and hint if there is memory for them.
 fn mistake(alloc: Global, command: &str, text: Result<String, AllocError>) -> Unread {
     let Ok(text) = text else {
         return Unread::OutOfMemory;
@@ -210,7 +271,8 @@ fn mistake(alloc: Global, command: &str, text: Result<String, AllocError>) -> Un
 
 fn with_usage(alloc: Global, command: &str, text: &str) -> Result<String, AllocError> {
     let usage = usage(alloc, command)?;
-    format!(in alloc; "{text}\n{usage}\n\nFor more information, try 'csa {command} --help'.\n")
+    let hint = hint(alloc, command)?;
+    format!(in alloc; "{text}\n{usage}\n\n{hint}")
 }
 
 fn stops_request<'a>(matches: &ArgMatches<'a>) -> Option<StopsRequest<'a>> {

@@ -101,7 +101,7 @@ of their departures, and the number of connections that were read.\n\
 Journeys have the image's numbers; `csa profile --names` prints those from one stop with ids.\n\
 A journey rides at least once, so a direct walk is not among the departures: --summary and --json give its seconds\n\
 for the stops that have a line.\n\
-If a line of FILE is not a stop_id of the image, nothing is printed, standard error has the number of that line, and\n\
+If a line of FILE is not a stop_id of the image, nothing is printed, standard error has its number and its text, and\n\
 the status is 2; if FILE cannot be read, it is 3.\n\
 A warning says if the window begins before the image's first connection departs or ends after the last one does;\n\
 --no-warnings leaves it out.\n\

@@ -26,6 +26,38 @@ pub(crate) fn number(text: &str) -> Option<u32> {
     u32::try_from(count(text)?).ok()
 }
 
+/// The year, the month and the day of eight digits, whether or not the calendar has that date; none of another text, or
+/// in year 0.
+pub(crate) fn spelled_date(text: &str) -> Option<(u32, u32, u32)> {
+    if text.len() != 8 {
+        return None;
+    }
+    let digits = number(text)?;
+    if digits < 10_000 {
+        return None;
+    }
+    Some((digits / 10_000, digits / 100 % 100, digits % 100))
+}
+
+/// The name of a month, from 1 on.
+pub(crate) fn month_name(month: u32) -> Option<&'static str> {
+    match month {
+        1 => Some("January"),
+        2 => Some("February"),
+        3 => Some("March"),
+        4 => Some("April"),
+        5 => Some("May"),
+        6 => Some("June"),
+        7 => Some("July"),
+        8 => Some("August"),
+        9 => Some("September"),
+        10 => Some("October"),
+        11 => Some("November"),
+        12 => Some("December"),
+        _ => None,
+    }
+}
+
 /// A name and a folder, neither of them empty.
 pub(crate) fn named_folder(word: &str) -> Option<NamedFolder<'_>> {
     match word.split_once('=')? {

@@ -4,10 +4,10 @@
 mod source_sum;
 
 use crate::source_sum::SOURCES;
-use csa_program::run;
+use csa_program::{explain_no_words, print_sources, run};
 use std::env;
 use std::fs::File;
-use std::io::{ErrorKind, IsTerminal, Write};
+use std::io::{ErrorKind, IsTerminal};
 use std::process::ExitCode;
 use std::rt::Env;
 
@@ -22,13 +22,16 @@ fn main(rt: HostRuntime) -> ExitCode {
         File::open(&rt, FOLDER),
         File::open(&rt, FOLDER),
     ];
+    let mut errors = rt.stderr();
     let words = match words_of(&rt) {
         Ok(words) => words,
-        Err(status) => return ExitCode::from(status),
+        Err(status) => {
+            explain_no_words(&mut errors, status);
+            return ExitCode::from(status);
+        }
     };
     let mut input = rt.stdin();
     let mut output = rt.stdout();
-    let mut errors = rt.stderr();
     let is_terminal = errors.is_terminal();
     let status = run(
         &rt,
@@ -39,7 +42,7 @@ fn main(rt: HostRuntime) -> ExitCode {
         is_terminal,
     );
     if status == 0 && asks_version(&words) {
-        return ExitCode::from(print_sources(&mut output));
+        return ExitCode::from(print_sources(SOURCES, &mut output, &mut errors));
     }
     ExitCode::from(status)
 }
@@ -52,15 +55,7 @@ fn asks_version(words: &[String]) -> bool {
     }
 }
 
-/// Prints the sum of the sources, below the version; the status, 3 where it can't be written.
-fn print_sources<W: Write>(output: &mut W) -> u8 {
-    match write!(output, "sources {SOURCES}\n") {
-        Ok(()) => 0,
-        Err(_) => 3,
-    }
-}
-
-/// The words of the command line; or the status without them, 4 where memory is wanting, 64 where a word is no text.
+/// The words of the command line; or the status without them, 4 if memory runs out, 64 if a word isn't UTF-8.
 fn words_of<R: Env + AllocGlobal>(rt: &R) -> Result<Vec<String>, u8> {
     let arguments = match env::args(rt) {
         Ok(arguments) => arguments,

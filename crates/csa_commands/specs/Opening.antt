@@ -1,6 +1,7 @@
 -- What bytes that are an image show, and which are none.
-use Rattle.std.specs.Prelude.{◌≡◌, ◌≢◌, ◌%◌, ℕ, List, Option, Some, IfSome, codes, length}
+use Rattle.std.specs.Prelude.{◌≡◌, ◌≢◌, ◌%◌, ℕ, List, Option, Some, length}
 use Rattle.std.specs.Io.KnownBytes.{Appends}
+use Rattle.image_files.specs.Held.{HoldsOfBytes}
 use Rattle.image_layout.specs.Image.{ImageValue, Spells}
 use Rattle.image_layout.specs.Text.{bytes_of}
 use Rattle.image_verifier.specs.FirstFault.{first_fault}
@@ -31,8 +32,8 @@ IsOfImage (Query fault) = ⊥
 IsOfImage BadText = ⊥
 IsOfImage (Journey fault) = ⊥
 
--- the line of a refusal of an image was added to what was printed before, and nothing else; the standard input is no image for that refusal
-abbrev pub IsRefusedImage : List ℕ → Option (List ℕ) → Option (List ℕ) → Option (List ℕ) → Type 0
-IsRefusedImage path input before after =
+-- the line of a refusal of an image was added to what was printed before, and nothing else; the bytes at the path are no image for that refusal
+abbrev pub IsRefusedImage : (List ℕ → Option (List ℕ) → Type 0) → List ℕ → Option (List ℕ) → Option (List ℕ) → Option (List ℕ) → Type 0
+IsRefusedImage may_hold path input before after =
     (refusal : Refusal) × IsOfImage refusal × Appends before after (refusal_line refusal)
-    × (path ≡ codes "-" → IfSome input (IsNoImage refusal))
+    × HoldsOfBytes may_hold path input (IsNoImage refusal)

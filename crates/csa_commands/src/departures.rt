@@ -12,7 +12,7 @@ ghost use Rattle.csa_commands.specs.Departing.{AreAllPrinted, ArePrinted, AreSho
 ghost use Rattle.csa_commands.specs.Departing.{form_of, list_status, window_asked};
 
 use crate::explaining::{explain, is_file};
-use crate::question::{explain_end, explain_line, window_reason};
+use crate::question::{explain_end, window_reason};
 use crate::refusal::Refusal;
 use crate::status;
 use crate::wanted_stops::{NoList, wanted_from};
@@ -54,7 +54,7 @@ pub fn run<H: Files + AllocGlobal, O: Write, E: Write>(
             return status;
         }
     };
-    match wanted_from(rt, image, request.from) {
+    match wanted_from(rt, image, request.from, errors) {
         Ok(wanted) => print_all(rt.alloc(), image, &destination, request, &wanted, output),
         Err(failure) => explain_list(rt, request, failure, errors),
     }
@@ -103,7 +103,8 @@ fn explain_fault<E: Write>(
     }
 }
 
-// Says why it isn't known of which stops departures are wanted; the status.
+// Says why it isn't known of which stops departures are wanted; the status. A line that is no stop_id was shown when
+// the list was read.
 fn explain_list<H: Files + AllocGlobal, E: Write>(
     rt: &H,
     request: DeparturesRequest<'_>,
@@ -116,10 +117,7 @@ fn explain_list<H: Files + AllocGlobal, E: Write>(
 {
     let path = request.from.unwrap_or("");
     match failure {
-        NoList::UnknownStop(line) => {
-            explain_line(path, line, errors);
-            status::REFUSED
-        }
+        NoList::UnknownStop(_line) => status::REFUSED,
         NoList::Unreadable => {
             let status = status::report_unreadable(rt, errors, path);
             explain_from(rt, path, errors);

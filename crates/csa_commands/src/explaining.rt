@@ -11,6 +11,7 @@ use std::convert::AsStr;
 use std::fmt::Write as _;
 use std::fs::{self, File};
 use std::io::{ErrorKind, Write};
+use std::path::Path;
 use std::rt::Files;
 
 /// How many bytes of a value are shown.
@@ -31,6 +32,8 @@ pub fn reason_of(kind: ErrorKind) -> &'static str {
     match kind {
         ErrorKind::NotFound => "no such file or folder",
         ErrorKind::PermissionDenied => "permission denied",
+        ErrorKind::BrokenPipe => "nobody reads it any more",
+        ErrorKind::FilesystemLoop => "its links lead in a circle",
         ErrorKind::IsADirectory => "it is a folder",
         ErrorKind::NotADirectory => "a part of its path is not a folder",
         ErrorKind::ReadOnlyFilesystem => "the file system is read-only",
@@ -47,7 +50,7 @@ pub fn reason_of(kind: ErrorKind) -> &'static str {
 pub fn unread_reason<H: Files>(rt: &H, path: &str) -> &'static str {
     let metadata = match fs::metadata(rt, path) {
         Ok(metadata) => metadata,
-        Err(error) => return reason_of(error.kind()),
+        Err(error) => return missing_reason(rt, path, error.kind()),
     };
     if metadata.is_dir() {
         return reason_of(ErrorKind::IsADirectory);
@@ -61,6 +64,16 @@ pub fn unread_reason<H: Files>(rt: &H, path: &str) -> &'static str {
     }
 }
 
+/// Why nothing is found at a path, by the kind of the error: a link may be there that leads nowhere.
+pub fn missing_reason<H: Files>(rt: &H, path: &str, kind: ErrorKind) -> &'static str {
+    let is_missing = matches!(kind, ErrorKind::NotFound | ErrorKind::NotADirectory);
+    if is_missing && Path::new(path).is_symlink(rt) {
+        "it is a link that leads nowhere"
+    } else {
+        reason_of(kind)
+    }
+}
+
 /// A path as it is shown: an empty one in quotes.
 pub fn shown_path(path: &str) -> &str {
     if path.is_empty() { "\"\"" } else { path }
@@ -68,11 +81,25 @@ pub fn shown_path(path: &str) -> &str {
 
 /// A value as it is shown: in quotes, with control characters escaped, and cut if it is long.
 pub fn quoted(alloc: Global, value: &[u8]) -> Result<String, AllocError> {
-    let shown = value.get(..LONGEST_SHOWN).unwrap_or(value);
+    let shown = shown_part(value);
     let end = if shown.len() < value.len() { " .." } else { "" };
     match str::from_utf8(shown) {
         Ok(text) => format!(in alloc; "{text:?}{end}"),
         Err(_) => quoted_bytes(alloc, shown, end),
+    }
+}
+
+/// As much of a value as is shown: a character that goes beyond that is left out.
+fn shown_part(value: &[u8]) -> &[u8] {
+    if value.len() <= LONGEST_SHOWN {
+        return value;
+    }
+    let part = value.get(..LONGEST_SHOWN).unwrap_or(value);
+    match str::from_utf8(part) {
+        Err(error) if error.error_len().is_none() => {
+            part.get(..error.valid_up_to()).unwrap_or(part)
+        }
+        _ => part,
     }
 }
 

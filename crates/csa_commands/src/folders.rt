@@ -1,6 +1,6 @@
 //! What is wrong with the folder of a feed: that it is none, or which file it lacks, and where that file is.
 
-use crate::explaining::{explain, is_file, is_folder, reason_of, shown_path};
+use crate::explaining::{explain, is_file, is_folder, missing_reason, shown_path};
 use gtfs_rows::Table;
 use std::alloc::Global;
 use std::fs;
@@ -30,7 +30,7 @@ pub fn folder_fault<H: Files>(rt: &H, folder: &str) -> Option<&'static str> {
         Ok(metadata) if metadata.is_dir() => None,
         Ok(_) if folder.ends_with(".zip") => Some("a zip file: unpack it, and name the folder"),
         Ok(_) => Some("not a folder"),
-        Err(error) => Some(reason_of(error.kind())),
+        Err(error) => Some(missing_reason(rt, folder, error.kind())),
     }
 }
 

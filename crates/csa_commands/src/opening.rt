@@ -1,17 +1,18 @@
 //! What every command over an image begins with.
 
-ghost use Rattle.std.specs.Prelude.{◌≡◌, ◌≢◌, codes, IfErr, IfOk, IfSome, OnOk};
+ghost use Rattle.std.specs.Prelude.{◌≡◌, ◌≢◌, IfErr, IfOk, OnOk};
 ghost use Rattle.std.specs.Io.KnownBytes.{Appends};
-ghost use Rattle.command_requests.specs.declared.statuses.TheConstants.{OUT_OF_MEMORY, REFUSED};
+ghost use Rattle.command_requests.specs.declared.statuses.TheConstants.{INPUT_OUTPUT, OUT_OF_MEMORY, REFUSED};
 ghost use Rattle.image_verifier.specs.declared.fault.ImageFault.TheVariants.{OutOfMemory as WasOutOfMemory};
+ghost use Rattle.image_files.specs.Held.{HoldsOfBytes};
 ghost use Rattle.csa_commands.specs.Ending.{EndsUndone};
 ghost use Rattle.csa_commands.specs.Opening.{IsRefusedImage, SpellsImage};
 ghost use Rattle.csa_commands.specs.Refusing.{refusal_line};
 ghost use Rattle.csa_commands.specs.declared.refusal.Refusal.TheVariants.{Image as OfImage};
 
 use crate::refusal::Refusal;
-use crate::status;
-use image_files::{ImageFileFault, image_words};
+use crate::{explaining, status};
+use image_files::{ImageDisk, ImageFileFault, image_words};
 use image_verifier::{ImageFault, Verified, verify};
 use std::alloc::Global;
 use std::fmt;
@@ -22,41 +23,100 @@ use std::rt::Files;
 #[derive(Clone, Copy, Drop)]
 struct Reason(ImageFault);
 
+/// What is said of an image with a header that is right, but with other words that are wrong.
+const DAMAGED: &str = "it is damaged, or wasn't made by `csa build`";
+
 impl fmt::Display for Reason {
     fn fmt<W: fmt::Write>(&self, f: &mut fmt::Formatter<W>) -> fmt::Result {
+        let reason = reason_of(self.0);
         match self.0 {
-            ImageFault::BadMagic => f.write_str(
-                "it isn't an image made by `csa build`: it doesn't begin like one",
-            ),
-            ImageFault::BadLayout => f.write_str(
-                "its layout is neither 1 nor 2: use the csa that built it, or build it again",
-            ),
-            ImageFault::BadLength => f.write_str(
-                "its size isn't the one that its header says: it is empty, was cut off, or isn't an image",
-            ),
-            fault => write!(f, "{fault}"),
+            ImageFault::BadMagic
+            | ImageFault::BadLayout
+            | ImageFault::BadLength
+            | ImageFault::OutOfMemory => f.write_str(reason),
+            ImageFault::StopRange(connection)
+            | ImageFault::TripRange(connection)
+            | ImageFault::HopWithoutDuration(connection)
+            | ImageFault::Unsorted(connection)
+            | ImageFault::TripBroken(connection)
+            | ImageFault::TimeRange(connection)
+            | ImageFault::BadFlags(connection) => {
+                write!(f, "connection {connection} {reason}; {DAMAGED}")
+            }
+            ImageFault::FootRange(stop)
+            | ImageFault::FootUnsorted(stop)
+            | ImageFault::NoLoop(stop) => {
+                write!(f, "footpaths into stop {stop}: {reason}; {DAMAGED}")
+            }
+            ImageFault::NotClosed(a, b, c) => {
+                write!(
+                    f,
+                    "footpaths lead from stop {a} to stop {b} and on to stop {c}, {reason}; {DAMAGED}"
+                )
+            }
+            ImageFault::BadNames(name) => write!(f, "name {name} {reason}; {DAMAGED}"),
         }
+    }
+}
+
+/// What is wrong with an image, or with a connection of it, the footpaths into a stop, or a name.
+fn reason_of(fault: ImageFault) -> &'static str {
+    match fault {
+        ImageFault::BadMagic => "it isn't an image made by `csa build`: it doesn't begin like one",
+        ImageFault::BadLayout => {
+            "its layout is neither 1 nor 2: use the csa that built it, or build it again"
+        }
+        ImageFault::BadLength => {
+            "its size isn't the one that its header says: it is empty, was cut off, or isn't an image"
+        }
+        ImageFault::StopRange(_) => "leaves or reaches a stop that the image doesn't have",
+        ImageFault::TripRange(_) => "is of a trip that the image doesn't have",
+        ImageFault::HopWithoutDuration(_) => "arrives no later than it departs",
+        ImageFault::Unsorted(_) => "departs earlier than the connection before it",
+        ImageFault::TripBroken(_) => {
+            "leaves another stop than the one that its trip has reached, or leaves it too early"
+        }
+        ImageFault::TimeRange(_) => {
+            "has a time past 555555:33:19, the last second that an image can have"
+        }
+        ImageFault::BadFlags(_) => {
+            "has a flag that is neither 1, for boarding, nor 2, for alighting"
+        }
+        ImageFault::FootRange(_) => {
+            "their index is wrong, or one of them leaves a stop that the image doesn't have or takes more than \
+1000000 seconds"
+        }
+        ImageFault::FootUnsorted(_) => {
+            "they aren't in the order of the stops that they leave, each once"
+        }
+        ImageFault::NoLoop(_) => "none leaves that stop itself",
+        ImageFault::NotClosed(..) => "and none from the first to the last is as short",
+        ImageFault::BadNames(_) => {
+            "isn't UTF-8, or doesn't begin where the one before it ends (stop_ids come first, then trip_ids)"
+        }
+        ImageFault::OutOfMemory => "out of memory",
     }
 }
 
 /// The verified image at the path, of the input for `-`; or the status of a command that has said why there is none:
 /// that of a refusal, of a file that can't be read or a line that can't be written, or of memory that ran out, in which
 /// case nothing was printed.
-pub fn open_image<H: Files + AllocGlobal, I: Read, O: Write, E: Write>(
+pub fn open_image<H: Files + ImageDisk<Image = H::File> + AllocGlobal, I: Read, O: Write, E: Write>(
     rt: &H,
     path: &str,
     input: &mut I,
     output: &mut O,
     errors: &mut E,
 ) -> Result<Verified, u8>
-    ensures image { IfOk result (λ image. path.now ≡ codes "-"
-        → IfSome (I.remaining input.old) (SpellsImage image)) }
+    ensures image { IfOk result (λ image.
+        HoldsOfBytes (H.may_hold rt.now) path.now (I.remaining input.old) (SpellsImage image)) }
     ensures status { IfErr result EndsUndone }
     ensures silent { OnOk result (O.contents output.new ≡ O.contents output.old) }
     ensures memory { IfErr result (λ status. status ≡ OUT_OF_MEMORY
         → O.contents output.new ≡ O.contents output.old) }
     ensures refused { IfErr result (λ status. status ≡ REFUSED
-        → IsRefusedImage path.now (I.remaining input.old) (O.contents output.old) (O.contents output.new)) }
+        → IsRefusedImage (H.may_hold rt.now) path.now (I.remaining input.old)
+        (O.contents output.old) (O.contents output.new)) }
 {
     let words = match image_words(rt, path, input) {
         Ok(words) => words,
@@ -73,7 +133,7 @@ pub fn open_image<H: Files + AllocGlobal, I: Read, O: Write, E: Write>(
             ));
         }
         Err(ImageFileFault::Unreadable) => {
-            return Err(status::report_unreadable(rt, errors, path));
+            return Err(report_unread(rt, path, errors));
         }
         Err(ImageFileFault::OutOfMemory) => return Err(status::OUT_OF_MEMORY),
     };
@@ -81,6 +141,17 @@ pub fn open_image<H: Files + AllocGlobal, I: Read, O: Write, E: Write>(
         Ok(image) => Ok(image),
         Err((_words, fault)) => Err(refuse_words(rt.alloc(), path, fault, output, errors)),
     }
+}
+
+// Reports that the image at a path can't be read; the status of that.
+fn report_unread<H: Files, E: Write>(rt: &H, path: &str, errors: &mut E) -> u8
+    ensures { result ≡ INPUT_OUTPUT }
+{
+    if path == "-" {
+        explaining::explain(errors, &["csa: standard input can't be read"]);
+        return status::INPUT_OUTPUT;
+    }
+    status::report_unreadable(rt, errors, path)
 }
 
 // Prints why the words of the image at a path are refused, unless memory ran out while they were judged.

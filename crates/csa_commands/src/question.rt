@@ -10,7 +10,7 @@ ghost use Rattle.csa_commands.specs.Ending.{EndsUndone};
 ghost use Rattle.csa_commands.specs.Refusing.{refusal_line};
 ghost use Rattle.csa_commands.specs.declared.refusal.Refusal.TheVariants.{Query as OfQuery};
 
-use crate::explaining::explain;
+use crate::explaining::{explain, quoted};
 use crate::refusal::Refusal;
 use crate::status;
 use command_requests::Question;
@@ -104,7 +104,21 @@ pub fn explain_end<E: Write>(image: &Verified, option: &str, stop: &str, errors:
     }
 }
 
-/// Says that a line of the file of `--from` is no stop of the image. It takes no memory.
-pub fn explain_line<E: Write>(path: &str, line: usize, errors: &mut E) {
-    let _ = write!(errors, "csa: --from {path}, line {line}: {UNKNOWN}\n");
+/// Says that a line of the file of `--from` is no stop of the image, and what it has, if there is memory for that.
+pub fn explain_line<E: Write>(
+    alloc: Global,
+    path: &str,
+    number: usize,
+    line: &str,
+    errors: &mut E,
+) {
+    let _ = match quoted(alloc, line.as_bytes()) {
+        Ok(shown) => {
+            write!(
+                errors,
+                "csa: --from {path}, line {number}: {shown}: {UNKNOWN}\n"
+            )
+        }
+        Err(_) => write!(errors, "csa: --from {path}, line {number}: {UNKNOWN}\n"),
+    };
 }

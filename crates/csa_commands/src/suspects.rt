@@ -39,7 +39,7 @@ pub struct Suspect(pub &'static str, pub Form, pub &'static str);
 
 const BAD_TIME: &str = "isn't a time, H:MM:SS or HH:MM:SS with minutes and seconds below 60";
 
-const BAD_DATE: &str = "isn't a date, YYYYMMDD";
+const BAD_DATE: &str = "isn't a date of the calendar, YYYYMMDD";
 
 const BAD_DAY: &str = "is neither 0 nor 1";
 

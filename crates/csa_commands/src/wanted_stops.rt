@@ -5,11 +5,12 @@ ghost use Rattle.std.specs.Str.Lines.{lines};
 ghost use Rattle.departure_lines.specs.Naming.{AreWanted};
 ghost use Rattle.csa_commands.specs.Departing.{IsListed, IsUnknown, IsUnlisted, IsWantedFrom};
 
+use crate::question::explain_line;
 use departure_lines::{ListFault, Wanted};
 use image_verifier::Verified;
 use std::alloc::Global;
 use std::fs;
-use std::io::ErrorKind;
+use std::io::{ErrorKind, Write};
 use std::rt::Files;
 
 /// Why it isn't known of which stops departures are wanted.
@@ -23,11 +24,13 @@ pub enum NoList {
     OutOfMemory,
 }
 
-/// All stops, or those that the file at the path names.
-pub fn wanted_from<H: Files + AllocGlobal>(
+/// All stops, or those that the file at the path names. A line of it that is no stop_id is shown in `errors`, and its
+/// number is returned.
+pub fn wanted_from<H: Files + AllocGlobal, E: Write>(
     rt: &H,
     image: &Verified,
     path: Option<&str>,
+    errors: &mut E,
 ) -> Result<Wanted, NoList>
     ensures wanted { IfOk result (IsWantedFrom image.now.names path.entry) }
     ensures named { IfErr result (λ _. path.entry ≢ None) }
@@ -35,17 +38,40 @@ pub fn wanted_from<H: Files + AllocGlobal>(
 {
     match path {
         None => Ok(Wanted::All),
-        Some(path) => read_list(rt, image, path),
+        Some(path) => read_list(rt, image, path, errors),
     }
 }
 
 // The stops that the file at a path names.
-fn read_list<H: Files + AllocGlobal>(rt: &H, image: &Verified, path: &str) -> Result<Wanted, NoList>
+fn read_list<H: Files + AllocGlobal, E: Write>(
+    rt: &H,
+    image: &Verified,
+    path: &str,
+    errors: &mut E,
+) -> Result<Wanted, NoList>
     ensures { MatchResult result (IsListed image.now.names) (IsUnknown image.now.names) }
 {
     match fs::read_to_string(rt, path) {
-        Ok(text) => wanted_of(rt.alloc(), image, text.as_str()),
+        Ok(text) => {
+            let wanted = wanted_of(rt.alloc(), image, text.as_str());
+            explain_unknown(rt.alloc(), path, text.as_str(), &wanted, errors);
+            wanted
+        }
         Err(error) => Err(unlisted(error.kind())),
+    }
+}
+
+// Shows the line of a list that is no stop_id, if there is one.
+fn explain_unknown<E: Write>(
+    alloc: Global,
+    path: &str,
+    list: &str,
+    wanted: &Result<Wanted, NoList>,
+    errors: &mut E,
+) {
+    if let Err(NoList::UnknownStop(number)) = wanted {
+        let line = list.lines().nth((*number).saturating_sub(1)).unwrap_or("");
+        explain_line(alloc, path, *number, line, errors);
     }
 }
 

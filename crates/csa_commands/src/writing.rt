@@ -3,6 +3,7 @@
 ghost use Rattle.std.specs.Prelude.{OnOk};
 ghost use Rattle.std.specs.Io.KnownBytes.{Appends};
 ghost use Rattle.image_layout.specs.Text.{bytes_of};
+ghost use Rattle.csa_commands.specs.Writing.{IsWholeImage};
 
 use image_files::PIECE_WORDS;
 use image_layout::Words;
@@ -23,7 +24,9 @@ fn is_special<H: Files>(rt: &H, path: &str) -> bool {
 /// Puts an image's words at the path. A plain file is replaced by a whole one, made beside it: so
 /// it is never half an image, also where it is the one that was read. Into anything else the words
 /// are written.
-pub fn put_image<H: Files + AllocGlobal>(rt: &H, path: &str, words: &[u32]) -> io::Result<()> {
+pub fn put_image<H: Files + AllocGlobal>(rt: &H, path: &str, words: &[u32]) -> io::Result<()>
+    requires { IsWholeImage words.now }
+{
     if is_special(rt, path) {
         let mut file = File::create(rt, path)?;
         return write_words(rt.alloc(), &mut file, words);
@@ -43,7 +46,9 @@ fn put_by_way_of<H: Files + AllocGlobal>(
     beside: &str,
     path: &str,
     words: &[u32],
-) -> io::Result<()> {
+) -> io::Result<()>
+    requires { IsWholeImage words.now }
+{
     let mut file = File::create_new(rt, beside)?;
     write_words(rt.alloc(), &mut file, words)?;
     fs::rename(rt, beside, path)
@@ -51,6 +56,7 @@ fn put_by_way_of<H: Files + AllocGlobal>(
 
 // Writes the bytes of all the words, by pieces, so that they aren't held as bytes beside the words.
 fn write_words<W: Write>(alloc: Global, file: &mut W, words: &[u32]) -> io::Result<()>
+    requires { IsWholeImage words.now }
     ensures { OnOk result (Appends (W.contents file.old) (W.contents file.new) (bytes_of words.now)) }
 {
     for piece in words.chunks(PIECE_WORDS) {

@@ -43,20 +43,47 @@ pub fn run<
     let mut output = Watched::of(output);
     let status = run_command(rt, words, input, &mut output, errors, is_terminal);
     if status == status::OUT_OF_MEMORY {
-        explain(errors, &["csa: out of memory"]);
+        explain(errors, &[NO_MEMORY]);
     }
-    match output.fault() {
-        None | Some(ErrorKind::BrokenPipe) => {}
-        Some(kind) => explain_unwritten(errors, kind),
-    }
+    explain_unwritten(errors, output.fault());
     status
 }
 
-fn explain_unwritten<E: Write>(errors: &mut E, kind: ErrorKind) {
-    explain(
-        errors,
-        &["csa: standard output can't be written: ", reason_of(kind)],
-    );
+/// What is said where memory ran out.
+const NO_MEMORY: &str = "csa: out of memory";
+
+/// Prints the sum of the program's sources, below its version. The status is 0, or 3 if the line can't be written: why
+/// it can't is said in `errors`, as of a command. It takes no memory.
+pub fn print_sources<O: Write, E: Write>(sources: &str, output: &mut O, errors: &mut E) -> u8 {
+    let mut output = Watched::of(output);
+    let status = match write!(output, "sources {sources}\n") {
+        Ok(()) => status::ACCEPTED,
+        Err(_) => status::INPUT_OUTPUT,
+    };
+    explain_unwritten(errors, output.fault());
+    status
+}
+
+/// Says why there are no words of a command line, by the status with which the program ends: memory ran out, or a word
+/// isn't UTF-8.
+pub fn explain_no_words<E: Write>(errors: &mut E, status: u8) {
+    let reason = if status == status::OUT_OF_MEMORY {
+        NO_MEMORY
+    } else {
+        "csa: a word of the command line isn't UTF-8"
+    };
+    explain(errors, &[reason]);
+}
+
+// Says why standard output can't be written, if it can't; not of a pipe that nobody reads any more.
+fn explain_unwritten<E: Write>(errors: &mut E, fault: Option<ErrorKind>) {
+    match fault {
+        None | Some(ErrorKind::BrokenPipe) => {}
+        Some(kind) => {
+            let parts = ["csa: standard output can't be written: ", reason_of(kind)];
+            explain(errors, &parts);
+        }
+    }
 }
 
 // Runs the command; the status says where memory ran out.

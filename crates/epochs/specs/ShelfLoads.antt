@@ -100,10 +100,10 @@ AreFull u counts = OfLoader u (λ l. (l.current_shelf < 8) × (slice_index_or co
 abbrev pub IsUnspent : View → Type 0
 IsUnspent u = OfLoader u (λ l. l.current < 1000000000)
 
--- versions are spent only where the last one is current
+-- versions are spent only where the last one is current, and a publish is refused otherwise only below it
 abbrev pub IsSpentAt : ℕ → PublishFault → Type 0
 IsSpentAt current PublishFault.VersionsSpent = current ≡ 1000000000
-IsSpentAt current _ = Unit {0}
+IsSpentAt current _ = current < 1000000000
 
 -- spent; or so many workers at each shelf but the current one, as the tries of this call found them; or no memory, before a shelf was opened
 abbrev pub RefusesBySteps : View → PublishFault → View → Type 0

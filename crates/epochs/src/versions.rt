@@ -96,7 +96,7 @@ pub trait Loads: Versions {
     ghost learned: { Self.Loader → Known };
 
     /// Publishes the image as the next version, and gives a notice of it. A refusal gives the image
-    /// back; versions are spent only at the last one.
+    /// back; it says that versions are spent at the last one, and only there.
     fn publish(
         &self,
         loader: &mut Self::Loader,

@@ -27,7 +27,8 @@ pub trait Disk {
     ///
     /// # Errors
     ///
-    /// `Failed` where the file is longer or can't be read, `OutOfMemory` where memory was wanting.
+    /// `Failed` where the file is longer, can't be read, or is a link that leads nowhere; `OutOfMemory` where memory
+    /// was wanting.
     fn feed_file(
         &self,
         alloc: Global,
@@ -155,7 +156,8 @@ fn none_or_fault(kind: ErrorKind) -> Result<Option<Vec<u8>>, FileFault>
 ///
 /// # Errors
 ///
-/// `Failed` where the file is longer or can't be read, `OutOfMemory` where memory was wanting.
+/// `Failed` where the file is longer, can't be read, or is a link that leads nowhere; `OutOfMemory` where memory
+/// was wanting.
 pub fn file_up_to<H: Files>(
     limit: u32,
     rt: &H,
@@ -173,6 +175,8 @@ pub fn file_up_to<H: Files>(
             Ok(bytes) => Ok(Some(bytes)),
             Err(fault) => Err(fault),
         },
+        // there is a link of this name, which leads nowhere
+        Err(error) if is_no_file(error.kind()) && path.is_symlink(rt) => Err(FileFault::Failed),
         Err(error) => none_or_fault(error.kind()),
     }
 }

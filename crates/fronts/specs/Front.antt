@@ -6,7 +6,7 @@ use Rattle.criteria.specs.Laws.{Rules, NoWorse}
 use Rattle.fronts.specs.declared.entry.Item.{Item}
 use Rattle.fronts.specs.declared.entry.Entry.{Entry}
 
--- the point that an entry has of its own
+-- the point that an entry has of its own, the first of its front
 abbrev pub own : {V : Type 0} → Entry V → Item V
 own e = record { departure = e.departure; value = e.value; tag = e.tag }
 
@@ -48,7 +48,7 @@ points_to entries items (suc n) (suc m) =
 abbrev pub points_from : {V : Type 0} → List (Entry V) → List (Item V) → ℕ → List (Item V)
 points_from entries items head = points_to entries items head head
 
--- a point of the list is no worse than v
+-- a point of the list is no worse than v; an equal one is
 abbrev pub Betters : {V : Type 0} → Rules V → List (Item V) → V → Type 0
 Betters {V} rules points v = (p : Item V) × Contains points p × NoWorse rules p.value v
 

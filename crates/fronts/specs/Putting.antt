@@ -7,7 +7,7 @@ use Rattle.fronts.specs.declared.entry.Item.{Item}
 use Rattle.fronts.specs.declared.entry.Entry.{Entry}
 use Rattle.fronts.specs.Front.{next_of, departure_of, points_from, Covers}
 
--- whether a point of a list is no worse than v
+-- whether a point of a list is no worse than v; an equal one is
 abbrev pub betters : {V : Type 0} → Rules V → List (Item V) → V → Bool
 betters rules points v = list_any (λ p. rules.no_worse p.value v) points
 

@@ -62,8 +62,8 @@ impl<C: Criterion> FrontLists<C> {
         })
     }
 
-    /// The place of the front from a time on: it is made of points of the list that depart at the
-    /// time or later, and betters each of them.
+    /// The place of the front from a time on: it is made of points of the list that depart at the time or later, and
+    /// for each of these it has one that is no worse.
     pub fn front_from(&self, head: u32, time: u32) -> u32
         requires sound { IsSound C.rules self.now }
         requires head { head < length (entries_of self.now) }
@@ -374,7 +374,7 @@ fn point<V>(departure: u32, value: V, tag: u32) -> Point<V>
     }
 }
 
-// How many points a front has, with its own.
+// How many points the front of an entry has: the entry's own and so many items.
 fn with_own(count: u32) -> usize
     ensures { result ≡ count + 1 }
 {

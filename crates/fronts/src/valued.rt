@@ -45,7 +45,8 @@ impl<V> Valued<V> for Label<V> {
     }
 }
 
-/// Whether one of some values is no worse than a value. It goes over all of them, without a branch.
+/// Whether one of some values, items or labels is no worse than a value; an equal one is. In specs these then *better*
+/// the value, and labels *beat* it. It goes over all of them, without a branch.
 pub fn some_no_worse<C: Criterion, T: Valued<C::V>>(
     criterion: &C,
     points: &[T],

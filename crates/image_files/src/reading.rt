@@ -1,33 +1,36 @@
 //! Bytes by pieces, and the words that they spell.
 
-ghost use Rattle.std.specs.Prelude.{◌≡◌, ◌≢◌, ◌<◌, ◌≤◌, ◌%◌, ◌*◌, ◌^◌, length, take, codes, ◌++◌, IfOk, OnOk, IfSome};
+ghost use Rattle.std.specs.Prelude.{◌≡◌, ◌≢◌, ◌<◌, ◌≤◌, ◌%◌, ◌*◌, ◌^◌, length, take, ◌++◌, IfOk, OnOk, IfSome};
 ghost use Rattle.std.specs.Io.KnownBytes.{Consumes, IsAtEnd};
 ghost use Rattle.image_layout.specs.Text.{bytes_of};
+ghost use Rattle.image_files.specs.Held.{HoldsOfBytes};
 
+use crate::disk::ImageDisk;
 use crate::fault::ImageFileFault;
 use std::alloc::{AllocError, Global};
 use std::fs::OpenFile;
+use std::io;
 use std::io::Read;
-use std::rt::Files;
-use std::{fs, io};
 
 /// How many words are read or written at once: so an image is held once, and not as bytes beside words.
 pub const PIECE_WORDS: usize = 16_384;
 
-/// The words of the file at the path, or of the input for `-`.
-pub fn image_words<H: Files + AllocGlobal, I: Read>(
+/// The words of the file at the path, or of the input for `-`: all of them.
+pub fn image_words<H: ImageDisk + AllocGlobal, I: Read>(
     rt: &H,
     path: &str,
     input: &mut I,
 ) -> Result<Vec<u32>, ImageFileFault>
-    ensures spelled { IfOk result (λ words. path.now ≡ codes "-" → IfSome (I.remaining input.old) (λ bytes. bytes_of words.items ≡ bytes)) }
-    ensures odd { result ≡ Err ImageFileFault.OddLength → path.now ≡ codes "-" → IfSome (I.remaining input.old) (λ bytes. length bytes % 4 ≢ 0) }
+    ensures spelled { IfOk result (λ words. HoldsOfBytes (H.may_hold rt.now) path.now (I.remaining input.old)
+        (λ bytes. bytes_of words.items ≡ bytes)) }
+    ensures odd { result ≡ Err ImageFileFault.OddLength
+        → HoldsOfBytes (H.may_hold rt.now) path.now (I.remaining input.old) (λ bytes. length bytes % 4 ≢ 0) }
 {
     let mut piece = new_piece(rt.alloc(), PIECE_WORDS)?;
     if path == "-" {
         return words_of(rt.alloc(), input, &mut piece, 0);
     }
-    let mut file = fs::File::open(rt, path)?;
+    let mut file = rt.image_file(path)?;
     let bytes = file.metadata()?.len();
     let ahead = (bytes / 4) as usize;
     words_of(rt.alloc(), &mut file, &mut piece, ahead)

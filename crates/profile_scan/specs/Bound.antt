@@ -8,11 +8,12 @@ use Rattle.timetable.specs.TimetableValue.{TimetableValue}
 use Rattle.fronts.specs.declared.entry.Ridden.{Ridden}
 use Rattle.profile_scan.specs.Matching.{IsOutdone}
 
--- whether one of some values is no worse than v; an equal one is
+-- whether one of some values is no worse than v; an equal one is. (is_bettered_by of bags asks for a strictly better
+-- one.)
 abbrev pub is_bettered : {V : Type 0} → Rules V → List V → V → Bool
 is_bettered rules values v = list_any (λ b. rules.no_worse b v) values
 
--- the points that aren't bettered after the ride
+-- the points whose value after the ride these values don't better
 abbrev pub carried : {V : Type 0} → Rules V → List V → List (Point V) → List (Point V)
 carried rules values points = filter (λ p. not (is_bettered rules values (rules.ride p.value))) points
 

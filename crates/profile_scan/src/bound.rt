@@ -1,4 +1,5 @@
-//! The bound: values of points found. A value that is no better than one of them after its ride is dropped.
+//! The bound: values of points found. A change or a label isn't carried further if one of these values is no worse than
+//! its own after the ride.
 
 ghost use Rattle.std.specs.Prelude.{◌≡◌, ◌⊎◌, ◌<◌, ◌≤◌, ℕ, true, not, filter, length, slice_get, Some, IfOk, OnOk};
 ghost use Rattle.std.specs.Prelude.{Contains};
@@ -62,6 +63,7 @@ impl<C: Criterion> Bound<C> {
     /// Adds the values of points found that depart at `time` or later and weren't read yet. `count` is how many points
     /// were ever found, by which it is known whether there are new ones. Points that depart exactly at `time` are read
     /// again at the next call, since more of them may be found. What the bound excluded stays excluded.
+    /// Nothing is added unless the criterion says `riding_worsens`.
     pub fn renew(
         &mut self,
         criterion: &C,
@@ -77,6 +79,7 @@ impl<C: Criterion> Bound<C> {
         if !criterion.riding_worsens() {
             return Ok(());
         }
+        // Nothing new was found, and the next point, if there is one, still departs too early.
         if count == self.count && self.next < time {
             return Ok(());
         }
@@ -89,7 +92,9 @@ impl<C: Criterion> Bound<C> {
     }
 }
 
-/// Whether one of some values is no worse than a value; an equal one is.
+/// Whether one of some values is no worse than a value. An equal one is, so *bettered* means less here than in
+/// `is_bettered_by` of `bags`, which asks for a strictly better one. It is `some_no_worse` of bare values, under the
+/// name of its definition in specs/Bound.antt.
 pub fn is_bettered<C: Criterion>(criterion: &C, values: &[C::V], value: &C::V) -> bool
     requires values { (b : _) → Contains values.now b → Admits (C.rules criterion.now) b }
     requires value { Admits (C.rules criterion.now) value.now }

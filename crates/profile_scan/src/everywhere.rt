@@ -54,7 +54,7 @@ impl<C: Criterion> StateOfAll<C> {
         })
     }
 
-    // True only if the connection can add nothing, as many can't; false is always safe.
+    // True only if the connection can add nothing, which is so of many; false is always safe.
     fn is_idle(&self, asked: &Asked<C>, connection: &Connection, way: Option<u32>) -> bool
         requires trip { HasTrip (C.rules asked.now.criterion) connection.now.trip self.now.trips }
         requires stop { HasStop C.rules asked.now.criterion connection.now.to self.now.stops }
@@ -68,8 +68,8 @@ impl<C: Criterion> StateOfAll<C> {
         ends_nothing(connection, asked.query.target, way, head)
     }
 
-    // Takes one connection in, with no bound: leaves its trip where it ends, and then, the labels of its trip being
-    // known, sets out for it from every stop and boards it.
+    // Takes one connection in, with no bound: alights where it ends; then, by the labels that its trip has now, sets
+    // out for it from each stop that leads there, and boards it.
     fn take<S: ConnSource>(
         &mut self,
         asked: &Asked<C>,
@@ -98,8 +98,9 @@ impl<C: Criterion> StateOfAll<C> {
         Ok(())
     }
 
-    // Takes in the connection at index `place`, unless it can add nothing. `none` is an empty bound. `hop.led` and the
-    // source of `asked` mean nothing here, the target stands in for a source: nothing that this calls may read them.
+    // Takes in the connection at index `place`, unless it can add nothing. `none` is an empty bound. Here the target
+    // stands in for the source, so `hop.led` and `asked.query.source` mean nothing; `Trips::alight`, `Origins::set_out`
+    // and `Stops::board` read neither.
     fn step<S: ConnSource>(
         &mut self,
         asked: &Asked<C>,
@@ -163,6 +164,9 @@ pub fn scan_for_all<S: ConnSource, C: Criterion>(
     let mut state = StateOfAll::new(alloc, &asked.criterion, source.stops(), source.trips())?;
     let none = Vec::new(alloc);
     let mut place = window.end;
+    // Invariant: for every stop as the source, what is kept matches every way to go on over the connections from index
+    // `place` on, but for what the points found from there outdo at stops and in trips (`MatchesFrom`, as `matched` in
+    // proofs/everywhere/scan_for_all/Invariants.antt).
     while window.start < place {
         place -= 1;
         let connection = source.connection(place);

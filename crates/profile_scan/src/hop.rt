@@ -4,24 +4,34 @@ use crate::starts::Starts;
 use crate::ways::Ways;
 use timetable::{Connection, Query};
 
-/// What a scan is asked, the same at each connection: by which criterion, which query, for each stop whether a footpath
-/// leads there from its source, and for each stop the seconds of the footpath from there to its target.
+/// What a scan is asked, the same at each connection.
 #[derive(Drop)]
 pub struct Asked<C> {
+    // by which values are compared
     pub criterion: C,
+    // in a scan for all sources the target stands in for its source
     pub query: Query,
+    // for each stop whether a footpath that isn't a loop leads there from the query's source
     pub starts: Starts,
+    // for each stop the seconds of the footpath from there to the query's target
     pub ways: Ways,
 }
 
-/// One connection, as a scan comes to it: `place` is its index; `led`, whether a footpath leads from the source to the
-/// stop where it begins; `way`, how many seconds one walks from the stop where it ends to the target, or `None` if no
-/// footpath leads there; `bound`, values of points found: what is no better than one of them after its ride is dropped.
+/// One connection, as a scan comes to it.
 #[derive(Clone, Copy)]
 pub struct Hop<'a, V> {
+    // as the source gave it
     pub connection: Connection,
+    // the connection's index in the timetable
     pub place: u32,
+    // whether a footpath that isn't a loop leads from the query's source to the stop where the connection begins; read
+    // only by `Origin::set_out`
     pub led: bool,
+    // the seconds of the footpath from the stop where the connection ends to the target (a loop, if it ends there), or
+    // `None` if there is none
     pub way: Option<u32>,
+    // the bound, renewed before this connection is taken in: values of points found that depart no earlier than it. A
+    // change or a label isn't carried further if one of them is no worse than its value after the ride. Empty in a scan
+    // for all sources
     pub bound: &'a [V],
 }

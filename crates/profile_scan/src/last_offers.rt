@@ -1,8 +1,8 @@
 //! The last offer that each stop's list took from boarding by an only label.
 //!
 //! Most offers are no better than the one before, and this small record says so: neither the head of the stop's list
-//! nor an entry is read. It may be old but is never false: a list may lose a point, but not what that covers. So
-//! boarding by several labels may leave it as it is.
+//! nor an entry is read. It may be old but is never false: what a list covers it still covers after each insertion,
+//! perhaps by another point. So boarding by several labels may leave it as it is.
 
 ghost use Rattle.std.specs.Prelude.{◌≡◌, ℕ, IfOk, length, slice_get, Some};
 ghost use Rattle.criteria.specs.Laws.{Admits};
@@ -12,8 +12,8 @@ use criteria::Criterion;
 use fronts::copies;
 use std::alloc::{AllocError, Global};
 
-/// What a stop was offered: its list has a point no worse than `value` for everyone who is there before `before`. That
-/// is 0 until something is offered: no time is before 0.
+/// What a stop was offered last: for each time before `before`, its list has a point that departs then or later and is
+/// no worse than `value`. `before` is a time in seconds, and 0 until something is offered: no time is before 0.
 #[derive(Clone, Copy, Drop)]
 pub struct Offered<V> {
     pub before: u32,

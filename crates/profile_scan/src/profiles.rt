@@ -122,12 +122,12 @@ fn lists_in_order<C: Criterion>(
     Ok(lists)
 }
 
-/// Answers a query from every stop, by one scan: of each exactly the points of all journeys from there that count, which
-/// no other such point dominates, in order. From the target itself, where no query can be asked, these are the journeys
-/// that come back to it.
+/// Answers a query from every stop, the target included, by one scan: of each exactly the points of all journeys from
+/// there that count, which no other such point dominates, in order. From the target, where no query can be asked, these
+/// are the journeys that come back to it; a caller that wants only what can be asked leaves the target out.
 ///
 /// Each connection of the window is asked for once for all stops, from the last to the first. The only error is that
-/// memory runs out; then a beginning of them was asked for.
+/// memory runs out (or a number of 32 bits); then a beginning of them was asked for.
 pub fn profiles_to<S: ConnSource, C: Criterion>(
     alloc: Global,
     source: &mut S,
@@ -146,7 +146,8 @@ pub fn profiles_to<S: ConnSource, C: Criterion>(
 {
     let start = source.first_at(destination.from);
     let end = source.first_at(destination.by);
-    // The target stands in for a source: no step of this scan asks for the footpaths from there.
+    // The target stands in for the source. Where footpaths lead from there is of no use to this scan: `starts` is made
+    // only because `Asked` has it.
     let starts = starts_from(alloc, source, destination.target)?;
     let ways = ways_to(alloc, source, destination.target)?;
     let asked = Asked {

@@ -47,7 +47,7 @@ impl<C: Criterion> State<C> {
         })
     }
 
-    // True only if the connection can add nothing, as most can't; false is always safe.
+    // True only if the connection can add nothing, which is so of most; false is always safe.
     fn is_idle(&self, asked: &Asked<C>, connection: &Connection, way: Option<u32>) -> bool
         requires trip { HasTrip (C.rules asked.now.criterion) connection.now.trip self.now.trips }
         requires stop { HasStop C.rules asked.now.criterion connection.now.to self.now.stops }
@@ -61,8 +61,8 @@ impl<C: Criterion> State<C> {
         ends_nothing(connection, asked.query.target, way, head)
     }
 
-    // Takes one connection in: leaves its trip where it ends, and then, the labels of its trip being known, sets out
-    // for it and boards it.
+    // Takes one connection in: alights where it ends; then, by the labels that its trip has now, sets out for it and
+    // boards it.
     fn take<S: ConnSource>(
         &mut self,
         asked: &Asked<C>,
@@ -88,8 +88,10 @@ impl<C: Criterion> State<C> {
     }
 }
 
-/// Whether a connection leads nowhere: nobody may get off at its end, or that stop isn't the target, no footpath leads
-/// from there to it, and the stop has no points, by which one would go on (its list has this head).
+/// Whether getting off where a connection ends leads nowhere: nobody may get off there; or that stop isn't the target,
+/// has no footpath to the target, and has no points by which one would go on. `way` is the seconds of that footpath,
+/// `head` the head of the stop's list, which is 0 if it has no points. Whether the connection's trip has labels isn't
+/// asked.
 pub fn ends_nothing(connection: &Connection, target: u32, way: Option<u32>, head: u32) -> bool
     ensures { (result ≡ true)
         ↔ (connection.now.alight ≡ true → (connection.now.to ≢ target) × (way ≡ None) × (head ≡ 0)) }
@@ -106,7 +108,7 @@ pub fn ends_nothing(connection: &Connection, target: u32, way: Option<u32>, head
     }
 }
 
-/// What a scan keeps, and the values of points found that are already better than what is still to come.
+/// What a scan keeps, and its bound: values of points found that depart no earlier than the connections to come.
 #[derive(Drop)]
 pub struct Scan<C: Criterion> {
     pub state: State<C>,
@@ -190,6 +192,9 @@ pub fn scan_window<S: ConnSource, C: Criterion>(
         bound: Bound::new(alloc),
     };
     let mut place = window.end;
+    // Invariant: what is kept matches every way to go on over the connections from index `place` on, but for what the
+    // points found outdo at stops and in trips (`MatchesFrom`, as `matched` in
+    // proofs/scan/scan_window/Invariants.antt).
     while window.start < place {
         place -= 1;
         let connection = source.connection(place);

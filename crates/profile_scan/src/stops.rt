@@ -62,7 +62,8 @@ impl<C: Criterion> Stops<C> {
         self.heads[stop as usize]
     }
 
-    // Whether what a stop was offered last shows that its list has a point, at a time or later, no worse than a value.
+    // Whether the last offer to a stop shows that its list has a point no worse than `value` that departs at `time` or
+    // later. If not, the list may have one nonetheless.
     #[inline(always)]
     fn was_offered(&self, criterion: &C, stop: u32, time: u32, value: &C::V) -> bool
         requires stop { stop < vec_len self.now.heads }
@@ -77,8 +78,8 @@ impl<C: Criterion> Stops<C> {
         criterion.no_worse(&offered.value, value)
     }
 
-    // Offers the list of the stop where a footpath begins each ridden value, boarded after it. `place` is the index of
-    // the footpath; `hop.place` is that of the connection.
+    // Offers each ridden value, boarded after a footpath, to the list of the stop where the footpath begins. `place` is
+    // the index of the footpath; `hop.place` is that of the connection.
     #[inline(always)]
     fn board_after(
         &mut self,
@@ -113,7 +114,7 @@ impl<C: Criterion> Stops<C> {
         Ok(())
     }
 
-    // Goes over footpaths into where a connection begins, by their places, and boards after each.
+    // Goes over footpaths into the stop where a connection begins, those at the indices `walks`, and boards after each.
     #[inline(always)]
     fn board_walks<S: ConnSource>(
         &mut self,
@@ -137,8 +138,9 @@ impl<C: Criterion> Stops<C> {
         Ok(())
     }
 
-    // Offers the list of the stop where a footpath begins one ridden value, boarded after it, unless what the stop was
-    // offered last is as good. `place` is the index of the footpath; `hop.place` is that of the connection.
+    // Offers one ridden value, boarded after a footpath, to the list of the stop where the footpath begins, unless the
+    // last offer to the stop shows that its list covers it. `place` is the index of the footpath; `hop.place` is that
+    // of the connection.
     #[inline(always)]
     fn board_one_after(
         &mut self,
@@ -178,7 +180,8 @@ impl<C: Criterion> Stops<C> {
         Ok(())
     }
 
-    // Goes over footpaths into where a connection begins, by their indices, and boards by one ridden value after each.
+    // Goes over footpaths into the stop where a connection begins, those at the indices `walks`, and boards by one
+    // ridden value after each.
     #[inline(always)]
     fn board_one<S: ConnSource>(
         &mut self,
@@ -203,7 +206,7 @@ impl<C: Criterion> Stops<C> {
         Ok(())
     }
 
-    // Boards a connection by the only label of its trip, unless that is bettered after the ride.
+    // Boards a connection by the only label of its trip, unless `hop.bound` betters its value after the ride.
     #[inline(always)]
     fn board_alone<S: ConnSource>(
         &mut self,
@@ -238,7 +241,7 @@ impl<C: Criterion> Stops<C> {
     }
 
     /// Boards a connection, if passengers may get on there: offers the list of every stop its boardings by the labels
-    /// of the connection's trip that aren't bettered after the ride.
+    /// of the connection's trip, but for those whose value after the ride `hop.bound` betters.
     #[inline(always)]
     pub fn board<S: ConnSource>(
         &mut self,

@@ -88,8 +88,8 @@ impl<'a, C: Criterion> View<'a, C> {
         Ok(label)
     }
 
-    // Adds a node that says how one leaves the trip of a label for good. Of a label that doesn't end, as `note_route`
-    // never returns it, the number says nothing.
+    // Adds a node that says how one leaves the trip of a label for good, and returns its number. The label has to be
+    // one that ends, as those are that `tell_journey` has from `note_route`; of another the number means nothing.
     fn tell_end(&self, label: usize, nodes: &mut Vec<Node>) -> Result<usize, AllocError>
         ensures nodes { Extends nodes.old.items nodes.new.items }
         ensures says { IfOk result (λ number. (walks : _) → IsLabelTold walks (story_seen self.now) label

@@ -73,8 +73,9 @@ impl<C: Criterion> Trips<C> {
         Ok(())
     }
 
-    // Offers the labels of the connection's trip one point of the stop where it ends, unless that is bettered after the
-    // ride. Mostly a label is no worse already: so the labels are asked first, and the bound about what they leave.
+    // Offers the labels of the connection's trip one point of the stop where it ends, unless `hop.bound` betters its
+    // value after the ride. Mostly a label is no worse already: so the value is compared with the labels first, and
+    // with the bound only if none of them is no worse.
     fn change_by(
         &mut self,
         asked: &Asked<C>,
@@ -109,8 +110,9 @@ impl<C: Criterion> Trips<C> {
     }
 
     // A passenger changes: offers the labels of the connection's trip each point of the stop where it ends that departs
-    // at the arrival or later and isn't bettered after the ride. The front from then on is enough: for each such point
-    // it has one that is no worse. Its first point is in the entry, so that one goes ahead of the loop over items.
+    // at the arrival or later, but for those whose value after the ride `hop.bound` betters. The front from then on is
+    // enough: for each such point it has one that is no worse. The front's first point (`own`) stands in the front's
+    // entry and the others are items: so the first goes ahead of the loop.
     #[inline(always)]
     fn change(
         &mut self,
@@ -129,11 +131,13 @@ impl<C: Criterion> Trips<C> {
             self.old self.new) }
     {
         let head = stops.head(hop.connection.to);
+        // the place of the front's entry, 0 if no point departs so late; `hop.place` is the index of the connection
         let place = stops.lists.front_from(head, hop.connection.arr);
         let count = stops.lists.front_len(place);
         if count == 0 {
             return Ok(());
         }
+        // the point that the entry has of its own, the first of its front
         let own = stops.lists.front_point(place, 0);
         self.change_by(asked, hop, &own)?;
         for k in 1..count {
@@ -168,7 +172,7 @@ impl<C: Criterion> Trips<C> {
     }
 
     /// Leaves a connection's trip where the connection ends, if passengers may get off there: offers its labels the
-    /// end, and the changes by the points of that stop that aren't bettered.
+    /// end, and the changes by the points of that stop, but for those whose value after the ride `hop.bound` betters.
     #[inline(always)]
     pub fn alight(
         &mut self,

@@ -1,5 +1,6 @@
 //! Clients over memory, served by threads.
 
+mod collecting;
 mod holding;
 mod releasing;
 mod spending;

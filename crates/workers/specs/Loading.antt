@@ -23,10 +23,9 @@ use Rattle.workers.specs.declared.refusal.LoadRefusal.{LoadRefusal}
 abbrev pub IsImageOf : Content → Plan → ImageValue → Report → Type 0
 IsImageOf content plan image report = IsLoaded content plan image.timetable image.names report
 
--- what a refusal tells of the files; a refused publish tells nothing of them
-abbrev pub MayRefuse : Content → Plan → LoadRefusal → Type 0
-MayRefuse content plan (LoadRefusal.Load fault) = ¬ (IsWantOfMemory fault) → IsLoadRefusal content plan fault
-MayRefuse content plan (LoadRefusal.Publish fault) = Unit {0}
+-- the first thing that is wrong with what the files hold, unless memory ran out
+abbrev pub MayRefuse : Content → Plan → LoadFault → Type 0
+MayRefuse content plan fault = ¬ (IsWantOfMemory fault) → IsLoadRefusal content plan fault
 
 -- told before a publish was tried: an image that found no room to be shared is told as want of memory of a publish
 abbrev pub IsEarly : LoadRefusal → Type 0
@@ -53,6 +52,14 @@ Holds = List ℕ → Option (Option (List ℕ))
 abbrev pub ShowsContent : Holds → List FileRead → List FileRead → Content → Type 0
 ShowsContent holds old new content = Tells holds content ⊎ ((ts : List Table) × AreRead content ts old new)
 
+-- what a refusal says of the files: that what they show is refused so; or, if the publish was refused, that each was read once, and that what they
+-- show has an image
+abbrev pub IsRefusalOf : Holds → List FileRead → List FileRead → Plan → LoadRefusal → Type 0
+IsRefusalOf holds old new plan (LoadRefusal.Load fault) = (content : Content) → ShowsContent holds old new content → MayRefuse content plan fault
+IsRefusalOf holds old new plan (LoadRefusal.Publish fault) =
+    (image : ImageValue) × (report : Report) × AllWereRead old new
+    × ((content : Content) → ShowsContent holds old new content → IsImageOf content plan image report)
+
 -- what comes of files: each was read once, the image of what they show is published as the version that is told, with its counts, and a notice of
 -- that version comes; or the first of them were read, nothing is published, and the first refusal is told
 abbrev pub IsOutcome : {N : Type 0} → (N → ℕ) → Holds → List FileRead → List FileRead → Plan
@@ -61,8 +68,7 @@ IsOutcome noted holds old new plan before (Ok loaded) after =
     (image : ImageValue) × AllWereRead old new × ((content : Content) → ShowsContent holds old new content → IsImageOf content plan image loaded.0.report)
     × IsPublished before image loaded.0.version after × MatchOption loaded.1 ⊥ (λ notice. noted notice ≡ loaded.0.version)
 IsOutcome noted holds old new plan before (Err refusal) after =
-    SomeWereRead old new × ((content : Content) → ShowsContent holds old new content → MayRefuse content plan refusal)
-    × IsNotPublished before refusal after
+    SomeWereRead old new × IsRefusalOf holds old new plan refusal × IsNotPublished before refusal after
 
 -- the number by which a refusal is told
 abbrev pub refusal_number : LoadRefusal → ℕ

@@ -9,7 +9,7 @@ ghost use Rattle.feed_loader.specs.Faults.{failed_by, failed_in};
 ghost use Rattle.epochs.specs.Seats.{RefuseStep};
 ghost use Rattle.workers.specs.Learned.{LoaderLearns};
 ghost use Rattle.workers.specs.Loading.{ShowsContent, reading};
-ghost use Rattle.workers.specs.Loading.{IsEarly, IsImageOf, IsOutcome, IsPublished, MayRefuse};
+ghost use Rattle.workers.specs.Loading.{IsEarly, IsImageOf, IsOutcome, IsPublished, IsRefusalOf};
 
 use crate::refusal::LoadRefusal;
 use epochs::{Loads, PublishFault, Versions};
@@ -72,8 +72,8 @@ fn shared_image<F: FeedFiles>(
     ensures first_read { SomeWereRead (F.reads files.old) (F.reads files.new) }
     ensures ok { (content : Content) → ShowsContent (F.holds files.old) (F.reads files.old) (F.reads files.new) content
         → IfOk result (λ made. IsImageOf content plan.now (arc_value made.0) made.1) }
-    ensures err { (content : Content) → ShowsContent (F.holds files.old) (F.reads files.old) (F.reads files.new) content
-        → IfErr result (MayRefuse content plan.now) }
+    ensures err { IfErr result
+        (IsRefusalOf (F.holds files.old) (F.reads files.old) (F.reads files.new) plan.now) }
     ensures early { IfErr result IsEarly }
 {
     let (image, report) = match load(alloc, files, plan) {

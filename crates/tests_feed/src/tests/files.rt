@@ -10,6 +10,7 @@ use gtfs_tables::{FaultKind, IdHash, Table, TableFault, Tables, join};
 use std::alloc::{AllocError, Global};
 use std::fs;
 use std::hash::BuildHasher;
+use std::os::unix::fs::symlink;
 use std::test::Fail;
 
 const AGENCY: &[u8] =
@@ -217,6 +218,16 @@ fn a_folder_that_is_missing_has_no_files(rt: HostRuntime) {
     assert!(rt; length_of(&rt, "/proc/self", "fd") == Err(FileFault::Failed));
     assert!(rt; length_of(&rt, "/proc/self", "agency.txt") == Ok(None));
     assert!(rt; matches!(length_of(&rt, "/proc/self", "stat"), Ok(Some(length)) if length > 0));
+}
+
+// A link that leads nowhere isn't taken for a missing file.
+#[test]
+fn a_link_that_leads_nowhere_is_refused(rt: HostRuntime) -> Result<(), Fail> {
+    symlink(&rt, "no_such_file", "broken_link.txt")?;
+    let length = length_of(&rt, ".", "broken_link.txt");
+    fs::remove_file(&rt, "broken_link.txt")?;
+    assert!(rt; length == Err(FileFault::Failed));
+    Ok(())
 }
 
 // A file of so many lines, the first of them its header.

@@ -2,8 +2,11 @@
 
 use crate::tests::running::Machine;
 use crate::tests::transcript::try_transcripts;
-use csa_program::run;
+use csa_program::{explain_no_words, print_sources, run};
 use image_layout::{Words, sample_words};
+use std::alloc::Global;
+use std::io;
+use std::io::{ErrorKind, Read, Write};
 use std::net::{Net, TcpListener, TcpStream};
 use std::test::Fail;
 
@@ -96,6 +99,16 @@ run journey - 'no journey' --from A --to D --after 07:00:00 --until 9:0:0 --by 1
 complains 64
 ";
 
+/// The status of `csa verify` over an input, whose lines go to an output.
+fn verified<R: Machine + Net<Listener = TcpListener, Stream = TcpStream>, I: Read, O: Write>(
+    rt: &R,
+    input: &mut I,
+    output: &mut O,
+    errors: &mut Vec<u8>,
+) -> u8 {
+    run(rt, &["csa", "verify", "-"], input, output, errors, false)
+}
+
 /// The status of `csa verify` over an image, where its lines go to a room of some bytes.
 fn verified_into<R: Machine + Net<Listener = TcpListener, Stream = TcpStream>>(
     rt: &R,
@@ -104,26 +117,96 @@ fn verified_into<R: Machine + Net<Listener = TcpListener, Stream = TcpStream>>(
     errors: &mut Vec<u8>,
 ) -> u8 {
     let (mut input, mut output) = (image, room);
-    run(
-        rt,
-        &["csa", "verify", "-"],
-        &mut input,
-        &mut output,
-        errors,
-        false,
-    )
+    verified(rt, &mut input, &mut output, errors)
 }
 
-/// A line that finds no room is told by the status, and on standard error.
+/// A stream that fails.
+#[derive(Drop)]
+struct Failing {
+    kind: ErrorKind,
+}
+
+impl Read for Failing {
+    fn read(&mut self, _room: &mut [u8]) -> io::Result<usize> {
+        Err(io::Error::from(self.kind))
+    }
+}
+
+impl Write for Failing {
+    fn write(&mut self, _piece: &[u8]) -> io::Result<usize> {
+        Err(io::Error::from(self.kind))
+    }
+
+    fn flush(&mut self) -> io::Result<()> {
+        Ok(())
+    }
+}
+
+/// The status of `csa verify` over an input that can't be read.
+fn verified_unread<R: Machine + Net<Listener = TcpListener, Stream = TcpStream>>(
+    rt: &R,
+    errors: &mut Vec<u8>,
+) -> u8 {
+    let mut input = Failing {
+        kind: ErrorKind::Other,
+    };
+    let mut room = [0u8; 4];
+    let mut output: &mut [u8] = &mut room;
+    verified(rt, &mut input, &mut output, errors)
+}
+
+/// A line that finds no room is told by the status, and on standard error; so is standard input that can't be read,
+/// which isn't called a file.
 #[test]
-fn a_line_that_cannot_be_written_is_told(rt: HostRuntime) -> Result<(), Fail> {
+fn streams_that_fail_are_told(rt: HostRuntime) -> Result<(), Fail> {
     let image = Words::to_bytes(rt.alloc(), &sample_words())?;
     let mut errors = Vec::new(rt.alloc());
     let status = verified_into(&rt, &image, &mut [0u8; 4], &mut errors);
     let told = "csa: standard output can't be written: an input or output error\n";
     assert!(rt; status == 3);
     assert!(rt; errors.as_slice() == told.as_bytes());
+    errors.clear();
+    let status = verified_unread(&rt, &mut errors);
+    let told = "csa: standard input can't be read\n";
+    assert!(rt; status == 3);
+    assert!(rt; errors.as_slice() == told.as_bytes());
     Ok(())
+}
+
+/// Whether the sum of the sources, printed to an output, ends with this status, and with this on standard error.
+fn is_told_of_sources<O: Write>(alloc: Global, output: &mut O, status: u8, told: &str) -> bool {
+    let mut errors: Vec<u8> = Vec::new(alloc);
+    let ended = print_sources("0123", output, &mut errors);
+    ended == status && errors.as_slice() == told.as_bytes()
+}
+
+const FULL: &str = "csa: standard output can't be written: no space left on the device\n";
+
+/// The line of the sources is printed, or standard error says why it isn't, but not of a pipe that nobody reads.
+#[test]
+fn the_sum_of_the_sources_is_printed(rt: HostRuntime) {
+    let alloc = rt.alloc();
+    let mut printed: Vec<u8> = Vec::new(alloc);
+    assert!(rt; is_told_of_sources(alloc, &mut printed, 0, ""));
+    assert!(rt; printed.as_slice() == "sources 0123\n".as_bytes());
+    let mut full = Failing {
+        kind: ErrorKind::StorageFull,
+    };
+    assert!(rt; is_told_of_sources(alloc, &mut full, 3, FULL));
+    let mut unread = Failing {
+        kind: ErrorKind::BrokenPipe,
+    };
+    assert!(rt; is_told_of_sources(alloc, &mut unread, 3, ""));
+}
+
+/// Standard error says why there are no words of a command line.
+#[test]
+fn words_that_cannot_be_read_are_told(rt: HostRuntime) {
+    let mut errors: Vec<u8> = Vec::new(rt.alloc());
+    explain_no_words(&mut errors, 64);
+    explain_no_words(&mut errors, 4);
+    let told = "csa: a word of the command line isn't UTF-8\ncsa: out of memory\n";
+    assert!(rt; errors.as_slice() == told.as_bytes());
 }
 
 const EXPLAINED: &str = "
@@ -147,13 +230,69 @@ answers refused 62 BadLayout
 sample
 set 9 4294967295
 run verify -
-tells csa: standard input: connection 0 is at no stop
+tells csa: standard input: connection 0 leaves or reaches a stop that the image doesn't have; \
+it is damaged, or wasn't made by `csa build`
 answers refused 64 StopRange 0
 saves bad.csa
 run stops bad.csa
-tells csa: bad.csa: connection 0 is at no stop
+tells csa: bad.csa: connection 0 leaves or reaches a stop that the image doesn't have; \
+it is damaged, or wasn't made by `csa build`
 answers refused 64 StopRange 0
 remove bad.csa
+run verify -
+sample
+set 13 4294967295
+tells csa: standard input: connection 0 is of a trip that the image doesn't have; \
+it is damaged, or wasn't made by `csa build`
+answers refused 65 TripRange 0
+sample
+set 24 29520
+tells csa: standard input: connection 2 arrives no later than it departs; \
+it is damaged, or wasn't made by `csa build`
+answers refused 66 HopWithoutDuration 2
+sample
+set 17 28799
+tells csa: standard input: connection 1 departs earlier than the connection before it; \
+it is damaged, or wasn't made by `csa build`
+answers refused 67 Unsorted 1
+sample
+set 17 29399
+tells csa: standard input: connection 1 leaves another stop than the one that its trip has reached, \
+or leaves it too early; it is damaged, or wasn't made by `csa build`
+answers refused 68 TripBroken 1
+sample
+set 12 2000000000
+tells csa: standard input: connection 0 has a time past 555555:33:19, the last second that an image can have; \
+it is damaged, or wasn't made by `csa build`
+answers refused 69 TimeRange 0
+sample
+set 26 4
+tells csa: standard input: connection 2 has a flag that is neither 1, for boarding, nor 2, for alighting; \
+it is damaged, or wasn't made by `csa build`
+answers refused 70 BadFlags 2
+sample
+set 27 1
+tells csa: standard input: footpaths into stop 0: their index is wrong, or one of them leaves a stop that the image \
+doesn't have or takes more than 1000000 seconds; it is damaged, or wasn't made by `csa build`
+answers refused 71 FootRange 0
+sample
+set 30 2
+tells csa: standard input: footpaths into stop 2: none leaves that stop itself; \
+it is damaged, or wasn't made by `csa build`
+answers refused 73 NoLoop 2
+sample
+set 46 4294967295
+tells csa: standard input: name 3 isn't UTF-8, or doesn't begin where the one before it ends \
+(stop_ids come first, then trip_ids); it is damaged, or wasn't made by `csa build`
+answers refused 75 BadNames 3
+image 1346458435 1 2 0 0 4 0 0 0 0 2 4 1 5 0 0 0 5 1 0 0 0 0
+tells csa: standard input: footpaths into stop 0: they aren't in the order of the stops that they leave, each once; \
+it is damaged, or wasn't made by `csa build`
+answers refused 72 FootUnsorted 0
+image 1346458435 1 3 0 0 6 0 0 0 0 2 4 6 0 0 1 5 1 0 2 5 0 5 2 0 0 0 0 0
+tells csa: standard input: footpaths lead from stop 2 to stop 1 and on to stop 0, \
+and none from the first to the last is as short; it is damaged, or wasn't made by `csa build`
+answers refused 74 NotClosed 2 1 0
 
 # What is wrong with a journey, and in which ride or walk.
 sample

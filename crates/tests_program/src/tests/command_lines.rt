@@ -4,7 +4,7 @@ use crate::tests::transcript::try_transcripts;
 use std::test::Fail;
 
 const COMMAND_LINES: &str = "
-# Words that are missing, unknown or too many, and a file that there isn't.
+# Words that are missing, unknown or too many.
 run
 complains 64
 run verify
@@ -13,6 +13,28 @@ run verify - more
 complains 64
 run fly -
 complains 64
+
+# A misspelled option: a similar one, and the command whose help says more.
+run --verson
+tells error: unexpected argument '--verson' found
+tells 
+tells   tip: a similar argument exists: '--version'
+tells 
+tells Usage: csa <COMMAND>
+tells 
+tells For more information, try 'csa --help'.
+ends 64
+run build no_such_feed none.csa --frist 20240115 --days 1 --zone fixed:0
+tells error: unexpected argument '--frist' found
+tells 
+tells   tip: a similar argument exists: '--first'
+tells 
+tells Usage: csa build --first <DAY> --days <N> --zone <ZONE> <FOLDER> <OUT>
+tells 
+tells For more information, try 'csa build --help'.
+ends 64
+
+# Files that there aren't.
 run verify no/such/file
 tells csa: no/such/file can't be read: no such file or folder
 ends 3
@@ -87,14 +109,33 @@ complains 64
 run build no_such_feed none.csa --first 20240115 --days '' --zone fixed:0
 complains 64
 run build no_such_feed none.csa --first 20240230 --days 1 --zone fixed:0
-tells error: --first \"20240230\": the first day is YYYYMMDD, a date of the years 1 to 9999, or today, or today-1
+tells error: --first \"20240230\": there is no such date: 30 February 2024
+tells 
+tells Usage: csa build [OPTIONS] --first <DAY> --days <N> --zone <ZONE> <FOLDER> <OUT>
+tells 
+tells For more information, try 'csa build --help'.
+ends 64
+run build no_such_feed none.csa --first 20241301 --days 1 --zone fixed:0
+tells error: --first \"20241301\": there is no such date: month 13 of 2024
+tells 
+tells Usage: csa build [OPTIONS] --first <DAY> --days <N> --zone <ZONE> <FOLDER> <OUT>
+tells 
+tells For more information, try 'csa build --help'.
+ends 64
+run build no_such_feed none.csa --first 00000101 --days 1 --zone fixed:0
+tells error: --first \"00000101\": the first day is YYYYMMDD, a date of the years 1 to 9999, or today, or today-1
 tells 
 tells Usage: csa build [OPTIONS] --first <DAY> --days <N> --zone <ZONE> <FOLDER> <OUT>
 tells 
 tells For more information, try 'csa build --help'.
 ends 64
 run build no_such_feed none.csa --first tomorrow --days 1 --zone fixed:0
-complains 64
+tells error: --first \"tomorrow\": the first day is YYYYMMDD, a date of the years 1 to 9999, or today, or today-1
+tells 
+tells Usage: csa build [OPTIONS] --first <DAY> --days <N> --zone <ZONE> <FOLDER> <OUT>
+tells 
+tells For more information, try 'csa build --help'.
+ends 64
 run build no_such_feed none.csa --first today-2 --days 1 --zone fixed:0
 complains 64
 run build no_such_feed none.csa --first TODAY --days 1 --zone fixed:0

@@ -223,7 +223,44 @@ sample 2
 answers ok stops 3 trips 2 connections 3 footpaths 3
 ";
 
+const FILES: &str = "
+# Of a file the same faults are told as of the input, which is the sample at each of these commands.
+# Of the sample's bytes all but one, and all but a word.
+sample
+cut 187
+saves faulty.csa
+sample
+run verify faulty.csa
+answers refused 51 OddLength
+sample
+cut 184
+saves faulty.csa
+sample
+run verify faulty.csa
+answers refused 63 BadLength
+
+# A connection that arrives when it departs, and a byte of a name that is no UTF-8.
+set 24 29520
+saves faulty.csa
+sample
+run verify faulty.csa
+answers refused 66 HopWithoutDuration 2
+set 45 1413694207
+saves faulty.csa
+sample
+run verify faulty.csa
+answers refused 75 BadNames 0
+
+# Footpaths from stop 1 to 0, from 2 to 1 and from 0 to 2: each two want a third.
+image 1346458435 1 3 0 0 6 0 0 0 0 2 4 6 0 0 1 5 1 0 2 5 0 5 2 0 0 0 0 0
+saves faulty.csa
+sample
+run verify faulty.csa
+answers refused 74 NotClosed 2 1 0
+remove faulty.csa
+";
+
 #[test]
 fn the_first_fault_is_told(rt: HostRuntime) -> Result<(), Fail> {
-    try_transcripts(&rt, &[CHANGES])
+    try_transcripts(&rt, &[CHANGES, FILES])
 }

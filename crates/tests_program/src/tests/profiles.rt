@@ -296,7 +296,7 @@ prints B dep 08:12:00 arr 08:20:00 : ride 2 2
 answers stops 1 points 1 read 3
 rows wanted B | D | A
 asks departures - --to C --after 07:00:00 --until 09:00:00 --by 10:00:00 --criterion arrival --from wanted
-tells csa: --from wanted, line 2: no stop of the image has this stop_id \
+tells csa: --from wanted, line 2: \"D\": no stop of the image has this stop_id \
 (stations aren't stops: give a platform's stop_id, which `csa stops IMAGE TEXT` lists)
 ends 2
 asks departures - --to C --after 07:00:00 --until 09:00:00 --by 10:00:00 --criterion arrival --from nowhere
@@ -307,7 +307,26 @@ ends 3
 # The first line that is no stop_id is reported, and a line that is there twice is one stop: of two stops of a name the first.
 rows wanted A | B | A | E | D
 asks departures - --to C --after 07:00:00 --until 09:00:00 --by 10:00:00 --criterion arrival --from wanted
-tells csa: --from wanted, line 4: no stop of the image has this stop_id \
+tells csa: --from wanted, line 4: \"E\": no stop of the image has this stop_id \
+(stations aren't stops: give a platform's stop_id, which `csa stops IMAGE TEXT` lists)
+ends 2
+
+# Such a line is shown with its control characters escaped, and cut if it is long, but not within a character.
+rows wanted A | B\tC
+asks departures - --to C --after 07:00:00 --until 09:00:00 --by 10:00:00 --criterion arrival --from wanted
+tells csa: --from wanted, line 2: \"B\\tC\": no stop of the image has this stop_id \
+(stations aren't stops: give a platform's stop_id, which `csa stops IMAGE TEXT` lists)
+ends 2
+rows wanted A | B | xxxxxxxxxxxxxxxxxxxxxxxxxxxxxxxxxxxxxxxxxxxxxxxxxxxxxxxxxxxü
+tells csa: --from wanted, line 3: \"xxxxxxxxxxxxxxxxxxxxxxxxxxxxxxxxxxxxxxxxxxxxxxxxxxxxxxxxxxx\" ..: \
+no stop of the image has this stop_id \
+(stations aren't stops: give a platform's stop_id, which `csa stops IMAGE TEXT` lists)
+ends 2
+file wanted
+crlf A
+crlf
+crlf B
+tells csa: --from wanted, line 2: \"\": no stop of the image has this stop_id \
 (stations aren't stops: give a platform's stop_id, which `csa stops IMAGE TEXT` lists)
 ends 2
 set 45 1413693761

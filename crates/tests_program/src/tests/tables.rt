@@ -242,6 +242,9 @@ rows base_feed/calendar.txt service_id,monday,tuesday,wednesday,thursday,friday,
 | S,1,1,1,1,1,1,1,20240101,20241231 | S,1,1,1,1,1,1,1,20240101,20241231
 tells csa: calendar.txt, line 3: service_id \"S\" is in line 2 too
 answers refused 8 IdTwice calendar.txt 2
+with calendar.txt 1 S,1,1,1,1,1,1,1,20240115,20240230
+tells csa: calendar.txt, line 2: end_date \"20240230\" isn't a date of the calendar, YYYYMMDD
+answers refused 6 BadDate calendar.txt 1
 remove base_feed
 base
 

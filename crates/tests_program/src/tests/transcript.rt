@@ -12,6 +12,7 @@
 //! | `cut BYTES` | of the input so many bytes alone |
 //! | `zeros WORDS` | the input is so many words of 0 |
 //! | `folder PATH`, `file PATH` | makes a folder, or an empty file |
+//! | `link PATH TARGET` | makes a link at a path that leads to another |
 //! | `has TEXT`, `crlf TEXT` | the file has one more line, ended by LF, or by CR LF |
 //! | `rows PATH LINE | LINE ..` | a file of these lines |
 //! | `remove PATH` | takes a file or a folder away, with all that is in it |
@@ -39,6 +40,7 @@ use image_layout::{Words, sample_words, second_sample_words};
 use std::alloc::{AllocError, Global};
 use std::fs;
 use std::net::{Net, TcpListener, TcpStream};
+use std::os::unix::fs::symlink;
 use std::process::Abort;
 use std::test::Fail;
 
@@ -299,6 +301,14 @@ fn make_folder<R: Machine>(rt: &R, path: &str) -> Result<(), Fail> {
     Ok(fs::create_dir(rt, path)?)
 }
 
+/// Makes a link.
+fn make_link<R: Machine>(rt: &R, text: &str) -> Result<(), Fail> {
+    let Some((path, target)) = text.split_once(' ') else {
+        return Err(Fail::new("a link, and where it leads"));
+    };
+    Ok(symlink(rt, target, path)?)
+}
+
 /// Makes an empty file.
 fn begin_file<'a, R: Machine>(rt: &R, stage: &mut Stage<'a>, path: &'a str) -> Result<(), Fail> {
     stage.path = path;
@@ -536,6 +546,7 @@ fn follow_files<'a, R: Machine + Abort>(
 ) -> Result<(), Fail> {
     match kind {
         "folder" => make_folder(rt, rest),
+        "link" => make_link(rt, rest),
         "file" => begin_file(rt, stage, rest),
         "has" => write_line(rt, stage, rest, "\n"),
         "crlf" => write_line(rt, stage, rest, "\r\n"),

@@ -64,6 +64,47 @@ ends 3
 lacks unread.csa
 remove base_feed/frequencies.txt
 
+# A link that leads nowhere isn't taken for an absent file, whether or not a feed may lack that file.
+remove base_feed/stops.txt
+link base_feed/stops.txt no_such_folder/stops.txt
+tells csa: base_feed/stops.txt can't be read: it is a link that leads nowhere
+prints refused 101 FileFailed stops.txt
+ends 3
+lacks unread.csa
+remove base_feed/stops.txt
+with stops.txt 1 A,A
+remove base_feed/calendar.txt
+link base_feed/calendar_dates.txt agency.txt/calendar_dates.txt
+tells csa: base_feed/calendar_dates.txt can't be read: it is a link that leads nowhere
+prints refused 101 FileFailed calendar_dates.txt
+ends 3
+lacks unread.csa
+remove base_feed/calendar_dates.txt
+with calendar.txt 1 S,1,1,1,1,1,1,1,20240115,20240115
+link base_feed/transfers.txt no_such_file
+tells csa: base_feed/transfers.txt can't be read: it is a link that leads nowhere
+prints refused 101 FileFailed transfers.txt
+ends 3
+lacks unread.csa
+run tables base_feed
+tells csa: base_feed/transfers.txt can't be read: it is a link that leads nowhere
+prints refused 101 FileFailed transfers.txt
+ends 3
+run days base_feed
+tells csa: base_feed/transfers.txt can't be read: it is a link that leads nowhere
+prints refused 101 FileFailed transfers.txt
+ends 3
+remove base_feed/transfers.txt
+
+# Nor can a link be read that leads to itself.
+run build base_feed unread.csa --first 20240115 --days 1 --zone fixed:0
+link base_feed/transfers.txt transfers.txt
+tells csa: base_feed/transfers.txt can't be read: its links lead in a circle
+prints refused 101 FileFailed transfers.txt
+ends 3
+lacks unread.csa
+remove base_feed/transfers.txt
+
 # The first of two is printed.
 folder base_feed/transfers.txt
 folder base_feed/frequencies.txt
@@ -72,6 +113,16 @@ prints refused 101 FileFailed transfers.txt
 ends 3
 lacks unread.csa
 remove base_feed
+
+# An image, and a folder, by a link that leads nowhere.
+link unread.csa no_such_file
+run verify unread.csa
+tells csa: unread.csa can't be read: it is a link that leads nowhere
+ends 3
+run tables unread.csa
+tells csa: unread.csa: it is a link that leads nowhere
+answers refused 1 MissingFile agency.txt 0
+remove unread.csa
 ";
 
 #[test]

@@ -1,16 +1,17 @@
-//! When a seat gives a version back: before the reply that says so.
+//! When a seat gives a version back: behind the scan, and before the reply is written.
 
 ghost use Rattle.std.specs.Prelude.{◌≡◌};
 
 use super::holding::{Stage, stage_of};
 use epochs::{Named, ShelfLoader, ShelfSeat, Shelves, SoloShelves};
-use orders::OpenGate;
+use orders::Gate;
 use session::{Desk, SoloOrders, Streams};
 use std::alloc::{AllocError, Global};
 use std::io;
 use std::io::Write;
 use std::marker::Brand;
 use std::process::Abort;
+use std::sync::atomic::{AtomicU64, Ordering};
 use std::test::Fail;
 
 /// A writer that takes all, and looks how many workers are at the first shelf whenever it does.
@@ -32,15 +33,31 @@ impl<'a, B: Named> Write for Looking<'a, B> {
     }
 }
 
-/// Serves a session at these shelves: how many workers are at the first one at each reply, and whether the session
-/// ended.
+/// A gate that looks how many workers are at the first shelf when a scan begins, and adds them up.
+#[derive(Drop)]
+struct Watching<'a, B: Named> {
+    shelves: &'a SoloShelves<B>,
+    count: AtomicU64,
+}
+
+impl<'a, B: Named> Gate for Watching<'a, B> {
+    fn enter(&self) {
+        let count = self.shelves.word(1) & 255;
+        self.count.fetch_add(count, Ordering::SeqCst);
+    }
+
+    fn leave(&self) {}
+}
+
+/// Serves a session at these shelves: how many workers are at the first one at each reply, how many were there when
+/// scans began, and whether the session ended.
 fn counts_at<B: Named>(
     alloc: Global,
     shelves: Shelves,
     loader: ShelfLoader,
     seat: ShelfSeat,
     requests: &[u8],
-) -> (Vec<u64>, bool)
+) -> (Vec<u64>, u64, bool)
     requires { (shelves ≡ B.table) × (loader.table ≡ B.table) × (seat.table ≡ B.table) }
 {
     let (shelves, loader, mut seat) = SoloShelves::<B>::of(shelves, loader, seat);
@@ -50,19 +67,31 @@ fn counts_at<B: Named>(
         counts: Vec::new(alloc),
     };
     let mut streams = Streams::new(requests, writer);
-    let desk = Desk::new(alloc, &shelves, &OpenGate);
+    let gate = Watching {
+        shelves: &shelves,
+        count: AtomicU64::new(0),
+    };
+    let desk = Desk::new(alloc, &shelves, &gate);
     let ended = desk.serve(&mut streams, &mut seat, &mut orders).is_ok();
-    (streams.writer.into_inner().counts, ended)
+    let scanned = gate.count.load(Ordering::SeqCst);
+    (streams.writer.into_inner().counts, scanned, ended)
 }
 
-/// What a session is asked that pins and releases twice.
-const TWICE: &[u8] =
-    b"{\"do\":\"pin\"}\n{\"do\":\"release\"}\n{\"do\":\"pin\"}\n{\"do\":\"release\"}\n";
+/// What a session is asked: a profile, which pins and releases by itself, and then two pins, each with its release.
+const TWICE: &str = "\
+{\"do\":\"profile\",\"from\":\"A\",\"to\":\"C\",\
+\"after\":\"07:00:00\",\"until\":\"09:00:00\",\"by\":\"10:00:00\",\"criterion\":\"arrival\"}
+{\"do\":\"pin\"}
+{\"do\":\"release\"}
+{\"do\":\"pin\"}
+{\"do\":\"release\"}
+";
 
 /// How many workers are at the first shelf at each of its replies.
-const COUNTS: &[u64] = &[1, 0, 1, 0];
+const COUNTS: &[u64] = &[0, 1, 0, 1, 0];
 
-/// Whoever reads that a version is released can count on it: nobody is at its shelf then.
+/// A client that reads that a version is released can count on it: nobody is at its shelf then. So can one that reads
+/// the reply to a profile without a pin; when the scan for it began, one worker was there.
 #[test]
 fn a_release_is_done_before_its_reply(rt: HostRuntime) -> Result<(), Fail> {
     let Stage {
@@ -73,8 +102,15 @@ fn a_release_is_done_before_its_reply(rt: HostRuntime) -> Result<(), Fail> {
     let Some(seat) = seats.pop() else {
         return Err("a seat".into());
     };
-    let (counts, ended) = counts_at::<Brand>(rt.alloc(), shelves, loader, seat, TWICE);
+    let (counts, scanned, ended) = counts_at::<Brand>(
+        rt.alloc(),
+        shelves,
+        loader,
+        seat,
+        TWICE.as_bytes(),
+    );
     assert!(&rt; ended);
     assert!(&rt; counts.as_slice() == COUNTS);
+    assert!(&rt; scanned == 1);
     Ok(())
 }

@@ -30,7 +30,7 @@ impl Read for LineEnds {
 
 /// A writer that takes all and keeps nothing.
 #[derive(Drop)]
-struct Sink;
+pub(super) struct Sink;
 
 impl Write for Sink {
     fn write(&mut self, piece: &[u8]) -> io::Result<usize> {

@@ -1,9 +1,21 @@
--- All files were read by then, and none after that.
+-- All files were read by then, and none after that; what is written is the image that was made.
 use Rattle.std.proofs.Common.{◌∙◌}
 use Rattle.feed_files.specs.Reads.{all_tables}
 use Rattle.feed_loader.specs.Refused.{IsLoaded}
+use Rattle.csa_commands.specs.Writing.{IsWholeImage}
 use Rattle.csa_commands.proofs.OfFolder.{whole_of}
 use Rattle.csa_commands.proofs.build.build_reported.Goals as goal
+
+pub put_image-requires : goal.put_image-requires
+put_image-requires g c =
+    let image = c.in-Ok.loaded.0 in
+    let whole : IsWholeImage c.words.result.now = record {
+      timetable = image.timetable;
+      names = image.names;
+      image = c.words.ensures.0;
+      layout = c.words.ensures.1 ∙ c.in-Ok.ensures.layout;
+    } in
+    whole
 
 pub returns-clause-built : goal.returns-clause-built
 returns-clause-built g c =

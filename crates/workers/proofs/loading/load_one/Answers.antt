@@ -1,9 +1,17 @@
+use Rattle.std.proofs.Common.{inr}
+use Rattle.std.specs.Arc.{arc_value}
 use Rattle.workers.proofs.Ending.{not_published}
 use Rattle.workers.proofs.Learning.{loader_same}
 use Rattle.workers.proofs.loading.load_one.Goals as goal
 
 pub returns-in-Err-clause-outcome : goal.returns-in-Err-clause-outcome
 returns-in-Err-clause-outcome g c = (c.in-Err.ensures.first_read, c.in-Err.ensures.err, not_published _ _ c.in-Err.ensures.early)
+
+-- what isn't published is the image of the files
+pub returns-in-Err-publish_image-clause-outcome : goal.returns-in-Err-publish_image-clause-outcome
+returns-in-Err-publish_image-clause-outcome g c =
+    let shared = c.in-Ok.ensures in
+    (shared.first_read, (arc_value c.in-Ok.image, c.in-Ok.report, shared.all_read, shared.ok), inr c.in-Err-publish_image.ensures.published)
 
 -- nothing was published
 pub returns-in-Err-clause-learns : goal.returns-in-Err-clause-learns

@@ -2,7 +2,6 @@ use Rattle.std.proofs.Common.{sym, subst}
 use Rattle.image_layout.specs.Image.{ImageValue}
 use Rattle.feed_loader.specs.Refused.{IsLoaded}
 use Rattle.workers.specs.Loading.{IsImageOf, MayRefuse}
-use Rattle.workers.specs.declared.refusal.LoadRefusal.{LoadRefusal}
 use Rattle.workers.proofs.Reading.{either_way}
 use Rattle.workers.proofs.loading.shared_image.Goals as goal
 
@@ -17,6 +16,16 @@ returns-in-Ok-new-clause-ok g c content shows =
 
 -- what refuses the files is the load's own fault
 pub returns-in-Err-clause-err : goal.returns-in-Err-clause-err
-returns-in-Err-clause-err g c content shows =
+returns-in-Err-clause-err g c =
     either_way (g.F.FeedFiles.holds c.args.files.now) (g.F.FeedFiles.reads c.args.files.now) (g.F.FeedFiles.reads c.load.new.files)
-    (λ content. MayRefuse content c.args.plan.now (LoadRefusal.Load c.in-Err.fault)) c.in-Err.ensures.err c.in-Err.ensures.read_err content shows
+    (λ content. MayRefuse content c.args.plan.now c.in-Err.fault) c.in-Err.ensures.err c.in-Err.ensures.read_err
+
+-- an image that finds no room to be shared is one of the files, all of which were read
+pub returns-clause-err : goal.returns-clause-err
+returns-clause-err g c =
+    let image = c.in-Ok.made.0 in
+    let report = c.in-Ok.made.1 in
+    let load = c.in-Ok.ensures in
+    let made = either_way (g.F.FeedFiles.holds c.args.files.now) (g.F.FeedFiles.reads c.args.files.now) (g.F.FeedFiles.reads c.load.new.files)
+    (λ content. IsImageOf content c.args.plan.now image report) load.ok load.read_ok in
+    (image, report, load.all_read, made)

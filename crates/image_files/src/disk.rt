@@ -1,0 +1,31 @@
+//! Where the files of images are.
+
+ghost use Rattle.std.specs.Prelude.{ℕ, List, Option, IfOk};
+
+use std::fs::{File, OpenFile};
+use std::io;
+use std::io::Read;
+use std::rt::Files;
+
+/// A disk with images.
+pub trait ImageDisk {
+    type Image: OpenFile + Read + Drop;
+
+    // What a file that is opened at a path may hold, none where that isn't known: first the path, then the bytes.
+    ghost may_hold: { Self → List ℕ → Option (List ℕ) → Type 0 } = { λ _ _ _. Unit {0} };
+
+    /// The file at a path, open at its first byte.
+    fn image_file(&self, path: &str) -> io::Result<Self::Image>
+        ensures { IfOk result (λ file. may_hold self.now path.now (Self.Image.remaining file)) };
+}
+
+impl<H: Files> ImageDisk for H {
+    type Image = H::File;
+
+    // nothing is known of a machine's files
+    ghost may_hold = { λ _ _ _. Unit {0} };
+
+    fn image_file(&self, path: &str) -> io::Result<H::File> {
+        File::open(self, path)
+    }
+}
