@@ -1,5 +1,5 @@
 -- What is drawn of a journey over a timetable.
-use Rattle.std.specs.Prelude.{◌≡◌, ◌+◌, ◌%◌, ◌++◌, ◌∷◌, [], ◌==◌, ℕ, List, Bool, not, if◌then◌else◌, Option, Some, None, min, slice_get, codes}
+use Rattle.std.specs.Prelude.{◌≡◌, ◌+◌, ◌%◌, ◌++◌, ◌∷◌, [], ◌==◌, ℕ, List, not, if◌then◌else◌, Option, Some, None, min, slice_get, codes}
 use Rattle.std.specs.List.{flat_map}
 use Rattle.timetable.specs.NamesValue.{NamesValue}
 use Rattle.timetable.specs.TimetableValue.{TimetableValue}

@@ -4,7 +4,6 @@ use Rattle.std.specs.List.{flat_map}
 use Rattle.serde_json.specs.Data.{Data}
 use Rattle.timetable.specs.JourneyValue.{JourneyValue, RideValue}
 use Rattle.timetable.specs.NamesValue.{NamesValue, TripNameValue}
-use Rattle.timetable.specs.declared.journey.Leg.{Leg}
 use Rattle.timetable.specs.declared.network.Connection.{Connection}
 use Rattle.timetable.specs.declared.network.Footpath.{Footpath}
 use Rattle.image_layout.specs.Image.{ImageValue}

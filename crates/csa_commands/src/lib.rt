@@ -44,5 +44,5 @@ pub use explaining::{explain, explain_load, explain_refused, explain_zone, reaso
 pub use folders::folder_fault;
 pub use newlines::line_ends;
 pub use opening::open_image;
-pub use planning::{PlanFailure, zone_bytes};
+pub use planning::{PlanFailure, zone_and_plan};
 pub use refusal::refuse_feed;

@@ -23,79 +23,25 @@ use std::rt::Files;
 #[derive(Clone, Copy, Drop)]
 struct Reason(ImageFault);
 
-/// What is said of an image with a header that is right, but with other words that are wrong.
-const DAMAGED: &str = "it is damaged, or wasn't made by `csa build`";
-
 impl fmt::Display for Reason {
     fn fmt<W: fmt::Write>(&self, f: &mut fmt::Formatter<W>) -> fmt::Result {
-        let reason = reason_of(self.0);
-        match self.0 {
-            ImageFault::BadMagic
-            | ImageFault::BadLayout
-            | ImageFault::BadLength
-            | ImageFault::OutOfMemory => f.write_str(reason),
-            ImageFault::StopRange(connection)
-            | ImageFault::TripRange(connection)
-            | ImageFault::HopWithoutDuration(connection)
-            | ImageFault::Unsorted(connection)
-            | ImageFault::TripBroken(connection)
-            | ImageFault::TimeRange(connection)
-            | ImageFault::BadFlags(connection) => {
-                write!(f, "connection {connection} {reason}; {DAMAGED}")
-            }
-            ImageFault::FootRange(stop)
-            | ImageFault::FootUnsorted(stop)
-            | ImageFault::NoLoop(stop) => {
-                write!(f, "footpaths into stop {stop}: {reason}; {DAMAGED}")
-            }
-            ImageFault::NotClosed(a, b, c) => {
-                write!(
-                    f,
-                    "footpaths lead from stop {a} to stop {b} and on to stop {c}, {reason}; {DAMAGED}"
-                )
-            }
-            ImageFault::BadNames(name) => write!(f, "name {name} {reason}; {DAMAGED}"),
+        write!(f, "{}", self.0)?;
+        if has_header(self.0) {
+            f.write_str("; it is damaged, or wasn't made by `csa build`")?;
         }
+        Ok(())
     }
 }
 
-/// What is wrong with an image, or with a connection of it, the footpaths into a stop, or a name.
-fn reason_of(fault: ImageFault) -> &'static str {
-    match fault {
-        ImageFault::BadMagic => "it isn't an image made by `csa build`: it doesn't begin like one",
-        ImageFault::BadLayout => {
-            "its layout is neither 1 nor 2: use the csa that built it, or build it again"
-        }
-        ImageFault::BadLength => {
-            "its size isn't the one that its header says: it is empty, was cut off, or isn't an image"
-        }
-        ImageFault::StopRange(_) => "leaves or reaches a stop that the image doesn't have",
-        ImageFault::TripRange(_) => "is of a trip that the image doesn't have",
-        ImageFault::HopWithoutDuration(_) => "arrives no later than it departs",
-        ImageFault::Unsorted(_) => "departs earlier than the connection before it",
-        ImageFault::TripBroken(_) => {
-            "leaves another stop than the one that its trip has reached, or leaves it too early"
-        }
-        ImageFault::TimeRange(_) => {
-            "has a time past 555555:33:19, the last second that an image can have"
-        }
-        ImageFault::BadFlags(_) => {
-            "has a flag that is neither 1, for boarding, nor 2, for alighting"
-        }
-        ImageFault::FootRange(_) => {
-            "their index is wrong, or one of them leaves a stop that the image doesn't have or takes more than \
-1000000 seconds"
-        }
-        ImageFault::FootUnsorted(_) => {
-            "they aren't in the order of the stops that they leave, each once"
-        }
-        ImageFault::NoLoop(_) => "none leaves that stop itself",
-        ImageFault::NotClosed(..) => "and none from the first to the last is as short",
-        ImageFault::BadNames(_) => {
-            "isn't UTF-8, or doesn't begin where the one before it ends (stop_ids come first, then trip_ids)"
-        }
-        ImageFault::OutOfMemory => "out of memory",
-    }
+/// Whether the words have the header of an image, and something behind it is wrong.
+fn has_header(fault: ImageFault) -> bool {
+    !matches!(
+        fault,
+        ImageFault::BadMagic
+            | ImageFault::BadLayout
+            | ImageFault::BadLength
+            | ImageFault::OutOfMemory
+    )
 }
 
 /// The verified image at the path, of the input for `-`; or the status of a command that has said why there is none:

@@ -9,7 +9,6 @@ use clock_days::instant;
 use command_requests::{PlanText, ZoneText};
 use feed_loader::{LoadFault, Plan};
 use feed_plans::plan_at;
-use service_days::DayFault;
 use std::fs;
 use std::io::ErrorKind;
 use std::rt::Files;
@@ -25,12 +24,6 @@ pub enum PlanFailure<'a> {
     OutOfMemory,
 }
 
-impl<'a> From<DayFault> for PlanFailure<'a> {
-    fn from(fault: DayFault) -> PlanFailure<'a> {
-        PlanFailure::Refused(LoadFault::Day(fault))
-    }
-}
-
 /// The plan of a feed that is loaded now.
 pub fn plan_of<'a, H: Files + AllocGlobal + Clock>(
     rt: &H,
@@ -41,16 +34,32 @@ pub fn plan_of<'a, H: Files + AllocGlobal + Clock>(
     ensures few { IfOk result (λ plan. plan.days ≤ MAX_DAYS) }
     ensures refused { IfErr result (IsNoPlan asked.now) }
 {
+    match zone_and_plan(rt, asked) {
+        Ok((_bytes, plan)) => Ok(plan),
+        Err(failure) => Err(failure),
+    }
+}
+
+/// The bytes of the zone's file, none of a zone that isn't in a file, and the plan of a feed that is loaded now.
+pub fn zone_and_plan<'a, H: Files + AllocGlobal + Clock>(
+    rt: &H,
+    asked: &PlanText<'a>,
+) -> Result<(Vec<u8>, Plan), PlanFailure<'a>>
+    ensures plan { IfOk result (λ made. IsPlanNow asked.now made.0.items made.1) }
+    ensures some { IfOk result (λ made. 1 ≤ made.1.days) }
+    ensures few { IfOk result (λ made. made.1.days ≤ MAX_DAYS) }
+    ensures refused { IfErr result (IsNoPlan asked.now) }
+{
     let bytes = zone_bytes(rt, &asked.zone)?;
     match plan_at(rt.alloc(), asked, &bytes, instant(rt)) {
-        Ok(plan) => Ok(plan),
+        Ok(plan) => Ok((bytes, plan)),
         Err(fault) => Err(PlanFailure::Refused(LoadFault::Day(fault))),
     }
 }
 
-/// The bytes of a zone's file; none of another zone. `Unreadable` with the file's path if it can't be read,
-/// `OutOfMemory` if there is no memory for its bytes; of another zone there is no failure.
-pub fn zone_bytes<'a, H: Files + AllocGlobal>(
+// The bytes of a zone's file; none of another zone. `Unreadable` with the file's path if it can't be read, `OutOfMemory`
+// if there is no memory for its bytes; of another zone there is no failure.
+fn zone_bytes<'a, H: Files + AllocGlobal>(
     rt: &H,
     zone: &ZoneText<'a>,
 ) -> Result<Vec<u8>, PlanFailure<'a>>

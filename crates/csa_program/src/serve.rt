@@ -27,9 +27,9 @@ use crate::machine::Machine;
 use crate::requests::Requests;
 use crate::sockets::{Door, Visit, Visitor};
 use clock_days::instant;
-use command_requests::{Ends, NamedFolder, PlanText, ServeRequest};
+use command_requests::{Ends, NamedFolder, ServeRequest};
 use csa_commands::{
-    Begun, PlanFailure, explain_load, open_image, reason_of, refuse_feed, status, zone_bytes,
+    Begun, PlanFailure, explain_load, open_image, reason_of, refuse_feed, status, zone_and_plan,
 };
 use epochs::{Named, NamedNotice, ShelfLoader, ShelfSeat, Shelves};
 use feed_files::{Disk, FeedFiles, FolderFiles};
@@ -143,7 +143,7 @@ pub fn run<
     E: Write + Send,
 >(rt: &H, request: ServeRequest<'_>, input: &mut I, output: &mut O, errors: &mut E) -> u8 {
     let alloc = rt.alloc();
-    let (zone_bytes, first) = match first_plan(rt, &request.plan) {
+    let (zone_bytes, first) = match zone_and_plan(rt, &request.plan) {
         Ok(first) => first,
         Err(PlanFailure::Refused(fault)) => {
             explain_load(&fault, errors);
@@ -179,18 +179,6 @@ pub fn run<
     let shared = SharedErrors::of(rt, alloc, &errors);
     let (status, _hosted) = listen(&bound, image, &folders, &shared, output);
     status
-}
-
-// The bytes of the zone's file, and the plan of a feed that is loaded now.
-fn first_plan<'a, H: Files + AllocGlobal + Clock>(
-    rt: &H,
-    text: &PlanText<'a>,
-) -> Result<(Vec<u8>, Plan), PlanFailure<'a>>
-    ensures { IfOk result (λ first. IsPlanNow text.now first.0.items first.1) }
-{
-    let bytes = zone_bytes(rt, &text.zone)?;
-    let plan = plan_at(rt.alloc(), text, &bytes, instant(rt))?;
-    Ok((bytes, plan))
 }
 
 fn names_of(alloc: Global, feeds: &[NamedFolder<'_>]) -> Result<Vec<String>, AllocError>

@@ -1,7 +1,5 @@
 -- What seats know is of one history.
-use Rattle.std.proofs.Common.{◌≡◌, ℕ, Option, refl, sym, subst}
-use mathlib.Core.Option.{some}
-use lib.ListN.{get_elem?}
+use Rattle.std.proofs.Common.{ℕ, Option, refl, sym, subst}
 use Rattle.shelf_steps.specs.declared.views.Known.{Known}
 use Rattle.shelf_steps.specs.declared.views.View.{View}
 use Rattle.shelf_steps.specs.Course.{Begins, Course, all_of}
@@ -10,7 +8,7 @@ use Rattle.shelf_steps.specs.Laws.{Shelved}
 use Rattle.shelf_steps.specs.Ruled.{Ruled}
 use Rattle.shelf_steps.specs.Seats.{SeatFits}
 use Rattle.epochs.specs.Pinned.{SeatsAgreeOnImages, SeatsKnowBeginnings}
-use Rattle.epochs.specs.SeatHistory.{Grows, IsPublished}
+use Rattle.epochs.specs.SeatHistory.{Grows}
 use Rattle.epochs.proofs.GrowthLemmas.{one_image_each, published_stay}
 
 begun : (k : Known) (a : Option ℕ) (c : Course) → Begins k a c → Grows k (all_of c)

@@ -2,7 +2,7 @@
 use Rattle.std.proofs.Common.{◌≡◌, ◌∙◌, ◌++◌, ◌∷◌, [], ℕ, zero, suc, ◌+◌, List, Option, Result, None, Some, Ok, Err, Vec}
 use Rattle.std.proofs.Common.{map, take, length, refl, subst, sym, ap, arith}
 use Rattle.std.specs.declared.alloc.Global.{Global}
-use Rattle.std.specs.Prelude.{All, IfSome, option_map, OnOk, ⊤, if◌then◌else◌, ◌==◌, get_or, drop}
+use Rattle.std.specs.Prelude.{All, IfSome, option_map, OnOk, ⊤, if◌then◌else◌, ◌==◌, get_or}
 use Rattle.std.proofs.lemmas.List.{append-nil, append_assoc, append_cancel_left, map-append}
 use Rattle.std.proofs.lemmas.List.Elements.{All-append, All-cons, All-head, All-map, All-nil, All-tail, All-weaker}
 use Rattle.gtfs_rows.specs.Told.{file_name}

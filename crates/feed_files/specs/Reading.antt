@@ -1,6 +1,5 @@
 -- The tables of a feed's files, and the first thing that is wrong with them.
-use Rattle.std.specs.Prelude.{◌≡◌, ◌≢◌, ◌∷◌, ℕ, List, [], Option, Some, None, ⊤, Vec}
-use Rattle.std.specs.declared.alloc.Global.{Global}
+use Rattle.std.specs.Prelude.{◌≡◌, ◌≢◌, ◌∷◌, ℕ, List, [], Option, Some, None, ⊤}
 use Rattle.gtfs_rows.specs.Faults.{IsFaultOf}
 use Rattle.gtfs_rows.specs.Tables.{HoldsAgencies, HoldsCalendar, HoldsCalendarDates, HoldsFrequencies, HoldsStopTimes}
 use Rattle.gtfs_rows.specs.Tables.{HoldsStopsWithin, HoldsTransfers, HoldsTripsWithin, IsStopsFault, IsTripsFault}

@@ -1,6 +1,6 @@
 -- The first fault of a table.
 use Rattle.std.specs.Prelude.{◌≡◌, ◌+◌, ◌<◌, ◌==◌, if◌then◌else◌, ℕ, List, [], ◌∷◌, ◌++◌, length, take, slice_index_or}
-use Rattle.std.specs.Prelude.{map, Option, Some, None, Bool, true, false, IsUtf8}
+use Rattle.std.specs.Prelude.{Option, Some, None, Bool, true, false, IsUtf8}
 use Rattle.std.specs.Bool.{MatchBool}
 use Rattle.std.specs.List.{AllZip, list_any}
 use Rattle.std.specs.Option.{option_to_list}

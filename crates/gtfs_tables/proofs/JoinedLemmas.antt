@@ -1,7 +1,7 @@
 -- What holds of a joined feed.
 use Rattle.std.proofs.Common.{◌≡◌, ℕ, zero, suc, ◌+◌, ◌-◌, ◌<◌, ◌≤◌, inl, inr, ◌∙◌, sym, ap, refl, subst, arith, Bool}
 use Rattle.std.proofs.Common.{true, false, not, ◌||◌, List, [], ◌∷◌, length, map, take, drop, get_or, Option, Some}
-use Rattle.std.proofs.Common.{None, IsSomeAnd, All}
+use Rattle.std.proofs.Common.{None, IsSomeAnd}
 use Rattle.std.specs.Prelude.{count_by, filter, is_none, nat_le, nat_lt, option_and_then, option_map, if◌then◌else◌}
 use Rattle.std.specs.List.{AllZip, list_any, slice_get, slice_index_or, slice_range}
 use Rattle.std.specs.Option.{option_or}

@@ -2,12 +2,12 @@
 use Rattle.std.proofs.Common.{◌≡◌, ◌≢◌, ◌++◌, ◌+◌, ◌∙◌, ◌∷◌, ◌<◌, ◌≤◌, ◌==◌, ◌↔◌, ◌⊎◌, ℕ, zero, suc, List, [], Bool, true, false}
 use Rattle.std.proofs.Common.{ap, arith, get_or, if◌then◌else◌, inl, inr, length, refl, subst, sym}
 use Rattle.std.specs.Prelude.{Contains, not, slice_index, ⊤}
-use Rattle.std.specs.List.{count_by, flat_map}
+use Rattle.std.specs.List.{flat_map}
 use Rattle.std.specs.List.Sorted.{IsNonDecreasing, IsPermutation, IsStrictlyIncreasing}
 use Rattle.std.proofs.lemmas.Bool.{cases_Bool, cases_eq, eq-eqb, eqb-true, true≢false}
 use Rattle.std.proofs.lemmas.List.Sorted.{sum_by-IsPermutation}
 use Rattle.std.proofs.lemmas.List.Sums.{sum_by-cons}
-use Rattle.image_facts.specs.Days.{AreServiceDays, HasDays, day_line, days_text, trips_on}
+use Rattle.image_facts.specs.Days.{HasDays, day_line, trips_on}
 use Rattle.image_facts.specs.Entries.{is_last_of, rest_text}
 
 -- each of them once, where equal ones are side by side

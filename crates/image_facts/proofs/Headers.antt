@@ -1,5 +1,5 @@
 -- What the header of an image says of it.
-use Rattle.std.proofs.Common.{◌≡◌, ◌≤◌, List, ℕ, ap, length, refl, subst, sym}
+use Rattle.std.proofs.Common.{◌≡◌, ◌≤◌, List, ℕ, ap, length, subst, sym}
 use Rattle.image_layout.specs.Fields.{layout_of}
 use Rattle.image_layout.specs.Image.{ImageValue, Spells}
 use Rattle.image_layout.specs.Places.{IsWhole, header_of}

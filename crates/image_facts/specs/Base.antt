@@ -1,5 +1,5 @@
 -- The instant from which an image's clocks count, as a number and as a date and a time of UTC.
-use Rattle.std.specs.Prelude.{◌≡◌, ◌⊎◌, ◌++◌, ◌/◌, ◌%◌, ◌==◌, ℕ, ℤ, pos, List, [], codes, if◌then◌else◌, unsigned_abs}
+use Rattle.std.specs.Prelude.{◌≡◌, ◌⊎◌, ◌++◌, ◌/◌, ◌%◌, ℕ, ℤ, pos, List, [], codes, if◌then◌else◌, unsigned_abs}
 use Rattle.std.specs.Int.{int_div_euclid, int_rem_euclid, is_negative}
 use Rattle.std.specs.Fmt.{signed_decimal}
 use Rattle.jiff_core.specs.Calendar.{IsEpochDay}

@@ -7,8 +7,8 @@ use mathlib.Core.Option.{some}
 use lib.ListN.{get_elem?}
 use Rattle.crossbeam_channel.specs.Fifo.{Forks, Learns, Merges, Pops, Pushes}
 use Rattle.load_orders.specs.ArrivalLemmas.{closes_more, closes_same, closing_last, nothing_last, order_last, waits, waits_more, waits_same}
-use Rattle.load_orders.specs.Queue.{AllWereTaken, AreTakenOnce, IsKept, IsOneMore, IsQueue, KnowsAllTaken, mark_of, new_end, new_loader, nothing_kept}
-use Rattle.load_orders.specs.Queue.{closings_at, closings_in, ended_at, keeps, loading_at, orders_by, out_at, put_at, puts_there}
+use Rattle.load_orders.specs.Queue.{AreTakenOnce, IsKept, IsOneMore, IsQueue, KnowsAllTaken, mark_of, new_end, new_loader, nothing_kept}
+use Rattle.load_orders.specs.Queue.{closings_at, ended_at, keeps, loading_at, orders_by, out_at, put_at, puts_there}
 use Rattle.load_orders.specs.Queue.{taken_at, takes_there, total, tried, waiting, waiting_in, with_back, with_end_out, with_loader_out}
 use Rattle.load_orders.specs.SumLemmas.{also, at_keeper, changed, counted, gone, keeper_counts_closings, keeper_counts_ends, keeper_counts_loaders}
 use Rattle.load_orders.specs.SumLemmas.{merged, more, none_put, none_taken, others_keep, same}

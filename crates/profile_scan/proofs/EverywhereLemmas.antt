@@ -1,10 +1,10 @@
 -- One scan for all sources, as each of them sees it.
-use Rattle.std.proofs.Common.{◌≡◌, ◌+◌, ◌<◌, ◌≤◌, ◌∷◌, ◌++◌, [], ℕ, List, Option, Some, None, AllPairs, Contains, false, length, map, slice_get, refl, sym}
+use Rattle.std.proofs.Common.{◌≡◌, ◌+◌, ◌<◌, ◌≤◌, ◌∷◌, ◌++◌, [], ℕ, List, Option, Some, Contains, false, length, map, slice_get, refl, sym}
 use Rattle.std.proofs.Common.{◌∙◌, ap, subst, inl, inr, arith}
 use Rattle.std.specs.Global.{Vec}
 use Rattle.std.proofs.lemmas.Bool.{cases_eq}
 use Rattle.std.proofs.lemmas.List.{length_push}
-use Rattle.std.proofs.lemmas.Option.{slice_get_cases, slice_get_within}
+use Rattle.std.proofs.lemmas.Option.{slice_get_cases}
 use Rattle.reasoning.proofs.ListLemmas.{slice_get-front, slice_get-last}
 use Rattle.criteria.specs.Laws.{Rules, Laws}
 use Rattle.bags.specs.Bag.{points_of}
@@ -18,7 +18,7 @@ use Rattle.sources.specs.FirstAt.{IsFirstAt}
 use Rattle.profile_scan.specs.Values.{journey_value}
 use Rattle.profile_scan.specs.Continuations.{CountsFrom}
 use Rattle.profile_scan.specs.Plain.{IsPlain}
-use Rattle.profile_scan.specs.Points.{Before, IsAnswer, untagged}
+use Rattle.profile_scan.specs.Points.{IsAnswer, untagged}
 use Rattle.profile_scan.specs.Matching.{IsAttained, Matches, Spellings}
 use Rattle.profile_scan.specs.Steps.{AreCarried, IsIdle, Leaving, MayLeave, TakesIn, changes, ends, ends_after, leavings}
 use Rattle.profile_scan.specs.Bound.{carried, is_bettered}

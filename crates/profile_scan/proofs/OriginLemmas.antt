@@ -1,5 +1,5 @@
 -- The points found from each stop, as one more sets out.
-use Rattle.std.proofs.Common.{◌≡◌, ◌≢◌, ℕ, ◌+◌, ◌<◌, ◌≤◌, List, [], ◌∷◌, ◌++◌, length, set, Contains, Option, Some, None, slice_get, refl, sym, ◌∙◌, ap}
+use Rattle.std.proofs.Common.{◌≡◌, ◌≢◌, ℕ, ◌+◌, ◌<◌, ◌≤◌, List, [], ◌∷◌, ◌++◌, length, set, Option, Some, None, slice_get, refl, sym, ◌∙◌, ap}
 use Rattle.std.proofs.Common.{subst, inl, inr, arith, length-set}
 use Rattle.std.proofs.lemmas.Bool.{cases_eq}
 use Rattle.std.proofs.lemmas.Option.{same_Some, slice_get_within, slice_get_cases, slice_get_past}
@@ -8,22 +8,20 @@ use Rattle.reasoning.proofs.ListLemmas.{extends_none, extends_on, slice_get-fron
 use Rattle.criteria.specs.Laws.{Rules}
 use Rattle.bags.specs.Bag.{criterion_of, points_of}
 use Rattle.bags.specs.Dominance.{IsBag}
-use Rattle.bags.specs.declared.point.Point.{Point}
 use Rattle.timetable.specs.declared.network.Connection.{Connection}
 use Rattle.timetable.specs.declared.network.Footpath.{Footpath}
 use Rattle.timetable.specs.declared.query.Query.{Query}
 use Rattle.fronts.specs.Front.{Extends}
 use Rattle.fronts.specs.declared.entry.Step.{Step}
 use Rattle.profile_scan.specs.Matching.{Spellings, from_to}
-use Rattle.profile_scan.specs.Steps.{Offer, TakesIn}
-use Rattle.profile_scan.specs.Story.{Grows, Story, story, told}
+use Rattle.profile_scan.specs.Steps.{Offer}
+use Rattle.profile_scan.specs.Story.{story, told}
 use Rattle.profile_scan.specs.Adding.{MayStart, Takes, only_if}
 use Rattle.profile_scan.specs.Parts.{ChangesOrigin, OriginTakes}
 use Rattle.profile_scan.specs.Origins.{AreUnder, ChangesOrigins, SourceTakes, found_by, found_from, from_stop, set_outs_by, set_outs_from, starts_at}
 use Rattle.profile_scan.specs.declared.origin.Origin.{Origin}
 use Rattle.profile_scan.specs.declared.origins.Origins.{Origins}
 use Rattle.profile_scan.specs.declared.story.Exit.{Exit}
-use Rattle.profile_scan.specs.declared.story.SetOut.{SetOut}
 use Rattle.profile_scan.proofs.Offers.{takes_unless}
 
 -- one sets out by a start from the stop where it begins, and from no other

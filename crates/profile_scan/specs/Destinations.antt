@@ -1,10 +1,10 @@
 -- What is asked of every stop at once, and when it can be.
-use Rattle.std.specs.Prelude.{◌≡◌, ◌≢◌, ℕ, ◌<◌, ◌≤◌}
+use Rattle.std.specs.Prelude.{ℕ, ◌<◌, ◌≤◌}
 use Rattle.timetable.specs.declared.limits.TheConstants.{TIME_END}
 use Rattle.timetable.specs.declared.query.Query.{Query}
 use Rattle.timetable.specs.declared.query.QueryFault.{QueryFault}
 use Rattle.timetable.specs.declared.query.QueryFault.TheVariants.{UnknownStop, SameStop, BadWindow}
-use Rattle.timetable.specs.Queries.{IsAskable, HasBadWindow}
+use Rattle.timetable.specs.Queries.{HasBadWindow}
 use Rattle.profile_scan.specs.declared.destination.Destination.{Destination}
 
 -- the query from a stop

@@ -1,5 +1,5 @@
 -- What a worker holds stays: its slot is out, its shelf in use, and no event frees it.
-use Rattle.std.proofs.Common.{◌≡◌, ◌≢◌, ℕ, suc, ◌+◌, ◌*◌, ◌<◌, ◌≤◌, List, [], ◌∷◌, ◌++◌, length, Option, Some, slice_get, get_or, ap, sym, ◌∙◌}
+use Rattle.std.proofs.Common.{◌≡◌, ◌≢◌, ℕ, suc, ◌+◌, ◌*◌, ◌<◌, ◌≤◌, List, [], ◌∷◌, length, Option, Some, slice_get, get_or, ap, sym, ◌∙◌}
 use Rattle.std.proofs.Common.{subst, arith, refl, inl, inr}
 use mathlib.Core.Option.{some, none}
 use lib.ListN.{get_elem?}
@@ -20,11 +20,11 @@ use Rattle.shelf_steps.specs.declared.views.WorkerView.{WorkerView}
 use Rattle.shelf_steps.specs.declared.views.LoaderView.{LoaderView}
 use Rattle.shelf_steps.specs.declared.views.View.{View}
 use Rattle.image_layout.specs.Image.{ImageValue}
-use Rattle.shelf_steps.specs.Course.{Begins, NeverFreed, NeverFreedSince}
+use Rattle.shelf_steps.specs.Course.{Begins, NeverFreed}
 use Rattle.shelf_steps.specs.Seats.{WorkerFits}
 use Rattle.shelf_steps.specs.Slots.{Slot, SlotFits, IsSpare}
 use Rattle.shelf_steps.specs.Ruled.{Ruled}
-use Rattle.shelf_steps.specs.Laws.{Shelved, IsLoader, HoldersSlotsAreOut, FreeSlotsAreTheLoaders, HeldShelvesAreInUse, HeldShelvesStay}
+use Rattle.shelf_steps.specs.Laws.{Shelved, HoldersSlotsAreOut, FreeSlotsAreTheLoaders, HeldShelvesAreInUse, HeldShelvesStay}
 use Rattle.shelf_steps.proofs.Courses.{kept_of}
 use Rattle.shelf_steps.proofs.Works.{held_on}
 use Rattle.shelf_steps.proofs.WordsAfter.{few_counted}

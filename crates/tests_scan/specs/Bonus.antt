@@ -1,5 +1,5 @@
 -- A number less a bonus: what the laws of a criterion with one rest on.
-use Rattle.std.proofs.Common.{◌≡◌, ℕ, ◌-◌, ◌≤◌, ◌<◌, true, nat_le, nat_lt, arith}
+use Rattle.std.proofs.Common.{◌≡◌, ℕ, ◌-◌, true, nat_le, nat_lt, arith}
 use Rattle.std.proofs.lemmas.Bool.{le-leb, leb-true, lt-ltb, ltb-true}
 
 pub less_monotone : (bonus a b : ℕ) → nat_le a b ≡ true → nat_le (a - bonus) (b - bonus) ≡ true

@@ -1,5 +1,5 @@
 -- What transfers forbid between stations, listed, in order and looked up.
-use Rattle.std.proofs.Common.{◌≡◌, ◌⊎◌, inl, inr, ℕ, ◌+◌, ◌<◌, ◌≤◌, List, [], ◌∷◌, ◌++◌, length, take, get_or, Option, Some, None, Contains, refl}
+use Rattle.std.proofs.Common.{◌≡◌, ◌⊎◌, inl, inr, ℕ, ◌+◌, ◌<◌, List, [], ◌∷◌, ◌++◌, length, take, get_or, Option, Some, None, Contains, refl}
 use Rattle.std.proofs.Common.{sym, ap, subst, ◌∙◌, arith, Result, Ok, Err, is_ok, true, false}
 use Rattle.std.specs.declared.cmp.Ordering.{Ordering}
 use Rattle.std.specs.declared.cmp.Ordering.TheVariants.{Less, Equal, Greater}
@@ -19,7 +19,7 @@ use Rattle.gtfs_tables.specs.declared.tables.Transfer.{Transfer}
 use Rattle.gtfs_tables.specs.declared.tables.Place.{Place}
 use Rattle.gtfs_tables.specs.declared.tables.Place.TheVariants.{Stop as TheStop, Station as TheStation}
 use Rattle.transfers.specs.declared.bans.Ban.{Ban}
-use Rattle.transfers.specs.Lookup.{stop_named, station_named}
+use Rattle.transfers.specs.Lookup.{station_named}
 use Rattle.transfers.specs.Bans.{AreBans, HasBans, IsBan, IsVoid, ban_cmp, ban_between, bans_by, bans_in, listed_ban}
 use Rattle.transfers.specs.contracts.bans.BanOrd.TheImpl.{cmp-value}
 use Rattle.transfers.specs.contracts.bans.BanOrd.TheImpl.Laws.{total-law}

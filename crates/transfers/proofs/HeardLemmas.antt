@@ -1,5 +1,5 @@
 -- What is left of transfers says the same of each pair of stops as all of them.
-use Rattle.std.proofs.Common.{◌≡◌, ◌==◌, ◌⊎◌, inl, inr, ℕ, ◌+◌, ◌<◌, List, [], ◌∷◌, ◌++◌, length, take, get_or, Bool, true, false, Option, Some, None, Contains}
+use Rattle.std.proofs.Common.{◌≡◌, ◌==◌, inl, inr, ℕ, ◌+◌, ◌<◌, List, [], ◌∷◌, ◌++◌, length, take, get_or, Bool, true, false, Option, Some, None, Contains}
 use Rattle.std.proofs.Common.{refl, sym, ap, subst, ◌∙◌}
 use Rattle.std.proofs.lemmas.List.{take_more}
 use Rattle.std.proofs.lemmas.List.Elements.{All-contains, All-contains_itself, All-weaker, Contains-push, Contains-push_cases, Contains-append_left}
@@ -17,8 +17,7 @@ use Rattle.gtfs_tables.specs.declared.tables.Place.{Place}
 use Rattle.transfers.specs.declared.claims.Source.{Source}
 use Rattle.transfers.specs.declared.claims.Source.TheVariants.{Stops, Station}
 use Rattle.transfers.specs.declared.claims.Word.{Word}
-use Rattle.transfers.specs.declared.claims.Claim.{Claim}
-use Rattle.transfers.specs.Listed.{AreListed, said_by, word_for, word_of, source_of, source_by, stands_for, default_word, word_between, secs_of, listed_secs}
+use Rattle.transfers.specs.Listed.{AreListed, said_by, word_for, word_of, source_by, stands_for, default_word, word_between, secs_of, listed_secs}
 use Rattle.transfers.specs.Claims.{IsHeardBefore, IsRowClaim}
 use Rattle.transfers.specs.Heard.{HearsOnce, IsHeardIn, IsSaidIn, KeepsWhatSays, SaysFirst}
 use Rattle.transfers.proofs.ClaimLemmas.{claim_of}

@@ -1,7 +1,7 @@
 -- A listed footpath is claimed by what is never left out.
-use Rattle.std.proofs.Common.{◌≡◌, ◌==◌, inl, inr, ℕ, List, Bool, true, false, Option, Some, None, Contains, refl, sym, ap, subst, ◌∙◌}
+use Rattle.std.proofs.Common.{◌≡◌, ◌==◌, inl, inr, ℕ, List, Bool, true, false, Option, Some, None, refl, sym, ap, subst, ◌∙◌}
 use Rattle.std.proofs.lemmas.Bool.{ne_eqb}
-use Rattle.std.proofs.lemmas.Option.{none-some, same_Some}
+use Rattle.std.proofs.lemmas.Option.{same_Some}
 use Rattle.timetable.specs.First.{or_else}
 use Rattle.gtfs_rows.specs.declared.rows.TransferKind.{TransferKind}
 use Rattle.gtfs_tables.specs.declared.tables.Stop.{Stop}
@@ -14,8 +14,8 @@ use Rattle.transfers.specs.declared.claims.Source.TheVariants.{Stops, Station, D
 use Rattle.transfers.specs.declared.claims.Word.{Word}
 use Rattle.transfers.specs.declared.claims.Word.TheVariants.{Never, Takes}
 use Rattle.transfers.specs.declared.claims.Claim.{Claim}
-use Rattle.transfers.specs.Listed.{default_word, is_child, said_by, source_by, source_of, stands_for, station_of, word_between, word_by, word_of}
-use Rattle.transfers.specs.Claims.{IsClaim, IsHeardBefore, IsRowClaim}
+use Rattle.transfers.specs.Listed.{default_word, said_by, source_by, stands_for, station_of, word_between, word_by, word_of}
+use Rattle.transfers.specs.Claims.{IsClaim, IsRowClaim}
 use Rattle.transfers.specs.Bans.{IsBan, IsSilent, IsVoid, MayBeSilent}
 use Rattle.transfers.proofs.ClaimLemmas.{claim_of, is_its_station}
 use Rattle.transfers.proofs.PathLemmas.{never_takes}

@@ -1,5 +1,5 @@
 -- The pairs of stations between which no transfer is possible.
-use Rattle.std.specs.Prelude.{◌≡◌, ◌≢◌, ℕ, true, List, [], ◌∷◌, Contains, Option, Some, None}
+use Rattle.std.specs.Prelude.{◌≡◌, ◌≢◌, ℕ, List, [], ◌∷◌, Contains, Option, Some, None}
 use Rattle.std.specs.declared.cmp.Ordering.{Ordering}
 use Rattle.std.specs.Ordering.{nat_cmp, ordering_then}
 use Rattle.std.specs.List.Sorted.{IsSorted}
@@ -13,7 +13,7 @@ use Rattle.transfers.specs.declared.bans.Ban.{Ban}
 use Rattle.transfers.specs.declared.claims.Claim.{Claim}
 use Rattle.transfers.specs.declared.claims.Source.{Source}
 use Rattle.transfers.specs.declared.claims.Source.TheVariants.{Stops, Station, Default}
-use Rattle.transfers.specs.Listed.{source_of, stands_for, station_of}
+use Rattle.transfers.specs.Listed.{source_of, station_of}
 use Rattle.transfers.specs.Claims.{IsRowInto}
 
 -- a transfer says that none is possible from a station to a station

@@ -1,5 +1,5 @@
 -- What workers' orders go by, and what they did.
-use Rattle.std.specs.Prelude.{◌≡◌, ℕ, List, [], String, IsPermutation, flat_map, map, string_bytes}
+use Rattle.std.specs.Prelude.{◌≡◌, ℕ, List, String, IsPermutation, flat_map, map, string_bytes}
 use Rattle.std.specs.Global.{Global}
 use Rattle.load_orders.specs.Asking.{HasAsked, OrderRoute, WorkerOrdersValue, route_of}
 use Rattle.load_orders.specs.Queue.{EndValue, KeeperValue, QueueId, waiting}

@@ -236,7 +236,7 @@ fn a_fault_has_a_number_a_name_and_a_message(rt: HostRuntime) -> Result<(), Allo
     let message = format!(in rt.alloc(); "{}", ImageFault::NotClosed(0, 1, 2))?;
     assert!(rt;
         message.as_str()
-            == "no footpath from stop 0 to stop 2 is as short as those by way of stop 1"
+            == "footpaths lead from stop 0 to stop 1 and on to stop 2, and none from the first to the last is as short"
     );
     Ok(())
 }

@@ -272,8 +272,8 @@ it is damaged, or wasn't made by `csa build`
 answers refused 70 BadFlags 2
 sample
 set 27 1
-tells csa: standard input: footpaths into stop 0: their index is wrong, or one of them leaves a stop that the image \
-doesn't have or takes more than 1000000 seconds; it is damaged, or wasn't made by `csa build`
+tells csa: standard input: footpaths into stop 0: a wrong index, or one from a stop that there isn't or of more than \
+1000000 seconds; it is damaged, or wasn't made by `csa build`
 answers refused 71 FootRange 0
 sample
 set 30 2

@@ -1,4 +1,4 @@
-use Rattle.std.proofs.Common.{◌≡◌, ◌++◌, ap, subst, string_bytes}
+use Rattle.std.proofs.Common.{◌≡◌, ◌++◌, subst, string_bytes}
 use Rattle.std.specs.Prelude.{OnOk}
 use Rattle.answer_pictures.specs.LineValue.{StretchValue}
 use Rattle.answer_pictures.specs.Pictures.{shape_text}

@@ -1,4 +1,4 @@
-use Rattle.std.proofs.Common.{◌<◌, ap, arith, get_or}
+use Rattle.std.proofs.Common.{ap, arith, get_or}
 use Rattle.std.proofs.lemmas.List.{get_or_default}
 use Rattle.bags.specs.declared.entry.Entry.{Entry}
 use Rattle.bags.proofs.Order.{falling_to}

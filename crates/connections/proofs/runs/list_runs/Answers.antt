@@ -1,8 +1,6 @@
 use Rattle.std.proofs.Common.{◌≡◌, ◌++◌, ◌∙◌, ap, get_or, length, map, pos, sym, List}
 use Rattle.std.proofs.lemmas.List.{get_or_default}
-use Rattle.gtfs_rows.specs.declared.values.Day.{Day}
 use Rattle.gtfs_tables.specs.declared.tables.Trip.{Trip}
-use Rattle.connections.specs.Active.{active_among}
 use Rattle.connections.specs.Runs.{runs_from, runs_on}
 use Rattle.connections.specs.declared.days.ServiceDay.{ServiceDay}
 use Rattle.connections.proofs.ActiveSteps.{active_on}

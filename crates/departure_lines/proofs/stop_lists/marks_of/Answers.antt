@@ -1,4 +1,4 @@
-use Rattle.std.proofs.Common.{◌≡◌, ℕ, List, Contains, map, length, subst, sym, ap, ◌∙◌}
+use Rattle.std.proofs.Common.{◌≡◌, ℕ, List, Contains, map, length, subst, sym, ap}
 use Rattle.std.specs.Str.Lines.{lines}
 use Rattle.departure_lines.specs.Sought.{AreFoundBelow, AreMarkedBelow, AreSought, IsFirstMissing}
 use Rattle.departure_lines.specs.Naming.{AreMarked, IsUnknownLine}

@@ -1,14 +1,13 @@
 -- The two calendars are read one after another.
-use Rattle.std.proofs.Common.{Vec, ◌≡◌, ℕ, List, Option, None, Some, IfErr, refl, sym, ◌∙◌, ◌∷◌, []}
+use Rattle.std.proofs.Common.{Vec, sym, ◌∙◌, ◌∷◌, []}
 use Rattle.std.proofs.lemmas.Result.{err_from_is_err_and}
 use Rattle.std.specs.declared.alloc.Global.{Global}
 use Rattle.gtfs_rows.specs.declared.rows.CalendarRow.{CalendarRow}
 use Rattle.gtfs_rows.specs.declared.rows.CalendarDateRow.{CalendarDateRow}
-use Rattle.gtfs_rows.specs.declared.fault.FaultKind.{FaultKind}
 use Rattle.gtfs_rows.specs.declared.fault.Table.TheVariants as tables
 use Rattle.gtfs_rows.specs.Faults.{IsFaultOf}
 use Rattle.gtfs_rows.specs.Tables.{HoldsCalendar, HoldsCalendarDates, calendar_dates_shape, calendar_shape}
-use Rattle.feed_files.specs.Reading.{Content, FineBefore, NoTables, OptionalFault, earlier}
+use Rattle.feed_files.specs.Reading.{OptionalFault, earlier}
 use Rattle.feed_files.proofs.ReadingLemmas.{calendar_fault, calendars_held, calendars_missing, fine_more, held_rows}
 use Rattle.feed_files.proofs.ReadingLemmas.{no_file, no_tables, none_items, some_items, some_there}
 use Rattle.feed_files.proofs.ReadLemmas.{asked_join, gave_first, gave_rest, stopped_after, stopped_before}

@@ -1,5 +1,5 @@
 -- The files that must be there are read one after another.
-use Rattle.std.proofs.Common.{◌≡◌, ◌∙◌, ℕ, List, IfErr, Vec, ◌∷◌, []}
+use Rattle.std.proofs.Common.{◌∙◌, Vec, ◌∷◌, []}
 use Rattle.std.proofs.lemmas.Result.{err_from_is_err_and}
 use Rattle.std.specs.declared.alloc.Global.{Global}
 use Rattle.gtfs_rows.specs.Faults.{IsFaultOf}
@@ -10,9 +10,8 @@ use Rattle.gtfs_rows.specs.declared.read.TheConstants.{MAX_STOPS, MAX_TRIPS}
 use Rattle.gtfs_rows.specs.declared.rows.AgencyRow.{AgencyRow}
 use Rattle.gtfs_rows.specs.declared.rows.StopRow.{StopRow}
 use Rattle.gtfs_rows.specs.declared.rows.TripRow.{TripRow}
-use Rattle.feed_files.specs.Reading.{Content, FineBefore, IsFine, RequiredFault, earlier}
+use Rattle.feed_files.specs.Reading.{RequiredFault, earlier}
 use Rattle.feed_files.proofs.ReadingLemmas.{fine_more, no_tables, required_rows}
-use Rattle.feed_files.specs.Reads.{AllGave}
 use Rattle.feed_files.proofs.ReadLemmas.{asked_join, gave_first, gave_rest, stopped_after, stopped_before}
 use Rattle.feed_files.proofs.reading.required_tables.Goals as goal
 

@@ -1,5 +1,5 @@
 -- The files are read one after another.
-use Rattle.std.proofs.Common.{◌≡◌, ◌≢◌, ℕ, List, [], None, IfErr, Vec, refl, ◌∙◌, ◌∷◌}
+use Rattle.std.proofs.Common.{◌≡◌, [], Vec, ◌∙◌, ◌∷◌}
 use Rattle.std.specs.Prelude.{⊤}
 use Rattle.std.proofs.lemmas.Result.{err_from_is_err_and}
 use Rattle.std.specs.declared.alloc.Global.{Global}
@@ -7,7 +7,7 @@ use Rattle.gtfs_rows.specs.Faults.{IsFaultOf}
 use Rattle.gtfs_rows.specs.Tables.{HoldsTransfers, frequencies_shape, transfers_shape}
 use Rattle.gtfs_rows.specs.declared.fault.Table.TheVariants as tables
 use Rattle.gtfs_rows.specs.declared.rows.TransferRow.{TransferRow}
-use Rattle.feed_files.specs.Reading.{Content, OptionalFault, earlier}
+use Rattle.feed_files.specs.Reading.{OptionalFault, earlier}
 use Rattle.feed_files.proofs.ReadingLemmas.{calendars_fine, fine_more, no_tables, optional_rows, required_fine}
 use Rattle.feed_files.proofs.ReadLemmas.{asked_join, gave_first, gave_rest, stopped_after, stopped_before}
 use Rattle.feed_files.proofs.reading.tables_of.Goals as goal

@@ -1,4 +1,4 @@
-use Rattle.std.proofs.Common.{◌≡◌, ◌≤◌, ◌+◌, ◌++◌, ℕ, length, string_bytes}
+use Rattle.std.proofs.Common.{◌≡◌, ◌≤◌, ◌+◌, ◌++◌, length, string_bytes}
 use Rattle.image_facts.specs.Entries.{rest_text}
 use Rattle.image_facts.proofs.days.append_entries.Given as goal
 

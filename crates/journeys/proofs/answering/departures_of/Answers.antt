@@ -1,4 +1,4 @@
-use Rattle.std.proofs.Common.{◌+◌, List, refl, sym, ◌∙◌, subst, arith}
+use Rattle.std.proofs.Common.{◌+◌, List, refl, sym, subst, arith}
 use Rattle.bags.specs.declared.point.Point.{Point}
 use Rattle.profile_scan.specs.Points.{IsAnswer}
 use Rattle.profile_scan.specs.Found.{listed}

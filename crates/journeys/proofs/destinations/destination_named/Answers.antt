@@ -1,5 +1,5 @@
 use Rattle.std.proofs.Common.{ℕ, refl, subst}
-use Rattle.profile_scan.specs.Destinations.{CanBeAsked, IsDestinationFault}
+use Rattle.profile_scan.specs.Destinations.{IsDestinationFault}
 use Rattle.profile_scan.specs.declared.destination.Destination.{Destination}
 use Rattle.journeys.specs.Questions.{AsksAll}
 use Rattle.journeys.proofs.QuestionLemmas.{refused_of_all}

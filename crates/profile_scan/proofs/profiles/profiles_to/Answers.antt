@@ -1,4 +1,4 @@
-use Rattle.std.proofs.Common.{◌≡◌, ◌++◌, ℕ, List, Contains, length, reverse, take, slice_get, refl, sym, ◌∙◌, ap, subst}
+use Rattle.std.proofs.Common.{◌++◌, ℕ, List, Contains, length, reverse, take, slice_get, sym, ◌∙◌, ap, subst}
 use Rattle.reasoning.proofs.OptionLemmas.{on_err}
 use Rattle.bags.specs.Bag.{points_of}
 use Rattle.bags.specs.declared.point.Point.{Point}
@@ -13,8 +13,7 @@ use Rattle.profile_scan.specs.LawStatements.{CanScan}
 use Rattle.profile_scan.specs.Window.{window}
 use Rattle.profile_scan.specs.Destinations.{query_from}
 use Rattle.profile_scan.specs.Hops.{IsWindow}
-use Rattle.profile_scan.specs.Kept.{AreWays}
-use Rattle.profile_scan.specs.Origins.{found_from, from_stop}
+use Rattle.profile_scan.specs.Origins.{found_from}
 use Rattle.profile_scan.specs.Everywhere.{HasFoundFrom, points_in, story_from}
 use Rattle.profile_scan.proofs.Windows.{window_is_read_backward}
 use Rattle.profile_scan.proofs.EverywhereLemmas.{answered_from}

@@ -1,4 +1,4 @@
-use Rattle.std.proofs.Common.{arith, sym, subst, List, take, ap, ◌≡◌}
+use Rattle.std.proofs.Common.{arith, sym, subst, List, take}
 use Rattle.std.proofs.lemmas.List.{take_all}
 use Rattle.gtfs_tables.specs.declared.tables.Transfer.{Transfer}
 use Rattle.transfers.specs.Heard.{HearsOnce}

@@ -1,5 +1,4 @@
-use Rattle.std.proofs.Common.{◌≡◌, ◌<◌, ℕ, Contains, sym, ◌∙◌, subst}
-use Rattle.criteria.specs.Laws.{Admits}
+use Rattle.std.proofs.Common.{◌<◌, ℕ, Contains, sym, subst}
 use Rattle.reasoning.proofs.ListLemmas.{not_in_nil}
 use Rattle.profile_scan.specs.Story.{told}
 use Rattle.profile_scan.specs.Kept.{AreStops, IsWay}

@@ -1,4 +1,4 @@
-use Rattle.std.proofs.Common.{◌≡◌, ◌<◌, ◌-◌, ℕ, List, Option, IfSome, refl, sym, ◌∙◌, subst, inl, inr}
+use Rattle.std.proofs.Common.{◌<◌, ◌-◌, ℕ, Option, IfSome, refl, sym, ◌∙◌, subst, inl, inr}
 use Rattle.std.proofs.lemmas.Bool.{cases_eq}
 use Rattle.criteria.specs.Laws.{IsSecs}
 use Rattle.timetable.specs.declared.network.Footpath.{Footpath}
@@ -7,7 +7,7 @@ use Rattle.profile_scan.specs.Steps.{TakesIn}
 use Rattle.profile_scan.specs.Matching.{from_to}
 use Rattle.profile_scan.specs.Story.{told}
 use Rattle.profile_scan.specs.Adding.{label_points, MayStart, only_if, settings_out_after}
-use Rattle.profile_scan.specs.Origins.{SourceTakes, found_from, from_stop, starts_at}
+use Rattle.profile_scan.specs.Origins.{SourceTakes, found_from, from_stop}
 use Rattle.profile_scan.proofs.Offers.{on_ok_both, on_ok_more, takes_if}
 use Rattle.profile_scan.proofs.OriginLemmas.{origins_none, other_start, source_unless}
 use Rattle.profile_scan.proofs.origins.Origins.set_out_by.Goals as goal

@@ -12,10 +12,9 @@ use Rattle.profile_scan.specs.Answered.{IsAnswered}
 use Rattle.profile_scan.specs.Destinations.{query_from}
 use Rattle.profile_scan.specs.Origins.{set_outs_by}
 use Rattle.profile_scan.specs.Everywhere.{criterion_of_profiles, destination_of, listed_from, story_from}
-use Rattle.profile_scan.specs.declared.origin.Origin.{Origin}
 use Rattle.profile_scan.proofs.EverywhereLemmas.{answered_in_nodes, attained_told}
 use Rattle.profile_scan.proofs.profiles.Profiles.found_from.Given as given
-use Rattle.profile_scan.proofs.profiles.Profiles.found_from.Goals.{After-index-origin, After-of, Start}
+use Rattle.profile_scan.proofs.profiles.Profiles.found_from.Goals.{After-index-origin, After-of}
 use Rattle.profile_scan.proofs.profiles.Profiles.found_from.Goals as goal
 
 pub index-origin-requires : goal.index-origin-requires

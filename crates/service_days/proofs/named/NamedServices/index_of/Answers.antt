@@ -1,6 +1,5 @@
 use Rattle.std.proofs.Common.{◌≡◌, map, sym, rules, string_bytes}
 use Rattle.std.specs.Str.{bytes_eq}
-use Rattle.gtfs_rows.specs.Ids.{seen_also}
 use Rattle.gtfs_rows.specs.Rows.{StandsAt}
 use Rattle.gtfs_rows.proofs.KeyLemmas.{find_passes, stands}
 use Rattle.gtfs_rows.proofs.SeenLemmas.{seen_insert, stands_among}

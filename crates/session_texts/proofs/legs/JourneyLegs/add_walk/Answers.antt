@@ -1,4 +1,3 @@
-use Rattle.std.proofs.Common.{refl}
 use Rattle.session_texts.specs.Legs.{walk_value}
 use Rattle.session_texts.proofs.ReplyLemmas.{points_stay_plain, walk_has_no_float}
 use Rattle.session_texts.proofs.legs.JourneyLegs.add_walk.Goals as goal

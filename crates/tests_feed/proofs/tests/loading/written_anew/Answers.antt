@@ -1,4 +1,3 @@
-use Rattle.image_writer.specs.Writable.{IsWritable}
 use Rattle.tests_feed.proofs.tests.loading.written_anew.Goals as goal
 
 pub write-requires : goal.write-requires

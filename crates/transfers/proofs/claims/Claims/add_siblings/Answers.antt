@@ -1,4 +1,4 @@
-use Rattle.std.proofs.Common.{◌≡◌, ℕ, Option, Some, subst, sym}
+use Rattle.std.proofs.Common.{ℕ, Option, Some, subst}
 use Rattle.std.proofs.lemmas.Result.{on_ok_weaker}
 use Rattle.transfers.specs.Bans.{IsVoid}
 use Rattle.transfers.specs.Listed.{station_of}
