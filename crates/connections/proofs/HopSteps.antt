@@ -1,5 +1,5 @@
 -- The connections of a run, a row on.
-use Rattle.std.proofs.Common.{◌≡◌, ℕ, ℤ, ◌+◌, ◌<◌, inl, inr, List, [], ◌∷◌, ◌++◌, length, get_or, Some, None, IsSome, All, refl, sym, ap, ◌∙◌, subst}
+use Rattle.std.proofs.Common.{◌≡◌, ℕ, ℤ, ◌+◌, ◌<◌, inl, inr, List, [], ◌∷◌, ◌++◌, length, get_or, Option, Some, None, IsSome, All, refl, sym, ap, ◌∙◌, subst}
 use Rattle.std.proofs.Common.{arith, append_assoc}
 use Rattle.std.proofs.lemmas.Bool.{cases_eq}
 use Rattle.std.proofs.lemmas.Int.{ints}
@@ -8,7 +8,7 @@ use Rattle.std.proofs.lemmas.Option.{slice_get-get_or}
 use Rattle.reasoning.proofs.OptionLemmas.{is_some-none}
 use Rattle.gtfs_rows.specs.declared.rows.StopTimeRow.{StopTimeRow}
 use Rattle.timetable.specs.declared.network.Connection.{Connection}
-use Rattle.connections.specs.Hops.{AddsHops, IsClock, IsHop, IsOutside}
+use Rattle.connections.specs.Hops.{AddsHops, IsClock, IsHop, IsOutside, IsUsed}
 use Rattle.connections.specs.Times.{AreTimesBefore}
 use Rattle.connections.specs.declared.times.RowTimes.{RowTimes}
 

@@ -2,4 +2,4 @@
 
 /// The sum of all sources but this file, as `release/sources --program` prints it. `release/stamp` writes it, and
 /// `.ci/run` compares it with the sources.
-pub const SOURCES: &str = "79073a88edb8ccdf48379e5f9b870f964b3d25ffcb1a687b0e41cdc540167787";
+pub const SOURCES: &str = "58d019717f45a82e077eb62c8769a2bd72e6b9e65a354c343850bfc988222630";
