@@ -1,4 +1,4 @@
-//! Whether a server's image counts from where the feeds that it loads will.
+//! Whether the clocks of a server's image and those of the feeds that it will load count from the same instant.
 
 use feed_loader::Plan;
 use image_verifier::Verified;
@@ -7,7 +7,8 @@ use service_days::day_start;
 use std::alloc::{AllocError, Global};
 use std::io::Write;
 
-/// Warns if clocks will mean other instants once a feed is loaded. That it can't be written changes nothing.
+/// Warns if the same clock will mean another instant once a feed is loaded. A warning that can't be written changes
+/// nothing.
 pub fn warn_of_bases<E: Write>(alloc: Global, image: &Verified, plan: &Plan, errors: &mut E) {
     let Ok(loaded) = day_start(&plan.zone, plan.first_day) else {
         return;

@@ -6,7 +6,8 @@ use std::io::Write;
 use std::rt::Files;
 use workers::{LoadRefusal, Loaded};
 
-/// Who can say more of a feed that isn't loaded, on any thread: it has no type of its own.
+/// Explains why a feed isn't loaded. Unlike `Files`, this trait has no associated types, so it can be used on any
+/// thread.
 pub trait Explains {
     /// Says why the feed of a folder isn't loaded.
     fn explain_feed<E: Write>(&self, folder: &str, refusal: &LoadRefusal, errors: &mut E);
@@ -33,8 +34,8 @@ fn explain_unpublished<E: Write>(fault: PublishFault, errors: &mut E) {
     explain(errors, &["csa: ", reason]);
 }
 
-/// Warns of a feed that was loaded although none of its trips runs on the days of the plan: its version answers every
-/// query with nothing.
+/// Warns of a feed that was loaded although none of its trips runs on the days of the plan: over its version no query
+/// has a departure.
 pub fn warn_of_idle_feed<'a, E: Write>(errors: &mut E, name: &'a str, loaded: &Loaded) {
     if loaded.report.runs == 0 {
         let reason = ": no trip runs on these days, so no query has a departure";

@@ -56,7 +56,7 @@ impl<'a, H: Wait, E: Write> SharedErrors<'a, H, E> {
 
 /// Where sessions are logged, from any thread.
 pub trait SessionLog {
-    /// When what begins now begins.
+    /// The start of something that begins now.
     fn now(&self) -> Begun;
 
     /// Logs that the session of this number ended so, how many requests it had sent, and how long it took.
@@ -101,7 +101,7 @@ impl<'a, H: Wait, E: Write> LoaderErrors<'a, H, E> {
     }
 }
 
-/// The pieces of a line that is too long are written as they come.
+/// If a line grows too long, what is kept of it is written, and then the piece that didn't fit.
 impl<'a, H: Wait, E: Write> Write for LoaderErrors<'a, H, E> {
     fn write(&mut self, piece: &[u8]) -> io::Result<usize> {
         match self.line.try_extend_from_slice(piece) {
@@ -184,7 +184,7 @@ fn timestamp(second: i64) -> Option<Timestamp> {
     Timestamp::from_second(second).ok()
 }
 
-/// Adds how a session ended.
+/// Adds a session's number, how it ended, and how many requests it had sent.
 fn put_session(line: &mut String, number: u64, end: End, requests: u64) -> Result<(), AllocError>
     ensures { OnOk result (string_bytes line.new ≡ string_bytes line.old ++ session_text number end requests) }
 {

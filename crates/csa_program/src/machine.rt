@@ -8,8 +8,9 @@ use std::sync::Wait;
 use std::thread::Threads;
 use std::time::Clock;
 
-/// What the program needs of the machine that it runs on, beside sockets: a bound on their types
-/// can't stand in a bundle, since callers wouldn't know the types.
+/// What the program needs of the machine that it runs on, except sockets. These need a bound on associated types,
+/// `Net<Listener = .., Stream = ..>`, which each function states itself: callers wouldn't learn the types from a bundle
+/// of bounds like this one.
 pub trait Machine: Files
     + RandomSource
     + Disk

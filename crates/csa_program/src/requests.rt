@@ -6,7 +6,7 @@ use csa_commands::line_ends;
 use std::io;
 use std::io::Read;
 
-/// A reader that counts the lines of what is read, and keeps what is said of them when they end.
+/// A reader that counts the lines that are read, and keeps whose requests they are.
 #[derive(Drop)]
 pub struct Requests<S, V> {
     stream: S,

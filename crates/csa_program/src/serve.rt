@@ -197,9 +197,9 @@ fn name_of(alloc: Global, feed: &NamedFolder<'_>) -> Result<String, AllocError>
     String::from_str(alloc, feed.name)
 }
 
-// Prints the port, serves whoever comes to it, and prints how many sessions there were. What was served comes back with
-// the status, and none if the server ended before that, or without counts. Whatever the server's threads report goes
-// through one lock.
+// Prints the port, serves whoever comes to it, and prints how many sessions there were. Returns the status and what was
+// served: none if the server failed before it served anybody, or if its workers failed. Whatever the server's threads
+// report goes through one lock.
 fn listen<
     'd,
     'f,
@@ -293,8 +293,8 @@ fn end_of<'d, L: SessionLog + Sync>(hosted: &Hosted<'d, L>) -> (Ends, bool)
     (ends_of(&hosted.served), hosted.door.has_failed())
 }
 
-// Serves whoever comes at these shelves, until nobody is left. Whose bytes they bring makes no difference: what is said
-// of clients whose bytes are known is of the very code that serves sockets.
+// Serves all clients at these shelves, until none is left. It takes clients of any type: so what is proved of clients
+// whose bytes are known is proved of the very code that serves sockets.
 fn serve_all<
     'f,
     B: Named + Send + Sync,

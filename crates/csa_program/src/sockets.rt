@@ -174,14 +174,14 @@ impl<'a, L> Clients<Visitor<'a, L>> for Door<'a, L> {
     // Accepting failed, or as many as are wanted were accepted.
     ghost none_left = { λ door. (door.failed ≡ true) ⊎ ((door.is_endless ≡ false) × (door.left ≡ 0)) };
 
-    // So many are wanted, or there is no end to them: of those who came each has the next number, and they are counted
-    // off.
+    // How many clients are wanted, or 0 if there is no end to them. The fact: of those who came each has the next
+    // number, and they are counted off.
     ghost Fact = { ℕ };
 
     ghost holds = { λ door wanted. AreCountedOff wanted door.left door.accepted door.is_endless door.failed
         (map (λ visitor. visitor.number) door.came) };
 
-    /// The next connection. Without end none is counted off, and otherwise one.
+    /// The next connection. If there is an end to them, one is counted off what is left, even if accepting then fails.
     fn next(&mut self) -> Option<Visitor<'a, L>>
         ensures came { MatchOption result (self.new.came ≡ self.old.came)
             (λ client. self.new.came ≡ self.old.came ++ client ∷ []) }

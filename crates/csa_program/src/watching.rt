@@ -8,7 +8,7 @@ ghost use Rattle.csa_program.specs.Watching.{first_fault, write_fault};
 use std::io;
 use std::io::{ErrorKind, Write};
 
-/// A writer of which it is kept why it couldn't be written at first.
+/// A writer that keeps the first reason why it couldn't be written.
 #[derive(Drop)]
 pub struct Watched<W> {
     writer: W,
@@ -27,7 +27,7 @@ impl<W> Watched<W> {
         }
     }
 
-    /// Why it couldn't be written at first. A write that was interrupted is tried again, so it isn't one.
+    /// The first reason why it couldn't be written. An interrupted write doesn't count, since it is tried again.
     pub fn fault(&self) -> Option<ErrorKind>
         ensures { result ≡ self.now.fault }
     {

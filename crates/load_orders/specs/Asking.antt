@@ -29,7 +29,7 @@ abbrev pub nothing_asked : {N : Type 0} → OrderRoute N → ℕ → WorkerOrder
 nothing_asked route tries =
     record { names = route.names; end = record { queue = route.queue; orders = []; tries = tries }; asked = []; heard = [] }
 
--- what is asked for isn't looked at
+-- a worker's orders, with what was asked for left empty: it isn't looked at
 abbrev pub unasked : {N : Type 0} → List (List ℕ) → EndValue N → List (WayValue N) → WorkerOrdersValue N
 unasked names end heard = record { names = names; end = end; asked = []; heard = heard }
 
@@ -87,7 +87,7 @@ IsNoted order before after = (route_of after ≡ route_of before) × (after.aske
 
 -- over the rule of the queue: what it holds, and what its ends know
 module _ {N : Type 0} (holds : List (Arrival N) → List Side → Type 0) where
-  -- why the queue takes no order: it held four at one moment since this try began
+  -- why the queue takes no order: it held four at one moment since this try began; of a loader that is gone nothing is said
   abbrev pub IsTurnedAway : EndValue N → OrderFault → Type 0
   IsTurnedAway end OrderFault.OrdersFull = Held holds 4 (Side.Putting end.orders (end.tries + 1))
   IsTurnedAway end OrderFault.LoaderGone = ⊤

@@ -164,7 +164,8 @@ KnowsAllTaken side = ⊤
 -- over a rule of what a queue holds, oldest first, and of what each of its ends knows
 module _ {N : Type 0} (holds : List (Arrival N) → List Side → Type 0) where
   -- what an end does at a queue for four orders keeps the rule: it puts an order where fewer wait, or takes what comes first, or tries to put
-  -- one. Each of these changes what this end knows: so from a moment at which fewer waited none is made up at which four did
+  -- one. Each of these steps changes what this end knows: so no steps of its own lead from a moment at which fewer waited to one at which four do
+  -- and it knows the same
   pub record IsKept : Type 0 where
     pub puts : (pass : ℕ) (orders : List OrderMark) (tries : ℕ) (order : Order N)
         → Pushes holds 4 pass (Side.Putting orders tries) (Arrival.Order order) (IsOneMore (Side.Putting orders tries) (Arrival.Order order))

@@ -18,7 +18,7 @@ use Rattle.load_orders.specs.declared.queue.Order.{Order}
 use Rattle.load_orders.specs.declared.queue.OrderMark.{OrderMark}
 use Rattle.load_orders.specs.declared.queue.Side.{Side}
 
--- what is none only if others are, and they are some
+-- if `m` is 0 whenever `n` is positive, and `m` is positive, then `n` is 0
 is_none : (n m : ℕ) → (0 < n → m ≡ 0) → 0 < m → n ≡ 0
 is_none zero m then any = refl
 is_none (suc n) m then any = let nobody = then (omega arith) in absurd (omega (arith, nobody, any))

@@ -84,9 +84,10 @@ impl<N: Drop> Model for UsedLoader<N> {
 }
 
 impl<N: Drop, P: OrderRule<N>> LoaderOrders<N, P> {
-    /// Takes the order that waits longest, or waits for one, once each order taken before was answered. None comes if
-    /// the queue was closed for the loader, and then none ever comes; or if it was empty at one moment, and all other
-    /// ends are gone: that they are gone, tests show, and no contract.
+    /// Takes the order that has waited longest, or waits for one. Each order taken before must have been answered. None
+    /// if the queue was closed for the loader; then none ever comes. None also if all other ends are gone and the queue
+    /// is empty: the contract says only that it was empty at one moment of the call; that the ends are gone, only tests
+    /// show.
     pub fn next<R: Wait>(&mut self, rt: &R) -> Option<Order<N>>
         requires { AllAnswered self.old }
         ensures queue { self.new.queue ≡ self.old.queue }
@@ -126,8 +127,8 @@ impl<N: Drop, P: OrderRule<N>> LoaderOrders<N, P> {
         }
     }
 
-    /// Tells whoever waits for the order what came of it, by the order's own way back. Nobody may
-    /// wait for it, or wait any more.
+    /// Tells whoever waits for the order what came of it, by the order's own way back. Perhaps nobody waits for it, or
+    /// nobody does any more.
     pub fn answer<R: Wait>(&mut self, rt: &R, order: Order<N>, answer: LoadAnswer<N>)
         ensures queue { self.new.queue ≡ self.old.queue }
         ensures taken { self.new.taken ≡ self.old.taken }

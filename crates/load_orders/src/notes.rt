@@ -28,7 +28,7 @@ impl<T> Notes<T> {
         }
     }
 
-    /// Adds what it is lent at the end.
+    /// Adds the item at the end. The item is only borrowed.
     pub fn note(&mut self, item: &T)
         ensures { self.new ≡ self.old ++ item.now ∷ [] }
     {

@@ -79,17 +79,17 @@ pub enum Side {
     Rests,
 }
 
-/// A rule of queues of orders, which each order that is put or taken and each try keeps. Of how it begins nothing is
-/// said here, nor that there may be one end more: so that it held of some orders at some moment, only the queue itself
-/// can say.
+/// A rule of queues of orders, which stays true whenever an end puts an order, takes what comes first, or tries to put
+/// an order. Nothing here says that it is true of a new queue, nor that it stays so when an end is added. So only the
+/// queue itself can say that it was true of some orders at some moment.
 pub trait OrderRule<N: Drop>: Protocol<Arrival<N>, Side> {
     ghost use Rattle.load_orders.specs.Queue.{IsKept};
 
     ghost kept: { IsKept Self.holds };
 }
 
-/// The rule: at most four wait, each order that was put was taken once or waits, and no other was or does; and none
-/// waits once the loader has taken a closing.
+/// The rule: at most four wait; each order that was put was taken once, or waits; no other order was taken or waits;
+/// and no order waits once the loader has taken a closing.
 pub struct Waiting;
 
 impl<N: Drop> Protocol<Arrival<N>, Side> for Waiting {

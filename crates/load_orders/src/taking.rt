@@ -245,9 +245,9 @@ impl<'a, R: Wait, N: Drop, T: Versions<Notice = N>, P: OrderRule<N>> Orders
         outcome
     }
 
-    /// Puts an order as `order` does, and waits for its version. `LoadRefused` tells what the
-    /// loader answered; `LoaderGone` also that it didn't; `OutOfMemory` that there was no room to
-    /// wait, or, of a version that stands, to give notice.
+    /// Puts an order as `order` does, and waits for its version. `LoadRefused` has the number that the loader answered.
+    /// `LoaderGone` may also mean that the order was put and no answer came. `OutOfMemory` means that there was no
+    /// memory to wait, and nothing was put; or none for a notice of the version that was published.
     fn order_wait(&mut self, feed: &str) -> Result<(u64, N), OrderFault>
         ensures asked { self.new.asked ≡ self.old.asked ++ waited_value feed.now (version_told result) ∷ [] }
         ensures notice { IfOk result (λ r. T.noted r.1 ≡ r.0) }

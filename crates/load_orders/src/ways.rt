@@ -32,8 +32,8 @@ pub enum Side<N> {
     Hearing { heard: LinkedList<LoadAnswer<N>> },
 }
 
-/// A rule of ways back, which each hearing keeps. Of how it begins nothing is said here: so that it held of a way back
-/// on which no answer was, only the way itself can say.
+/// A rule of ways back, which stays true whenever an answer is heard. Nothing here says that it is true of a new way
+/// back. So only the way itself can say that it was true while no answer was on the way.
 pub trait WayRule<N: Drop>: Protocol<LoadAnswer<N>, Side<N>> {
     ghost use Rattle.load_orders.specs.Ways.{IsKeptByHearing};
 
@@ -182,8 +182,8 @@ impl<N: Drop> WayBack<N> {
 }
 
 impl<N: Drop, P: WayRule<N>> Awaited<N, P> {
-    // Waits for the answer. None comes if no answer was there at one moment of the call, and the other end is gone:
-    // that it is gone, tests show, and no contract.
+    // Waits for the answer. None if the other end is gone and there is no answer: the contract says only that there was
+    // none at one moment of the call; that the other end is gone, only tests show.
     pub(crate) fn hear<R: Wait>(self, rt: &R) -> (Option<LoadAnswer<N>>, UsedWay<N>)
         ensures heard { result.1 ≡ heard_at self result.0 }
         ensures none { IfNone result.0 (WasSilent P.Protocol.holds) }

@@ -46,14 +46,14 @@ AreFromPublished known form [] = Unit {0}
 AreFromPublished known form (t ∷ turns) =
     ((t.reply ≡ memory_line) ⊎ ((asked : Asked) × IsAsked t.line asked × IsFromPublished known form asked t.reply)) × AreFromPublished known form turns
 
--- whatever turns led the seat from this to that, with the release behind them: each profile in them is answered from what this history
--- published, if what the seat held before was published in it
+-- for all turns that, with the last release after them, lead the seat from `a` to `b`: each profile in them is answered from what this history
+-- published, if what the seat held before them was published in it
 abbrev pub TellPublished : Known → SeatValue → SeatValue → Type 0
 TellPublished known a b =
     (form : PointForm) (number : ℕ) (asked asked_then : List OrderValue) (turns : List Turn) (last : SeatValue)
     → AreTurns form number a asked turns last asked_then → LastRelease number last b → IsPublishedIfHeld known a.held
     → AreFromPublished known form turns
 
--- a seat that learns so
+-- a seat that learns from `a` to `b` what `Learns` says answers profiles from what was published in the history that it knows at `b`
 abbrev pub LearningTells : Type 0
 LearningTells = (known known_then : Known) (a b : SeatValue) → Learns known a known_then b → TellPublished known_then a b

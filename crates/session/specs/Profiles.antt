@@ -14,13 +14,13 @@ use Rattle.session.specs.Lines.{query_fault_line}
 abbrev pub window_of : AskValue → Window
 window_of ask = record { from = ask.after; until = ask.until; by = ask.by }
 
--- no query is asked of the image, and the reply says why
+-- the request is no query of this image, and the reply says why
 pub record IsNoQuery (image : ImageValue) (ask : AskValue) (reply : List ℕ) : Type 0 where
   pub fault : QueryFault
   pub refused : IsRefused image ask.from ask.to (window_of ask) fault
   pub reply_is : reply ≡ query_fault_line fault
 
--- one is, and the reply answers it
+-- the request is a query of this image, and the reply answers it
 pub record AnswersQuery (form : PointForm) (image : ImageValue) (version : ℕ) (ask : AskValue) (reply : List ℕ) : Type 0 where
   pub query : Query
   pub can_be : IsAskable image.timetable.stops query

@@ -17,7 +17,8 @@ pub data SeatMove : Type 0 where
 abbrev pub HoldsInSome : ℕ → Option (ℕ × ImageValue) → Type 0
 HoldsInSome number held = (known : Known) × HoldsAsKnown known number held
 
--- from one value of a worker's seat to the next, by one answer. Some history has what is pinned; that the seat's own has it, `Learns` says
+-- from one value of a worker's seat to the next, by one answer. In some history the worker holds what is pinned; that the history which the seat
+-- knows published it, `Learns` says
 abbrev pub AnswerStep : ℕ → SeatValue → Answer → SeatValue → Type 0
 AnswerStep number a (Answer.Pinned version image) b =
     (a.held ≡ None) × (a.seen ≤ version) × (b ≡ pinned a version image) × HoldsInSome number (Some (version, image.value))
@@ -54,7 +55,7 @@ pub record PinsOnce (moves : List SeatMove) (version : ℕ) (image : ImageValue)
   pub given_back : IsGivenBack last
   pub moves_are : moves ≡ answered (Answer.Pinned version shown) ∷ answered last ∷ []
 
--- the versions pinned never fall, from this one on, nor below one of which a notice was joined
+-- no version that is pinned is older than `least`, than one that was pinned before, or than that of a notice that was joined before
 abbrev pub NeverFalls : ℕ → List SeatMove → Type 0
 NeverFalls least [] = Unit {0}
 NeverFalls least (answered (Answer.Pinned version image) ∷ moves) = (least ≤ version) × NeverFalls version moves

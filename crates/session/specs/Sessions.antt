@@ -34,12 +34,12 @@ abbrev pub orders_of : List Turn → List OrderValue
 orders_of [] = []
 orders_of (t ∷ turns) = t.orders ++ orders_of turns
 
--- no line goes on for longer
+-- no line is longer than 16,777,216 bytes
 abbrev pub AreShort : List Turn → Type 0
 AreShort [] = Unit {0}
 AreShort (t ∷ turns) = (length t.line ≤ 16_777_216) × AreShort turns
 
--- the replies are written, the last one not wholly; nothing is done behind it
+-- all replies but the last are written, and of the last one its first `count` bytes, perhaps all; no turn follows it
 pub record IsCutShort (written : List ℕ) (turns : List Turn) : Type 0 where
   pub answered : List Turn
   pub last : Turn
@@ -47,7 +47,8 @@ pub record IsCutShort (written : List ℕ) (turns : List Turn) : Type 0 where
   pub turns_are : turns ≡ answered ++ last ∷ []
   pub written_is : written ≡ text_of answered ++ take count last.reply
 
--- lines of what was read are answered, from the first on: whole ones; or all, where there is nothing behind the last, which needs no line end then
+-- lines of what was read are answered, from the first on: some of those that have a line end; or, if the reader is at its end, all of them, of
+-- which the last needs no line end
 abbrev pub AnswerLines : List Turn → List ℕ → Type 0 → Type 0
 AnswerLines turns read at_end = ((n : ℕ) × (lines_in turns ≡ take n (whole_lines read))) ⊎ (at_end × (lines_in turns ≡ lines_of read))
 
@@ -60,7 +61,7 @@ abbrev pub EndsSo : Result Ended SessionFault → List ℕ → List ℕ → List
 -- all is read and answered
 EndsSo (Ok ended) read written turns at_end read_failed write_failed =
     at_end × (¬ read_failed) × (¬ write_failed) × (lines_in turns ≡ lines_of read) × (written ≡ text_of turns)
--- the lines before are answered; of a line that goes on for longer than one may, one byte more is read
+-- a read failed, or a line went on past 16,777,216 bytes, of which one byte more was read; all whole lines before that are answered
 EndsSo (Err SessionFault.ReadFailed) read written turns at_end read_failed write_failed =
     (read_failed ⊎ (length (rest_of read) ≡ 16_777_217)) × (¬ write_failed) × (lines_in turns ≡ whole_lines read) × (written ≡ text_of turns)
 -- lines that were read are answered, the last one perhaps not wholly; further ones may have been read
@@ -71,8 +72,8 @@ EndsSo (Err SessionFault.TooManyRequests) read written turns at_end read_failed 
     (¬ read_failed) × (¬ write_failed) × (length turns ≡ 1_000_000) × (1_000_000 < length (lines_of read))
     × (lines_in turns ≡ take 1_000_000 (lines_of read)) × (written ≡ text_of turns)
 
--- what a session reads, does and writes: a million lines at most. Its reader and its writer each have a count of failures, and know
--- their bytes or don't
+-- what a session reads, does and writes: a million lines at most. Where the bytes of its reader or its writer aren't known, `None` stands for them;
+-- `read_failed` and `write_failed` say whether a read or a write failed
 pub record Serves (form : PointForm) (number : ℕ) (result : Result Ended SessionFault)
     (to_read read_then contents contents_then : Option (List ℕ)) (read_failed write_failed : Type 0)
     (a : SeatValue) (asked : List OrderValue) (b : SeatValue) (asked_then : List OrderValue) : Type 0 where

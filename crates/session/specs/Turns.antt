@@ -45,7 +45,7 @@ OrderIsMet feed orders reply =
     ((orders ≡ order_value feed (Ok tt) ∷ []) × (reply ≡ line_of (load_data feed)))
     ⊎ ((fault : OrderFault) × IsNotTaken fault × (orders ≡ order_value feed (Err fault) ∷ []) × (reply ≡ order_fault_line fault))
 
--- the version that came of the order was told, a notice of it is joined, and it is the reply, if there is room for that
+-- a version came of the order: a notice of it is joined, and the reply tells the version, or want of memory for such a reply
 pub record VersionIsMet (feed : List ℕ) (moves : List SeatMove) (orders : List OrderValue) (reply : List ℕ) : Type 0 where
   pub version : ℕ
   pub moves_are : moves ≡ joined version ∷ []
@@ -97,29 +97,29 @@ MayPin (asks pin) = Unit {0}
 MayPin (asks (profile ask)) = Unit {0}
 MayPin _ = ⊥
 
--- there was no memory: nothing was ordered, and nothing is done at the seat but what such a request does, which is given back
+-- there was no memory: nothing is ordered, and nothing is done at the seat; or, if the request may pin, a version is pinned and given back
 abbrev pub WantsMemory : Asked → List SeatMove → List OrderValue → List ℕ → Type 0
 WantsMemory asked moves orders reply =
     (reply ≡ memory_line) × (orders ≡ [])
     × ((moves ≡ []) ⊎ (MayPin asked × ((version : ℕ) × (image : ImageValue) × PinsOnce moves version image)))
 
--- what was asked of the seat is met so, or want of memory is told: what is done at the seat leads from what it was to what it is
+-- what was asked is met without an order, with this reply, or want of memory is told; the moves that this takes lead the seat from `a` to `b`
 pub record IsMet (form : PointForm) (number : ℕ) (a : SeatValue) (asked : Asked) (reply : List ℕ) (b : SeatValue) : Type 0 where
   pub moves : List SeatMove
   pub meets : WantsMemory asked moves [] reply ⊎ Meets form a.held asked moves [] reply
   pub seat : Follows number a moves b
 
--- what was waited for is met so, and the seat is led from what it was to what it is
+-- a load that was waited for is met by these orders, with this reply; the moves that this takes lead the seat from `a` to `b`
 pub record IsLoaded (number : ℕ) (a : SeatValue) (feed : List ℕ) (put : List OrderValue) (reply : List ℕ) (b : SeatValue) : Type 0 where
   pub moves : List SeatMove
   pub meets : LoadIsMet true feed moves put reply
   pub seat : Follows number a moves b
 
--- two that tell the versions of notices tell the same
+-- both functions give the same version for each notice
 abbrev pub AgreeOnNotices : {N : Type 0} → (N → ℕ) → (N → ℕ) → Type 0
 AgreeOnNotices {N} told noted = (notice : N) → told notice ≡ noted notice
 
--- a line is answered as what it asks is met, or there was no memory for that; or there was none to see what it asks, and nothing is done
+-- what the line asks is met, or there was no memory for that; or there was none even to find out what it asks, and nothing is done
 abbrev pub IsTurn : PointForm → Option (ℕ × ImageValue) → Turn → Type 0
 IsTurn form held t =
     ((t.reply ≡ memory_line) × (t.orders ≡ []) × (t.moves ≡ []))

@@ -20,14 +20,15 @@ pub fn one_thing_is_asked()
     one_request();
 }
 
-/// The versions that a seat pins never fall, nor below one of which a notice was joined.
+/// A seat never pins a version older than one that it pinned before, than the newest that it had seen at first, or than
+/// one whose notice it joined before.
 pub fn versions_never_fall()
     ensures { (number : ℕ) (a b : SeatValue) (moves : List SeatMove) → Follows number a moves b
         → NeverFalls a.seen moves }
 {}
 
-/// What all turns did at the seat led it to what it is, and the answers among that are those by
-/// which the seat's list grew; the orders of all turns are those by which the list of orders grew.
+/// The moves of all turns, in order, lead the seat from its value before the turns to its value after them. Its list of
+/// answers grows by the answers among these moves, and the list of orders by the orders of all turns.
 pub fn lists_grow_by_the_turns()
     ensures seat { (form : PointForm) (number : ℕ) (a b : SeatValue) (asked asked_then : List OrderValue)
         (turns : List Turn)
@@ -39,8 +40,9 @@ pub fn lists_grow_by_the_turns()
         → asked_then ≡ asked ++ orders_of turns }
 {}
 
-/// By what a seat learned in turns, one after the other, each profile in them is answered over the
-/// image that the history which the seat knows published as the version that is told.
+/// Each profile in a seat's turns is answered over the image that was published as the version that the reply tells, in
+/// the history that the seat knows after these turns; unless memory was wanting, or no version could be pinned. What
+/// the seat held before the turns has to be published in that history too.
 pub fn profiles_are_from_published()
     ensures { LearningTells }
 {}

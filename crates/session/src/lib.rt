@@ -1,5 +1,4 @@
-//! Sessions: lines are read, each is answered from the versions of an image that a worker's seat
-//! pins, and the replies are written.
+//! Sessions: requests are read line by line, answered at a worker's seat, and the replies are written.
 #![tactic(auto)]
 
 mod desk;

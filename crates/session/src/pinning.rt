@@ -12,7 +12,8 @@ use epochs::Versions;
 use session_texts::{Refusal, pin_line, release_line};
 
 impl<'a, T: Versions, G> Desk<'a, T, G> {
-    /// Pins the current version and tells it. A version that can't be told is given back.
+    /// Pins the current version, and tells it in the reply. If there is no memory for the reply, the version is given
+    /// back.
     pub(crate) fn pin(&self, seat: &mut T::Seat) -> Reply
         requires { T.fits self.now.shelves.now seat.old }
         ensures fits { T.fits self.now.shelves.now seat.new }

@@ -19,7 +19,8 @@ use session_texts::{Ask, Refusal};
 use std::alloc::Global;
 
 impl<'a, T: Versions, G: Gate> Desk<'a, T, G> {
-    /// Answers from the version that the seat holds, or else from the current one, which is given back.
+    /// Answers from the version that the seat holds. If it holds none, the current one is pinned for this answer, and
+    /// released after it.
     pub(crate) fn answer_profile(&self, seat: &mut T::Seat, ask: &Ask<'_>) -> Reply
         requires { T.fits self.now.shelves.now seat.old }
         ensures fits { T.fits self.now.shelves.now seat.new }
@@ -34,7 +35,7 @@ impl<'a, T: Versions, G: Gate> Desk<'a, T, G> {
         self.answer_once(seat, ask)
     }
 
-    // Answers from the current version, which is given back.
+    // Answers from the current version, which is pinned for this answer, and released after it.
     fn answer_once(&self, seat: &mut T::Seat, ask: &Ask<'_>) -> Reply
         requires fits { T.fits self.now.shelves.now seat.old }
         requires idle { (T.value seat.old).held ≡ None }
@@ -69,7 +70,7 @@ fn answer_from<G: Gate>(
         ⊎ (text_of_reply result ≡ memory_line) }
 {
     let image: &Verified = &edition.image;
-    // Says of the image what each one keeps: it is one that was accepted.
+    // Called only for its contract, which says that the image is one that was accepted.
     image.stops();
     let window = Window {
         from: ask.after,

@@ -21,7 +21,8 @@ use std::io::{Read, Write};
 /// How many requests of a session are answered.
 pub const MOST_REQUESTS: u32 = 1_000_000;
 
-/// Serves a session, as [`Desk::serve`] does, with what a desk and its streams have as it is; its replies are bare.
+/// Serves a session as [`Desk::serve`] does, with the parts of a desk and of its streams one by one. Its replies are
+/// bare.
 pub fn serve<
     In: Read,
     Out: Write,
@@ -62,8 +63,8 @@ pub fn serve<
 }
 
 impl<'a, N: Drop, T: Versions<Notice = N>, G: Gate> Desk<'a, T, G> {
-    /// Answers the lines that the reader gives, until it ends, a stream fails or a million are
-    /// answered. Then it gives back what the seat holds.
+    /// Answers the lines that the reader gives, until there are no more, a line goes on for too long, a read or a write
+    /// fails, or a million lines are answered. Then what the seat holds is given back.
     pub fn serve<In: Read, Out: Write, O: Orders<Notice = N>>(
         &self,
         streams: &mut Streams<In, Out>,

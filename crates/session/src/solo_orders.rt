@@ -26,12 +26,11 @@ enum NotLoaded {
     Refused(PublishFault),
 }
 
-/// Takes orders over shelves for one worker: the image of the first feed of the name leaves the
-/// list, is published, and the shelves are collected, before the order returns. So nobody waits
-/// long for one.
+/// Takes one worker's orders, and carries out each within the call: the first feed of the name leaves the list, its
+/// image is published, and the shelves are collected. So nobody waits long for a version.
 ///
-/// A name that no feed of the list has is unknown. A publish that is refused is told as too many
-/// orders to whoever doesn't wait.
+/// A name that no feed of the list has is answered with `UnknownFeed`. A refused publish is answered with `LoadRefused`
+/// if the version is waited for, and else with `OrdersFull`.
 #[derive(Drop)]
 pub struct SoloOrders<'a, N: Drop, L: Drop, T: Versions<Notice = N> + Loads<Loader = L>> {
     shelves: &'a T,

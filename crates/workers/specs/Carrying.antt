@@ -16,13 +16,13 @@ use Rattle.workers.specs.declared.drawing.DrawnFiles.{DrawnFiles}
 use Rattle.workers.specs.declared.loading.Loaded.{Loaded}
 use Rattle.workers.specs.declared.refusal.LoadRefusal.{LoadRefusal}
 
--- of a feed's files a read failed exactly if that is told, of the file that is told
+-- a read of a feed's files failed exactly if the outcome says so, and it was of the file that the outcome names
 abbrev pub FailedAsTold : {D T : Type 0} → (D → ℕ) → (D → List (List ℕ)) → D → D → Result T LoadRefusal → Type 0
 FailedAsTold failures failed files files_then outcome =
     (failures files_then ≡ failures files + failed_in (reading outcome)) × (failed files_then ≡ failed_by (failed files) (reading outcome))
 
--- over notices of these versions, and feeds at so many places with these files, their reads, how many reads failed and of which files, and
--- these plans
+-- for any notices with their versions; and for feeds at so many places, with their files, what these hold, what was read of them, how many reads
+-- failed and of which files, and the plans by which feeds may be loaded
 module _ {N D : Type 0} (noted : N → ℕ) (are_files : ℕ → D → Type 0) (holds : D → Holds) (reads : D → List FileRead) (failures : D → ℕ)
     (failed : D → List (List ℕ)) (is_plan : Plan → Type 0) (places : ℕ) where
   -- the files of the feed at this place, drawn when just these orders had been taken from this queue and nothing was read of them, are loaded, and

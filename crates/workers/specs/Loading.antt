@@ -27,7 +27,7 @@ IsImageOf content plan image report = IsLoaded content plan image.timetable imag
 abbrev pub MayRefuse : Content → Plan → LoadFault → Type 0
 MayRefuse content plan fault = ¬ (IsWantOfMemory fault) → IsLoadRefusal content plan fault
 
--- told before a publish was tried: an image that found no room to be shared is told as want of memory of a publish
+-- a refusal from before a publish was tried: there is no image; or there was no memory to share it, which is refused as a publish that wants memory
 abbrev pub IsEarly : LoadRefusal → Type 0
 IsEarly (LoadRefusal.Load fault) = Unit {0}
 IsEarly (LoadRefusal.Publish fault) = fault ≡ PublishFault.OutOfMemory
@@ -39,7 +39,7 @@ pub record IsPublished (before : List LoaderAnswer) (image : ImageValue) (versio
   pub publish : PublishStep before image version between
   pub collect : CollectStep between found after
 
--- why nothing was published: there is no image, or the loader's seat was told so
+-- nothing was published: there is no image, there was no memory to share it, or the publish was refused at the loader's seat
 abbrev pub IsNotPublished : List LoaderAnswer → LoadRefusal → List LoaderAnswer → Type 0
 IsNotPublished before (LoadRefusal.Load fault) after = after ≡ before
 IsNotPublished before (LoadRefusal.Publish fault) after = ((after ≡ before) × (fault ≡ PublishFault.OutOfMemory)) ⊎ RefuseStep before fault after

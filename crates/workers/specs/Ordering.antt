@@ -11,11 +11,11 @@ use Rattle.workers.specs.declared.shares.RouteTo.{RouteTo}
 abbrev pub route_to : {N : Type 0} → List (String Global) → QueueId N → OrderRoute N
 route_to names queue = record { names = map string_bytes names; queue = queue }
 
--- a worker's orders, over notices of these versions, go this way: each that was asked for did at this queue what it was answered
+-- a worker's orders go this way, and each order that was asked for did at this queue what its answer says
 abbrev pub IsAskedBy : {N : Type 0} → (N → ℕ) → OrderRoute N → WorkerOrdersValue N → Type 0
 IsAskedBy noted route orders = (route_of orders ≡ route) × HasAsked waiting noted orders
 
--- two that go by the same queue, and the same feeds
+-- two routes to the same queue, for the same feeds
 abbrev pub GoesBy : {N F : Type 0} → RouteTo (EndValue N) F → RouteTo (KeeperValue N) F → Type 0
 GoesBy route other = (route.end.value.queue ≡ other.end.value.queue) × (route.feeds.value ≡ other.feeds.value)
 

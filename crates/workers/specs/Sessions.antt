@@ -35,7 +35,8 @@ pub record IsUnopened (end : End) (a : SeatValue) (asked : List OrderValue) (b :
 
 module _ {C R W : Type 0} (form : PointForm) (opens : C → Result (R × W) ConnFault → Type 0)
     (remaining : R → Option (List ℕ)) (contents : W → Option (List ℕ)) where
-  -- the client's own reader and writer are served, which are so now, counted from no failure; or there are none
+  -- the client's own reader and writer were opened and served, and are so now, with only this session's failures counted; or the client couldn't
+  -- be opened
   abbrev pub IsServed : ℕ → C → Option (Streams R W) → End → SeatValue → List OrderValue → SeatValue → List OrderValue → Type 0
   IsServed number client (Some now) end a asked b asked_then =
       (was : R × W) × opens client (Ok was)

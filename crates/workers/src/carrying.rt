@@ -34,9 +34,9 @@ pub(crate) struct Loading<'a, R, T, F> {
 }
 
 impl<'a, R: Wait, N: Drop, T: Versions<Notice = N> + Loads, F: Feeds> Loading<'a, R, T, F> {
-    /// Carries out the orders that come to a new end of their queue, until no more come: the feed
-    /// of each is loaded once, in turn, and by its own way back it is told what came of that. The
-    /// orders' end, the loader's seat and the files that were used come back.
+    /// Carries out the orders that come to the loader's end of their queue, which is new, until no more come: the feed
+    /// of each is loaded once, in turn, and what came of that is told by the order's own way back. Returns this end,
+    /// the loader's seat, the files that were used, and the error writer.
     pub(crate) fn load_all<E: Write>(
         &self,
         mut orders: LoaderOrders<N>,

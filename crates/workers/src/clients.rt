@@ -7,7 +7,7 @@ ghost use Rattle.workers.specs.declared.served.End.{End};
 use crate::served::End;
 use std::io::{Read, Write};
 
-/// A client can't be talked to.
+/// A client couldn't be opened.
 #[derive(Clone, Copy, Debug, PartialEq, Eq)]
 pub struct ConnFault;
 
@@ -41,10 +41,10 @@ pub trait Clients<C> {
     // That there is no further client.
     ghost none_left: { Self → Type 0 };
 
-    // What may be said of their source.
+    // The facts that may hold of this source of clients.
     ghost Fact: { Type 0 } = { Unit {0} };
 
-    // It is so, and stays so.
+    // Whether a fact holds of the source. Once it does, it holds after each call of `next`.
     ghost holds: { Self → Self.Fact → Type 0 };
 
     /// The next client; it may be long in coming. None after the last.

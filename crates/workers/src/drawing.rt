@@ -25,8 +25,8 @@ pub struct DrawnFiles<D, N: Drop> {
     end: Snapshot<LoaderOrders<N>>,
 }
 
-/// Of each order that was carried out its files, as they are then, or none if its place has no feed. Contracts alone
-/// see them.
+/// For each order that was carried out, its feed's files as they were after the load, or none if there is no feed at
+/// the order's place. Only contracts see them.
 pub type UsedFiles<D, N> = Notes<Option<DrawnFiles<D, N>>>;
 
 impl<D: FeedFiles, N: Drop> DrawnFiles<D, N> {

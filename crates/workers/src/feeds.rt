@@ -42,7 +42,7 @@ pub trait Feeds {
         ensures { MatchOption result (length (named self.now) ≤ place) (λ files. (Self.Files.failures files ≡ 0)
             × (Self.Files.reads files ≡ []) × are_files self.now place files) };
 
-    /// Called before the feed at the place is loaded: when that is, if it matters to these feeds.
+    /// Called before the feed at the place is loaded. Returns the instant at which that is, for `finish`, or none.
     fn begin(&self, place: usize) -> Option<Instant>;
 
     /// Called when that load has ended, behind the loader's own line, with its writer. Nothing else

@@ -26,10 +26,10 @@ use std::thread::Threads;
 /// Serves all clients and loads the feeds that they order, as [`run_workers`] does, at shelves without a lock. The
 /// seats come back without the shelves' name.
 ///
-/// This contract is the headline of the program, but for what a scan reads, of which `journeys::answer_query` has a
-/// clause. Clause `shares`: each profile in each session is answered exactly, over the image that was published as the
-/// version that is told. Clause `pinned`: no image is collected while a seat has it pinned. Clauses `loads` and
-/// `learns`: the published images are those of the bytes that the feeds' files gave.
+/// This contract is the headline of the program, except for what a scan reads: that is a clause of
+/// `journeys::answer_query`. Clause `shares`: each profile in each session is answered exactly, over the image that was
+/// published as the version that is told. Clause `pinned`: no image is collected while a seat has it pinned. Clauses
+/// `loads` and `learns`: the published images are those of the bytes that the feeds' files gave.
 pub fn run_shelves<
     B: Named + Send + Sync,
     C: Client + Drop + Send,

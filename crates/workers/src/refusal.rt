@@ -13,7 +13,8 @@ use std::fmt;
 pub enum LoadRefusal {
     /// There is no image of the feed.
     Load(LoadFault),
-    /// The image isn't published. Want of memory may be told before it was tried.
+    /// The image isn't published. `OutOfMemory` may also mean that there was no memory to share the image, and no
+    /// publish was tried.
     Publish(PublishFault),
 }
 

@@ -26,7 +26,8 @@ use std::thread;
 use std::thread::Threads;
 use thiserror::Error;
 
-/// There was no memory for the workers, or no thread; or a worker is gone, which none is before the clients are.
+/// There was no memory or no thread for the workers; or a worker or the loader left before its queue was closed for it,
+/// which none does while the other end of that queue is there.
 #[derive(Clone, Copy, Debug, PartialEq, Eq, Error)]
 #[error("there is no memory or no thread for the workers")]
 pub struct WorkersFault;

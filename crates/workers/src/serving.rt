@@ -63,8 +63,9 @@ impl<'a, R: Wait, N: Drop, T: Versions<Notice = N>, G: Gate> Worker<'a, R, T, G>
         }
     }
 
-    /// Serves each client that is taken from the queue, until none comes, and adds their sessions, in turn, to an empty
-    /// list: this list, this end of the queue, and the seat; and the orders.
+    /// Serves the clients that it takes from the queue, one after the other, until none comes, and adds their sessions
+    /// to `served`, which is empty at first. Returns the sessions, this end of the queue and the seat as a share; and
+    /// the orders.
     pub(crate) fn work<C: Client + Drop, O: Orders<Notice = N>>(
         &self,
         mut taker: Taker<C>,

@@ -30,7 +30,7 @@ pub(crate) struct Share<C: Client + Drop, S> {
     pub seat: S,
 }
 
-/// What workers' orders go by, as contracts see it: the queue of an end of it, and the feeds.
+/// Where workers' orders go, as contracts see it: to the queue of this end, for these feeds.
 #[derive(Drop)]
 pub(crate) struct RouteTo<E, F> {
     pub end: Snapshot<E>,
@@ -154,9 +154,9 @@ impl<
         (T.Loads.learned done.1) (T.Loads.answers done.1) };
 }
 
-/// Puts all clients in the queue, and joins the workers once it was closed for each: the clients' source, the workers'
-/// shares, put together, their seats, in the room for these, and the orders of each. Their ends of the queue of orders
-/// are back then.
+/// Puts all clients in the queue, closes it for each worker, and joins the workers. Returns the clients' source, the
+/// sessions of all workers, their seats, moved into `room`, and the orders of each worker. The workers' ends of the
+/// queue of orders are back at `asks` then.
 pub(crate) fn deal_and_join<
     C: Client + Drop,
     K: Clients<C> + Drop,
@@ -208,8 +208,8 @@ pub(crate) fn deal_and_join<
     }
 }
 
-// Joins the workers in turn, once the queue was closed for each of them: their shares, put together, and their seats,
-// in the room for these, and the orders of each. Each client that was put in the queue is in one share, once.
+// Joins the workers in turn, once the queue was closed for each of them. Returns the sessions of all, their seats,
+// moved into `room`, and the orders of each. Each client that was put in the queue was taken by one of them, once.
 fn join_workers<
     C: Client + Drop,
     S: Drop,
@@ -269,8 +269,9 @@ fn join_workers<
     Ok((served, seats, orders))
 }
 
-/// Closes the queue of orders, once all workers' ends are back, and joins the loader: its end, its seat and the files
-/// that it used. It took what was put, each order once. None if it left before the queue was closed.
+/// Closes the queue of orders, once all workers' ends are back, and joins the loader. Returns the loader's end, its
+/// seat and the files that it used. The loader took what was put, each order once. None if it left before the queue was
+/// closed for it.
 pub(crate) fn close_and_join<
     L: Drop,
     N: Drop,
