@@ -2,7 +2,8 @@
 use Rattle.std.specs.Prelude.{◌≡◌, ◌≢◌, ◌≤◌, ◌+◌, ℕ, Bool, true, false, List, [], ◌∷◌, length}
 use Rattle.workers.specs.Ends.{capped}
 
--- behind so many earlier ones each has the next number, from 1 on, which stays at the greatest value
+-- the numbers of those who came after so many earlier ones: each has the next number, the first of all has 1, and numbers stop at the greatest
+-- value
 abbrev pub AreNumbered : ℕ → List ℕ → Type 0
 AreNumbered earlier [] = Unit {0}
 AreNumbered earlier (number ∷ numbers) = (number ≡ capped (earlier + 1)) × AreNumbered (earlier + 1) numbers

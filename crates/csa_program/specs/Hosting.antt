@@ -18,7 +18,7 @@ module _ {C R W : Type 0} (form : PointForm) (opens : C → Result (R × W) Conn
       × AreServedSince form opens remaining contents (λ (seat : ShelfSeatValue). seat.number) (λ seat. seat.shown) (λ seat. known_of seat.view)
       (λ (notice : NoticeValue). notice.version) route [] came seats orders sessions lasts
 
-  -- so they are, at as many seats of workers who had done nothing yet
+  -- as `AreSessionsOf`, at the seats of so many workers who had done nothing yet
   abbrev pub AreHosted : ℕ → List C → List (Session R W) → Type 0
   AreHosted workers came sessions =
       (table : TableId) × (seats : List ShelfSeatValue) × SeatsHanded table workers seats × AreSessionsOf seats came sessions

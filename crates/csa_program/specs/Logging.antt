@@ -1,4 +1,4 @@
--- The lines that a server logs, behind the instant and ahead of the seconds.
+-- Parts of the lines that a server logs, between the instant and the seconds.
 use Rattle.std.specs.Prelude.{List, ℕ, ◌++◌, codes, decimal}
 use Rattle.workers.specs.declared.loading.Loaded.{Loaded}
 use Rattle.workers.specs.declared.served.End.{End}

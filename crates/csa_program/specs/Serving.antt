@@ -24,8 +24,8 @@ port_text port = (codes "listening " ++ decimal port) ++ codes "\n"
 abbrev pub served_text : Ends → List ℕ
 served_text ends = (codes "served " ++ decimal (sessions_in ends)) ++ codes "\n"
 
--- a server of these sessions, and whether accepting failed: if it neither failed at a socket, a write or a session nor ran out of memory, it has
--- printed its port and then the number of the sessions, and its status is that of how they ended
+-- how a server ends that had these sessions: unless its status says that a socket, a write or a session failed or memory ran out, it has printed
+-- its port and then the number of the sessions, and its status follows from how these ended and whether accepting failed
 abbrev pub IsServerEnd : {R W : Type 0} → ℕ → Option (List ℕ) → Option (List ℕ) → List (Session R W) → Bool → ℕ → Type 0
 IsServerEnd port before after sessions is_deaf status = (status ≢ INPUT_OUTPUT) × (status ≢ OUT_OF_MEMORY)
     → (status ≡ status_of is_deaf (counts_of sessions)) × Appends before after (port_text port ++ served_text (counts_of sessions))

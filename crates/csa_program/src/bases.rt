@@ -30,7 +30,7 @@ fn warning_of(alloc: Global, base: i64, loaded: i64) -> Result<String, AllocErro
     )
 }
 
-/// An instant: in seconds after 1970-01-01T00:00:00Z and, if it can, as RFC 3339 spells it in UTC.
+/// An instant: in seconds after 1970-01-01T00:00:00Z and, if it has such a spelling, as RFC 3339 spells it in UTC.
 fn shown(alloc: Global, instant: i64) -> Result<String, AllocError> {
     match Timestamp::from_second(instant) {
         Ok(timestamp) => format!(in alloc; "{instant} ({timestamp})"),

@@ -31,8 +31,8 @@ use std::rt::Files;
 /// `errors`. The status is 0 for an accepted request, 2 for a refused one and for a server of which
 /// a session had too many requests, 3 where a file can't be read or written, a line can't be
 /// written, or a socket or a session fails, 4 where memory ran out, and 64 for a command line that
-/// asks for nothing. That memory ran out and why `output` can't be written is also said in `errors`;
-/// not of a pipe that nobody reads any more. Where `errors` is a terminal, progress is shown there.
+/// asks for nothing. `errors` also says that memory ran out, or why `output` can't be written, unless
+/// it is a pipe that nobody reads any more. Where `errors` is a terminal, progress is shown there.
 pub fn run<
     H: Machine + Net<Listener = TcpListener, Stream = TcpStream>,
     S: AsStr,
@@ -52,8 +52,8 @@ pub fn run<
 /// What is said where memory ran out.
 const NO_MEMORY: &str = "csa: out of memory";
 
-/// Prints the sum of the program's sources, below its version. The status is 0, or 3 if the line can't be written: why
-/// it can't is said in `errors`, as of a command. It takes no memory.
+/// Prints the checksum of the program's sources, below its version. The status is 0, or 3 if the line can't be written:
+/// `errors` says why, as for a command. It takes no memory.
 pub fn print_sources<O: Write, E: Write>(sources: &str, output: &mut O, errors: &mut E) -> u8 {
     let mut output = Watched::of(output);
     let status = match write!(output, "sources {sources}\n") {
@@ -64,8 +64,8 @@ pub fn print_sources<O: Write, E: Write>(sources: &str, output: &mut O, errors: 
     status
 }
 
-/// Says why there are no words of a command line, by the status with which the program ends: memory ran out, or a word
-/// isn't UTF-8.
+/// Says why the words of a command line can't be had. The status with which the program ends tells it: memory ran out,
+/// or a word isn't UTF-8.
 pub fn explain_no_words<E: Write>(errors: &mut E, status: u8) {
     let reason = if status == status::OUT_OF_MEMORY {
         NO_MEMORY
@@ -140,7 +140,7 @@ fn run_command<
     }
 }
 
-// Opens the image of which something is asked, and does that; or the status that says why it isn't opened.
+// Opens the image and answers what is asked of it. If it can't be opened, returns the status that says why.
 fn answer_over<H: Files + AllocGlobal, I: Read, O: Write, E: Write>(
     rt: &H,
     asked: Asked<'_>,

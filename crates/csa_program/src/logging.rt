@@ -31,7 +31,7 @@ pub struct SharedErrors<'a, H, E> {
 }
 
 impl<'a, H, E> SharedErrors<'a, H, E> {
-    /// What is behind the lock.
+    /// Standard error, which this lock protects.
     pub fn of(rt: &'a H, alloc: Global, errors: &'a Mutex<E>) -> SharedErrors<'a, H, E> {
         SharedErrors { rt, alloc, errors }
     }
@@ -77,8 +77,8 @@ impl<'a, H: Wait + Clock, E: Write> SessionLog for SharedErrors<'a, H, E> {
     }
 }
 
-/// The loader's end of standard error: each of its lines is written whole, if it isn't longer than
-/// what is kept. It takes no memory.
+/// Standard error as the loader writes it: each of its lines is written in one piece, unless it is longer than
+/// `LONGEST_LINE`. It takes no memory.
 #[derive(Drop)]
 pub struct LoaderErrors<'a, H, E> {
     errors: SharedErrors<'a, H, E>,

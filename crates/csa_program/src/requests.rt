@@ -10,9 +10,9 @@ use std::io::Read;
 #[derive(Drop)]
 pub struct Requests<S, V> {
     stream: S,
-    /// The lines that ended.
+    /// How many lines have ended.
     ended: u64,
-    /// Whether a line has begun.
+    /// Whether a line has begun and not ended yet.
     has_begun: bool,
     /// Whose requests they are.
     pub visit: V,
@@ -31,7 +31,7 @@ impl<S, V> Requests<S, V> {
         }
     }
 
-    /// How many lines were read; the last one counts also if it has no end.
+    /// How many lines were read; the last one counts even without a line end.
     pub fn count(&self) -> u64 {
         self.ended.saturating_add(u64::from(self.has_begun))
     }

@@ -51,7 +51,7 @@ use workers::{
     Client, Clients, Feeds, LoadRefusal, Loaded, PointForm, Ran, Served, WorkersFault, run_shelves,
 };
 
-/// The feeds that may be loaded: those of what is asked for.
+/// The feeds that may be loaded: those that the command line names.
 #[derive(Drop)]
 struct Folders<'a, H> {
     disk: &'a H,
@@ -106,7 +106,8 @@ impl<'a, H: Disk + Explains + Clock + Sync> Feeds for Folders<'a, H> {
         Instant::now(self.disk).ok()
     }
 
-    // What is wrong with a feed is looked for in its folder once more; a feed of which no trip runs has a warning.
+    // Logs the load, if that is asked for. To explain a refused feed, its folder is looked at once more; of a loaded
+    // feed of which no trip runs there is a warning.
     fn finish<W: Write>(
         &self,
         errors: &mut W,
@@ -249,7 +250,7 @@ struct Hosted<'d, L> {
     door: Door<'d, L>,
 }
 
-// Serves whoever comes to the door, at shelves of a name, in the form that is asked for.
+// Serves whoever comes to the door, at these shelves, whose name is `B`, with replies in the form that is asked for.
 fn serve_door<
     'd,
     'f,
@@ -443,8 +444,8 @@ fn port_line(alloc: Global, port: u16) -> Result<String, AllocError>
     Ok(line)
 }
 
-// Prints how many sessions there were. The status is that of their ends and of the door, unless the line
-// can't be printed.
+// Prints how many sessions there were. The status follows from how they ended and whether accepting failed, unless the
+// line can't be printed.
 fn tell_served<'d, L: SessionLog + Sync, O: Write>(
     alloc: Global,
     hosted: &Hosted<'d, L>,

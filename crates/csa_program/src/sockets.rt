@@ -15,7 +15,7 @@ use workers::{Client, Clients, ConnFault, End};
 /// A session of a client, as it is logged.
 #[derive(Drop)]
 pub struct Visit<'a, L> {
-    /// Which of the clients it is that were accepted, from 1 on.
+    /// The client's number among those that were accepted, from 1 on.
     number: u64,
     begun: Begun,
     log: &'a L,
@@ -35,7 +35,7 @@ pub struct Visitor<'a, L> {
     log: Option<&'a L>,
 }
 
-/// The session of a client, which begins now, if it is logged.
+/// A client's session, to be logged, which begins now; none if sessions aren't logged.
 fn visit_of<'a, L: SessionLog>(number: u64, log: Option<&'a L>) -> Option<Visit<'a, L>> {
     match log {
         Some(log) => Some(Visit {
@@ -95,7 +95,8 @@ pub struct Door<'a, L> {
 }
 
 impl<'a, L> Door<'a, L> {
-    /// So many connections, or without end for 0. Their sessions are logged, if there is something to log them to.
+    /// A door for so many connections, or for connections without end if that is 0. Their sessions are logged, if there
+    /// is something to log them to.
     pub fn new(listener: &'a TcpListener, connections: u64, log: Option<&'a L>) -> Door<'a, L>
         ensures left { result.left ≡ connections }
         ensures endless { IsTrue result.is_endless ↔ (connections ≡ 0) }
@@ -122,7 +123,7 @@ impl<'a, L> Door<'a, L> {
         self.failed
     }
 
-    // Whoever is gone before it was accepted isn't counted.
+    // Accepts a connection. One that ended before it was accepted is passed over, and not counted.
     fn accept(&mut self) -> Option<TcpStream>
         ensures failed { MatchOption result (self.new.failed ≡ true) (λ _. self.new.failed ≡ self.old.failed) }
         ensures left { self.new.left ≡ self.old.left }
@@ -146,7 +147,7 @@ impl<'a, L> Door<'a, L> {
         None
     }
 
-    // The client behind a connection, who came.
+    // The client of this connection, who has the next number and is noted as one who came.
     fn visitor(&mut self, stream: TcpStream) -> Visitor<'a, L>
         ensures stream { result.stream ≡ stream }
         ensures left { self.new.left ≡ self.old.left }

@@ -1,11 +1,11 @@
--- What one arrival more changes of what waits.
+-- How one more arrival changes what waits.
 use Rattle.std.proofs.Common.{◌≡◌, ◌∙◌, ◌+◌, ◌++◌, ◌∷◌, ℕ, List, [], refl, ap, arith}
 use Rattle.load_orders.specs.Queue.{AreClosedLast, closings_in, mark_of, waiting_in}
 use Rattle.load_orders.specs.declared.queue.Arrival.{Arrival}
 use Rattle.load_orders.specs.declared.queue.Order.{Order}
 use Rattle.load_orders.specs.declared.queue.OrderMark.{OrderMark}
 
--- a list that begins isn't empty
+-- a list that has a first element isn't empty
 size : List OrderMark → ℕ
 size [] = 0
 size (mark ∷ rest) = 1

@@ -41,7 +41,7 @@ pub record IsFirst (names : List (List ℕ)) (name : List ℕ) (place : ℕ) : T
 abbrev pub IsNoName : List (List ℕ) → List ℕ → Type 0
 IsNoName names name = (place : ℕ) → ¬ (slice_get names place ≡ Some name)
 
--- what is told where no notice came
+-- the fault that is told where no notice came; none where one did
 abbrev pub fault_told : {N : Type 0} → Option (LoadAnswer N) → Option OrderFault
 fault_told (Some (LoadAnswer.Published notice)) = None
 fault_told (Some LoadAnswer.Unnoticed) = Some OrderFault.OutOfMemory
@@ -67,7 +67,7 @@ IsPutAt before order after = (after.orders ≡ before.orders ++ order ∷ []) ×
 abbrev pub IsPut : {N : Type 0} → List ℕ → WorkerOrdersValue N → WorkerOrdersValue N → Type 0
 IsPut name before after = (place : ℕ) × IsFirst before.names name place × IsPutAt before.end (order_of place) after.end
 
--- one with a way back is put, and this is heard there, by its one hearing end, or nothing is
+-- an order of the first feed of this name is put with a way back, and by the one hearing end of that way this answer is heard, or none
 abbrev pub Hears : {N : Type 0} → List ℕ → Option (LoadAnswer N) → WorkerOrdersValue N → WorkerOrdersValue N → Type 0
 Hears name answer before after =
     (place : ℕ) × (way : WayId) × IsFirst before.names name place
@@ -81,7 +81,7 @@ IsNotPut name before after = ((place : ℕ) × IsFirst before.names name place) 
 abbrev pub IsTriedInVain : {N : Type 0} → List ℕ → WorkerOrdersValue N → WorkerOrdersValue N → Type 0
 IsTriedInVain name before after = ((place : ℕ) × IsFirst before.names name place) × (after.end ≡ once_tried before.end) × (after.heard ≡ before.heard)
 
--- the order was asked for, and the orders go by the same
+-- the order is added to those that were asked for; the names and the queue stay the same
 abbrev pub IsNoted : {N : Type 0} → OrderValue → WorkerOrdersValue N → WorkerOrdersValue N → Type 0
 IsNoted order before after = (route_of after ≡ route_of before) × (after.asked ≡ before.asked ++ order ∷ [])
 
@@ -93,7 +93,7 @@ module _ {N : Type 0} (holds : List (Arrival N) → List Side → Type 0) where
   IsTurnedAway end OrderFault.LoaderGone = ⊤
   IsTurnedAway end _ = ⊥
 
-  -- why no order is put that would be waited for: nothing was tried where there was no memory for a way back
+  -- why an order that would be waited for isn't put: there was no memory for a way back, and nothing was tried; or the queue took no order
   abbrev pub IsNotAwaited : EndValue N → OrderFault → EndValue N → Type 0
   IsNotAwaited end OrderFault.OutOfMemory end_then = end_then ≡ end
   IsNotAwaited end fault end_then = IsTurnedAway end fault × (end_then ≡ once_tried end)
@@ -130,6 +130,6 @@ module _ {N : Type 0} (holds : List (Arrival N) → List Side → Type 0) where
     AreAsked (order ∷ orders) before after = (between : WorkerOrdersValue N) × Does order.feed order.outcome before between
         × IsNoted order before between × AreAsked orders between after
 
-    -- all orders that were asked for here did so, from the first on: what was put at the queue and heard of it comes of them alone
+    -- each order that was asked for here did this, from the first on: so all that was put at the queue and heard of it comes from these orders
     abbrev pub HasAsked : WorkerOrdersValue N → Type 0
     HasAsked orders = (tries : ℕ) × AreAsked orders.asked (nothing_asked (route_of orders) tries) orders

@@ -70,7 +70,7 @@ taken_at (Side.Keeping k) = k.taken
 taken_at (Side.Taking orders ended) = orders
 taken_at side = []
 
--- whether it keeps the queue, puts orders, or takes them: 1 or 0
+-- whether an end keeps the queue, puts orders, or takes them: 1 or 0
 abbrev pub keeps : Side → ℕ
 keeps (Side.Keeping k) = 1
 keeps side = 0
@@ -83,7 +83,7 @@ abbrev pub takes_there : Side → ℕ
 takes_there (Side.Taking orders ended) = 1
 takes_there side = 0
 
--- how many ends it knows to be out, and how many closings to be put, and taken
+-- how many ends an end knows to be out, at which orders are put, or taken; and how many closings it knows to be put, or taken
 abbrev pub out_at : Side → ℕ
 out_at (Side.Keeping k) = k.out
 out_at side = 0
@@ -156,7 +156,7 @@ EachIsTakenOnce N = (items : List (Arrival N)) (views : List Side) → waiting i
 abbrev pub AllWereTaken : KeeperView → Type 0
 AllWereTaken k = k.out ≡ 0 → k.loading ≡ 0 → 0 < k.ended → IsPermutation k.put k.taken
 
--- the end that keeps the queue knows as much
+-- so it is by what the end that keeps the queue knows; of other ends nothing is said
 abbrev pub KnowsAllTaken : Side → Type 0
 KnowsAllTaken (Side.Keeping k) = AllWereTaken k
 KnowsAllTaken side = ⊤
@@ -173,7 +173,7 @@ module _ {N : Type 0} (holds : List (Arrival N) → List Side → Type 0) where
     pub tries : (pass : ℕ) (orders : List OrderMark) (tries : ℕ)
         → Forks holds pass (Side.Putting orders tries) (tried (Side.Putting orders tries)) Side.Rests
 
-  -- the rule holds of these arrivals, where one end knows this
+  -- the rule holds of these arrivals and of what some ends know, one of which knows this
   abbrev pub IsHeldBeside : Side → List (Arrival N) → Type 0
   IsHeldBeside side items = (views : List Side) × (pass : ℕ) × holds items views × (get_elem? views pass ≡ some side)
 
@@ -218,7 +218,7 @@ abbrev pub tries_of : Side → ℕ
 tries_of (Side.Putting orders tries) = tries
 tries_of side = 0
 
--- one loader is out, and none was back
+-- the same, but that one loader is out, and none has come back yet
 abbrev pub while_loading : KeeperView → KeeperView
 while_loading k = record k { taken = []; loading = 1; ended = 0 }
 

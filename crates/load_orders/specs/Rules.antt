@@ -24,7 +24,7 @@ is_none zero m then any = refl
 is_none (suc n) m then any = let nobody = then (omega arith) in absurd (omega (arith, nobody, any))
 
 module _ {N : Type 0} where
-  -- what a step of one end changes: its place in the list of what all know
+  -- a step of one end changes what this end knows, and nothing else in the list of what each end knows
   module _ (views : List Side) (k : ℕ) (v w : Side) (at : get_elem? views k ≡ some v) where
     -- nothing is put or taken
     once_still : (items items_then : List (Arrival N)) → put_at w ≡ put_at v → taken_at w ≡ taken_at v → waiting_in items_then ≡ waiting_in items

@@ -96,7 +96,7 @@ module _ (part : Side → List OrderMark) where
       IsPermutation-append_right (part x) (orders_by part (slice_set (slice_set rest i both) j Side.Rests)) (orders_by part rest)
       (merged rest i j v both w at (λ same. apart (ap suc same)) there bare is)
 
--- the number of one end is another
+-- the number of one end changes, and the total by as much
 pub changed : (part : Side → ℕ) (views : List Side) (k : ℕ) (v w : Side) → get_elem? views k ≡ some v
     → total part (slice_set views k w) + part v ≡ total part views + part w
 unfolding found_or
@@ -104,7 +104,7 @@ changed part [] k v w at = absurd (some-ne-none _ (sym at))
 changed part (x ∷ rest) zero v w at = let here : part x ≡ part v = ap (λ found. part (found_or found x)) at in omega (arith, here)
 changed part (x ∷ rest) (suc k) v w at = let more = changed part rest k v w at in omega (arith, more)
 
--- there is one end more
+-- one end is added, and its number to the total
 pub counted : (part : Side → ℕ) (views : List Side) (u : Side) → total part (views ++ u ∷ []) ≡ total part views + part u
 counted part [] u = omega arith
 counted part (x ∷ rest) u = let more = counted part rest u in omega (arith, more)

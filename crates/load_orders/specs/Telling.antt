@@ -22,7 +22,7 @@ pub record LoaderOrdersValue (N : Type 0) : Type 0 where
 abbrev pub AllAnswered : {N : Type 0} → LoaderOrdersValue N → Type 0
 AllAnswered end = length end.answered ≡ length end.taken
 
--- at this way back alone the answer is told, once; or nobody waits there any more, and nothing is
+-- the answer is told at this way back, once; or nobody waits there any more, and nothing is told
 abbrev pub IsToldAt : {N : Type 0} → WayId → LoadAnswer N → WayValue N → Type 0
 IsToldAt way answer told = (told ≡ record { way = way; answers = answer ∷ [] }) ⊎ (told ≡ record { way = way; answers = [] })
 

@@ -60,7 +60,7 @@ module _ {N : Type 0} (holds : List (LoadAnswer N) → List (Side N) → Type 0)
   abbrev pub IsKeptByHearing : Type 0
   IsKeptByHearing = (end : ℕ) (heard : List (LoadAnswer N)) → Pops holds end (Side.Hearing heard) (IsOneAnswerMore (Side.Hearing heard))
 
-  -- the rule holds of these answers, where one end knows this
+  -- the rule holds of these answers and of what some ends know, one of which knows this
   abbrev pub IsHeldBeside : Side N → List (LoadAnswer N) → Type 0
   IsHeldBeside side items = (ends : List (Side N)) × (end : ℕ) × holds items ends × (get_elem? ends end ≡ some side)
 

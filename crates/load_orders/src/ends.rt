@@ -97,7 +97,7 @@ pub fn order_queue<N: Drop>(alloc: Global) -> Result<(OrderKeeper<N>, LoaderOrde
 }
 
 impl<N: Drop> OrderKeeper<N> {
-    /// An end of this queue at which orders are put, and none was yet.
+    /// A new end of this queue, at which orders are put; none was put there yet.
     pub fn another_end(&mut self) -> Result<OrderEnd<N>, AllocError>
         requires { self.old.closings ≡ 0 }
         ensures queue { IfOk result (λ end. end.queue ≡ self.old.queue) }
@@ -118,7 +118,7 @@ impl<N: Drop> OrderKeeper<N> {
         self.sender.absorb::<ComesBack>(&mut self.pass, used.pass);
     }
 
-    /// Closes the queue behind all orders, once there is room: the loader that takes this takes no more. False if the
+    /// Puts a closing behind all orders, once there is room: the loader that takes it takes no more. False if the
     /// loader is gone.
     pub fn close<R: Wait>(&mut self, rt: &R) -> bool
         requires { self.old.out ≡ 0 }
@@ -131,8 +131,8 @@ impl<N: Drop> OrderKeeper<N> {
             .is_ok()
     }
 
-    /// The loader comes back, once all other ends have: it took what was put, each order once. None if it didn't take a
-    /// closing.
+    /// Takes back the loader's end, once all other ends are back: what was put was taken there, each order once. None
+    /// if no closing was taken there.
     pub fn finish(self, loader: LoaderOrders<N>) -> Option<UsedLoader<N>>
         requires queue { loader.queue ≡ self.queue }
         requires back { self.out ≡ 0 }

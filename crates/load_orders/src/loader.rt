@@ -28,8 +28,8 @@ impl<N: Drop> Model for Answered<N> {
     ghost view = { λ a. record { answer = a.answer.value; told = a.told } };
 }
 
-/// The loader's end of the queue. Contracts see which queue, the orders that it took, and what it answered, in order,
-/// whether it asked for another and none came, and whether the queue was closed for it.
+/// The loader's end of the queue. Contracts see which queue; the orders that it took, and what it answered, in order;
+/// whether it last asked for an order and none came; and whether the queue was closed for it.
 #[derive(Drop)]
 pub struct LoaderOrders<N: Drop, P: OrderRule<N> = Waiting> {
     pub(crate) receiver: OrderReceiver<N, P>,

@@ -1,4 +1,4 @@
-//! Lists that contracts alone see, for what goes to another thread.
+//! Lists that only contracts see, in values that go to other threads.
 
 ghost use Rattle.std.specs.Prelude.{◌≡◌, ◌++◌, ◌∷◌, [], List};
 
@@ -6,7 +6,7 @@ use std::collections::LinkedList;
 use std::marker::Model;
 use timetable::Kept;
 
-/// What was noted, in order. Contracts alone see it: it takes no bytes and owns nothing, so it may go to any thread.
+/// What was noted, in order. Only contracts see it: it takes no bytes and owns nothing, so it may go to any thread.
 #[derive(Drop)]
 pub struct Notes<T> {
     items: Kept<LinkedList<T>>,
@@ -35,7 +35,7 @@ impl<T> Notes<T> {
         self.items = Kept::at(&self.items, item);
     }
 
-    /// Adds what others noted at the end.
+    /// Adds all that `others` has, at the end.
     pub fn append(&mut self, others: Notes<T>)
         ensures { self.new ≡ self.old ++ others }
     {

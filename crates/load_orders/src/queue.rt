@@ -43,19 +43,19 @@ pub enum Arrival<N: Drop> {
     Closing,
 }
 
-/// What the end knows that keeps the queue. No value of it is made.
+/// What the end that keeps the queue knows. No value of it is made.
 pub struct KeeperView {
     /// The orders that were put at the ends that came back.
     pub put: LinkedList<OrderMark>,
-    /// Those that the loader had taken, once it came back.
+    /// The orders that the loader had taken, once it is back.
     pub taken: LinkedList<OrderMark>,
-    /// How many ends are out at which orders are put.
+    /// How many of the ends at which orders are put are out.
     pub out: u64,
-    /// How many are out at which they are taken.
+    /// How many of the ends at which orders are taken are out.
     pub loading: u64,
     /// How often the queue was closed.
     pub closings: u64,
-    /// How many closings the loader had taken, once it came back.
+    /// How many closings the loader had taken, once it is back.
     pub ended: u64,
 }
 
@@ -65,12 +65,12 @@ pub enum Side {
     Keeping {
         view: KeeperView,
     },
-    /// An end at which orders are put: which were, in order, and how often it was tried.
+    /// An end at which orders are put: the orders that were put, in order, and how many tries there were.
     Putting {
         orders: LinkedList<OrderMark>,
         tries: u64,
     },
-    /// An end at which they are taken: which were, in order, and how many closings.
+    /// An end at which orders are taken: the orders that were taken, in order, and how many closings.
     Taking {
         orders: LinkedList<OrderMark>,
         ended: u64,
@@ -123,7 +123,7 @@ impl<N: Drop, P: OrderRule<N>> Lesson<Arrival<N>, Side> for Moves<P> {
     ghost fact = { IsHeldBeside P.Protocol.holds };
 }
 
-/// An end tries to put an order. What is split from it for that is let go.
+/// An end tries to put an order, and counts the try. The part that is split from it for this is let go.
 pub struct Tries;
 
 impl Split<Side> for Tries {
@@ -178,7 +178,7 @@ impl<N: Drop> Lesson<Arrival<N>, Side> for AllBack {
     ghost fact = { λ view items. KnowsAllTaken view };
 }
 
-/// The end of the queue that keeps it, or at which orders are put.
+/// The sender of the end that keeps the queue, or of an end at which orders are put.
 pub type OrderSender<N, P> = RuledSender<Arrival<N>, Side, P, Global>;
 
 /// The loader's end of the queue, which takes orders.

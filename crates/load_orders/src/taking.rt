@@ -90,8 +90,8 @@ impl<N: Drop> Model for UsedOrders<N> {
 }
 
 impl<'a, R: Wait, N: Drop, T: Versions<Notice = N>, P: OrderRule<N>> WorkerOrders<'a, R, N, T, P> {
-    /// Orders of feeds of these names, by this end, at which nothing was put yet, to be published at these shelves.
-    /// Nothing was asked for yet.
+    /// Takes orders of feeds by these names, and puts them at this end, at which nothing was put yet. The versions that
+    /// come of them are published at these shelves. Nothing was asked for yet.
     pub fn new(
         rt: &'a R,
         alloc: Global,
@@ -113,7 +113,7 @@ impl<'a, R: Wait, N: Drop, T: Versions<Notice = N>, P: OrderRule<N>> WorkerOrder
         }
     }
 
-    /// Asks for no more: this end of the queue is gone, and what was asked for stays to be seen.
+    /// Asks for no more. This end of the queue is dropped; contracts still see what was asked for.
     pub fn into_used(self) -> UsedOrders<N>
         ensures same { result ≡ self.entry }
         ensures asked { HasAsked P.Protocol.holds T.noted result }
@@ -194,7 +194,7 @@ fn put_awaited<R: Wait, N: Drop, P: OrderRule<N>>(
     }
 }
 
-// What is told of a load by its answer, if one came: the version is the notice's.
+// What came of a load, from the loader's answer, or from the lack of one: the version is that of the notice.
 fn told<N: Drop, T: Versions<Notice = N>>(
     answer: Option<LoadAnswer<N>>,
 ) -> Result<(u64, N), OrderFault>

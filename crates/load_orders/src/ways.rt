@@ -171,7 +171,7 @@ pub(crate) fn way_back<N: Drop>(alloc: Global) -> Result<(WayBack<N>, Awaited<N>
 }
 
 impl<N: Drop> WayBack<N> {
-    // Tells whoever waits, if somebody does any more.
+    // Tells the answer to whoever waits, if anybody still does.
     pub(crate) fn tell<R: Wait>(self, rt: &R, answer: LoadAnswer<N>) -> UsedWay<N>
         ensures { IsToldAt self answer result }
     {

@@ -58,13 +58,13 @@ LoadStep name feeds answers (Ok loaded) others answers_then = IsLoadedAs name fe
 LoadStep name feeds answers (Err NotLoaded.UnknownFeed) others answers_then = IsUnknown name feeds answers others answers_then
 LoadStep name feeds answers (Err (NotLoaded.Refused fault)) others answers_then = IsRefusedSo name feeds answers fault others answers_then
 
--- what is told of it to whoever doesn't wait: a refused publish as too many orders
+-- what a load answers to whoever doesn't wait for its version: a refused publish is answered as a full queue
 abbrev pub order_told : {N : Type 0} → Result (ℕ × Option N) NotLoaded → Result (Unit {0}) OrderFault
 order_told (Ok loaded) = Ok tt
 order_told (Err NotLoaded.UnknownFeed) = Err OrderFault.UnknownFeed
 order_told (Err (NotLoaded.Refused fault)) = Err OrderFault.OrdersFull
 
--- and to whoever waits
+-- what a published version answers to whoever waits for it: the version with its notice, or want of memory if there is no notice
 abbrev pub notice_told : {N : Type 0} → ℕ → Option N → Result (ℕ × N) OrderFault
 notice_told version (Some notice) = Ok (version, notice)
 notice_told version None = Err OrderFault.OutOfMemory
@@ -74,14 +74,14 @@ wait_told (Ok loaded) = notice_told loaded.0 loaded.1
 wait_told (Err NotLoaded.UnknownFeed) = Err OrderFault.UnknownFeed
 wait_told (Err (NotLoaded.Refused fault)) = Err (OrderFault.LoadRefused (publish_fault_number fault))
 
--- what an order does, by its outcome
+-- what an order does that nobody waits for, by its outcome
 abbrev pub OrderStep : List ℕ → List FeedImage → List LoaderAnswer → Result (Unit {0}) OrderFault → List FeedImage → List LoaderAnswer → Type 0
 OrderStep name feeds answers (Ok u) others answers_then = (version : ℕ) × IsLoadedAs name feeds answers version others answers_then
 OrderStep name feeds answers (Err OrderFault.UnknownFeed) others answers_then = IsUnknown name feeds answers others answers_then
 OrderStep name feeds answers (Err OrderFault.OrdersFull) others answers_then = (fault : PublishFault) × IsRefusedSo name feeds answers fault others answers_then
 OrderStep name feeds answers (Err _) others answers_then = ⊥
 
--- and one that is waited for
+-- what an order does that is waited for, by its outcome
 abbrev pub WaitStep : {N : Type 0} → List ℕ → List FeedImage → List LoaderAnswer → Result (ℕ × N) OrderFault → List FeedImage → List LoaderAnswer → Type 0
 WaitStep name feeds answers (Ok told) others answers_then = IsLoadedAs name feeds answers told.0 others answers_then
 WaitStep name feeds answers (Err OrderFault.UnknownFeed) others answers_then = IsUnknown name feeds answers others answers_then

@@ -22,11 +22,12 @@ ArePublished known (Answer.PinRefused fault ∷ answers) = ArePublished known an
 ArePublished known (Answer.Released ∷ answers) = ArePublished known answers
 ArePublished known (Answer.ReleaseRefused fault ∷ answers) = ArePublished known answers
 
--- and so was what is held, if anything
+-- what is held, if anything, was published as that version with that image in this history
 abbrev pub IsPublishedIfHeld : Known → Option (ℕ × ImageValue) → Type 0
 IsPublishedIfHeld known held = IfSome held (λ h. IsPublished known h.0 h.1)
 
--- what the seat knows has grown, and each version that it was answered meanwhile was published with that image in what it knows now
+-- the history that the seat knows has grown, and each version that it pinned meanwhile was published, with the image that it was pinned with, in
+-- the history that the seat knows now
 pub record Learns (known : Known) (a : SeatValue) (known_then : Known) (b : SeatValue) : Type 0 where
   pub grows : Grows known known_then
   pub answers : List Answer
@@ -40,7 +41,7 @@ IsFromPublished known form (asks (profile ask)) reply =
     ⊎ ((fault : PinFault) × (reply ≡ pin_fault_line fault))
 IsFromPublished known form _ reply = Unit {0}
 
--- so is each profile that is asked for in these turns, where memory isn't wanting
+-- each profile that is asked for in these turns is answered so, or want of memory is replied
 abbrev pub AreFromPublished : Known → PointForm → List Turn → Type 0
 AreFromPublished known form [] = Unit {0}
 AreFromPublished known form (t ∷ turns) =

@@ -27,7 +27,7 @@ pub record AnswersQuery (form : PointForm) (image : ImageValue) (version : ℕ) 
   pub asked : Asks image.names ask.from ask.to (window_of ask) query
   pub answered : IsAnsweredBy form ask.criterion image version query reply
 
--- the reply to a profile over an image, which is one that was accepted: of a legal timetable and names that fit it
+-- the reply to a request for a profile over this image. The image is one that was accepted: of a legal timetable and names that fit it
 pub record IsProfileReply (form : PointForm) (image : ImageValue) (version : ℕ) (ask : AskValue) (reply : List ℕ) : Type 0 where
   pub accepted : HasImage image.timetable image.names
   pub told : IsNoQuery image ask reply ⊎ AnswersQuery form image version ask reply

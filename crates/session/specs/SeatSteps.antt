@@ -26,12 +26,12 @@ AnswerStep number a (Answer.PinRefused fault) b = PinStep a (Err fault) b
 AnswerStep number a Answer.Released b = ReleaseStep a (Ok tt) b
 AnswerStep number a (Answer.ReleaseRefused fault) b = ReleaseStep a (Err fault) b
 
--- by an answer, or by a notice, after which the seat has seen that version
+-- from one value of a worker's seat to the next, by an answer, or by a notice, after which the seat has seen that version
 abbrev pub MoveStep : ℕ → SeatValue → SeatMove → SeatValue → Type 0
 MoveStep number a (answered answer) b = AnswerStep number a answer b
 MoveStep number a (joined version) b = JoinStep a version b
 
--- by one after the other
+-- from one value of a worker's seat to another, by these moves in order
 abbrev pub Follows : ℕ → SeatValue → List SeatMove → SeatValue → Type 0
 Follows number a [] b = b ≡ a
 Follows number a (first ∷ moves) b = (m : SeatValue) × MoveStep number a first m × Follows number m moves b
@@ -41,7 +41,7 @@ answers_in [] = []
 answers_in (answered answer ∷ moves) = answer ∷ answers_in moves
 answers_in (joined version ∷ moves) = answers_in moves
 
--- what was held is given back: a seat that is told lost is emptied too
+-- by this answer what was held is given back: also by a release that is refused because the seat is lost, which empties the seat too
 abbrev pub IsGivenBack : Answer → Type 0
 IsGivenBack Answer.Released = Unit {0}
 IsGivenBack (Answer.ReleaseRefused PinFault.SeatLost) = Unit {0}

@@ -11,7 +11,7 @@ use Rattle.session.specs.declared.fault.SessionFault.{SessionFault}
 use Rattle.session.specs.SeatSteps.{AnswerStep, IsGivenBack, SeatMove}
 use Rattle.session.specs.Turns.{Turn, TurnsTo}
 
--- each turn leaves the seat and the orders to the next
+-- turns one after the other: each begins with the seat and the orders as the one before left them
 abbrev pub AreTurns : PointForm → ℕ → SeatValue → List OrderValue → List Turn → SeatValue → List OrderValue → Type 0
 AreTurns form number a asked [] b asked_then = (b ≡ a) × (asked_then ≡ asked)
 AreTurns form number a asked (t ∷ turns) b asked_then =
@@ -64,7 +64,7 @@ EndsSo (Ok ended) read written turns at_end read_failed write_failed =
 -- a read failed, or a line went on past 16,777,216 bytes, of which one byte more was read; all whole lines before that are answered
 EndsSo (Err SessionFault.ReadFailed) read written turns at_end read_failed write_failed =
     (read_failed ⊎ (length (rest_of read) ≡ 16_777_217)) × (¬ write_failed) × (lines_in turns ≡ whole_lines read) × (written ≡ text_of turns)
--- lines that were read are answered, the last one perhaps not wholly; further ones may have been read
+-- a write failed: lines that were read are answered, and the last reply is perhaps not written wholly; further lines may have been read
 EndsSo (Err SessionFault.WriteFailed) read written turns at_end read_failed write_failed =
     write_failed × (¬ read_failed) × AnswerLines turns read at_end × IsCutShort written turns
 -- the first million lines are answered, and a byte behind them was read

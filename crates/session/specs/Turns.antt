@@ -39,7 +39,7 @@ pub record ReleaseIsRefused (moves : List SeatMove) (reply : List ℕ) : Type 0 
   pub moves_are : moves ≡ answered (Answer.ReleaseRefused fault) ∷ []
   pub reply_is : reply ≡ pin_fault_line fault
 
--- the feed is ordered, or isn't
+-- the feed is ordered, or the order is refused
 abbrev pub OrderIsMet : List ℕ → List OrderValue → List ℕ → Type 0
 OrderIsMet feed orders reply =
     ((orders ≡ order_value feed (Ok tt) ∷ []) × (reply ≡ line_of (load_data feed)))
@@ -52,7 +52,7 @@ pub record VersionIsMet (feed : List ℕ) (moves : List SeatMove) (orders : List
   pub orders_are : orders ≡ waited_value feed (Ok version) ∷ []
   pub reply_is : (reply ≡ line_of (loaded_data feed version)) ⊎ (reply ≡ memory_line)
 
--- or none came
+-- no version came of the order, and the reply says why
 pub record NoVersionIsMet (feed : List ℕ) (moves : List SeatMove) (orders : List OrderValue) (reply : List ℕ) : Type 0 where
   pub fault : OrderFault
   pub moves_are : moves ≡ []
@@ -71,7 +71,7 @@ pub record ProfileIsMetOnce (form : PointForm) (ask : AskValue) (moves : List Se
   pub once : PinsOnce moves version image
   pub told : IsProfileReply form image version ask reply
 
--- from what is held, or else from a version that is pinned once
+-- a profile is answered from what is held; or, if nothing is, from a version that is pinned for it, unless the pin is refused
 abbrev pub ProfileIsMet : PointForm → Option (ℕ × ImageValue) → AskValue → List SeatMove → List ℕ → Type 0
 ProfileIsMet form (Some held) ask moves reply = (moves ≡ []) × IsProfileReply form held.1 held.0 ask reply
 ProfileIsMet form None ask moves reply = ProfileIsMetOnce form ask moves reply ⊎ PinIsRefused moves reply
@@ -80,7 +80,7 @@ ProfileIsMet form None ask moves reply = ProfileIsMetOnce form ask moves reply �
 abbrev pub IsRefused : Refusal → List SeatMove → List OrderValue → List ℕ → Type 0
 IsRefused refusal moves orders reply = (moves ≡ []) × (orders ≡ []) × (reply ≡ refusal_line refusal)
 
--- what was asked, at a seat that holds this, is met so
+-- what was asked, at a seat that holds this, is met by these moves and orders, with this reply
 abbrev pub Meets : PointForm → Option (ℕ × ImageValue) → Asked → List SeatMove → List OrderValue → List ℕ → Type 0
 Meets form held too_long moves orders reply = IsRefused Refusal.LineTooLong moves orders reply
 Meets form held no_json moves orders reply = IsRefused Refusal.BadJson moves orders reply
@@ -91,7 +91,7 @@ Meets form held (asks release) moves orders reply =
 Meets form held (asks (load feed waits)) moves orders reply = LoadIsMet waits feed moves orders reply
 Meets form held (asks (profile ask)) moves orders reply = (orders ≡ []) × ProfileIsMet form held ask moves reply
 
--- a version may be pinned and given back for this
+-- requests for which a version may be pinned and given back when memory is wanting
 abbrev pub MayPin : Asked → Type 0
 MayPin (asks pin) = Unit {0}
 MayPin (asks (profile ask)) = Unit {0}
@@ -126,7 +126,7 @@ IsTurn form held t =
     ⊎ ((asked : Asked) × IsAsked t.line asked
     × (WantsMemory asked t.moves t.orders t.reply ⊎ Meets form held asked t.moves t.orders t.reply))
 
--- by a turn the seat and the orders come from what they were to what they are: their lists grow by the turn's own
+-- the turn's moves lead the seat from `a` to `b`, and the list of orders grows by the turn's orders
 pub record TurnsTo (form : PointForm) (number : ℕ) (a : SeatValue) (asked : List OrderValue) (t : Turn) (b : SeatValue)
     (asked_then : List OrderValue) : Type 0 where
   pub is : IsTurn form a.held t

@@ -1,4 +1,4 @@
-//! What a session is answered from, and where it is read and written.
+//! What sessions are answered from, and the streams that each reads and writes.
 
 ghost use Rattle.std.specs.Prelude.{◌≡◌};
 ghost use Rattle.lines.specs.Counting.{failures_of, inner_of};

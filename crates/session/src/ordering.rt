@@ -14,7 +14,7 @@ use orders::Orders;
 use session_texts::{Refusal, load_line, loaded_line};
 
 impl<'a, N: Drop, T: Versions<Notice = N>, G> Desk<'a, T, G> {
-    /// Orders the feed. The reply is made first, so that no order is put that can't be told.
+    /// Orders the feed. The reply is made first, so that no order is put for whose reply there is no memory.
     pub(crate) fn order_feed<O: Orders>(&self, orders: &mut O, feed: &str) -> Reply
         ensures route { O.route orders.new ≡ O.route orders.old }
         ensures put { (put : List OrderValue) × (O.asked orders.new ≡ O.asked orders.old ++ put)
@@ -30,8 +30,8 @@ impl<'a, N: Drop, T: Versions<Notice = N>, G> Desk<'a, T, G> {
         }
     }
 
-    /// Orders the feed and waits for its version. The seat learns of that version before it is
-    /// told, so that it pins no older one.
+    /// Orders the feed and waits for its version. The seat joins the notice of that version before the client is told
+    /// of it, so that no later pin by this seat gives an older one.
     pub(crate) fn load_feed<O: Orders<Notice = N>>(
         &self,
         seat: &mut T::Seat,

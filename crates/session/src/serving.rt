@@ -94,7 +94,7 @@ impl<'a, N: Drop, T: Versions<Notice = N>, G: Gate> Desk<'a, T, G> {
         outcome
     }
 
-    // Gives back what the seat holds, if anything. That it was lost is told to nobody.
+    // Gives back what the seat holds, if anything. If the seat turns out to be lost, nobody is told.
     fn release_last(&self, seat: &mut T::Seat)
         requires { T.fits self.now.shelves.now seat.old }
         ensures fits { T.fits self.now.shelves.now seat.new }

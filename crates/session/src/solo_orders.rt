@@ -1,4 +1,4 @@
-//! Orders that are met at once, by the loader's seat of some shelves.
+//! Orders that are carried out at once, through the loader's seat of some shelves.
 
 ghost use Rattle.std.specs.Prelude.{◌≡◌, ◌++◌, ◌∷◌, [], IfErr, IfOk, MatchOption};
 ghost use Rattle.orders.specs.Ordering.{IsNotTaken, order_value, version_told, waited_value};
@@ -12,7 +12,7 @@ use std::marker::Model;
 use std::sync::Arc;
 use timetable::Trace;
 
-/// A feed's name, and the image that is published where the feed is ordered.
+/// A feed's name, and the image that an order of the feed publishes.
 #[derive(Drop)]
 pub struct FeedImage {
     pub name: String,

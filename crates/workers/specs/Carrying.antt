@@ -36,14 +36,14 @@ module _ {N D : Type 0} (noted : N → ℕ) (are_files : ℕ → D → Type 0) (
   IsLoadOf queue taken feed None answer before after =
       (places ≤ feed) × (after ≡ before) × (answer ≡ LoadAnswer.Refused (order_fault_number OrderFault.UnknownFeed))
 
-  -- the last of these orders is carried out: its own feed is loaded, of files that are drawn for it, and by its own way back it is told what came
-  -- of that very load
+  -- this order is carried out, once just these were taken: its own feed is loaded, from files that are drawn for it, and what came of that very
+  -- load is told by its own way back
   abbrev pub IsCarriedOut : QueueId N → List OrderMark → OrderMark → Option (DrawnFiles D N) → AnsweredValue N
       → List LoaderAnswer → List LoaderAnswer → Type 0
   IsCarriedOut queue taken order files answered before after =
       IsToldBack order.way answered.answer answered.told × IsLoadOf queue taken order.feed files answered.answer before after
 
-  -- behind earlier ones of this queue orders are carried out in turn, each once, and each has files of its own
+  -- after these earlier orders of the queue, further ones are carried out in turn, each once, and each with files of its own
   abbrev pub AreCarriedOut : QueueId N → List OrderMark → List OrderMark → List (Option (DrawnFiles D N)) → List (AnsweredValue N)
       → List LoaderAnswer → List LoaderAnswer → Type 0
   AreCarriedOut queue earlier [] [] [] before after = after ≡ before

@@ -10,7 +10,7 @@ use Rattle.workers.specs.declared.served.End.{End}
 abbrev pub Session : Type 0 → Type 0 → Type 0
 Session R W = Option (Streams R W) × End
 
--- a count stays at the greatest value
+-- a count of 64 bits, which stops at the greatest value
 abbrev pub capped : ℕ → ℕ
 capped n = min n (2 ^ 64 - 1)
 

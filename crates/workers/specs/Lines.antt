@@ -8,14 +8,14 @@ use Rattle.gtfs_rows.specs.Told.{file_name}
 use Rattle.workers.specs.declared.loading.Loaded.{Loaded}
 use Rattle.workers.specs.declared.refusal.LoadRefusal.{LoadRefusal}
 
--- a number and a name, and a word or a number behind them, after a space
+-- a number and a name, with a space between them; and a text with one word more, after a space
 abbrev pub named_text : ℕ → List ℕ → List ℕ
 named_text number name = (decimal number ++ codes " ") ++ name
 
 abbrev pub with_word : List ℕ → List ℕ → List ℕ
 with_word text word = (text ++ codes " ") ++ word
 
--- a fault of a feed: of a table's fault the file and the record, and of a read that failed the file
+-- a fault of a feed: its number and name, and then the file and the record of a table's fault, or the file of a read that failed
 abbrev pub fault_text : LoadFault → List ℕ
 fault_text (LoadFault.Table fault) =
     with_word (with_word (named_text (fault_number (LoadFault.Table fault)) (fault_name (LoadFault.Table fault))) (file_name fault.table)) (decimal fault.row)

@@ -84,7 +84,7 @@ abbrev pub load_answer : {N : Type 0} → Result (Loaded × Option N) LoadRefusa
 load_answer (Ok loaded) = notice_answer loaded.1
 load_answer (Err refusal) = LoadAnswer.Refused (refusal_number refusal)
 
--- what the reading of the files came to
+-- what came of reading the files: all is well also where only the publish was refused
 abbrev pub reading_refused : LoadRefusal → Result (Unit {0}) LoadFault
 reading_refused (LoadRefusal.Load fault) = Err fault
 reading_refused (LoadRefusal.Publish fault) = Ok tt

@@ -1,4 +1,4 @@
--- What workers' orders go by, and what they did.
+-- Where workers' orders go, and what they did.
 use Rattle.std.specs.Prelude.{◌≡◌, ℕ, List, String, IsPermutation, flat_map, map, string_bytes}
 use Rattle.std.specs.Global.{Global}
 use Rattle.load_orders.specs.Asking.{HasAsked, OrderRoute, WorkerOrdersValue, route_of}
@@ -27,6 +27,7 @@ put_by workers = flat_map (λ orders. orders.end.orders) workers
 abbrev pub AreAllTaken : {N : Type 0} → List (WorkerOrdersValue N) → LoaderOrdersValue N → Type 0
 AreAllTaken workers loader = IsPermutation (put_by workers) loader.taken
 
--- of this queue so many ends are out, these orders were put at those that are back, and it isn't closed
+-- the end that keeps this queue, while so many ends are out at which orders are put: these orders were put at the ends that came back, and the
+-- queue isn't closed
 abbrev pub IsKeeperOf : {N : Type 0} → QueueId N → List OrderMark → ℕ → KeeperValue N → Type 0
 IsKeeperOf queue put out keeper = keeper ≡ record { queue = queue; put = put; out = out; closings = 0 }

@@ -17,7 +17,8 @@ use Rattle.workers.specs.declared.clients.ConnFault.{ConnFault}
 use Rattle.workers.specs.declared.served.End.{End}
 use Rattle.session.specs.declared.desk.Streams.{Streams}
 
--- a session is served at this seat, its profiles replied in this form, from what was to be read to what is, and ends so
+-- a session is served at this seat, its profiles are replied in this form, and it ends so; what was to be read, what was written, the seat and
+-- the orders are given as they were before it and after it
 pub record IsSession (form : PointForm) (number : ℕ) (end : End) (to_read read_then contents contents_then : Option (List ℕ))
     (read_failed write_failed : Type 0)
     (a : SeatValue) (asked : List OrderValue) (b : SeatValue) (asked_then : List OrderValue) : Type 0 where
@@ -44,8 +45,8 @@ module _ {C R W : Type 0} (form : PointForm) (opens : C → Result (R × W) Conn
       (0 < failures_of now.reader) (0 < failures_of now.writer) a asked b asked_then
   IsServed number client None end a asked b asked_then = (fault : ConnFault) × opens client (Err fault) × IsUnopened end a asked b asked_then
 
-  -- so they are, and each profile in the session's turns, unless memory or a version was wanting, is answered exactly, over the accepted image
-  -- that this history published as the version that is told
+  -- as `IsServed`; and each profile in the session's turns, unless memory or a version was wanting, is answered exactly, over the accepted image
+  -- that this history published as the version that the reply tells
   abbrev pub IsExact : Known → ℕ → C → Option (Streams R W) → End → SeatValue → List OrderValue → SeatValue → List OrderValue → Type 0
   IsExact history number client (Some now) end a asked b asked_then =
       (was : R × W) × opens client (Ok was)
@@ -89,15 +90,15 @@ module _ {C R W : Type 0} (form : PointForm) (opens : C → Result (R × W) Conn
 
     -- over notices of these versions, and what the workers' orders go by
     module _ {N : Type 0} (noted : N → ℕ) (route : OrderRoute N) where
-      -- a worker's share: these are these clients' sessions at its seat; if it held nothing, each profile in them is answered exactly, as the
-      -- history has it that the seat knows in the end; all that was ordered in them was asked of these orders, which go this way
+      -- a worker's share: the sessions are those of these clients at its seat. If the seat held nothing at first, each profile in them is answered
+      -- exactly, by the history that the seat knows in the end. All that was ordered in them was asked of these orders, which go this way
       abbrev pub IsShare : S → List C → WorkerOrdersValue N → List (Session R W) → S → Type 0
       IsShare seat clients orders sessions last = AreServed clients sessions seat [] last orders.asked
           × ((value seat).held ≡ None → AreExact number value (known last) clients sessions seat [] last orders.asked)
           × IsAskedBy noted route orders
 
-      -- the sessions are the workers' shares, one behind the other: at each of the seats one hand of clients was served, with these orders, and it
-      -- is so then
+      -- the sessions are the workers' shares, end to end. Each worker got one hand of the clients that were dealt; these were served at its seat,
+      -- with its orders, and its seat is then the one in the last list
       abbrev pub AreShares : List S → List (List C) → List (WorkerOrdersValue N) → List (Session R W) → List S → Type 0
       AreShares [] [] [] sessions [] = sessions ≡ []
       AreShares (seat ∷ seats) (hand ∷ hands) (orders ∷ others) sessions (last ∷ lasts) =
@@ -111,7 +112,7 @@ module _ {C R W : Type 0} (form : PointForm) (opens : C → Result (R × W) Conn
       AreAllServed clients seats orders sessions lasts =
           (hands : List (List C)) × IsPermutation clients (flat_map (λ hand. hand) hands) × AreShares seats hands orders sessions lasts
 
-      -- those who came since are all served
+      -- all clients by which the list of those who came grew are served
       abbrev pub AreServedSince : List C → List C → List S → List (WorkerOrdersValue N) → List (Session R W) → List S → Type 0
       AreServedSince before after seats orders sessions lasts =
           (clients : List C) × (after ≡ before ++ clients) × AreAllServed clients seats orders sessions lasts

@@ -66,7 +66,8 @@ impl<'a, R: Wait, N: Drop, T: Versions<Notice = N> + Loads, F: Feeds> Loading<'a
         unreachable!()
     }
 
-    // Loads the feed that is ordered, the last that was taken, and tells what came of it, also whoever waits for that.
+    // Loads the feed of this order, the last that was taken. What came of it goes to the error writer and to whoever
+    // waits for it.
     fn load_feed<E: Write>(
         &self,
         order: Order<N>,
@@ -94,8 +95,8 @@ impl<'a, R: Wait, N: Drop, T: Versions<Notice = N> + Loads, F: Feeds> Loading<'a
         orders.answer(self.rt, order, answer);
     }
 
-    // Loads the feed at the place, of files that are drawn now: what came of it, and the files. Where there is none, it
-    // is refused as an unknown feed.
+    // Loads the feed at the place from files that are drawn now, and returns what came of it, and the files. Where
+    // there is no such place, there are no files, and the load is refused as that of an unknown feed.
     fn load_place<E: Write>(
         &self,
         place: usize,
@@ -122,7 +123,7 @@ impl<'a, R: Wait, N: Drop, T: Versions<Notice = N> + Loads, F: Feeds> Loading<'a
                 let begun = self.feeds.begin(place);
                 let outcome = self.load_planned(&mut files, seat);
                 let loaded = loaded_or_refusal(&outcome);
-                // The loader goes on where its line can't be written.
+                // If its line can't be written, the loader goes on.
                 let _ = tell(errors, name.as_str(), loaded);
                 self.feeds.finish(errors, place, begun, loaded);
                 (answer_of(outcome), Some(files))
@@ -136,7 +137,7 @@ impl<'a, R: Wait, N: Drop, T: Versions<Notice = N> + Loads, F: Feeds> Loading<'a
         }
     }
 
-    // Loads these files by a plan that is made for this load; what came of it.
+    // Loads these files by a plan that is made for this load, and returns what came of it.
     fn load_planned(
         &self,
         files: &mut DrawnFiles<F::Files, N>,
@@ -171,8 +172,8 @@ fn loaded_or_refusal<N>(
     }
 }
 
-// What whoever waits for a load is told of it: its version's notice, that there was no memory for
-// one, or the refusal's number.
+// The answer to whoever waits for a load: a notice of its version, that there was no memory for a notice, or the
+// refusal's number.
 fn answer_of<N>(outcome: Result<(Loaded, Option<N>), LoadRefusal>) -> LoadAnswer<N>
     ensures { result ≡ load_answer outcome }
 {

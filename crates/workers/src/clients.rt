@@ -11,7 +11,8 @@ use std::io::{Read, Write};
 #[derive(Clone, Copy, Debug, PartialEq, Eq)]
 pub struct ConnFault;
 
-/// Whoever asks for a session. What is opened can't be dropped: it has to be closed.
+/// A client, who asks for one session. The reader and the writer that `open` gives may be of types that can't be
+/// dropped: `close` takes them back.
 pub trait Client {
     type Reader: Read + Send;
 
@@ -27,8 +28,8 @@ pub trait Client {
     fn open(self) -> Result<(Self::Reader, Self::Writer), ConnFault>
         ensures { opens self result };
 
-    /// Called once its session has ended, with what was opened and how it ended. Nothing else hangs
-    /// on what is done here.
+    /// Called once the client's session has ended, with what `open` gave and how the session ended. Nothing else
+    /// depends on what is done here.
     fn close(reader: Self::Reader, writer: Self::Writer, end: End)
         requires { closes reader writer end };
 }

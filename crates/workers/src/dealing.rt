@@ -7,8 +7,8 @@ use crate::clients::Clients;
 use client_queue::Dealer;
 use std::sync::Wait;
 
-/// Puts each client that comes in the queue, until there are no more, and then closes the queue for so many takers.
-/// The clients' source comes back.
+/// Puts the clients in the queue, one by one as they come, until there are no more, and then closes the queue once for
+/// each taker. Returns the clients' source.
 pub(crate) fn deal_all<R: Wait, C: Drop, K: Clients<C> + Drop>(
     rt: &R,
     clients: K,
@@ -26,7 +26,7 @@ pub(crate) fn deal_all<R: Wait, C: Drop, K: Clients<C> + Drop>(
     source
 }
 
-// Puts each client that comes in the queue.
+// Puts the clients in the queue, one by one as they come, until there are no more.
 fn put_all<R: Wait, C: Drop, K: Clients<C> + Drop>(
     rt: &R,
     mut clients: K,

@@ -16,8 +16,8 @@ use load_orders::{LoaderOrders, Notes};
 use std::alloc::Global;
 use std::snapshot::Snapshot;
 
-/// The files of a feed, drawn for the order that the loader took last. Contracts see them as they were then, and the
-/// loader's end of the queue as it was then: so what was read for one order can't stand for what is read for another.
+/// The files of a feed, drawn for the order that the loader took last. Contracts also see what they and the loader's
+/// end of the queue were when they were drawn: so files that were read for one order can't pass as those of another.
 #[derive(Drop)]
 pub struct DrawnFiles<D, N: Drop> {
     files: D,
@@ -30,8 +30,8 @@ pub struct DrawnFiles<D, N: Drop> {
 pub type UsedFiles<D, N> = Notes<Option<DrawnFiles<D, N>>>;
 
 impl<D: FeedFiles, N: Drop> DrawnFiles<D, N> {
-    /// The files of the feed at the place, drawn now that this end of the queue is so. None only where there is no such
-    /// place.
+    /// Draws the files of the feed at the place, while this end of the queue is as given. None only where there is no
+    /// such place.
     pub(crate) fn draw<F: Feeds<Files = D>>(
         feeds: &F,
         place: usize,

@@ -29,8 +29,8 @@ pub trait Feeds {
     fn names(&self) -> &[String]
         ensures { result.now ≡ named self.now };
 
-    /// The plan of the feed that is loaded next: it is asked for anew before each load, since it may go by a clock.
-    /// Running out of memory is the only error.
+    /// The plan by which the next feed is loaded. It is asked for anew before each load, since it may depend on a
+    /// clock. Running out of memory is the only error, and even then there is such a plan.
     fn plan(&self, alloc: Global) -> Result<Plan, AllocError>
         ensures plan { IfOk result (is_plan self.now) }
         ensures some { IfOk result (λ plan. 1 ≤ plan.days) }
@@ -45,8 +45,8 @@ pub trait Feeds {
     /// Called before the feed at the place is loaded. Returns the instant at which that is, for `finish`, or none.
     fn begin(&self, place: usize) -> Option<Instant>;
 
-    /// Called when that load has ended, behind the loader's own line, with its writer. Nothing else
-    /// hangs on what is done here.
+    /// Called when that load has ended and the loader has written its own line, with the writer of that line. Nothing
+    /// else depends on what is done here.
     fn finish<E: Write>(
         &self,
         errors: &mut E,

@@ -1,4 +1,4 @@
-//! Workers that serve sessions at once, each at a seat of its own, and the one loader beside them.
+//! Workers that serve sessions concurrently, each at a seat of its own, and the one loader beside them.
 #![tactic(auto)]
 
 mod carrying;

@@ -25,8 +25,8 @@ pub struct Loaded {
     pub report: Report,
 }
 
-/// Loads a feed and publishes its image as the next version, which is told with a notice of it; then
-/// shelves that nobody needs are freed.
+/// Loads a feed and publishes its image as the next version; then frees the shelves that nobody needs. Returns the
+/// version with the counts of its image, and a notice of the version.
 pub fn load_one<F: FeedFiles, N, T: Versions<Notice = N> + Loads>(
     alloc: Global,
     files: &mut F,

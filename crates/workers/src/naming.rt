@@ -109,7 +109,7 @@ fn named_seats<B: Named>(
     Ok(named)
 }
 
-// The seats without the name, in the room for them.
+// The seats without the name, moved into `room`.
 fn unnamed_seats<B: Named>(
     seats: Vec<NamedSeat<B>>,
     room: Vec<ShelfSeat>,

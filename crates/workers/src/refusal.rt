@@ -30,8 +30,8 @@ impl LoadRefusal {
     }
 }
 
-/// The number, the name and the places, each after a space, as in `8 IdTwice stops.txt 3`. Where no
-/// shelf is free, the places are the counts of all shelves, as in `94 ShelvesFull 1 1 1 1 1 1 1 0`.
+/// The number, the name and, if the fault has them, the file and the record, as in `8 IdTwice stops.txt 3`. Where no
+/// shelf is free, the counts of all shelves follow the name, as in `94 ShelvesFull 1 1 1 1 1 1 1 0`.
 impl fmt::Display for LoadRefusal {
     ghost use Rattle.std.specs.Prelude.{Some};
     ghost use Rattle.workers.specs.Lines.{refusal_text};

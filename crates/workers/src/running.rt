@@ -51,16 +51,15 @@ pub struct Ran<C: Client, K, S, L, N: Drop, D> {
     pub orders: UsedLoader<N>,
     /// The loader's seat.
     pub loader: L,
-    /// The workers' orders, seat after seat: contracts alone see them.
+    /// The workers' orders, seat after seat: only contracts see them.
     pub asked: Notes<UsedOrders<N>>,
-    /// The files that the loader used, order after order: contracts alone see them.
+    /// The files that the loader used, order after order: only contracts see them.
     pub used: UsedFiles<D, N>,
 }
 
-/// Serves all clients, with a worker for each seat, and loads the feeds that they order. Profiles
-/// are replied in this form. What came of a load is written to the error writer, and goes to
-/// whoever waits for it. It returns when there are no more clients, all sessions have ended, and
-/// all orders were carried out.
+/// Serves all clients, with a worker for each seat, and loads the feeds that they order. Profiles are replied in this
+/// form. What came of a load is written to the error writer, and goes to whoever waits for it. This function returns
+/// when there are no more clients, all sessions have ended, and all orders were carried out.
 pub fn run_workers<
     C: Client + Drop + Send,
     K: Clients<C> + Drop,
@@ -239,7 +238,7 @@ where
     )
 }
 
-// One more at the end.
+// Adds the worker at the end.
 fn also<W: Drop>(workers: &mut Vec<W>, worker: W) -> Result<(), AllocError>
     ensures { OnOk result (workers.new.items ≡ workers.old.items ++ worker ∷ []) }
 {

@@ -12,7 +12,7 @@ use std::marker::Model;
 pub enum End {
     /// All its lines were answered.
     Ended,
-    /// It couldn't be opened, or a read or a write failed.
+    /// Its client couldn't be opened, or a read or a write failed.
     Failed,
     /// It had too many requests.
     Spent,
@@ -29,8 +29,9 @@ pub(crate) fn end_of(outcome: Result<Ended, SessionFault>) -> End
     }
 }
 
-/// How many sessions ended in each way: those of a worker, and then those of all. Contracts see the list of the
-/// sessions: of each its client's reader and writer as they were then, if the client could be opened, and how it ended.
+/// How many sessions ended in each way: those of one worker, and at the end those of all. Contracts see the list of the
+/// sessions: for each, how it ended and, if its client could be opened, the client's reader and writer as they were
+/// then.
 #[derive(Drop)]
 pub struct Served<R, W> {
     ended: u64,
@@ -54,7 +55,7 @@ impl<R, W> Served<R, W> {
     ghost use Rattle.std.specs.Prelude.{◌≡◌, ◌++◌, ◌∷◌, []};
     ghost use Rattle.workers.specs.Ends.{ended_in, failed_in, spent_in};
 
-    /// Of no session.
+    /// Counts no session.
     pub fn new() -> Served<R, W>
         ensures { result ≡ [] }
     {
@@ -66,7 +67,7 @@ impl<R, W> Served<R, W> {
         }
     }
 
-    /// One session more.
+    /// Adds one session.
     pub fn add(&mut self, session: &(Option<Streams<R, W>>, End))
         ensures { self.new ≡ self.old ++ session.now ∷ [] }
     {
@@ -78,7 +79,7 @@ impl<R, W> Served<R, W> {
         self.sessions.note(session);
     }
 
-    /// Another worker's sessions too.
+    /// Adds another worker's sessions.
     pub fn join(&mut self, other: Served<R, W>)
         ensures { self.new ≡ self.old ++ other }
     {
@@ -94,7 +95,7 @@ impl<R, W> Served<R, W> {
         self.sessions.append(sessions);
     }
 
-    /// How many sessions ended with all lines answered. This and the other counts stay at their greatest value.
+    /// How many sessions ended with all lines answered. This count and the others stop at the greatest value.
     pub fn ended(&self) -> u64
         ensures { result ≡ ended_in self.now }
     {

@@ -114,7 +114,7 @@ impl<'a, R: Wait, N: Drop, T: Versions<Notice = N>, G: Gate> Worker<'a, R, T, G>
     }
 }
 
-// Gives a client's reader and writer back, if there are any.
+// Closes a client's reader and writer, if there are any.
 fn close<C: Client>(streams: Option<Streams<C::Reader, C::Writer>>, end: End)
     requires closes { IfSome streams (λ now. C.closes (inner_of now.reader) (inner_of now.writer) end) }
 {

@@ -50,9 +50,9 @@ impl<E, F> RouteTo<E, F> {
     }
 }
 
-/// That a worker's share is the sessions of the clients that it took at this end of the queue, served at its seat of
-/// these shelves, from what the seat was when the worker began, with replies in this form; and that it asked for loads
-/// by orders that go this way.
+/// The promise of a worker's thread: the worker's share is the sessions of the clients that it took at this end of the
+/// queue, served at its seat of these shelves, from what the seat was when the worker began, with replies in this form;
+/// and it asked for loads by orders that go this way.
 #[derive(Drop)]
 pub(crate) struct ShareAt<C: Drop, N: Drop, T: Versions, F> {
     pub shelves: Snapshot<T>,
@@ -101,8 +101,8 @@ impl<C: Client + Drop, S, N: Drop, T: Versions<Seat = S, Notice = N>, F: Feeds> 
         promise.seat.value done.0.taker.taken done.1 done.0.served done.0.seat };
 }
 
-/// That all orders of these feeds that came to the loader were carried out, from what its seat of these shelves was
-/// when it began.
+/// The promise of the loader's thread: all orders of these feeds that came to the loader were carried out, from what
+/// its seat of these shelves was when it began.
 #[derive(Drop)]
 pub(crate) struct LoadsAt<T: Loads, F, N: Drop> {
     pub shelves: Snapshot<T>,
