@@ -83,7 +83,7 @@ IsDealing items _ = ⊥
 abbrev pub AllWereTaken : {C : Type 0} → DealerView C → Type 0
 AllWereTaken d = d.out ≡ 0 → 0 < d.closings → d.ended ≡ d.closings → IsPermutation d.sent d.taken
 
--- the end where clients are put knows of what it is true
+-- AllWereTaken holds of what the end knows, if it is the one where clients are put
 abbrev pub KnowsAllTaken : {C : Type 0} → Side C → Type 0
 KnowsAllTaken (Side.Dealing d) = AllWereTaken d
 KnowsAllTaken _ = ⊤

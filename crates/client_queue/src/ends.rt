@@ -151,9 +151,9 @@ fn send<R: Wait, C: Drop>(
 }
 
 impl<C: Drop, P: ClientRule<C>> Taker<C, P> {
-    /// Takes the client that has waited longest, or waits for one. `None` if the queue was closed for this end, as each
-    /// later call then says too; or if the queue was empty at one moment of the call, and the end where clients are put
-    /// is gone. That this end is gone is shown by tests, not by the contract.
+    /// Takes the client that has waited longest, or waits for one. Returns `None` if the queue was closed for this end,
+    /// in this call or before; or if it was empty at one moment of the call, and the end where clients are put is gone.
+    /// Tests show that this other end is gone; the contract doesn't.
     pub fn next<R: Wait>(&mut self, rt: &R) -> Option<C>
         ensures queue { self.new.queue ≡ self.old.queue }
         ensures taken { MatchOption result (self.new.taken ≡ self.old.taken)

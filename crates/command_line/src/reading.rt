@@ -258,7 +258,7 @@ fn feed_named_twice(alloc: Global, word: &str) -> Unread {
     )
 }
 
-/// A message about the words of a command, with its usage and a hint if there is memory for them.
+/// A message about the words of a command, with the command's usage and a hint if there is memory for them.
 fn mistake(alloc: Global, command: &str, text: Result<String, AllocError>) -> Unread {
     let Ok(text) = text else {
         return Unread::OutOfMemory;

@@ -151,6 +151,6 @@ PublishedStay =
     (earlier later : Known) (version : ℕ) (image : ImageValue) → Grows earlier later
     → IsPublished earlier version image → IsPublished later version image
 
--- what grows from a history grows from each history from which that one grows
+-- growing is transitive
 abbrev pub GrowthsJoin : Type 0
 GrowthsJoin = (first second third : Known) → Grows first second → Grows second third → Grows first third

@@ -27,7 +27,7 @@ emptied a answer = record a { answers = a.answers ++ answer ∷ []; held = None 
 abbrev pub pinned : SeatValue → ℕ → Snapshot ImageValue → SeatValue
 pinned a version image = record { answers = a.answers ++ Answer.Pinned version image ∷ []; held = Some (version, image.value); seen = version }
 
--- from one value of a seat to the next, by a pin with this result. If it moved, four looks found four versions, one above the other
+-- from one value of a seat to the next, by a pin with this result. If it moved, its four looks found four versions, each greater than the one before
 abbrev pub PinStep : SeatValue → Result (Unit {0}) PinFault → SeatValue → Type 0
 PinStep a (Ok u) b = (a.held ≡ None) × ((version : ℕ) × (image : Snapshot ImageValue) × (a.seen ≤ version) × (b ≡ pinned a version image))
 PinStep a (Err (PinFault.Moved newest)) b =

@@ -87,7 +87,7 @@ impl<B: Named, S: AtTable + Drop> Model for UnderName<B, S> {
 }
 
 impl<B: Named, S: AtTable + Drop> UnderName<B, S> {
-    /// Puts it under the name of its shelves.
+    /// Puts a seat, a loader or a notice under the name of its shelves.
     pub fn of(inner: S) -> UnderName<B, S>
         requires { S.table inner ≡ B.table }
         ensures { result ≡ inner }
@@ -98,7 +98,7 @@ impl<B: Named, S: AtTable + Drop> UnderName<B, S> {
         }
     }
 
-    /// Returns it without the name. It belongs to the shelves of that name.
+    /// Returns the seat, loader or notice without the name. It belongs to the shelves of that name.
     pub fn into_inner(self) -> S
         ensures same { result ≡ self }
         ensures table { S.table result ≡ B.table }

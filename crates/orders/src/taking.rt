@@ -21,8 +21,8 @@ pub trait Orders {
     // The version that a notice is of.
     ghost told: { Self.Notice → ℕ };
 
-    /// Orders a load of the feed, and returns whether the order was taken. That promises no load, and what came of it
-    /// isn't reported here.
+    /// Orders a load of the feed. `Ok` says that the order was taken, which promises no load; the outcome isn't
+    /// reported here.
     fn order(&mut self, feed: &str) -> Result<(), OrderFault>
         ensures asked { asked self.new ≡ asked self.old ++ order_value feed.now result ∷ [] }
         ensures route { Self.route self.new ≡ Self.route self.old }

@@ -43,7 +43,7 @@ pub record Goes (c : Course) : Type 0 where
   pub as_many : length c.images ≡ newest c.state
   pub numbered : (i edition : ℕ) → slice_get c.state.editions i ≡ Some edition → edition ≡ i
 
--- the course with one event more
+-- the course with one more event
 abbrev pub extended : Course → Event → Reply → State → List ImageValue → Course
 extended c e r t images = record { state = t; events = c.events ++ e ∷ []; replies = c.replies ++ r ∷ []; images = images }
 
@@ -77,7 +77,7 @@ abbrev pub notes_in : List Event → ℕ
 notes_in [] = 0
 notes_in (e ∷ es) = note_of e + notes_in es
 
--- the versions of the notices that the worker took in, in that order
+-- the versions of the notices that the worker took in, from the first to the last
 abbrev pub join_of : ℕ → Event → List ℕ
 join_of w (Event.Join u v) = cond (u == w) (v ∷ []) []
 join_of w _ = []

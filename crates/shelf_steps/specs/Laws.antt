@@ -105,8 +105,8 @@ HeldShelvesStay =
     → get_elem? table.views i ≡ some (View.Working w) → w.now ≡ Worker.Holding k v
     → NeverFreedSince k w.known r.course
 
--- the versions that a worker has seen and last looked at are at most the current one, and the last is below it if a take of it came late; a worker
--- that has looked at the version that is still current has its shelf
+-- the versions that a worker has seen and last looked at are at most the current one, and the one last looked at is below it if the take of that came
+-- late; a worker that has looked at the version that is still current has its shelf
 abbrev pub LooksAreSo : Type 0
 LooksAreSo =
     (table : Shelved) (l : LoaderView) (i : ℕ) (w : WorkerView) → Ruled table → IsLoader table l → get_elem? table.views i ≡ some (View.Working w)

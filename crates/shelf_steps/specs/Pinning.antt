@@ -10,7 +10,7 @@ use Rattle.shelf_steps.specs.declared.views.View.{View}
 use Rattle.shelf_steps.specs.Course.{Happened, IsEdition}
 use Rattle.shelf_steps.specs.Plays.{OfWorker, Mine, ShowsIn}
 
--- a look finds the version n: no older than any that was seen, and greater than the last one if a take of that came late
+-- a look finds the version n: no older than any that was seen, and greater than the one last looked at if the take of that came late
 pub record LookedOnce (a : WorkerView) (n shelf : ℕ) (looked : Known) : Type 0 where
   pub from : a.seen ≤ n
   pub above : a.passed ≡ true → a.last < n

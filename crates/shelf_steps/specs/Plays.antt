@@ -1,9 +1,6 @@
 -- What each step tells the seat that makes it.
---
 -- m and m' are what the seat has before the step and after it: its view, and the slots that are out with it. v is a worker's view, l the
---
 -- loader's, u the view of either; c are the slots that are out, f has the content of each slot by its number; k is a shelf, n the word that
---
 -- the step found. st is the operation on the table: its word, and the first number that it was given.
 use Rattle.image_layout.specs.Image.{ImageValue}
 use Rattle.std.specs.Prelude.{◌≡◌, ℕ, ◌+◌, ◌*◌, ◌/◌, ◌%◌, ◌<◌, ◌≤◌, ◌==◌, ◌&&◌, ◌⊎◌, max, Bool, true, false, List, [], ◌∷◌, ◌++◌, Option, Some, None, length}
@@ -63,7 +60,8 @@ gone v known = record v { now = Worker.Idle; edition = None; known = known }
 abbrev pub ShowsIn : WorkerView → Type 0
 ShowsIn v = (s : State) × Goes (leading_to s v.known) × WorkerShows v.number v.now v.seen s
 
--- the step `Looking`: the version that it finds is no older than any that was seen, and greater than the last one if a take of that came late
+-- the step `Looking`: the version that it finds is no older than any that was seen, and greater than the one last looked at if the take of that came
+-- late
 abbrev pub Looks : Mine → ℕ → Mine → Type 0
 Looks m n m' = OfWorker m.0 (λ v.
     (known : Known) × (m' ≡ (View.Working (looked_at v n known), m.1))

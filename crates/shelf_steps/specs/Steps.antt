@@ -84,7 +84,7 @@ ClosesAdd = (slots id k : ℕ) (l : LoaderView) (c : Carried) → k < 8 → MayC
     → Adds slots id (View.Loading l, c) (k + 1) (λ n. (n + 256) % 18446744073709551616) (Event.Close k)
     (λ _. Reply.Closing) (Closes (step slots (k + 1) 256 0 none) (View.Loading l, c))
 
--- a compare-and-exchange frees a closing shelf if its count is 0, and otherwise finds the count
+-- a compare-exchange frees a closing shelf if its count is 0, and otherwise finds the count
 abbrev pub CollectsAdd : Type 0
 CollectsAdd = (slots id k version : ℕ) (l : LoaderView) (c : Carried) → slots ≡ 128 → k < 8
     → MayCollect k version (View.Loading l) c
@@ -92,7 +92,7 @@ CollectsAdd = (slots id k version : ℕ) (l : LoaderView) (c : Carried) → slot
     (λ n. cond (n == 512 + 65536 * version) Reply.Freed (Reply.Busy (n % 256)))
     (Collects (step slots (k + 1) (512 + 65536 * version) 0 none) (View.Loading l, c))
 
--- the slots of a free shelf are moved by compare-and-exchanges that fail
+-- the slots of a free shelf are moved by compare-exchanges that fail
 abbrev pub GatheringsAdd : Type 0
 GatheringsAdd = (slots id k : ℕ) (l : LoaderView) (c : Carried) → slots ≡ 128 → k < 8
     → MayGather k (View.Loading l) c

@@ -30,7 +30,7 @@ impl Play<Option<Edition>, View> for Looking {
 }
 
 /// The step by which a worker that has looked is counted at the shelf that it saw: the event `Take`. If the version was
-/// still open there, the worker's slot goes out with it; otherwise the worker is late.
+/// still open there, the slot of that worker goes out with it; otherwise the worker is late.
 pub struct Taking;
 
 impl Play<Option<Edition>, View> for Taking {

@@ -26,7 +26,7 @@ pub struct WorkerView {
     pub passed: bool,
     /// The edition that is held.
     pub edition: Option<Edition>,
-    /// The versions of the notices that were taken in, in that order.
+    /// The versions of the notices that were taken in, from the first to the last.
     pub joined: LinkedList<u64>,
     /// What happened, up to the worker's last step on a word.
     pub known: Known,

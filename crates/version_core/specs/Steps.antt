@@ -1,5 +1,4 @@
 -- What an event may do, by its reply. A reply that is not listed is never given, and NotNow changes nothing.
---
 -- s is the state before, t the state after; w a worker, k a shelf, v a version, e an edition, r a reply.
 use Rattle.std.specs.Prelude.{◌≡◌, ◌≢◌, ℕ, ◌+◌, ◌<◌, max, Some, ◌⊎◌, slice_get, slice_index}
 use Rattle.version_core.specs.declared.state.Shelf.{Shelf}
