@@ -14,7 +14,7 @@ pub enum Request<'a> {
     Journey(JourneyRequest<'a>),
     /// To answer a profile query over an image.
     Profile(ProfileRequest<'a>),
-    /// To answer the queries from every stop over an image.
+    /// To answer the queries from every stop to one over an image.
     Departures(DeparturesRequest<'a>),
     /// To read the tables of a feed's folder.
     Tables(&'a str),
@@ -141,7 +141,7 @@ pub struct NamedFolder<'a> {
     pub folder: &'a str,
 }
 
-/// What is served, where, and how often.
+/// What is served, at which port, and for how many sessions.
 #[derive(Drop)]
 pub struct ServeRequest<'a> {
     pub image: &'a str,

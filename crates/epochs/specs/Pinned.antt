@@ -1,4 +1,4 @@
--- What is pinned at shelves without a lock is left alone, and what their seats know is of one history.
+-- What is pinned at shelves without a lock is left alone, and their seats know beginnings of one history.
 use Rattle.std.specs.Prelude.{◌≡◌, ◌≢◌, ℕ, ◌+◌, ◌*◌, [], ◌∷◌, Some, slice_index}
 use mathlib.Core.Option.{some, none}
 use lib.ListN.{get_elem?}

@@ -29,7 +29,7 @@ use std::sync::Arc;
 use timetable::Trace;
 use version_core::{Core, Event, Reply, Shelf, at_rest, every_run, holding, runs_in_parts};
 
-/// Eight shelves with the editions on them, and the table that says which version is current and who is where.
+/// Eight shelves with the editions on them, and the core that says which version is current and where the workers are.
 #[derive(Drop)]
 pub struct VersionTable {
     core: Core,

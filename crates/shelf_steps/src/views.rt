@@ -40,7 +40,7 @@ pub struct LoaderView {
     pub notes: u64,
     /// The current version.
     pub current: u64,
-    /// The shelf on which it stands.
+    /// The shelf of the current version.
     pub current_shelf: u64,
     /// What each shelf is for.
     pub shelves: LinkedList<Shelf>,
