@@ -1,4 +1,4 @@
--- How clients come from the queue to those who take them.
+-- How clients go through the queue to those that take them.
 use Rattle.std.specs.Prelude.{◌≡◌, ◌<◌, ◌+◌, ◌-◌, ◌++◌, ◌∷◌, ℕ, zero, suc, List, [], map, IsPermutation, ⊤}
 use mathlib.Core.Option.{some}
 use lib.ListN.{get_elem?}
@@ -14,18 +14,18 @@ new_queue = Side.Dealing (record { sent = []; closings = 0; out = 0; taken = [];
 abbrev pub new_taker : {C : Type 0} → Side C
 new_taker = Side.Taking [] 0
 
--- one taker more is out
+-- one more taker is out
 abbrev pub with_one_out : {C : Type 0} → Side C → Side C
 with_one_out (Side.Dealing d) = Side.Dealing (record d { out = d.out + 1 })
 with_one_out side = side
 
--- one is back, with what it had taken
+-- a taker is back, with what it had taken
 abbrev pub with_taken : {C : Type 0} → Side C → Side C → Side C
 with_taken (Side.Dealing d) (Side.Taking taken ended) =
     Side.Dealing (record d { out = d.out - 1; taken = d.taken ++ taken; ended = d.ended + ended })
 with_taken side other = side
 
--- what an end does with one arrival: it is put, or taken
+-- one more arrival was put or taken by an end
 abbrev pub IsOneMore : {C : Type 0} → Side C → Arrival C → Side C → Type 0
 IsOneMore (Side.Dealing d) (Arrival.Client client) after = after ≡ Side.Dealing (record d { sent = d.sent ++ client ∷ [] })
 IsOneMore (Side.Dealing d) Arrival.Closing after = after ≡ Side.Dealing (record d { closings = d.closings + 1 })
@@ -33,7 +33,7 @@ IsOneMore (Side.Taking taken ended) (Arrival.Client client) after = after ≡ Si
 IsOneMore (Side.Taking taken ended) Arrival.Closing after = after ≡ Side.Taking taken (ended + 1)
 IsOneMore Side.Back arrival after = after ≡ Side.Back
 
--- of all takers that are out: what they took, one behind the other, for how many closings, and how many they are
+-- of all takers that are out: what they took, one after another, how many closings they took, and how many takers they are
 abbrev pub taken_by : {C : Type 0} → List (Side C) → List C
 taken_by [] = []
 taken_by (Side.Taking taken ended ∷ rest) = taken ++ taken_by rest
@@ -49,19 +49,19 @@ takers_in [] = 0
 takers_in (Side.Taking taken ended ∷ rest) = 1 + takers_in rest
 takers_in (side ∷ rest) = takers_in rest
 
--- none of them puts clients
+-- none of these ends puts clients
 abbrev pub OnlyTake : {C : Type 0} → List (Side C) → Type 0
 OnlyTake [] = ⊤
 OnlyTake (Side.Dealing d ∷ rest) = ⊥
 OnlyTake (side ∷ rest) = OnlyTake rest
 
--- so many closings
+-- n closings
 abbrev pub closings_of : {C : Type 0} → ℕ → List (Arrival C)
 closings_of zero = []
 closings_of (suc n) = Arrival.Closing ∷ closings_of n
 
--- what waits in the queue, of what was put: clients, and then closings. The clients before them were taken, each once; and once
--- a closing was taken, no client waits
+-- what waits in the queue, of what was put: clients, and then closings. The clients put before these were taken, each once; and once a closing was
+-- taken, no client waits
 pub record IsDealt {C : Type 0} (d : DealerView C) (items : List (Arrival C)) (others : List (Side C)) : Type 0 where
   pub dealt : List C
   pub waiting : List C
@@ -83,7 +83,7 @@ IsDealing items _ = ⊥
 abbrev pub AllWereTaken : {C : Type 0} → DealerView C → Type 0
 AllWereTaken d = d.out ≡ 0 → 0 < d.closings → d.ended ≡ d.closings → IsPermutation d.sent d.taken
 
--- the end where clients are put knows as much
+-- AllWereTaken holds of what the end knows, if it is the one where clients are put
 abbrev pub KnowsAllTaken : {C : Type 0} → Side C → Type 0
 KnowsAllTaken (Side.Dealing d) = AllWereTaken d
 KnowsAllTaken _ = ⊤
@@ -94,10 +94,10 @@ module _ {C : Type 0} (holds : List (Arrival C) → List (Side C) → Type 0) wh
   abbrev pub IsKeptByTakers : Type 0
   IsKeptByTakers = (pass : ℕ) (taken : List C) (ended : ℕ) → Pops holds pass (Side.Taking taken ended) (IsOneMore (Side.Taking taken ended))
 
-  -- the rule holds of these arrivals, where one end knows this
+  -- the rule holds of these arrivals and of some ends, one of which knows this
   abbrev pub IsHeldBeside : Side C → List (Arrival C) → Type 0
   IsHeldBeside side items = (views : List (Side C)) × (pass : ℕ) × holds items views × (get_elem? views pass ≡ some side)
 
-  -- at one moment the queue was empty, and one of its ends had taken these, and wasn't closed: the rule held then
+  -- at one moment the queue was empty, and one of its ends had taken these clients and wasn't closed; the rule held then
   abbrev pub WasEmpty : List C → Type 0
   WasEmpty taken = Held 0 (IsHeldBeside (Side.Taking taken 0))

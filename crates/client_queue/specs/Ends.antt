@@ -7,16 +7,16 @@ use Rattle.client_queue.specs.declared.queue.Arrival.{Arrival}
 use Rattle.client_queue.specs.declared.queue.DealerView.{DealerView}
 use Rattle.client_queue.specs.declared.queue.Side.{Side}
 
--- which queue, of all that there are
+-- the identity of a queue
 abbrev pub QueueId : Type 0 → Type 0
 QueueId C = TableId × Badge (Key (Arrival C))
 
--- where clients are put
+-- the end where clients are put, as contracts see it
 pub record DealerValue (C : Type 0) : Type 0 where
   pub queue : QueueId C
   pub view : DealerView C
 
--- where they are taken
+-- an end where clients are taken, as contracts see it
 pub record TakerValue (C : Type 0) : Type 0 where
   pub queue : QueueId C
   pub taken : List C  -- in order
@@ -50,7 +50,7 @@ with_back a taker = record a {
   };
 }
 
--- what an end knows, by what it does
+-- what an end knows, by whether clients are put or taken there
 abbrev pub dealer_of : {C : Type 0} → Side C → DealerView C
 dealer_of (Side.Dealing view) = view
 dealer_of _ = nothing_put

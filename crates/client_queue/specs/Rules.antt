@@ -1,4 +1,4 @@
--- That each client is taken once is kept by each taking.
+-- Each taking keeps the rule that each client is taken once.
 use Rattle.client_queue.specs.Dealing.{IsDealing, IsKeptByTakers}
 use Rattle.client_queue.specs.TakingLemmas.{takes}
 

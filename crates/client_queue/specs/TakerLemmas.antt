@@ -1,4 +1,4 @@
--- What a taker's step changes of what all takers took.
+-- How a taker's step changes what all takers took.
 use Rattle.std.proofs.Common.{◌≡◌, ◌+◌, ◌++◌, ◌∷◌, ℕ, zero, suc, List, [], refl, sym, ap, subst, arith, slice_set}
 use Rattle.std.specs.Prelude.{IsPermutation}
 use Rattle.std.proofs.lemmas.List.{append_assoc}
@@ -22,7 +22,7 @@ module _ {C : Type 0} where
       let left = subst (λ l. IsPermutation l ((ys ++ xs) ++ zs)) (append_assoc xs ys zs) swapped in
       subst (λ r. IsPermutation (xs ++ (ys ++ zs)) r) (append_assoc ys xs zs) left
 
-  -- what the takers took, where one of them has taken this, is this and what is there without it
+  -- if one of the takers has taken `took`, what all took is that and what the others took
   pub taken_at : (others : List (Side C)) (k : ℕ) (was took : List C) (n m : ℕ) → get_elem? others k ≡ some (Side.Taking was n)
       → IsPermutation (taken_by (slice_set others k (Side.Taking took m))) (took ++ taken_by (slice_set others k Side.Back))
   taken_at [] k was took n m at = absurd (some-ne-none _ (sym at))
@@ -51,7 +51,7 @@ module _ {C : Type 0} where
   takers_at (Side.Back ∷ rest) (suc k) was took n m at = takers_at rest k was took n m at
   takers_at (Side.Taking first e ∷ rest) (suc k) was took n m at = let more = takers_at rest k was took n m at in omega (arith, more)
 
-  -- a taker is put where it stands already
+  -- putting a taker where it already stands changes nothing
   pub same_at : (others : List (Side C)) (k : ℕ) (side : Side C) → get_elem? others k ≡ some side → slice_set others k side ≡ others
   unfolding found_or
   same_at [] k side at = absurd (some-ne-none _ (sym at))
@@ -74,7 +74,7 @@ module _ {C : Type 0} where
   back_at (Side.Taking first e ∷ rest) (suc k) only = back_at rest k only
   back_at (Side.Back ∷ rest) (suc k) only = back_at rest k only
 
-  -- and behind the others one who has taken nothing
+  -- a taker that has taken nothing, behind the others, adds nothing to what they took
   pub taken_also : (others : List (Side C)) → taken_by (others ++ Side.Taking [] 0 ∷ []) ≡ taken_by others
   taken_also [] = refl
   taken_also (Side.Dealing d ∷ rest) = taken_also rest
@@ -99,7 +99,7 @@ module _ {C : Type 0} where
   takes_also (Side.Taking first e ∷ rest) only = takes_also rest only
   takes_also (Side.Back ∷ rest) only = takes_also rest only
 
-  -- where no taker is out, nothing is taken there, and nothing is closed
+  -- if no taker is out, none has taken a client or a closing
   pub none_taken : (others : List (Side C)) → takers_in others ≡ 0 → taken_by others ≡ []
   none_taken [] nobody = refl
   none_taken (Side.Dealing d ∷ rest) nobody = none_taken rest nobody

@@ -65,7 +65,7 @@ module _ {C : Type 0} where
   unfolding size
   waits rest client empty = let n : 1 ≡ 0 = ap size empty in omega (arith, n)
 
-  -- one client more is dealt, and one more is taken
+  -- one more client is dealt, and one more is taken
   moved : (back others others_then taken left dealt : List C) (client : C) → IsPermutation dealt (back ++ others)
       → IsPermutation others (taken ++ left) → IsPermutation others_then ((taken ++ client ∷ []) ++ left)
       → IsPermutation (dealt ++ client ∷ []) (back ++ others_then)

@@ -17,8 +17,8 @@ use std::alloc::{AllocError, Global};
 use std::marker::Model;
 use std::sync::Wait;
 
-/// Where clients are put. Contracts see which queue, which clients were put, in order, how many takers are out, and
-/// what those that came back had taken.
+/// The end where clients are put. Contracts see which queue it belongs to, which clients were put, in order, how many
+/// takers are out, and what those that came back had taken.
 #[derive(Drop)]
 pub struct Dealer<C: Drop> {
     sender: RuledSender<Arrival<C>, Side<C>, EachOnce, Global>,
@@ -40,8 +40,8 @@ impl<C: Drop> Model for Dealer<C> {
         × IsDealerSide (view_of s.pass) × (ruled_capacity (sends_on s.sender) ≡ 1) };
 }
 
-/// Where clients are taken. Contracts see which queue, which clients were taken here, in order, and whether the queue
-/// was closed for this end.
+/// An end where clients are taken. Contracts see which queue it belongs to, which clients were taken here, in order,
+/// and whether the queue was closed for this end.
 #[derive(Drop)]
 pub struct Taker<C: Drop, P: ClientRule<C> = EachOnce> {
     receiver: RuledReceiver<Arrival<C>, Side<C>, P, Global>,
@@ -65,7 +65,7 @@ impl<C: Drop, P: ClientRule<C>> Model for Taker<C, P> {
     ghost invariant = { λ s. IsSeatAt (receives_on s.receiver) s.pass × IsTakerSide s.closed (view_of s.pass) };
 }
 
-/// An empty queue, in which one client may wait: the end where clients are put.
+/// Makes an empty queue, in which one client may wait, and returns the end where clients are put.
 pub fn client_queue<C: Drop>(alloc: Global) -> Result<Dealer<C>, AllocError>
     ensures { IfOk result (λ dealer. dealer.view ≡ nothing_put) }
 {
@@ -78,7 +78,7 @@ pub fn client_queue<C: Drop>(alloc: Global) -> Result<Dealer<C>, AllocError>
 }
 
 impl<C: Drop> Dealer<C> {
-    /// A taker of this queue, who goes out and has taken nothing.
+    /// Sends out a new taker of this queue, which has taken nothing. If memory is refused, nothing changes.
     pub fn taker(&mut self) -> Result<Taker<C>, AllocError>
         ensures taker { IfOk result (λ taker. taker ≡ record { queue = self.old.queue; taken = []; closed = false }) }
         ensures out { OnOk result (self.new ≡ out_once_more self.old) }
@@ -102,14 +102,14 @@ impl<C: Drop> Dealer<C> {
         send(rt, &self.sender, &mut self.pass, arrival);
     }
 
-    /// Closes the queue for one taker, once there is room: no client comes any more.
+    /// Closes the queue for one taker, once there is room. No client can be put after it.
     pub fn close<R: Wait>(&mut self, rt: &R)
         ensures { self.new ≡ closed_once_more self.old }
     {
         send(rt, &self.sender, &mut self.pass, Arrival::Closing);
     }
 
-    /// A taker comes back, with what it had taken.
+    /// Takes back a taker, with what it had taken.
     pub fn take_back(&mut self, taker: Taker<C>)
         requires { taker.queue ≡ self.old.queue }
         ensures { self.new ≡ with_back self.old taker }
@@ -117,8 +117,8 @@ impl<C: Drop> Dealer<C> {
         self.sender.absorb::<ComesBack>(&mut self.pass, taker.pass);
     }
 
-    /// Once no taker is out, and each came back because the queue was closed for it: what they took is what was put,
-    /// each client once. It changes nothing.
+    /// Changes nothing. Its contract says that once no taker is out, the queue was closed, and each closing was taken
+    /// by a taker that came back, what the takers took is what was put, each client once.
     pub fn all_were_taken(&mut self)
         ensures same { self.new ≡ self.old }
         ensures all { AllWereTaken self.old.view }
@@ -127,8 +127,8 @@ impl<C: Drop> Dealer<C> {
     }
 }
 
-// Sends once there is room. What comes back unsent is sent again: that nothing does, while the dealer keeps a receiver
-// of its own, no clause says.
+// Sends once there is room. What comes back unsent is sent again. While the dealer keeps a receiver of its own, nothing
+// comes back, but no contract says so.
 fn send<R: Wait, C: Drop>(
     rt: &R,
     sender: &RuledSender<Arrival<C>, Side<C>, EachOnce, Global>,
@@ -151,9 +151,9 @@ fn send<R: Wait, C: Drop>(
 }
 
 impl<C: Drop, P: ClientRule<C>> Taker<C, P> {
-    /// Takes the client that waits longest, or waits for one. None comes if the queue was closed for this end, and
-    /// then none ever comes; or if it was empty at one moment of the call, and the end is gone where clients are put:
-    /// that it is gone, tests show, and no contract.
+    /// Takes the client that has waited longest, or waits for one. Returns `None` if the queue was closed for this end,
+    /// in this call or before; or if it was empty at one moment of the call, and the end where clients are put is gone.
+    /// Tests show that this other end is gone; the contract doesn't.
     pub fn next<R: Wait>(&mut self, rt: &R) -> Option<C>
         ensures queue { self.new.queue ≡ self.old.queue }
         ensures taken { MatchOption result (self.new.taken ≡ self.old.taken)

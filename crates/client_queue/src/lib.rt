@@ -1,5 +1,5 @@
-//! The queue in which clients wait for a worker. Each client that is put there is taken by one worker, once: that is
-//! what the end where clients are put knows, when all others have come back to it.
+//! The queue in which clients wait for a worker. Each client that is put there is taken once, by one worker. The end
+//! where clients are put knows this once the queue was closed for all other ends and they have come back.
 #![tactic(auto)]
 
 mod ends;

@@ -1,4 +1,4 @@
-//! What waits in the queue, and the rule of it.
+//! What waits in the queue, and the queue's rule.
 
 use crossbeam_channel::protocol::{Join, Lesson, Outcome, Protocol, Split};
 use std::collections::LinkedList;
@@ -13,7 +13,7 @@ pub enum Arrival<C> {
     Closing,
 }
 
-/// What the end knows where clients are put. No value of it is made.
+/// What the end where clients are put knows. No value of it is made.
 pub struct DealerView<C> {
     /// The clients that were put, in order.
     pub sent: LinkedList<C>,
@@ -23,7 +23,7 @@ pub struct DealerView<C> {
     pub out: u64,
     /// What the takers that came back had taken.
     pub taken: LinkedList<C>,
-    /// For how many of them the queue had been closed.
+    /// For how many of the takers that came back the queue had been closed.
     pub ended: u64,
 }
 
@@ -31,21 +31,22 @@ pub struct DealerView<C> {
 pub enum Side<C> {
     /// The end where clients are put.
     Dealing { view: DealerView<C> },
-    /// An end where clients are taken: which were, in order, and how often it was closed for it.
+    /// An end where clients are taken: the clients taken there, in order, and how often the queue was closed for this
+    /// end.
     Taking { taken: LinkedList<C>, ended: u64 },
     /// What is left of a taker that came back.
     Back,
 }
 
-/// A rule of queues of clients, which each taking from a queue keeps. Of how it begins nothing is said here: so that it
-/// held of an empty queue at some moment, only the queue itself can say.
+/// A rule of queues of clients that each taking from a queue keeps. Nothing here says how it begins, so that it held of
+/// an empty queue at some moment can be learned only from the queue.
 pub trait ClientRule<C: Drop>: Protocol<Arrival<C>, Side<C>> {
     ghost use Rattle.client_queue.specs.Dealing.{IsKeptByTakers};
 
     ghost kept: { IsKeptByTakers Self.holds };
 }
 
-/// The rule: what was put waits in the queue, in order, or was taken once; and closings come last.
+/// The rule: each client that was put waits in the queue, in order, or was taken once; and closings come last.
 pub struct EachOnce;
 
 impl<C: Drop> Protocol<Arrival<C>, Side<C>> for EachOnce {
@@ -94,7 +95,7 @@ impl<C: Drop, P: ClientRule<C>> Lesson<Arrival<C>, Side<C>> for Leaves<P> {
     ghost fact = { IsHeldBeside P.Protocol.holds };
 }
 
-/// A taker goes out, who has taken nothing.
+/// A taker that has taken nothing goes out.
 pub struct GoesOut;
 
 impl<C> Split<Side<C>> for GoesOut {

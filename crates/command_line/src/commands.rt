@@ -5,33 +5,33 @@ use clap::{Arg, ArgAction, Command};
 use criteria::CriterionName;
 use std::alloc::{AllocError, Global};
 
-/// An argument of a command: its id, which an option is also written by, then what its value is called, and its help.
+/// An argument of a command: its id, which is also the name of an option, then the name of its value, and its help.
 #[derive(Clone, Copy)]
 enum Argument {
-    /// A word, in the order of the words.
+    /// A word; words are given in the order of this list.
     Word(&'static str, &'static str, &'static str),
-    /// A word, in the order of the words, that may be left out.
+    /// A word, in the same order, that may be left out.
     MaybeWord(&'static str, &'static str, &'static str),
-    /// Any number of words, behind all others.
+    /// Any number of words, after all others.
     Words(&'static str, &'static str, &'static str),
     /// An option with a value.
     Option(&'static str, &'static str, &'static str),
-    /// An option with a value that may be left out.
+    /// An option with a value; the option may be left out.
     MaybeOption(&'static str, &'static str, &'static str),
     /// An option whose value is the name of a criterion.
     Criterion(&'static str, &'static str, &'static str),
-    /// An option with a value that is given only beside the one of the id behind.
+    /// An option with a value, which may be given only together with the option whose id comes last.
     OptionBeside(&'static str, &'static str, &'static str, &'static str),
     /// An option without a value.
     Flag(&'static str, &'static str),
-    /// An option without a value that isn't given beside the one of the id behind.
+    /// An option without a value, which may not be given together with the option whose id comes last.
     OtherFlag(&'static str, &'static str, &'static str),
-    /// An option without a value that is given only beside the one of the id behind.
+    /// An option without a value, which may be given only together with the option whose id comes last.
     FlagBeside(&'static str, &'static str, &'static str),
 }
 
-/// A command: its word, what it does, what its help prints below the arguments, and these, in groups; commands share
-/// some of the groups.
+/// A command: its word, what it does, what its help prints below the arguments, and the arguments, in groups that
+/// commands may share.
 #[derive(Clone, Copy)]
 struct Task {
     name: &'static str,
@@ -46,7 +46,7 @@ const IMAGE: [Argument; 1] = [Argument::Word(
     "The image's file, or - for standard input",
 )];
 
-/// Where a query begins. A text that begins with a hyphen may be a stop_id.
+/// Where a query begins. A stop_id may begin with a hyphen.
 const SOURCE: [Argument; 1] = [Argument::Option(
     "from",
     "STOP_ID",
@@ -263,7 +263,8 @@ const IMAGE_TASKS: [Task; 6] = [
     },
 ];
 
-/// The commands that follow them. There are two lists since one of all is too large a term for a proof.
+/// The other commands, in the order of the help. There are two lists, since a single one is too large a term for a
+/// proof.
 const OTHER_TASKS: [Task; 5] = [
     Task {
         name: "tables",
@@ -297,7 +298,7 @@ const OTHER_TASKS: [Task; 5] = [
     },
 ];
 
-// A slice, since a loop over the list itself takes its whole text into each goal.
+// A slice, since a loop over the list itself puts the whole list into each goal.
 fn image_tasks() -> &'static [Task] {
     &IMAGE_TASKS
 }

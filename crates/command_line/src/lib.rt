@@ -1,4 +1,4 @@
-//! Reads the words of a command line as a request, or says what is wrong with them; and the help.
+//! Parses the words of a command line into a request, or a message about them; and the help.
 #![tactic(auto)]
 
 mod commands;

@@ -1,4 +1,4 @@
-//! From words to a request, or to what is said of them.
+//! From words to a request, or to a message about them.
 
 use crate::commands::{is_command, program, usage};
 use crate::values::{clock, count, month_name, named_folder, number, port, spelled_date, zone};
@@ -16,7 +16,7 @@ use std::convert::AsStr;
 /// Why the words ask for no command.
 #[derive(Drop)]
 pub enum Unread {
-    /// They ask for a text of help.
+    /// They ask for help, which is this text.
     Help(String),
     /// They are wrong, as the text says.
     Mistake(String),
@@ -64,7 +64,7 @@ impl Form {
         }
     }
 
-    /// What is said if a value isn't kept.
+    /// The message about a value of another form.
     fn rule(self) -> &'static str {
         match self {
             Form::Clock =>
@@ -101,13 +101,13 @@ fn is_workers(value: &str) -> bool {
     }
 }
 
-/// How clap ends what it says of a mistake.
+/// The end of clap's message about a mistake.
 const HINT: &str = "\nFor more information, try '--help'.\n";
 
-/// How the usage begins in what clap says of a mistake.
+/// The beginning of the usage in clap's message about a mistake.
 const USAGE: &str = "\nUsage: ";
 
-/// What clap says of words that begin with a command, or with none if its name is empty.
+/// Clap's message about words that begin with this command, or with none if its name is empty.
 fn unread_of(alloc: Global, error: &Error, command: &str) -> Unread {
     if error.kind() == ErrorKind::OutOfMemory {
         return Unread::OutOfMemory;
@@ -125,8 +125,8 @@ fn unread_of(alloc: Global, error: &Error, command: &str) -> Unread {
     }
 }
 
-/// What clap says of a mistake, with the command whose help says more. If the program itself has no such option, clap
-/// shows the usage of a similar one; that of the program is put in its place.
+/// Clap's message about a mistake, with a hint at the command whose help says more. If the program itself has no such
+/// option, clap shows the usage of a similar one; that is replaced by the usage of the program.
 fn with_hint(
     alloc: Global,
     command: &str,
@@ -144,13 +144,13 @@ fn with_hint(
     format!(in alloc; "{said}\n{hint}")
 }
 
-/// The line that says whose help says more: that of a command, or of the program if its name is empty.
+/// The line that points to the help of a command, or of the program if the name is empty.
 fn hint(alloc: Global, command: &str) -> Result<String, AllocError> {
     let space = if command.is_empty() { "" } else { " " };
     format!(in alloc; "For more information, try 'csa{space}{command} --help'.\n")
 }
 
-/// The command with which the words behind the program's name begin; empty if that word is none.
+/// The command that follows the program's name; empty if the word there is none.
 fn command_in<'a, S: AsStr>(words: &'a [S]) -> &'a str {
     let Some(word) = words.get(1) else {
         return "";
@@ -159,7 +159,7 @@ fn command_in<'a, S: AsStr>(words: &'a [S]) -> &'a str {
     if is_command(word) { word } else { "" }
 }
 
-/// What the words ask for; the first is the program's name.
+/// The request that the words make; the first word is the program's name.
 pub fn read<'a, S: AsStr>(alloc: Global, words: &'a [S]) -> Result<Request<'a>, Unread> {
     let Ok(command) = program(alloc) else {
         return Err(Unread::OutOfMemory);
@@ -175,7 +175,7 @@ pub fn wants_warnings<S: AsStr>(words: &[S]) -> bool {
     !words.iter().any(|word| word.as_str() == "--no-warnings")
 }
 
-/// What is asked by words that clap takes.
+/// The request of words that clap accepts.
 fn request_in<'a>(alloc: Global, matches: &ArgMatches<'a>) -> Result<Request<'a>, Unread> {
     match matches.subcommand() {
         Some(("build", inner)) => match build_request(inner) {
@@ -191,7 +191,7 @@ fn request_in<'a>(alloc: Global, matches: &ArgMatches<'a>) -> Result<Request<'a>
     }
 }
 
-/// What a command without service days asks for.
+/// The request of a command without service days; `None` if a value has a wrong form.
 fn plain_request<'a>(name: &str, matches: &ArgMatches<'a>) -> Option<Request<'a>> {
     match name {
         "verify" => matches.get_str("image").map(Request::Verify),
@@ -207,7 +207,7 @@ fn plain_request<'a>(name: &str, matches: &ArgMatches<'a>) -> Option<Request<'a>
     }
 }
 
-/// What is said of the first option whose value has a wrong form.
+/// The message about the first option whose value has a wrong form.
 fn wrong_value(alloc: Global, command: &str, matches: &ArgMatches<'_>) -> Unread {
     for (option, form) in &FORMS {
         if let Some(value) = matches.get_str(option)
@@ -223,7 +223,7 @@ fn wrong_value(alloc: Global, command: &str, matches: &ArgMatches<'_>) -> Unread
     )
 }
 
-/// What is said of an option whose value has a wrong form.
+/// The message about an option whose value has a wrong form.
 fn wrong_form(alloc: Global, option: &str, form: Form, value: &str) -> Result<String, AllocError> {
     if let (Form::Day, Some(date)) = (form, spelled_date(value)) {
         let reason = no_date(alloc, date)?;
@@ -233,7 +233,7 @@ fn wrong_form(alloc: Global, option: &str, form: Form, value: &str) -> Result<St
     format!(in alloc; "error: --{option} {value:?}: {rule}\n")
 }
 
-/// What is said of a year, a month and a day that are no date.
+/// The message about a year, a month and a day that are no date.
 fn no_date(alloc: Global, date: (u32, u32, u32)) -> Result<String, AllocError> {
     let (year, month, day) = date;
     match month_name(month) {
@@ -258,7 +258,7 @@ fn feed_named_twice(alloc: Global, word: &str) -> Unread {
     )
 }
 
-/// What is wrong with the words of a command, and its usage and hint if there is memory for them.
+/// A message about the words of a command, with the command's usage and a hint if there is memory for them.
 fn mistake(alloc: Global, command: &str, text: Result<String, AllocError>) -> Unread {
     let Ok(text) = text else {
         return Unread::OutOfMemory;
@@ -308,7 +308,7 @@ fn profile_request<'a>(matches: &ArgMatches<'a>) -> Option<ProfileRequest<'a>> {
     })
 }
 
-/// How many rows of a picture are asked for, none in a wrong form.
+/// How many rows of a picture are asked for; `None` if the value has a wrong form.
 fn rows(matches: &ArgMatches<'_>) -> Option<Rows> {
     match matches.get_str("rows") {
         Some(value) => rows_of(value),

@@ -13,7 +13,7 @@ pub(crate) fn port(text: &str) -> Option<u16> {
     u16::try_from(number(text)?).ok()
 }
 
-/// Decimal digits and nothing else, of a number below 2^64.
+/// The number that decimal digits spell, below 2^64; `None` of any other text.
 pub(crate) fn count(text: &str) -> Option<u64> {
     if text.starts_with('+') {
         return None;
@@ -21,13 +21,13 @@ pub(crate) fn count(text: &str) -> Option<u64> {
     text.parse().ok()
 }
 
-/// Decimal digits and nothing else, of a number below 2^32.
+/// The number that decimal digits spell, below 2^32; `None` of any other text.
 pub(crate) fn number(text: &str) -> Option<u32> {
     u32::try_from(count(text)?).ok()
 }
 
-/// The year, the month and the day of eight digits, whether or not the calendar has that date; none of another text, or
-/// in year 0.
+/// The year, the month and the day of eight digits, whether or not the calendar has that date; `None` of any other
+/// text, and for year 0.
 pub(crate) fn spelled_date(text: &str) -> Option<(u32, u32, u32)> {
     if text.len() != 8 {
         return None;

@@ -4,7 +4,7 @@ use Rattle.command_requests.specs.declared.plans.FirstDay.{FirstDay}
 use Rattle.command_requests.specs.declared.plans.FirstDay.TheVariants.{On, Today, Yesterday}
 use Rattle.gtfs_rows.specs.Values.{day_of}
 
--- the word means this day: a date, or by the clock
+-- the word means this day: a date, today, or yesterday
 abbrev pub IsWordOf : List ℕ → FirstDay → Type 0
 IsWordOf word (On day) = day_of word ≡ Some day
 IsWordOf word Today = word ≡ codes "today"

@@ -1,4 +1,4 @@
-//! How many sessions of a server ended in each way, and what it tells of them at its end.
+//! How many sessions of a server ended in each way, and what the server reports of them at its end.
 
 ghost use Rattle.std.specs.Prelude.{◌≡◌};
 ghost use Rattle.command_requests.specs.Ending.{sessions_in, status_of};
@@ -17,7 +17,7 @@ pub struct Ends {
 }
 
 impl Ends {
-    /// How many sessions there were. The sum stays at the greatest value.
+    /// How many sessions there were. The sum saturates.
     pub fn sessions(self) -> u64
         ensures { result ≡ sessions_in self }
     {
@@ -26,7 +26,7 @@ impl Ends {
             .saturating_add(self.spent)
     }
 
-    /// The exit status of the server, which may have failed to accept a session.
+    /// The exit status of the server; `is_deaf` says whether it failed to accept a session.
     pub fn status(self, is_deaf: bool) -> u8
         ensures { result ≡ status_of is_deaf self }
     {

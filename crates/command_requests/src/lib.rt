@@ -1,5 +1,5 @@
-//! What a command line asks for: each command with its arguments, whose numbers lie within their
-//! limits. And what commands end with.
+//! What a command line asks for: each command with its arguments, whose numbers lie within their limits; the exit
+//! statuses; and what a server reports of its sessions at its end.
 #![tactic(auto)]
 
 mod ends;

@@ -34,7 +34,7 @@ pub struct Workers {
 }
 
 impl Workers {
-    /// As many as are asked for; none beyond the limits.
+    /// As many as are asked for; `None` outside the limits.
     pub fn of(asked: u32) -> Option<Workers>
         ensures { MatchOption result (¬ ((1 ≤ asked) × (asked ≤ MOST_WORKERS))) (λ workers. workers.number ≡ asked) }
     {
@@ -56,7 +56,7 @@ pub struct Rows {
 }
 
 impl Rows {
-    /// As many as are asked for; none beyond the limits.
+    /// As many as are asked for; `None` outside the limits.
     pub fn of(asked: u32) -> Option<Rows>
         ensures { MatchOption result (¬ ((1 ≤ asked) × (asked ≤ MOST_ROWS))) (λ rows. rows.number ≡ asked) }
     {
@@ -78,7 +78,7 @@ impl Rows {
     }
 }
 
-/// How many service days there are, 1 to 14; none of another number.
+/// The number of service days, if it is 1 to 14; otherwise `None`.
 pub fn days_of(number: u32) -> Option<u32>
     ensures { SomeIff result ((1 ≤ number) × (number ≤ MOST_DAYS)) number }
 {
@@ -88,7 +88,7 @@ pub fn days_of(number: u32) -> Option<u32>
     Some(number)
 }
 
-/// How far the clocks of a zone are ahead of UTC, always: at most 86,399 seconds either way.
+/// How far the clocks of a zone are ahead of UTC at all times: at most 86,399 seconds either way.
 #[derive(Drop)]
 pub struct Ahead {
     pub seconds: i32,
@@ -96,7 +96,7 @@ pub struct Ahead {
 }
 
 impl Ahead {
-    /// So many seconds; none beyond the limit.
+    /// This many seconds; `None` beyond the limit.
     pub fn of(seconds: i32) -> Option<Ahead>
         ensures { MatchOption result (¬ (IsWithin 86_399 seconds)) (λ ahead. ahead.seconds ≡ seconds) }
     {
@@ -107,7 +107,7 @@ impl Ahead {
     }
 }
 
-/// How a time zone is told.
+/// How a time zone is given.
 #[derive(Drop)]
 pub enum ZoneText<'a> {
     Fixed(Ahead),
@@ -128,7 +128,8 @@ pub enum FirstDay {
 }
 
 impl FirstDay {
-    /// The day of a word: a civil date `YYYYMMDD` of the years 1 to 9999, `today`, or `today-1` for the day before.
+    /// The day that a word means: a civil date `YYYYMMDD` of the years 1 to 9999, `today`, or `today-1` for the day
+    /// before; `None` of any other word.
     pub fn of(word: &str) -> Option<FirstDay>
         ensures { MatchOption result ((first : FirstDay) → ¬ (IsWordOf word.now first)) (IsWordOf word.now) }
     {

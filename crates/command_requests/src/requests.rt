@@ -14,7 +14,7 @@ pub enum Request<'a> {
     Journey(JourneyRequest<'a>),
     /// To answer a profile query over an image.
     Profile(ProfileRequest<'a>),
-    /// To answer the queries from every stop over an image.
+    /// To answer the queries from every stop to one over an image.
     Departures(DeparturesRequest<'a>),
     /// To read the tables of a feed's folder.
     Tables(&'a str),
@@ -24,7 +24,7 @@ pub enum Request<'a> {
     Build(BuildRequest<'a>),
     /// To list stops by their names.
     Stops(StopsRequest<'a>),
-    /// To write an image anew, in the layout that is written.
+    /// To rewrite an image in the current layout.
     Upgrade(UpgradeRequest<'a>),
     /// To serve sessions.
     Serve(ServeRequest<'a>),
@@ -66,8 +66,8 @@ pub enum DeparturesForm {
     JsonPoints,
 }
 
-/// Where to, by the name of the stop, and when, in seconds after the image's base; the image, what is best, and what is
-/// printed, of every stop or of those that a file names.
+/// The image; the stop to go to, by its name; when, in seconds after the image's base; the criterion; and what is
+/// printed, for every stop or for those that a file names.
 #[derive(Clone, Copy, Drop)]
 pub struct DeparturesRequest<'a> {
     pub image: &'a str,
@@ -87,9 +87,9 @@ pub struct DeparturesRequest<'a> {
 /// How an answer is printed.
 #[derive(Clone, Copy, Drop)]
 pub enum AnswerForm {
-    /// Lines, whose journeys are of numbers, as `csa journey` reads them.
+    /// Lines, with journeys in numbers, as `csa journey` reads them.
     Numbers,
-    /// Lines, whose journeys are of names.
+    /// Lines, with journeys in names.
     Names,
     /// The reply of a session.
     Json,
@@ -97,7 +97,7 @@ pub enum AnswerForm {
     JsonLegs,
 }
 
-/// The image, the query that is asked of it, what is best, and how that is printed.
+/// The image, the query that is asked of it, the criterion, and how the answer is printed.
 #[derive(Clone, Copy, Drop)]
 pub struct ProfileRequest<'a> {
     pub image: &'a str,
@@ -106,18 +106,18 @@ pub struct ProfileRequest<'a> {
     pub form: AnswerForm,
     /// The file into which the answer is drawn.
     pub picture: Option<&'a str>,
-    /// How many of its journeys are drawn.
+    /// How many of its journeys are drawn at most.
     pub rows: Rows,
 }
 
-/// The image, and what the names of the stops that are listed have in them.
+/// The image, and the text that the names of the listed stops contain.
 #[derive(Clone, Copy, Drop)]
 pub struct StopsRequest<'a> {
     pub image: &'a str,
     pub text: &'a str,
 }
 
-/// Which image is written anew, and where to.
+/// Which image is rewritten, and where to.
 #[derive(Clone, Copy, Drop)]
 pub struct UpgradeRequest<'a> {
     pub image: &'a str,
@@ -130,7 +130,7 @@ pub struct BuildRequest<'a> {
     pub folder: &'a str,
     pub out: &'a str,
     pub plan: PlanText<'a>,
-    /// Whether it is told what is done.
+    /// Whether progress is shown.
     pub progress: bool,
 }
 
@@ -141,15 +141,15 @@ pub struct NamedFolder<'a> {
     pub folder: &'a str,
 }
 
-/// What is served, where, and how often.
+/// What is served, at which port, and for how many sessions.
 #[derive(Drop)]
 pub struct ServeRequest<'a> {
     pub image: &'a str,
     pub port: u16,
     pub workers: Workers,
-    /// How many sessions are served in all, 0 for no end.
+    /// How many sessions are served in all; 0 for no limit.
     pub sessions: u64,
-    /// Whether profiles are replied with the legs of journeys.
+    /// Whether replies to profiles have the legs of journeys.
     pub legs: bool,
     /// Whether each session and each load is logged.
     pub log: bool,

@@ -1,4 +1,4 @@
--- What the loader knows only grows; and what its calls did in it.
+-- What the loader knows only grows, and what its calls add to it.
 use Rattle.std.proofs.Common.{◌≡◌, ◌≢◌, ℕ, zero, suc, ◌+◌, ◌<◌, ◌≤◌, Bool, true, false, List, [], ◌∷◌, ◌++◌, length, get_or, Option, None, Some}
 use Rattle.std.proofs.Common.{slice_get, refl, sym, ap, ◌∙◌, subst, arith, inl, inr, append_assoc, append-nil}
 use mathlib.Core.Logic.{dite}

@@ -1,4 +1,4 @@
--- What seats know is of one history.
+-- All seats know beginnings of one history.
 use Rattle.std.proofs.Common.{ℕ, Option, refl, sym, subst}
 use Rattle.shelf_steps.specs.declared.views.Known.{Known}
 use Rattle.shelf_steps.specs.declared.views.View.{View}

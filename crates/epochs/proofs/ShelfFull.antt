@@ -1,4 +1,4 @@
--- Where each closing shelf was tried and none is free, workers are at all but the current one.
+-- If each closing shelf was tried and none is free, workers are at all shelves but the current one.
 use Rattle.std.proofs.Common.{◌≡◌, ◌≢◌, ℕ, zero, suc, ◌<◌, ◌≤◌, ◌⊎◌, Bool, true, false, List, [], ◌∷◌, ◌++◌, get_or}
 use Rattle.std.proofs.Common.{Option, Some, None, slice_get, refl, ap, sym, ◌∙◌, subst, arith, inl, inr}
 use mathlib.Core.Logic.{dite}

@@ -1,4 +1,4 @@
--- The numbers and names by which faults are told.
+-- The numbers and names of faults.
 use Rattle.std.specs.Prelude.{ℕ, List, codes}
 use Rattle.epochs.specs.declared.faults.PinFault.{PinFault}
 use Rattle.epochs.specs.declared.faults.PublishFault.{PublishFault}

@@ -21,24 +21,24 @@ StandsOn images Shelf.Free edition = edition ≡ None
 StandsOn images (Shelf.Open v) edition = IsEdition images v edition
 StandsOn images (Shelf.Closing v) edition = IsEdition images v edition
 
--- the state is where the events lead from the start, and between two loads. Edition numbers are places in the list of images
+-- the events lead from the start to the state, which is between two loads. Edition numbers are places in the list of images
 pub record IsHistory (state : State) (events : List Event) (images : List ImageValue) : Type 0 where
   pub run : IsRun start events state
   pub rest : IsAtRest state
   pub as_many : length images ≡ newest state
   pub numbered : (i edition : ℕ) → slice_get state.editions i ≡ Some edition → edition ≡ i
 
--- the same, at any moment
+-- the same of a state at any moment
 pub record LeadsTo (state : State) (events : List Event) (images : List ImageValue) : Type 0 where
   pub run : IsRun start events state
   pub as_many : length images ≡ newest state
   pub numbered : (i edition : ℕ) → slice_get state.editions i ≡ Some edition → edition ≡ i
 
--- what a worker holds has an image
+-- each version that a worker holds has an image
 abbrev pub HeldHaveImages : State → List ImageValue → Type 0
 HeldHaveImages s images = (w k v : ℕ) → Holds s w k v → (image : ImageValue) × (image_of images v ≡ Some image)
 
--- each shelf has the image of its version, and a free one has none
+-- each shelf has the edition of its version, and a free one has none
 pub record AreShelved (shelves : List Shelf) (editions : List (Option Edition)) (images : List ImageValue) : Type 0 where
   pub eight : length editions ≡ 8
   pub each : (k : ℕ) (shelf : Shelf) (edition : Option Edition) → slice_get shelves k ≡ Some shelf

@@ -1,4 +1,4 @@
--- What a call under a lock does. A lock can't be asked what it holds: so a call says that some table was there, and what it made of it.
+-- What a call under a lock does. Contracts can't see what a lock holds, so a call says that some table was there, and what it made of that table.
 use Rattle.std.specs.Prelude.{◌≡◌, ℕ, Result, Ok, Err, [], ◌∷◌}
 use Rattle.version_core.specs.State.{start}
 use Rattle.image_layout.specs.Image.{ImageValue}
@@ -9,11 +9,11 @@ use Rattle.epochs.specs.History.{TableValue, IsHistory}
 use Rattle.epochs.specs.Pins.{HoldsAt, Pins, RefusesPin, Releases, RefusesRelease}
 use Rattle.epochs.specs.Publishing.{MakesRoom, Publishes, RefusesPublish}
 
--- the table is where its history leads
+-- the table's events lead to its state
 abbrev pub HasHistory : TableValue → Type 0
 HasHistory table = IsHistory table.state table.events table.images
 
--- two tables, each where its history leads, with the step between them
+-- the step leads from some table to another, and the events of each lead to its state
 pub record UnderLock (step : TableValue → TableValue → Type 0) : Type 0 where
   pub before : TableValue
   pub after : TableValue
@@ -21,12 +21,12 @@ pub record UnderLock (step : TableValue → TableValue → Type 0) : Type 0 wher
   pub history_after : HasHistory after
   pub is_step : step before after
 
--- a pin with this result makes of the table and the seat another table and seat: there the worker holds what the seat holds
+-- a pin with this result, from a table and a seat to the table and the seat after it; if it succeeds, the worker holds what the seat holds
 abbrev pub PinsAt : TableValue → WorkerSeatValue → Result (Unit {0}) PinFault → TableValue → WorkerSeatValue → Type 0
 PinsAt a seat (Ok u) b after = Pins a seat b after × HoldsAt b after.number after.shown.held
 PinsAt a seat (Err fault) b after = RefusesPin a.state seat fault × (b ≡ a) × (after.worker ≡ seat.worker)
 
--- and so a release
+-- a release with this result, from a table and a seat to the table and the seat after it
 abbrev pub ReleasesAt : TableValue → WorkerSeatValue → Result (Unit {0}) PinFault → TableValue → WorkerSeatValue → Type 0
 ReleasesAt a seat (Ok u) b after = Releases a seat b after
 ReleasesAt a seat (Err fault) b after = RefusesRelease a.state seat fault × (b ≡ a)

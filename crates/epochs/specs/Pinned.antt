@@ -1,4 +1,4 @@
--- What is pinned at shelves without a lock is left alone, and what their seats know is of one history.
+-- What is pinned at shelves without a lock is left alone, and their seats know beginnings of one history.
 use Rattle.std.specs.Prelude.{◌≡◌, ◌≢◌, ℕ, ◌+◌, ◌*◌, [], ◌∷◌, Some, slice_index}
 use mathlib.Core.Option.{some, none}
 use lib.ListN.{get_elem?}
@@ -13,9 +13,9 @@ use Rattle.shelf_steps.specs.Laws.{Shelved, IsLoader}
 use Rattle.epochs.specs.SeatHistory.{Grows, IsPublished}
 use Rattle.epochs.specs.ShelfSeats.{ShelfSeatValue, ShowsWhatItKnows}
 
--- the version is on a shelf, open or closing, with the image that the loader's list has for it; the seat's slot of that shelf is out with the
--- seat, and with nobody else: it isn't at home, and the loader has no slot of the shelf in its hand; the shelf's word is none that a
--- collection frees; and no event has freed the shelf since the seat's last step
+-- the version is on a shelf, open or closing, with the image that the loader's list has for it; the seat's slot of that shelf is out with the seat,
+-- and with nobody else: it isn't at home, and the loader has no slot of the shelf in its hand; the shelf's word isn't one at which a collection frees
+-- the shelf; and no event has freed the shelf since the seat's last step
 pub record IsLeftAlone (seat : ShelfSeatValue) (version : ℕ) (image : ImageValue) (table : Shelved) (l : LoaderView) (r : Ruled table) : Type 0 where
   pub shelf : ℕ
   pub stands : version_on l.shelves shelf ≡ Some version
@@ -26,7 +26,7 @@ pub record IsLeftAlone (seat : ShelfSeatValue) (version : ℕ) (image : ImageVal
   pub in_use : (v : ℕ) → slice_index table.words (shelf + 1) ≢ 512 + 65536 * v
   pub never_freed : NeverFreedSince shelf (known_of seat.view) r.course
 
--- so it is while a seat shows that it holds the version, at each moment between two steps of any seats
+-- while a seat shows that it holds a version, that version is left alone, at each moment between two steps of any seats
 abbrev pub PinnedAreLeftAlone : Type 0
 PinnedAreLeftAlone =
     (seat : ShelfSeatValue) (version : ℕ) (image : ImageValue) (table : Shelved) (l : LoaderView) (i : ℕ) (r : Ruled table)
@@ -38,7 +38,7 @@ abbrev pub SeatsKnowBeginnings : Type 0
 SeatsKnowBeginnings =
     (table : Shelved) (i : ℕ) (u : View) (r : Ruled table) → get_elem? table.views i ≡ some u → Grows (known_of u) (all_of r.course)
 
--- so a version that two seats know to be published, as a worker and the loader do, has one image in what both know
+-- so a version that two seats know to be published, such as a worker's and the loader's, has the same image for both
 abbrev pub SeatsAgreeOnImages : Type 0
 SeatsAgreeOnImages =
     (table : Shelved) (i j : ℕ) (u w : View) (version : ℕ) (image other : ImageValue) → Ruled table

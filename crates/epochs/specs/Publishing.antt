@@ -11,7 +11,7 @@ use Rattle.epochs.specs.declared.faults.PublishFault.{PublishFault}
 use Rattle.epochs.specs.declared.collected.Collected.{Collected}
 use Rattle.epochs.specs.History.{TableValue}
 
--- the try at a shelf, where it is closing
+-- the try at a shelf, if it is closing
 abbrev pub try_at : ℕ → Option Shelf → List Event
 try_at k (Some (Shelf.Closing v)) = Event.Collect k ∷ []
 try_at k _ = []
@@ -34,7 +34,7 @@ abbrev pub after_try : Shelf → ℕ → Shelf
 after_try (Shelf.Closing v) zero = Shelf.Free
 after_try shelf _ = shelf
 
--- a try at the shelf, where it is closing, and what it found
+-- a try at the shelf, if it is closing, and what it found
 pub record TriesShelf (a : TableValue) (k : ℕ) (freed : Bool) (busy : ℕ) (b : TableValue) : Type 0 where
   pub run : IsRun a.state (try_at k (slice_get a.state.shelves k)) b.state
   pub events : b.events ≡ a.events ++ try_at k (slice_get a.state.shelves k)
@@ -60,7 +60,7 @@ pub record Collects (a : TableValue) (found : Collected) (b : TableValue) : Type
 abbrev pub HasFree : State → Type 0
 HasFree s = (k : ℕ) × IsFree s k
 
--- shelves are collected where none is free, and else nothing changes
+-- if no shelf is free, shelves are collected; otherwise nothing changes
 abbrev pub MakesRoom : TableValue → TableValue → Type 0
 MakesRoom a b = (HasFree a.state × (b ≡ a)) ⊎ ((¬ (HasFree a.state)) × ((found : Collected) × Collects a found b))
 
@@ -76,12 +76,12 @@ pub record Publishes (a : TableValue) (image : ImageValue) (version : ℕ) (b : 
   pub images : b.images ≡ a.images ++ image ∷ []
   pub current : b.state.current ≡ version
 
--- so many workers at each shelf but the current one
+-- the counts are above 0 for each shelf but the current one, and 0 for that
 pub record AreFull (s : State) (counts : List ℕ) : Type 0 where
   pub current : slice_index counts s.current_shelf ≡ 0
   pub others : (k : ℕ) → k < 8 → k ≢ s.current_shelf → 0 < slice_index counts k
 
--- what a fault of a publish tells of the table, and what was done before it
+-- what a publish that is refused with a fault tells of the table, and what it did before
 abbrev pub RefusesPublish : TableValue → PublishFault → TableValue → Type 0
 RefusesPublish a PublishFault.VersionsSpent b = (newest a.state ≡ 1000000000) × (b ≡ a)
 RefusesPublish a (PublishFault.ShelvesFull counts) b =

@@ -17,7 +17,7 @@ use Rattle.epochs.specs.declared.collected.Collected.{Collected}
 abbrev pub IsPublished : Known → ℕ → ImageValue → Type 0
 IsPublished known version image = image_of known.images version ≡ Some image
 
--- from what was known to what is known later: the one history begins the other
+-- what was known before is a beginning of what is known after
 pub record Grows (before after : Known) : Type 0 where
   pub events : IsPrefix before.events after.events
   pub replies : IsPrefix before.replies after.replies
@@ -31,11 +31,11 @@ pub record HoldsIn (known : Known) (number version : ℕ) (image : ImageValue) :
   pub holds : Holds state number shelf version
   pub published : IsPublished known version image
 
--- what a seat holds, if anything, its worker holds in the history that the seat knows
+-- if the seat holds a version, its worker holds it in the history that the seat knows
 abbrev pub HoldsAsKnown : Known → ℕ → Option (ℕ × ImageValue) → Type 0
 HoldsAsKnown known number held = IfSome held (λ h. HoldsIn known number h.0 h.1)
 
--- in a history that has grown since then, the worker looked: the current version was this one, on this shelf
+-- some time after what was known before, the worker looked: the current version was this one, on this shelf
 pub record IsFound (before : Known) (number version shelf : ℕ) (looked : Known) : Type 0 where
   pub first : Known
   pub since : Grows before first
@@ -51,18 +51,18 @@ abbrev pub EndsLate : Known → ℕ → ℕ → Known → Type 0
 EndsLate before number version after = (shelf : ℕ) × (looked : Known) × (late : Known) × IsFound before number version shelf looked
     × Happened looked (Event.Take number) Reply.Late late × Happened late (Event.Drop number) Reply.Dropped after
 
--- what a pin with this result did last in the history, from what was known before it to what is known after it. Another refusal did nothing
+-- what a pin with this result did last in the history, from what was known before it to what is known after it. Any other refusal did nothing
 abbrev pub EndsPin : Known → ℕ → Result (Unit {0}) PinFault → Option (ℕ × ImageValue) → Known → Type 0
 EndsPin before number (Ok u) held after = IfSome held (λ h. EndsHolding before number h.0 after)
 EndsPin before number (Err (PinFault.Moved newest)) held after = EndsLate before number newest after
 EndsPin before number (Err _) held after = after ≡ before
 
--- and what a release did: the worker dropped what it held; a refusal did nothing
+-- what a release did: the worker dropped what it held; a refusal did nothing
 abbrev pub EndsRelease : Known → ℕ → Result (Unit {0}) PinFault → Known → Type 0
 EndsRelease before number (Ok u) after = Happened before (Event.Drop number) Reply.Dropped after
 EndsRelease before number (Err _) after = after ≡ before
 
--- of these events each of the loader's is a try at one of these shelves
+-- among these events, each one of the loader's is a try at one of these shelves
 abbrev pub AreTries : (ℕ → Type 0) → List Event → Type 0
 AreTries shelves [] = Unit {0}
 AreTries shelves (e ∷ es) = ((actor e ≢ None) ⊎ ((k : ℕ) × (e ≡ Event.Collect k) × shelves k)) × AreTries shelves es
@@ -87,17 +87,18 @@ pub record EndsPublish (before : Known) (version : ℕ) (after : Known) : Type 0
   pub close : Happened current (Event.Close closed) Reply.Closing after
   pub image : (one : ImageValue) × (after.images ≡ before.images ++ one ∷ [])
 
--- between what was known before and what is known after, a try at the shelf was answered so
+-- between what was known before and what is known after, a try at the shelf got this reply
 abbrev pub IsTried : Known → ℕ → Reply → Known → Type 0
 IsTried before shelf reply after = (first : Known) × (tried : Known) × Grows before first
     × Happened first (Event.Collect shelf) reply tried × Grows tried after
 
--- between what was known before and what is known after, the shelf was tried once, and answered so: the loader's other events are tries at others
+-- between what was known before and what is known after, the shelf was tried once, with this reply; the loader's other events are tries at other
+-- shelves
 abbrev pub IsTriedOnce : Known → ℕ → Reply → Known → Type 0
 IsTriedOnce before shelf reply after = (first : Known) × (tried : Known) × OnlyTries (λ k. k ≢ shelf) before first
     × Happened first (Event.Collect shelf) reply tried × OnlyTries (λ k. k ≢ shelf) tried after
 
--- between what was known before and what is known after, the first try at the shelf was answered so
+-- between what was known before and what is known after, the first try at the shelf got this reply
 abbrev pub IsTriedFirst : Known → ℕ → Reply → Known → Type 0
 IsTriedFirst before shelf reply after = (first : Known) × (tried : Known) × Grows before first × OnlyTries (λ k. k ≢ shelf) before first
     × Happened first (Event.Collect shelf) reply tried × Grows tried after
@@ -106,8 +107,8 @@ IsTriedFirst before shelf reply after = (first : Known) × (tried : Known) × Gr
 abbrev pub IsReported : Collected → ℕ → Type 0
 IsReported found k = (slice_get found.freed k ≡ Some true) ⊎ ((count : ℕ) × (0 < count) × (slice_get found.busy k ≡ Some count))
 
--- what a collection reports was found by tries in the history since then: of each shelf that it reports as freed, the first try there freed
--- it; and each count above 0 that it reports, a try found at that shelf, the only one there. The loader did nothing else, and published no image
+-- what a collection reports was found by tries in the history since then: if it reports a shelf as freed, the first try there freed it; and if it
+-- reports a count above 0 at a shelf, the only try there found that count. The loader did nothing else, and published no image
 pub record FindsByTries (before : Known) (found : Collected) (after : Known) : Type 0 where
   pub freed : (k : ℕ) → k < 8 → slice_get found.freed k ≡ Some true → IsTriedFirst before k Reply.Freed after
   pub busy : (k count : ℕ) → k < 8 → 0 < count → slice_get found.busy k ≡ Some count → IsTried before k (Reply.Busy count) after
@@ -119,13 +120,13 @@ pub record FindsByTries (before : Known) (found : Collected) (after : Known) : T
 abbrev pub EndsRefused : Known → Known → Type 0
 EndsRefused before after = OnlyTries (λ k. Unit {0}) before after × (after.images ≡ before.images)
 
--- what was known before led to a state, and each shelf that is closing there is reported: so it was tried
+-- what was known before leads to a state, and each shelf that is closing in that state is reported, so it was tried
 pub record EachClosingIsTried (before : Known) (found : Collected) : Type 0 where
   pub state : State
   pub history : Goes (leading_to state before)
   pub each : (k v : ℕ) → IsClosing state k v → IsReported found k
 
--- each closing shelf was tried and found in use, by so many workers
+-- each closing shelf was tried and found in use, by as many workers as the counts say
 pub record AreInUse (before : Known) (counts : List ℕ) (after : Known) : Type 0 where
   pub found : Collected
   pub told : counts ≡ found.busy
@@ -133,7 +134,7 @@ pub record AreInUse (before : Known) (counts : List ℕ) (after : Known) : Type 
   pub all : EachClosingIsTried before found
   pub none_freed : (k : ℕ) → k < 8 → slice_get found.freed k ≢ Some true
 
--- where a publish is refused since all shelves are in use, each closing one was tried since then and found in use
+-- if a publish is refused since all shelves are in use, each closing one was tried and found in use
 abbrev pub IsFullByTries : Known → PublishFault → Known → Type 0
 IsFullByTries before (PublishFault.ShelvesFull counts) after = AreInUse before counts after
 IsFullByTries before _ after = Unit {0}
@@ -144,12 +145,12 @@ OneImageEach =
     (earlier later : Known) (version : ℕ) (image other : ImageValue) → Grows earlier later
     → IsPublished earlier version image → IsPublished later version other → other ≡ image
 
--- and stays so in each later history
+-- a version that was published with an image still has it in each later history
 abbrev pub PublishedStay : Type 0
 PublishedStay =
     (earlier later : Known) (version : ℕ) (image : ImageValue) → Grows earlier later
     → IsPublished earlier version image → IsPublished later version image
 
--- one that grows from a second one grows from all from which that one grows
+-- growing is transitive
 abbrev pub GrowthsJoin : Type 0
 GrowthsJoin = (first second third : Known) → Grows first second → Grows second third → Grows first third

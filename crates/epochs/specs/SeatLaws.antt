@@ -1,4 +1,4 @@
--- Seats at one table. A seat that was handed out with the table, and is used there alone, fits for good, and holds what was published.
+-- Seats at one table. A seat that was handed out with the table, and is used only there, always fits, and holds what was published.
 use Rattle.std.specs.Prelude.{◌≡◌, ◌≢◌, ℕ, zero, suc, ◌<◌, ◌≤◌, ◌⊎◌, List, Some, None, Result, Ok, Err}
 use Rattle.std.specs.Arc.{arc_value}
 use Rattle.image_layout.specs.Image.{ImageValue}
@@ -17,7 +17,7 @@ use Rattle.epochs.specs.ShelfSeats.{ShelfSeatValue, PinsBySteps, ReleasesBySteps
 abbrev pub NewSeatsFit : Type 0
 NewSeatsFit = (number : ℕ) → number < 16 → SeatFits start (idle_seat number)
 
--- what one seat does leaves the others fitting
+-- the other seats still fit after what one seat does
 abbrev pub PinsLeaveOthers : Type 0
 PinsLeaveOthers = (a b : TableValue) (seat after other : WorkerSeatValue) → LockedPins a seat b after
     → other.number ≢ seat.number → SeatFits a.state other → SeatFits b.state other
@@ -26,7 +26,7 @@ abbrev pub ReleasesLeaveOthers : Type 0
 ReleasesLeaveOthers = (a b : TableValue) (seat after other : WorkerSeatValue) → Releases a seat b after
     → other.number ≢ seat.number → SeatFits a.state other → SeatFits b.state other
 
--- and so does what the loader does
+-- all seats still fit after what the loader does
 abbrev pub PublishesLeaveSeats : Type 0
 PublishesLeaveSeats = (a b : TableValue) (seat : WorkerSeatValue) (image : ImageValue) (version : ℕ)
     → Publishes a image version b → SeatFits a.state seat → SeatFits b.state seat
@@ -38,7 +38,7 @@ CollectsLeaveSeats = (a b : TableValue) (seat : WorkerSeatValue) (found : Collec
 abbrev pub HoldsPublished : List ImageValue → WorkerSeatValue → Type 0
 HoldsPublished images seat = (version : ℕ) (image : ImageValue) → seat.shown.held ≡ Some (version, image) → image_of images version ≡ Some image
 
--- so it is after a pin, and from then on whatever is done
+-- after a pin, the seat holds what was published; and it still does after any call at the table (CallsKeepPublished)
 abbrev pub PinsHoldPublished : Type 0
 PinsHoldPublished = (a b : TableValue) (seat after : WorkerSeatValue) → LockedPins a seat b after → HoldsPublished b.images after
 
@@ -52,28 +52,28 @@ TableCall a b =
 abbrev pub CallsKeepPublished : Type 0
 CallsKeepPublished = (a b : TableValue) (seat : WorkerSeatValue) → TableCall a b → HoldsPublished a.images seat → HoldsPublished b.images seat
 
--- what a seat may do: a pin, a release, and to take in a notice
+-- what a seat may do: pin, release, or take in a notice
 abbrev pub SeatStep : SeatValue → SeatValue → Type 0
 SeatStep a b = ((r : Result (Unit {0}) PinFault) × PinStep a r b) ⊎ (((r : Result (Unit {0}) PinFault) × ReleaseStep a r b) ⊎ ((version : ℕ)
     × JoinStep a version b))
 
--- so many of these, one after another
+-- n of these, one after another
 abbrev pub SeatSteps : ℕ → SeatValue → SeatValue → Type 0
 SeatSteps zero a b = b ≡ a
 SeatSteps (suc n) a b = (mid : SeatValue) × SeatStep a mid × SeatSteps n mid b
 
--- a pin gave the version or a newer one; or it moved, with a newer one
+-- a pin gave this version or a newer one; or it moved, with a newer one; or it was refused with another fault
 abbrev pub GivesFrom : ℕ → Result (Unit {0}) PinFault → SeatValue → Type 0
 GivesFrom v (Ok u) b = (version : ℕ) × (image : ImageValue) × (b.held ≡ Some (version, image)) × (v ≤ version)
 GivesFrom v (Err (PinFault.Moved newest)) b = v < newest
 GivesFrom v (Err _) b = Unit {0}
 
--- once a notice of a version was taken in, so does each pin of the seat, whatever it did between
+-- once a seat has taken in a notice of v, GivesFrom v holds of each of its pins, whatever the seat did between
 abbrev pub JoinedVersionsStay : Type 0
 JoinedVersionsStay =
     (a b c d : SeatValue) (v n : ℕ) (r : Result (Unit {0}) PinFault) → JoinStep a v b → SeatSteps n b c → PinStep c r d → GivesFrom v r d
 
--- the calls of a seat at shelves without a lock, each as it tells of itself
+-- the calls of a seat at shelves without a lock, each by its contract
 abbrev pub PinsSo : ShelfSeatValue → Result (Unit {0}) PinFault → ShelfSeatValue → Type 0
 PinsSo a r b = PinStep a.shown r b.shown × PinsBySteps a r b
 
@@ -92,8 +92,8 @@ abbrev pub SeatCalls : ℕ → ShelfSeatValue → ShelfSeatValue → Type 0
 SeatCalls zero a b = b ≡ a
 SeatCalls (suc n) a b = (mid : ShelfSeatValue) × SeatCall a mid × SeatCalls n mid b
 
--- the pin's last look found the version that is held, and it is this one or a newer one; or the pin moved, with a newer one; or the seat held one
--- already. No other fault comes
+-- the pin's last look found the version that is held, and it is this one or a newer one; or the pin moved, with a newer one; or the seat held a
+-- version already. There is no other fault
 abbrev pub AnswersFrom : ℕ → ShelfSeatValue → Result (Unit {0}) PinFault → ShelfSeatValue → Type 0
 AnswersFrom v a (Ok u) b =
     (shelf : ℕ) × (e : Edition) × Pins a.view e.version shelf e b.view × (b.shown.held ≡ Some (e.version, arc_value e.image)) × (v ≤ e.version)
@@ -101,7 +101,7 @@ AnswersFrom v a (Err (PinFault.Moved newest)) b = v < newest
 AnswersFrom v a (Err PinFault.AlreadyPinned) b = a.shown.held ≢ None
 AnswersFrom v a (Err _) b = ⊥
 
--- so answers each pin of a seat at shelves without a lock once a notice of a version was taken in, whatever the seat did between
+-- once a seat at shelves without a lock has taken in a notice of v, AnswersFrom v holds of each of its pins, whatever the seat did between
 abbrev pub JoinedVersionsStayAtShelves : Type 0
 JoinedVersionsStayAtShelves =
     (a b c d : ShelfSeatValue) (v n : ℕ) (r : Result (Unit {0}) PinFault) → JoinsSo a v b → SeatCalls n b c → PinsSo c r d → AnswersFrom v c r d

@@ -27,7 +27,7 @@ emptied a answer = record a { answers = a.answers ++ answer ∷ []; held = None 
 abbrev pub pinned : SeatValue → ℕ → Snapshot ImageValue → SeatValue
 pinned a version image = record { answers = a.answers ++ Answer.Pinned version image ∷ []; held = Some (version, image.value); seen = version }
 
--- from one value of a seat to the next, by a pin with this result. Four looks found four versions where it moved
+-- from one value of a seat to the next, by a pin with this result. If it moved, its four looks found four versions, each greater than the one before
 abbrev pub PinStep : SeatValue → Result (Unit {0}) PinFault → SeatValue → Type 0
 PinStep a (Ok u) b = (a.held ≡ None) × ((version : ℕ) × (image : Snapshot ImageValue) × (a.seen ≤ version) × (b ≡ pinned a version image))
 PinStep a (Err (PinFault.Moved newest)) b =
@@ -37,24 +37,25 @@ PinStep a (Err PinFault.SeatLost) b = (a.held ≡ None) × (b ≡ told a (Answer
 PinStep a (Err PinFault.OutOfMemory) b = (a.held ≡ None) × (b ≡ told a (Answer.PinRefused PinFault.OutOfMemory))
 PinStep a (Err PinFault.NotPinned) b = ⊥
 
--- and by a release
+-- from one value of a seat to the next, by a release with this result
 abbrev pub ReleaseStep : SeatValue → Result (Unit {0}) PinFault → SeatValue → Type 0
 ReleaseStep a (Ok u) b = (a.held ≢ None) × (b ≡ emptied a Answer.Released)
 ReleaseStep a (Err PinFault.NotPinned) b = (a.held ≡ None) × (b ≡ told a (Answer.ReleaseRefused PinFault.NotPinned))
 ReleaseStep a (Err PinFault.SeatLost) b = (a.held ≢ None) × (b ≡ emptied a (Answer.ReleaseRefused PinFault.SeatLost))
 ReleaseStep a (Err _) b = ⊥
 
--- refusals of shelves that know their seats and pin without memory; a lock may have to refuse for either
+-- the refusal is one of shelves that know their seats and pin without memory: neither SeatLost nor OutOfMemory, with which a lock may have to refuse
 abbrev pub KnowsItsSeats : PinFault → Type 0
 KnowsItsSeats PinFault.SeatLost = ⊥
 KnowsItsSeats PinFault.OutOfMemory = ⊥
 KnowsItsSeats _ = Unit {0}
 
--- and by a notice of this version that is taken in: the seat has seen the greater of the two versions, and nothing else changes
+-- from one value of a seat to the next, by a notice of this version that is taken in: the seat has seen the greater of the two versions, and nothing
+-- else changes
 abbrev pub JoinStep : SeatValue → ℕ → SeatValue → Type 0
 JoinStep a version b = b ≡ record a { seen = max a.seen version }
 
--- a loader's seat shows its answers so far. From one list to the next, by a publish of this image as this version
+-- a loader's seat shows its answers so far: from one list to the next, by a publish of this image as this version
 abbrev pub PublishStep : List LoaderAnswer → ImageValue → ℕ → List LoaderAnswer → Type 0
 PublishStep a image version b = (1 < version) × (version ≤ 1000000000)
     × ((shown : Snapshot ImageValue) × (shown.value ≡ image) × (b ≡ a ++ LoaderAnswer.Published version shown ∷ []))
@@ -68,11 +69,11 @@ RefuseStep a (PublishFault.ShelvesFull counts) b = AreBusyButOne counts × (b �
 RefuseStep a PublishFault.VersionsSpent b = b ≡ a ++ LoaderAnswer.PublishRefused PublishFault.VersionsSpent ∷ []
 RefuseStep a PublishFault.OutOfMemory b = b ≡ a ++ LoaderAnswer.PublishRefused PublishFault.OutOfMemory ∷ []
 
--- by a collection: no shelf was freed with workers there
+-- from one list of answers to the next, by a collection: no shelf was freed with workers there
 abbrev pub CollectStep : List LoaderAnswer → Collected → List LoaderAnswer → Type 0
 CollectStep a found b = ((k : ℕ) → k < 8 → slice_get found.freed k ≡ Some true → slice_get found.busy k ≡ Some 0) × (b ≡ a ++ LoaderAnswer.Collected found ∷ [])
 
--- a worker's seat at a table under a lock: the worker's number, and what the seat says that it is doing
+-- a worker's seat at a table under a lock: the worker's number, what the seat says that the worker is doing, and what the seat shows
 pub record WorkerSeatValue : Type 0 where
   pub number : ℕ
   pub worker : Worker
@@ -86,7 +87,7 @@ abbrev pub held_of : Option Pin → Option (ℕ × ImageValue)
 held_of None = None
 held_of (Some pin) = Some (pin.edition.version, arc_value pin.edition.image)
 
--- the seat holds a version, and says so of its worker
+-- the seat holds a version, and says that its worker holds one
 abbrev pub IsHolding : WorkerSeatValue → Type 0
 IsHolding seat = (seat.shown.held ≢ None) × ((k v : ℕ) × (seat.worker ≡ Worker.Holding k v))
 

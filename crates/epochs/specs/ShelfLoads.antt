@@ -1,4 +1,4 @@
--- What the calls of the loader's seat tell at shelves without a lock.
+-- What the calls of the loader's seat do at shelves without a lock.
 use Rattle.std.specs.Prelude.{◌≡◌, ◌≢◌, ℕ, zero, suc, ◌<◌, ◌≤◌, ◌⊎◌, Bool, true, false, List, [], length, slice_get, slice_index_or, Option, Some, None}
 use Rattle.atomic_table.specs.Seated.{TableId}
 use Rattle.version_core.specs.declared.state.Shelf.{Shelf}
@@ -24,7 +24,7 @@ pub record ShelfLoaderValue : Type 0 where
   pub current : ℕ
   pub answers : List LoaderAnswer
 
--- between two loads: no slot is out, nothing is unpublished, and what the seat remembers is so
+-- between two loads: no slot is out, nothing is unpublished, and what the seat remembers is true
 pub record Rests (current current_shelf : ℕ) (shelves : List Shelf) (l : LoaderView) : Type 0 where
   pub empty : l.hand ≡ None
   pub newest : l.current ≡ newest_of l
@@ -43,14 +43,14 @@ pub record LeadsToShelves (known : Known) (shelves : List Shelf) : Type 0 where
   pub history : Goes (leading_to state known)
   pub each : (s : State) → Run start known.events known.replies s → s.shelves ≡ shelves
 
--- the shelves are those to which all that the loader knows leads
+-- the shelves of the loader's view are those to which all that it knows leads
 abbrev pub KnowsShelves : View → Type 0
 KnowsShelves u = OfLoader u (λ l. LeadsToShelves l.known l.shelves)
 
 abbrev pub RestsHere : ℕ → ℕ → List Shelf → Mine → Type 0
 RestsHere current current_shelf shelves m = OfLoader m.0 (λ l. Rests current current_shelf shelves l) × (m.1 ≡ []) × KnowsShelves m.0
 
--- a try at the shelf, where it is closing, and what it found
+-- a try at the shelf, if it is closing, and what it found
 abbrev pub TriedShelf : ℕ → Option Shelf → View → Bool → ℕ → View → Type 0
 TriedShelf k (Some (Shelf.Closing v)) u true busy u' = (busy ≡ 0) × Frees k u u'
 TriedShelf k (Some (Shelf.Closing v)) u false busy u' = FindsBusy k busy u u'
@@ -66,7 +66,7 @@ TriesBelow zero u freed busy u' = u' ≡ u
 TriesBelow (suc k) u freed busy u' = (mid : View) × TriesBelow k u freed busy mid
     × TriedShelf k (shelf_of mid k) mid (slice_index_or freed k false) (slice_index_or busy k 0) u'
 
--- a try at each of the eight shelves that is closing, by what the loader knows and by the history that it knows
+-- a try at each of the eight shelves that is closing, by the loader's view and by the history that it knows
 abbrev pub CollectsBySteps : View → Collected → View → Type 0
 CollectsBySteps u found u' = TriesBelow 8 u found.freed found.busy u' × EachClosingIsTried (known_of u) found
 
@@ -79,7 +79,7 @@ HasFree u = (k : ℕ) × IsFreeIn u k
 abbrev pub IsLeastFree : View → ℕ → Type 0
 IsLeastFree u k = IsFreeIn u k × ((j : ℕ) → j < k → ¬ (IsFreeIn u j))
 
--- where no shelf is free, each closing one was tried
+-- if no shelf was free, each closing one was tried
 abbrev pub MakesRoomBySteps : View → View → Type 0
 MakesRoomBySteps u u' = (HasFree u × (u' ≡ u)) ⊎ ((¬ (HasFree u)) × ((found : Collected) × CollectsBySteps u found u'))
 
@@ -87,25 +87,26 @@ MakesRoomBySteps u u' = (HasFree u × (u' ≡ u)) ⊎ ((¬ (HasFree u)) × ((fou
 abbrev pub PublishesBySteps : View → ImageValue → ℕ → View → Type 0
 PublishesBySteps u image version u' = (shelf before : ℕ) × IsLeastFree u shelf × Loads shelf version before image u u'
 
--- and then one notice of it goes out, and no other
+-- the same, and then one notice of the version goes out
 abbrev pub PublishesWithNotice : View → ImageValue → ℕ → View → Type 0
 PublishesWithNotice u image version u' = (loaded : View) × PublishesBySteps u image version loaded × (u' ≡ gives_notice loaded)
 
--- so many workers at each shelf but the current one
+-- the counts are above 0 for each shelf but the current one, and 0 for that
 abbrev pub AreFull : View → List ℕ → Type 0
 AreFull u counts = OfLoader u (λ l. (l.current_shelf < 8) × (slice_index_or counts l.current_shelf 0 ≡ 0)
     × ((k : ℕ) → k < 8 → k ≢ l.current_shelf → 0 < slice_index_or counts k 0))
 
--- there is a number left
+-- a version number is left
 abbrev pub IsUnspent : View → Type 0
 IsUnspent u = OfLoader u (λ l. l.current < 1000000000)
 
--- versions are spent only where the last one is current, and a publish is refused otherwise only below it
+-- a publish is refused with VersionsSpent only if the last version is current, and with another fault only if it isn't
 abbrev pub IsSpentAt : ℕ → PublishFault → Type 0
 IsSpentAt current PublishFault.VersionsSpent = current ≡ 1000000000
 IsSpentAt current _ = current < 1000000000
 
--- spent; or so many workers at each shelf but the current one, as the tries of this call found them; or no memory, before a shelf was opened
+-- no version number is left; or the counts of workers at each shelf but the current one are those that the tries of this call found; or there was no
+-- memory, before a shelf was opened
 abbrev pub RefusesBySteps : View → PublishFault → View → Type 0
 RefusesBySteps u PublishFault.VersionsSpent u' = OfLoader u (λ l. l.current ≡ 1000000000) × (u' ≡ u)
 RefusesBySteps u PublishFault.OutOfMemory u' = IsUnspent u × MakesRoomBySteps u u' × HasFree u'

@@ -1,4 +1,4 @@
--- What the calls of a worker's seat tell at shelves without a lock.
+-- What the calls of a worker's seat do at shelves without a lock.
 use Rattle.std.specs.Prelude.{◌≡◌, ◌≢◌, ℕ, ◌+◌, ◌*◌, ◌<◌, List, [], ◌∷◌, map, length, slice_get, Option, Some, None, MatchOption, Result, Ok, Err}
 use Rattle.std.specs.Arc.{arc_value}
 use Rattle.atomic_table.specs.Seated.{TableId}
@@ -35,12 +35,13 @@ abbrev pub held_at : Option (ℕ × Edition) → Option (ℕ × ImageValue)
 held_at None = None
 held_at (Some h) = Some (h.1.version, arc_value h.1.image)
 
--- an idle worker's seat, or one that holds the shelf with the edition in hand, which its history published
+-- an idle worker's seat; or one that holds the shelf with the edition in hand, whose image the history published as its version
 abbrev pub FitsSeat : ℕ → Option (ℕ × Edition) → Mine → Type 0
 FitsSeat number None m = IsIdleAs number m
 FitsSeat number (Some h) m = (h.0 < 8) × IsHoldingAs number h.0 h.1 m × HoldsIn (known_of m.0) number h.1.version (arc_value h.1.image)
 
--- by what the seat knows its worker holds this version with this image, on a shelf of which its own slot is out with the seat, and no other
+-- by what the seat knows, its worker holds this version with this image on a shelf, and the worker's slot of that shelf is out with the seat, and no
+-- other slot
 pub record HoldsByView (a : ShelfSeatValue) (version : ℕ) (image : ImageValue) : Type 0 where
   pub shelf : ℕ
   pub small : shelf < 8
@@ -51,12 +52,13 @@ pub record HoldsByView (a : ShelfSeatValue) (version : ℕ) (image : ImageValue)
   pub edition : (e : Edition) × (worker.edition ≡ Some e) × (e.version ≡ version) × (arc_value e.image ≡ image)
   pub slot : a.slots ≡ (16 * shelf + a.number) ∷ []
 
--- the seat shows what it knows: what it shows that it holds, its worker holds; else its worker is idle, and no slot is out with it
+-- the seat shows what it knows: its worker holds what the seat shows as held; if that is nothing, the worker is idle, and no slot is out with the
+-- seat
 abbrev pub ShowsWhatItKnows : ShelfSeatValue → Type 0
 ShowsWhatItKnows a = MatchOption a.shown.held (OfWorker a.view (λ v. v.now ≡ Worker.Idle) × (a.slots ≡ [])) (λ h. HoldsByView a h.0 h.1)
 
--- one to four looks that rise, of which the last found the version that is held; or four that rise, each followed by a
--- take that came late and a drop; or nothing, where the seat held a version. No other fault comes
+-- one to four looks, each of which found a greater version than the one before, and the last the version that is held; or four such looks, each
+-- followed by a take that came late and a drop; or nothing, if the seat held a version already. There is no other fault
 abbrev pub PinsBySteps : ShelfSeatValue → Result (Unit {0}) PinFault → ShelfSeatValue → Type 0
 PinsBySteps a (Ok u) b = (a.shown.held ≡ None)
     × ((shelf : ℕ) × (e : Edition) × Pins a.view e.version shelf e b.view
@@ -65,7 +67,7 @@ PinsBySteps a (Err (PinFault.Moved newest)) b = (a.shown.held ≡ None) × Moves
 PinsBySteps a (Err PinFault.AlreadyPinned) b = (a.shown.held ≢ None) × (b.view ≡ a.view) × (b.shown.held ≡ a.shown.held)
 PinsBySteps a (Err _) b = ⊥
 
--- one drop; or nothing, where the seat held no version. No other fault comes
+-- one drop; or nothing, if the seat held no version. There is no other fault
 abbrev pub ReleasesBySteps : ShelfSeatValue → Result (Unit {0}) PinFault → ShelfSeatValue → Type 0
 ReleasesBySteps a (Ok u) b = (a.shown.held ≢ None) × Releases a.view b.view × (b.shown.held ≡ None)
 ReleasesBySteps a (Err PinFault.NotPinned) b = (a.shown.held ≡ None) × (b.view ≡ a.view) × (b.shown.held ≡ None)
@@ -76,7 +78,7 @@ pub record NoticeValue : Type 0 where
   pub table : TableId
   pub version : ℕ
 
--- one join, by which what is held stays
+-- one join, after which the seat holds what it held before
 abbrev pub JoinsByStep : ShelfSeatValue → ℕ → ShelfSeatValue → Type 0
 JoinsByStep a version b = (b.view ≡ joins_notice a.view (View.Noting version)) × (b.shown.held ≡ a.shown.held)
 

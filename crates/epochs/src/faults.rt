@@ -9,14 +9,14 @@ use thiserror::Error;
 /// Why a pin or a release was refused.
 #[derive(Clone, Copy, Debug, PartialEq, Eq, Error)]
 pub enum PinFault {
-    /// Each version that was looked at was gone before it could be held. `newest` is the last of them.
+    /// Each version that a look found was gone before it could be held. `newest` is the last of them.
     #[error("each version was gone before it could be held, version {newest} as the last")]
     Moved { newest: u64 },
     #[error("the seat holds a version already")]
     AlreadyPinned,
     #[error("the seat holds no version")]
     NotPinned,
-    /// The shelves know something else of the seat's worker than the seat does.
+    /// The shelves say something else of the seat's worker than the seat does.
     #[error("the shelves know the seat's worker otherwise than the seat does")]
     SeatLost,
     #[error("out of memory")]
@@ -24,7 +24,7 @@ pub enum PinFault {
 }
 
 impl PinFault {
-    /// The number by which the fault is told: 91 to 93, 97 or 98.
+    /// The fault's number: 91 to 93, 97 or 98.
     pub fn number(self) -> u8
         ensures { result ≡ pin_fault_number self }
     {
@@ -37,7 +37,7 @@ impl PinFault {
         }
     }
 
-    /// The name by which the fault is told, as `SeatLost`.
+    /// The fault's name, such as `SeatLost`.
     pub fn name(self) -> &'static str
         ensures { result.now ≡ pin_fault_name self }
     {
@@ -48,7 +48,8 @@ impl PinFault {
 /// Why an image wasn't published.
 #[derive(Clone, Copy, Debug, PartialEq, Eq, Error)]
 pub enum PublishFault {
-    /// Workers are at each shelf but the current one: so many, and 0 for the current one.
+    /// Workers are at each shelf but the current one. `counts` says how many are at each, and has 0 for the current
+    /// one.
     #[error("workers are at every shelf: {counts:?}")]
     ShelvesFull { counts: [u8; 8] },
     /// The last version that there is was published.
@@ -59,7 +60,7 @@ pub enum PublishFault {
 }
 
 impl PublishFault {
-    /// The number by which the fault is told, from 94 to 96.
+    /// The fault's number, from 94 to 96.
     pub fn number(self) -> u8
         ensures { result ≡ publish_fault_number self }
     {
@@ -70,7 +71,7 @@ impl PublishFault {
         }
     }
 
-    /// The name by which the fault is told, as `ShelvesFull`.
+    /// The fault's name, such as `ShelvesFull`.
     pub fn name(self) -> &'static str
         ensures { result.now ≡ publish_fault_name self }
     {

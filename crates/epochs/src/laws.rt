@@ -7,9 +7,8 @@ ghost use Rattle.epochs.specs.SeatLaws.{PinsHoldPublished, CallsKeepPublished, J
 ghost use Rattle.epochs.specs.SeatLaws.{JoinedVersionsStayAtShelves};
 ghost use Rattle.epochs.specs.Pinned.{PinnedAreLeftAlone, SeatsAgreeOnImages, SeatsKnowBeginnings};
 
-/// A new seat fits a new table, and what others do leaves it so. After its own pins and releases it
-/// fits by their contracts. So a seat that is used at the table that it was handed out with, and
-/// nowhere else, is never lost.
+/// A new seat fits a new table, and still does after what others do; after its own pins and releases it fits by their
+/// contracts. So a seat that is used only at the table with which it was handed out is never lost.
 pub fn seats_keep_fitting()
     ensures new { NewSeatsFit }
     ensures pins { PinsLeaveOthers }
@@ -18,7 +17,7 @@ pub fn seats_keep_fitting()
     ensures collects { CollectsLeaveSeats }
 {}
 
-/// The image that a pin gave a seat is the one published as that version, and stays so whatever is done at the table.
+/// The image that a pin gave a seat is the one published as its version, and remains so whatever is done at the table.
 pub fn held_images_stay_published()
     ensures held { PinsHoldPublished }
     ensures keep { CallsKeepPublished }
@@ -40,21 +39,21 @@ pub fn versions_have_one_image()
     ensures join { GrowthsJoin }
 {}
 
-/// What any seats of shelves without a lock know is of one history: so a version that a worker's seat knows to be
-/// published, and that the loader published, has one image.
+/// All seats of shelves without a lock know beginnings of one history. So a version that a worker's seat and the loader
+/// both know to be published has the same image for both.
 pub fn seats_know_one_history()
     ensures beginnings { SeatsKnowBeginnings }
     ensures agree { SeatsAgreeOnImages }
 {}
 
-/// Once a seat has taken in a notice of a version, each of its pins that isn't refused since it
-/// holds one already gives that version or a newer one, or tells that it moved, with a newer one.
+/// Once a seat has taken in a notice of a version, each of its pins gives that version or a newer one, or is refused:
+/// with `Moved`, whose version is newer, or with another fault.
 pub fn joined_versions_stay()
     ensures { JoinedVersionsStay }
 {}
 
-/// The same of the calls of shelves without a lock, whatever their name: such a pin looks and
-/// takes, and what it holds is what its last look found; it is refused for no other reason.
+/// The same of the calls of shelves without a lock, whatever their name. There a pin looks and takes, and what it holds
+/// is what its last look found; it is refused only with `Moved`, or if the seat holds a version already.
 pub fn joined_versions_stay_at_shelves()
     ensures { JoinedVersionsStayAtShelves }
 {}

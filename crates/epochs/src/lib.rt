@@ -1,4 +1,4 @@
-//! Who pins versions of an image and who publishes them: shelves under one lock, and shelves without a lock.
+//! Versions of images, which workers pin and one loader publishes: on shelves without a lock, or under one lock.
 #![tactic(auto)]
 
 mod collected;

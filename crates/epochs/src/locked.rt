@@ -20,20 +20,20 @@ use std::sync::{Arc, Mutex, MutexGuard, Wait};
 
 /// A table of versions under one lock.
 ///
-/// Each call says what it does to the seat, and that a table with its history was there, of which
-/// it made another one as the same call of `VersionTable` does. No clause says that two calls meet
-/// one table: a lock can't be asked what it holds. So the exact clauses are those of
-/// `VersionTable`, which is lent the table; here each call only hands it on.
+/// The contract of each call says what it does to the seat, and that it changes some table with its history as the same
+/// call of `VersionTable` does. It doesn't say that two calls meet the same table, since contracts can't see what a
+/// lock holds. So the exact contracts are those of `VersionTable`; here each call only passes the locked table on.
 ///
-/// A lock can't know its seats either. A seat of another table may be used too, and is answered
-/// `SeatLost` where its worker isn't what the seat says.
+/// Contracts can't see which seats belong to a lock either. A seat of another table may be used, and is refused with
+/// `SeatLost` if the table says something else of the seat's worker than the seat does.
 #[derive(Drop)]
 pub struct LockedShelves {
     table: Mutex<VersionTable>,
 }
 
 impl LockedShelves {
-    /// The image is version 1. A refusal gives it back.
+    /// Creates shelves with the image as version 1, the loader's seat, and sixteen workers' seats. A refusal, for want
+    /// of memory, returns the image.
     pub fn new(
         alloc: Global,
         first: Arc<Verified, Global>,
@@ -56,7 +56,7 @@ impl LockedShelves {
         }
     }
 
-    // What a lock begins with can't be asked afterwards, so it is asked for here.
+    // What a lock holds at the start can't be seen afterwards, so it is required here.
     pub(crate) fn of(table: VersionTable, first: Snapshot<Verified>) -> LockedShelves
         requires { IsNew first.value table }
     {
@@ -67,7 +67,7 @@ impl LockedShelves {
     }
 }
 
-// The table under the lock is where its history leads.
+// Returns the same table: its events lead to its state.
 fn told<'a>(table: MutexGuard<'a, VersionTable>) -> MutexGuard<'a, VersionTable>
     ensures { HasHistory (mutex_guard_value result) }
 {
@@ -75,7 +75,7 @@ fn told<'a>(table: MutexGuard<'a, VersionTable>) -> MutexGuard<'a, VersionTable>
     table
 }
 
-// A publish at a table that is where its history leads, and is so afterwards.
+// Publishes at a table whose events lead to its state, before and after.
 fn publish_at(
     table: &mut VersionTable,
     loader: &mut LoaderSeat,
@@ -104,8 +104,9 @@ fn sixteen_seats(alloc: Global) -> Result<Vec<WorkerSeat>, AllocError>
 }
 
 impl LockedShelves {
-    /// Pins the current version: 92 exactly where the seat holds one, 97 where the table knows its worker otherwise,
-    /// 98 where the image couldn't be shared. Never 91.
+    /// Pins the current version. Refused with `AlreadyPinned` exactly if the seat holds a version, with `SeatLost` if
+    /// the table says something else of the seat's worker, and with `OutOfMemory` if the image couldn't be shared;
+    /// never with `Moved`.
     pub fn pin<R: Wait>(&self, rt: &R, seat: &mut WorkerSeat) -> Result<(), PinFault>
         ensures number { seat.new.number ≡ seat.old.number }
         ensures pin { PinStep seat.old.shown result seat.new.shown }
@@ -127,8 +128,8 @@ impl LockedShelves {
         seat.edition()
     }
 
-    /// Gives back what the seat holds: 93 exactly where it holds nothing, 97 where the table knows its worker
-    /// otherwise. Then the seat alone is emptied.
+    /// Releases the version that the seat holds. Refused with `NotPinned` exactly if it holds none, and with `SeatLost`
+    /// if the table says something else of its worker; then only the seat is emptied.
     pub fn release<R: Wait>(&self, rt: &R, seat: &mut WorkerSeat) -> Result<(), PinFault>
         ensures number { seat.new.number ≡ seat.old.number }
         ensures release { ReleaseStep seat.old.shown result seat.new.shown }
@@ -140,7 +141,7 @@ impl LockedShelves {
         answer
     }
 
-    /// Publishes the image as the next version. A refusal gives it back.
+    /// Publishes the image as the next version. A refusal returns the image.
     pub fn publish<R: Wait>(
         &self,
         rt: &R,
@@ -157,7 +158,7 @@ impl LockedShelves {
         publish_at(&mut table, loader, image)
     }
 
-    /// Tries each closing shelf: it is freed, if no worker is there.
+    /// Tries each closing shelf, and frees it if no worker is there.
     pub fn collect<R: Wait>(&self, rt: &R, loader: &mut LoaderSeat) -> Collected
         ensures loader { CollectStep loader.old result loader.new }
         ensures table { UnderLock (λ a b. Collects a result b) }

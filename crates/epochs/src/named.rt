@@ -1,4 +1,5 @@
-//! Shelves without a lock that have a name: what tells of a version at one of them can't be used at another.
+//! Shelves without a lock that have a name: a seat, a loader or a notice of one name can't be used at shelves of
+//! another.
 
 ghost use Rattle.std.specs.Prelude.{◌≡◌, ◌+◌, ◌<◌, Some, None, IfOk, IfErr, IfSome, MatchOption, MatchResult};
 ghost use Rattle.std.specs.Arc.{arc_value};
@@ -26,8 +27,8 @@ use std::alloc::Global;
 use std::marker::{Brand, Model, PhantomData};
 use std::sync::Arc;
 
-/// A name of shelves: a type that stands for one table, so that a seat, a notice or a loader of it
-/// is known by its type. `Brand` gives a fresh one for each call.
+/// A name of shelves: a type that stands for one table, so that the type of a seat, a notice or a loader says to which
+/// table it belongs. `Brand` gives a fresh one for each call.
 pub trait Named {
     ghost use Rattle.atomic_table.specs.Seated.{TableId};
 
@@ -68,7 +69,7 @@ impl AtTable for Notice {
     ghost table = { λ notice. notice.table };
 }
 
-/// A seat, a loader or a notice that belongs to the shelves of a name, and is used as one of shelves without a name.
+/// A seat, a loader or a notice that belongs to the shelves of a name. Contracts see it as one without a name.
 #[derive(Drop)]
 pub struct UnderName<B: Named, S: AtTable + Drop> {
     inner: S,
@@ -86,7 +87,7 @@ impl<B: Named, S: AtTable + Drop> Model for UnderName<B, S> {
 }
 
 impl<B: Named, S: AtTable + Drop> UnderName<B, S> {
-    /// The same, under its shelves' name.
+    /// Puts a seat, a loader or a notice under the name of its shelves.
     pub fn of(inner: S) -> UnderName<B, S>
         requires { S.table inner ≡ B.table }
         ensures { result ≡ inner }
@@ -97,7 +98,7 @@ impl<B: Named, S: AtTable + Drop> UnderName<B, S> {
         }
     }
 
-    /// The same without the name: it is of the shelves that have it.
+    /// Returns the seat, loader or notice without the name. It belongs to the shelves of that name.
     pub fn into_inner(self) -> S
         ensures same { result ≡ self }
         ensures table { S.table result ≡ B.table }
@@ -128,7 +129,7 @@ impl<B: Named> NamedSeat<B> {
 /// The loader's seat at the shelves of a name.
 pub type NamedLoader<B> = UnderName<B, ShelfLoader>;
 
-/// Says that a version was published at the shelves of a name.
+/// The fact that a version was published at the shelves of a name.
 pub type NamedNotice<B> = UnderName<B, Notice>;
 
 impl<B: Named> NamedNotice<B> {
@@ -140,7 +141,7 @@ impl<B: Named> NamedNotice<B> {
     }
 }
 
-/// That shelves are for as many workers as there are seats. No value of it is made.
+/// Marks shelves that are for as many workers as there are seats. No value of it is made.
 pub struct ManySeats;
 
 /// Shelves without a lock, under a name: seats, the loader's seat and notices of the name are of
@@ -164,7 +165,7 @@ impl<B: Named, K> Model for NamedShelves<B, K> {
 }
 
 impl<B: Named, K> NamedShelves<B, K> {
-    // The shelves, under their name.
+    // Puts the shelves under their name.
     pub(crate) fn under(shelves: Shelves) -> NamedShelves<B, K>
         requires { shelves ≡ B.table }
         ensures { result ≡ shelves }
@@ -176,7 +177,7 @@ impl<B: Named, K> NamedShelves<B, K> {
         }
     }
 
-    /// A word as it is found, as [`Shelves::word`] gives it.
+    /// The word as it is found, as [`Shelves::word`] returns it.
     pub fn word(&self, word: usize) -> u64
         requires { word < 9 }
     {
@@ -185,7 +186,7 @@ impl<B: Named, K> NamedShelves<B, K> {
 }
 
 impl<B: Named> NamedShelves<B> {
-    /// The shelves, under their name.
+    /// Puts the shelves under their name.
     pub fn of(shelves: Shelves) -> NamedShelves<B>
         requires { shelves ≡ B.table }
         ensures { result ≡ shelves }

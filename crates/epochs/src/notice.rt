@@ -6,7 +6,7 @@ ghost use Rattle.shelf_steps.specs.Plays.{IsNotice};
 use shelf_steps::Place;
 use std::marker::Model;
 
-/// Says that a version was published at some shelves. Contracts see which shelves, and the version.
+/// The fact that a version was published at some shelves. Contracts see which shelves, and the version.
 #[derive(Drop)]
 pub struct Notice {
     place: Place,

@@ -15,7 +15,7 @@ use std::snapshot::Snapshot;
 use timetable::Trace;
 use version_core::Worker;
 
-/// What a seat was answered. Contracts alone see these.
+/// An answer to a worker's seat. Only contracts see it.
 #[derive(Drop)]
 pub enum Answer {
     Pinned {
@@ -38,8 +38,8 @@ struct Pin {
     edition: Edition,
 }
 
-/// A worker's seat at shelves under one lock: the number of its worker, what that is doing, and the
-/// greatest version that it has seen.
+/// A worker's seat at shelves under one lock: the worker's number, what it is doing, and the greatest version that it
+/// has seen.
 #[derive(Drop)]
 pub struct WorkerSeat {
     number: usize,
@@ -124,7 +124,7 @@ impl WorkerSeat {
         }
     }
 
-    // The seat holds the edition on this shelf.
+    // Makes the seat hold the edition on this shelf.
     pub(crate) fn hold(&mut self, shelf: usize, edition: Edition)
         requires empty { self.old.shown.held ≡ None }
         requires newer { self.old.shown.seen ≤ edition.version }
@@ -143,14 +143,14 @@ impl WorkerSeat {
         self.held = Some(Pin { shelf, edition });
     }
 
-    // The seat is told something, and stays as it is.
+    // Notes an answer; nothing else changes.
     pub(crate) fn tell(&mut self, answer: Answer)
         ensures { self.new ≡ record self.old { shown = told self.old.shown answer } }
     {
         self.answers.note(&answer);
     }
 
-    // The seat is told something, and holds nothing.
+    // Notes an answer, after which the seat holds nothing.
     pub(crate) fn empty(&mut self, answer: Answer)
         ensures { self.new ≡ record self.old { worker = Worker.Idle; shown = emptied self.old.shown answer } }
     {
@@ -159,7 +159,7 @@ impl WorkerSeat {
     }
 }
 
-/// What a loader's seat was answered. Contracts alone see these.
+/// An answer to the loader's seat. Only contracts see it.
 #[derive(Drop)]
 pub enum LoaderAnswer {
     Published {

@@ -88,14 +88,14 @@ impl ShelfLoader {
         found
     }
 
-    // The seat is told something, and stays as it is.
+    // Notes an answer; nothing else changes.
     pub(crate) fn tell(&mut self, answer: LoaderAnswer)
         ensures { self.new ≡ record self.old { answers = self.old.answers ++ answer ∷ [] } }
     {
         self.answers.note(&answer);
     }
 
-    // One notice of the current version, and no other.
+    // Gives one notice of the current version.
     pub(crate) fn note_at(&mut self, table: &ShelfTable) -> Notice
         requires { self.old.table ≡ table.now }
         ensures noted { self.new ≡ record self.old { view = gives_notice self.old.view } }
@@ -106,7 +106,7 @@ impl ShelfLoader {
         Notice::of(place, self.current)
     }
 
-    // Publishes, or says why not; and notes it.
+    // Publishes, or returns why not, and notes the answer.
     pub(crate) fn publish_at(
         &mut self,
         table: &ShelfTable,
@@ -144,7 +144,7 @@ impl ShelfLoader {
         }
     }
 
-    // A publish that isn't noted.
+    // Publishes without noting the answer.
     fn publish_quietly(
         &mut self,
         table: &ShelfTable,
@@ -175,7 +175,8 @@ impl ShelfLoader {
         }
     }
 
-    // The least free shelf, after a try at each closing one where none is free. Else so many workers are at each.
+    // The least free shelf, after a try at each closing one if none is free. If none is free then either, returns how
+    // many workers are at each closing one.
     fn make_room(&mut self, table: &ShelfTable) -> Result<usize, [u8; 8]>
         requires table { self.old.table ≡ table.now }
         requires left { self.old.current < 1000000000 }
@@ -219,7 +220,7 @@ impl ShelfLoader {
         }
     }
 
-    // The image becomes the next version on a free shelf, which is current; the version before is closing.
+    // Loads the image as the next version, which is current, on a free shelf; the version before is closing.
     fn load_on(
         &mut self,
         table: &ShelfTable,

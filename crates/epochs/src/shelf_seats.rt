@@ -65,8 +65,8 @@ impl ShelfSeat {
         self.number
     }
 
-    /// The seat shows what it knows, whatever was done with it: its worker holds what it shows that it
-    /// holds, and the slot of that is out with the seat. It does nothing: its contract is the law.
+    /// Does nothing: its contract is the law that the seat shows what it knows, whatever was done with it. Its worker
+    /// holds what the seat shows as held, and the slot of that is out with the seat.
     pub fn shows_what_it_knows(&self)
         ensures { ShowsWhatItKnows self.now }
     {

@@ -26,9 +26,8 @@ use std::alloc::{AllocError, Global};
 use std::marker::Model;
 use std::sync::Arc;
 
-/// Shelves without a lock: pins, releases and collections of any number of threads go through a
-/// `&`, wait for nobody and take no memory. Contracts see which table they are, so that a seat of
-/// other shelves can't be used here.
+/// Shelves without a lock: pins, releases and collections go through a `&`, from any number of threads, wait for nobody
+/// and take no memory. Contracts see which table these are, so that a seat of other shelves can't be used here.
 #[derive(Drop)]
 pub struct Shelves {
     table: ShelfTable,
@@ -44,7 +43,8 @@ impl Model for Shelves {
 }
 
 impl Shelves {
-    /// The image is version 1, current on shelf 0, and nothing has happened yet. A refusal gives the image back.
+    /// Creates shelves with the image as version 1, current on shelf 0, the loader's seat, and sixteen workers' seats.
+    /// Nothing has happened yet. A refusal, for want of memory, returns the image.
     pub fn new(
         alloc: Global,
         first: Arc<Verified, Global>,
@@ -66,18 +66,18 @@ impl Shelves {
         }
     }
 
-    /// A word as it is found: word 0 has eight times the current version, and its shelf; the words
-    /// from 1 on have the shelves, each with its count in bits 0 to 7, its state in bits 8 and 9 (0
-    /// free, 1 open, 2 closing) and its version from bit 16 on.
+    /// The word as it is found: word 0 is eight times the current version, plus its shelf; each word from 1 on has a
+    /// shelf, with its count in bits 0 to 7, its state in bits 8 and 9 (0 free, 1 open, 2 closing) and its version from
+    /// bit 16 on.
     pub fn word(&self, word: usize) -> u64
         requires { word < 9 }
     {
         self.table.word(word)
     }
 
-    /// Pins the current version: looks one to four times. 92 exactly where the seat holds a version
-    /// already; 91 where four looks gave four versions, each greater than the one before, and each
-    /// was gone before it could be held.
+    /// Pins the current version, by one to four looks. Refused with `AlreadyPinned` exactly if the seat holds a
+    /// version, and with `Moved` if four looks found four versions, each greater than the one before, and each was gone
+    /// before it could be held.
     pub fn pin(&self, seat: &mut ShelfSeat) -> Result<(), PinFault>
         requires { seat.old.table ≡ self.now }
         ensures table { (seat.new.table ≡ seat.old.table) × (seat.new.number ≡ seat.old.number) }
@@ -91,7 +91,7 @@ impl Shelves {
         seat.pin_at(&self.table)
     }
 
-    /// Gives back what the seat holds: 93 exactly where it holds nothing.
+    /// Releases the version that the seat holds; refused with `NotPinned` exactly if it holds none.
     pub fn release(&self, seat: &mut ShelfSeat) -> Result<(), PinFault>
         requires { seat.old.table ≡ self.now }
         ensures table { (seat.new.table ≡ seat.old.table) × (seat.new.number ≡ seat.old.number) }
@@ -103,11 +103,10 @@ impl Shelves {
         seat.release_at(&self.table)
     }
 
-    /// The image becomes the next version, which is current, on the least free shelf; the shelf
-    /// that was current is closing. A notice of the version always comes with it. Where no shelf is
-    /// free, each closing one is tried first. A refusal gives the image back and leaves the current
-    /// version: 95 at the last version; else 94 where each closing shelf was found in use; else 96
-    /// before a shelf was opened.
+    /// Publishes the image as the next version, on the least free shelf, and closes the shelf that was current. Returns
+    /// the version, always with a notice of it. If no shelf is free, each closing one is tried first. A refusal returns
+    /// the image and leaves the current version: `VersionsSpent` at the last version, `ShelvesFull` if each closing
+    /// shelf was found in use, or `OutOfMemory` before a shelf was opened.
     pub fn publish(
         &self,
         loader: &mut ShelfLoader,
@@ -140,7 +139,7 @@ impl Shelves {
         }
     }
 
-    /// The seat has seen the notice's version from now on. It takes no memory and waits for nobody.
+    /// Takes in the notice: from now on the seat has seen its version. This takes no memory and waits for nobody.
     pub fn join(&self, seat: &mut ShelfSeat, notice: Notice)
         requires { (seat.old.table ≡ self.now) × (notice.table ≡ self.now) }
         ensures table { (seat.new.table ≡ seat.old.table) × (seat.new.number ≡ seat.old.number) }
@@ -151,8 +150,7 @@ impl Shelves {
         seat.join_at(&self.table, notice);
     }
 
-    /// Tries each closing shelf: it is free where its count was found to be 0, and else `busy` has
-    /// the count that was found.
+    /// Tries each closing shelf, and frees it if its count is 0; otherwise `busy` has the count that was found.
     pub fn collect(&self, loader: &mut ShelfLoader) -> Collected
         requires { loader.old.table ≡ self.now }
         ensures table { (loader.new.table ≡ loader.old.table) × (loader.new.current ≡ loader.old.current) }

@@ -7,14 +7,14 @@ use crate::shelf_loader::ShelfLoader;
 use crate::shelf_seats::ShelfSeat;
 use crate::shelves::Shelves;
 
-/// That shelves are for one worker. No value of it is made.
+/// Marks shelves that are for one worker. No value of it is made.
 pub struct OneSeat;
 
-/// `Shelves` with the loader's seat and one worker's. Its calls are those of `NamedShelves`.
+/// Named shelves for one worker. Their calls are those of `NamedShelves`.
 pub type SoloShelves<B> = NamedShelves<B, OneSeat>;
 
 impl<B: Named> SoloShelves<B> {
-    /// The shelves under their name, with the loader's seat and one worker's.
+    /// Puts the shelves, the loader's seat and one worker's seat under the shelves' name.
     pub fn of(
         shelves: Shelves,
         loader: ShelfLoader,

@@ -29,7 +29,7 @@ use std::sync::Arc;
 use timetable::Trace;
 use version_core::{Core, Event, Reply, Shelf, at_rest, every_run, holding, runs_in_parts};
 
-/// Eight shelves with the editions on them, and the table that says which version is current and who is where.
+/// Eight shelves with the editions on them, and the core that says which version is current and where the workers are.
 #[derive(Drop)]
 pub struct VersionTable {
     core: Core,
@@ -49,7 +49,7 @@ impl Model for VersionTable {
 }
 
 impl VersionTable {
-    /// The image is version 1 on shelf 0. All workers are idle.
+    /// Creates a table with the image as version 1 on shelf 0. All workers are idle. A refusal returns the image.
     pub fn new(
         alloc: Global,
         first: Arc<Verified, Global>,
@@ -75,8 +75,8 @@ impl VersionTable {
         })
     }
 
-    /// What holds of every table, and so under every lock, whatever was done before: the state is
-    /// where the events lead from the start. It does nothing: its contract is the promise.
+    /// Does nothing: its contract says what holds of every table, and so under every lock, whatever was done before.
+    /// The events lead from the start to the state.
     pub fn history(&self)
         ensures history { IsHistory self.now.state self.now.events self.now.images }
         ensures leads { LeadsTo self.now.state self.now.events self.now.images }
@@ -87,7 +87,8 @@ impl VersionTable {
         let _ = self.core.current();
     }
 
-    /// The seat's worker looks and takes, and the seat holds the current version.
+    /// Lets the seat's worker look and take, so that the seat holds the current version. A refusal leaves the table as
+    /// it was.
     pub fn pin(&mut self, seat: &mut WorkerSeat) -> Result<(), PinFault>
         ensures seat { PinStep seat.old.shown result seat.new.shown }
         ensures number { seat.new.number ≡ seat.old.number }
@@ -110,7 +111,7 @@ impl VersionTable {
         }
     }
 
-    // The current shelf and its edition, where the seat may hold it.
+    // The current shelf and its edition, if the seat may hold it.
     fn offer(&self, seat: &WorkerSeat) -> Result<(usize, Edition), PinFault>
         ensures offered { IfOk result (λ p. IsOffer self.now seat.now p.0 p.1.version (arc_value p.1.image)) }
         ensures refused { IfErr result (RefusesPin self.now.state seat.now) }
@@ -127,7 +128,7 @@ impl VersionTable {
         }
     }
 
-    // Whether the seat says of its worker what the core does.
+    // Whether the seat and the core say the same of the seat's worker.
     fn fits(&self, seat: &WorkerSeat) -> bool
         ensures { MatchBool result (SeatFits self.now.state seat.now) (¬ (SeatFits self.now.state seat.now)) }
     {
@@ -149,7 +150,7 @@ impl VersionTable {
         Ok((shelf, Edition { version, image }))
     }
 
-    // What a worker's events lead to from this state, and from each. It does nothing.
+    // Does nothing: its contract has the laws of a worker's events.
     fn laws(&self)
         ensures kept { Kept self.now.state }
         ensures takes { LooksAndTakesHold }
@@ -175,8 +176,8 @@ impl VersionTable {
         self.events.note(&Event::Take { worker });
     }
 
-    /// The seat's worker drops what the seat holds. A seat that the core knows otherwise is emptied, and nothing else
-    /// changes.
+    /// Lets the seat's worker drop what the seat holds. If the core says something else of the worker than the seat
+    /// does, the seat is emptied, and nothing else changes.
     pub fn release(&mut self, seat: &mut WorkerSeat) -> Result<(), PinFault>
         ensures seat { ReleaseStep seat.old.shown result seat.new.shown }
         ensures number { seat.new.number ≡ seat.old.number }
@@ -210,7 +211,7 @@ impl VersionTable {
         self.events.note(&Event::Drop { worker });
     }
 
-    /// Tries each closing shelf: it is freed, if no worker is there.
+    /// Tries each closing shelf, and frees it if no worker is there.
     pub fn collect(&mut self, loader: &mut LoaderSeat) -> Collected
         ensures collected { Collects self.old result self.new }
         ensures loader { CollectStep loader.old result loader.new }
@@ -238,8 +239,8 @@ impl VersionTable {
         found
     }
 
-    // Frees the shelf, if it is closing and no worker is there. Tells whether it did, and how many
-    // workers kept it from that.
+    // Frees the shelf if it is closing and no worker is there. Returns whether it did, and how many workers prevented
+    // it.
     fn try_shelf(&mut self, shelf: usize) -> (bool, u8)
         requires { shelf < 8 }
         ensures { TriesShelf self.old shelf result.0 result.1 self.new }
@@ -280,9 +281,8 @@ impl VersionTable {
         }
     }
 
-    /// The image becomes the next version, which is current, on the least free shelf. Where no
-    /// shelf is free, each closing one is tried first. A refusal gives the image back, and the
-    /// current version stays.
+    /// Publishes the image as the next version, on the least free shelf. If no shelf is free, each closing one is tried
+    /// first. A refusal returns the image, and the current version stays.
     pub fn publish(
         &mut self,
         loader: &mut LoaderSeat,
@@ -341,7 +341,8 @@ impl VersionTable {
         self.core.may_open()
     }
 
-    // A shelf is free, or is after a try at each closing one. Else so many workers are at each.
+    // Makes sure that a shelf is free, by a try at each closing one if none is. If none is free then either, returns
+    // how many workers are at each closing one.
     fn make_room(&mut self) -> Result<(), [u8; 8]>
         requires { newest self.old.state < 1000000000 }
         ensures room { OnOk result (MakesRoom self.old self.new × HasFree self.new.state) }

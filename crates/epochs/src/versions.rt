@@ -1,4 +1,4 @@
-//! What a session needs of shelves, and what a loader does.
+//! What a session needs of shelves, and what a loader needs.
 
 ghost use Rattle.std.specs.Prelude.{◌≡◌, ◌+◌, ℕ, List, None, Some, MatchOption, MatchResult, IfErr, IfOk};
 ghost use Rattle.std.specs.Arc.{arc_value};
@@ -21,7 +21,7 @@ use std::sync::Arc;
 pub trait Versions {
     type Seat;
 
-    /// Says that a version was published at these shelves.
+    /// The fact that a version was published at these shelves.
     type Notice;
 
     // The seat may be used at these shelves.
@@ -39,7 +39,9 @@ pub trait Versions {
     // The version that the notice is of.
     ghost noted: { Self.Notice → ℕ };
 
-    /// Pins the current version, as a look of this call finds it. Where it moved, the last look found `newest`.
+    /// Pins the version that a look of this call finds current. Refused with `AlreadyPinned` if the seat holds a
+    /// version, and with `Moved` if each version that was found was gone before it could be held; the last look found
+    /// `newest`.
     fn pin(&self, seat: &mut Self::Seat) -> Result<(), PinFault>
         requires { fits self.now seat.old }
         ensures fits { fits self.now seat.new }
@@ -50,13 +52,14 @@ pub trait Versions {
         ensures grows { Grows (known seat.old) (known seat.new) }
         ensures ends { EndsPin (known seat.old) (number seat.old) result (value seat.new).held (known seat.new) };
 
-    /// The version that the seat holds, with its image: the one that the history published as that version.
+    /// The version that the seat holds, with the image that the history published as that version; `None` if it holds
+    /// none.
     fn edition(seat: &Self::Seat) -> Option<&Edition>
         ensures known { HoldsAsKnown (known seat.now) (number seat.now) (value seat.now).held }
         ensures lent { MatchOption result ((value seat.now).held ≡ None) (λ e. (value seat.now).held
             ≡ Some (e.now.version, arc_value e.now.image)) };
 
-    /// Gives back what the seat holds.
+    /// Releases the version that the seat holds; refused with `NotPinned` if it holds none.
     fn release(&self, seat: &mut Self::Seat) -> Result<(), PinFault>
         requires { fits self.now seat.old }
         ensures fits { fits self.now seat.new }
@@ -66,7 +69,8 @@ pub trait Versions {
         ensures grows { Grows (known seat.old) (known seat.new) }
         ensures ends { EndsRelease (known seat.old) (number seat.old) result (known seat.new) };
 
-    /// The seat has seen the notice's version from now on. It does nothing else, and learns nothing of the past.
+    /// Takes in the notice: from now on the seat has seen its version. Nothing else changes, and the seat learns
+    /// nothing of the history.
     fn join(&self, seat: &mut Self::Seat, notice: Self::Notice)
         requires { fits self.now seat.old }
         ensures fits { fits self.now seat.new }
@@ -89,14 +93,15 @@ pub trait Loads: Versions {
     // What the loader's seat was answered so far.
     ghost answers: { Self.Loader → List LoaderAnswer };
 
-    // The version that it published last, which is current.
+    // The current version, as the loader knows it.
     ghost current: { Self.Loader → ℕ };
 
     // What the loader knows of its shelves' one history: a beginning of it, which only grows.
     ghost learned: { Self.Loader → Known };
 
-    /// Publishes the image as the next version, and gives a notice of it. A refusal gives the image
-    /// back; it says that versions are spent at the last one, and only there.
+    /// Publishes the image as the next version, and returns that version with a notice of it. A refusal returns the
+    /// image: with `VersionsSpent` exactly if the current version is the last that there is; with `ShelvesFull` if each
+    /// closing shelf was tried and found in use; or with `OutOfMemory`.
     fn publish(
         &self,
         loader: &mut Self::Loader,
@@ -119,7 +124,7 @@ pub trait Loads: Versions {
         ensures grows { Grows (learned loader.old) (learned loader.new) }
         ensures ends { IfOk result (λ r. EndsPublish (learned loader.old) r.0 (learned loader.new)) };
 
-    /// Tries each closing shelf, once: it is freed, if no worker is there.
+    /// Tries each closing shelf once, and frees it if no worker is there.
     fn collect(&self, loader: &mut Self::Loader) -> Collected
         requires { loads self.now loader.old }
         ensures loads { loads self.now loader.new }

@@ -17,13 +17,13 @@ order_fault_name OrderFault.OutOfMemory = codes "OutOfMemory"
 order_fault_name (OrderFault.LoadRefused refusal) = codes "LoadRefused"
 order_fault_name OrderFault.LoaderGone = codes "LoaderGone"
 
--- why an order isn't taken that nobody waits for: what came of it isn't told
+-- a fault with which an order that nobody waits for may be refused: not one of waiting or of the load, whose outcome isn't reported
 abbrev pub IsNotTaken : OrderFault → Type 0
 IsNotTaken OrderFault.OutOfMemory = ⊥
 IsNotTaken (OrderFault.LoadRefused refusal) = ⊥
 IsNotTaken _ = Unit {0}
 
--- an order that was asked for: the feed's name, and what it was answered
+-- an order that was asked for: the feed's name, and the answer
 pub record OrderValue : Type 0 where
   pub feed : List ℕ
   pub outcome : Outcome
@@ -31,11 +31,11 @@ pub record OrderValue : Type 0 where
 abbrev pub order_value : List ℕ → Result (Unit {0}) OrderFault → OrderValue
 order_value feed taken = record { feed = feed; outcome = Outcome.Put taken }
 
--- the version that was told with a notice, or why there is none
+-- the version that came with a notice, or why there is none
 abbrev pub version_told : {N : Type 0} → Result (ℕ × N) OrderFault → Result ℕ OrderFault
 version_told (Ok told) = Ok told.0
 version_told (Err fault) = Err fault
 
--- one that was waited for
+-- an order that was waited for
 abbrev pub waited_value : List ℕ → Result ℕ OrderFault → OrderValue
 waited_value feed version = record { feed = feed; outcome = Outcome.Waited version }

@@ -6,7 +6,7 @@ ghost use Rattle.orders.specs.Ordering.{order_fault_name, order_fault_number};
 use reasoning::variant_name;
 use thiserror::Error;
 
-/// Why an order to load a feed wasn't taken, or no version came of one that was waited for.
+/// Why an order to load a feed wasn't taken, or why one that was waited for gave no version.
 #[derive(Clone, Copy, Debug, PartialEq, Eq, Error)]
 pub enum OrderFault {
     #[error("there is no feed of this name")]
@@ -17,7 +17,7 @@ pub enum OrderFault {
     /// The feed's load or its publish was refused, with this number.
     #[error("the load was refused with {refusal}")]
     LoadRefused { refusal: u8 },
-    /// There was no memory to wait, or none to tell of the version that came.
+    /// There was no memory to wait, or none to report the version that was published.
     #[error("out of memory")]
     OutOfMemory,
     #[error("the loader takes no orders any more")]
@@ -25,7 +25,7 @@ pub enum OrderFault {
 }
 
 impl OrderFault {
-    /// The number by which the fault is told: 114 to 116, 120 or 121.
+    /// The fault's number: 114 to 116, 120 or 121.
     pub fn number(self) -> u8
         ensures { result ≡ order_fault_number self }
     {
@@ -38,7 +38,7 @@ impl OrderFault {
         }
     }
 
-    /// The name by which the fault is told, as `OrdersFull`.
+    /// The fault's name, such as `OrdersFull`.
     pub fn name(self) -> &'static str
         ensures { result.now ≡ order_fault_name self }
     {

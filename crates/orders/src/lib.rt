@@ -1,4 +1,4 @@
-//! Who takes orders to load a feed, and who hears of scans.
+//! What takes orders to load a feed, and what is notified of scans.
 #![tactic(auto)]
 
 mod fault;

@@ -5,16 +5,16 @@ use std::collections::LinkedList;
 use std::marker::Model;
 use timetable::Kept;
 
-/// What an order was answered.
+/// The answer to an order.
 #[derive(Clone, Copy, Debug, PartialEq, Eq)]
 pub enum Outcome {
-    /// Whether it was taken. Nobody waits for it.
+    /// Whether an order that nobody waits for was taken.
     Put { taken: Result<(), OrderFault> },
-    /// The version that came of it, or why none came.
+    /// The version that an order that was waited for gave, or why it gave none.
     Waited { version: Result<u64, OrderFault> },
 }
 
-/// An order that was asked for: the feed's name, which contracts alone see, and what it was answered.
+/// An order that was asked for: the feed's name, which only contracts see, and the answer.
 #[derive(Drop)]
 pub struct Ordered {
     feed: Kept<LinkedList<u8>>,
@@ -43,7 +43,7 @@ impl Ordered {
         }
     }
 
-    /// An order that was waited for, with the version and the notice of it that came. It takes no memory.
+    /// An order that was waited for, by its answer: a version with a notice of it, or a fault. It takes no memory.
     pub fn waited<N>(feed: &str, told: &Result<(u64, N), OrderFault>) -> Ordered
         ensures { result ≡ waited_value feed.now (version_told told.now) }
     {

@@ -1,11 +1,11 @@
-//! Who hears of scans.
+//! What is notified of scans.
 
-/// Hears of each scan that a session makes.
+/// Is notified of each scan that a session makes.
 pub trait Gate {
     /// A scan is about to begin.
     fn enter(&self);
 
-    /// The scan is over, and its reply was written or can't be.
+    /// The scan is over, and its reply was written or couldn't be.
     fn leave(&self);
 }
 

@@ -1,4 +1,4 @@
--- One event more.
+-- Courses with one more event.
 use Rattle.reasoning.proofs.ListLemmas.{slice_get-append}
 use Rattle.version_core.specs.Actors.{nobody, actor, NoneOf}
 use Rattle.image_layout.specs.Image.{ImageValue}

@@ -1,4 +1,4 @@
--- Each step is its event.
+-- Each step is one event of the table of versions.
 use Rattle.std.proofs.Common.{◌≡◌, ℕ, ◌+◌, ◌/◌, ◌%◌, ◌<◌, ◌⊎◌, Bool, true, false, List, Option, refl, sym, subst, inl, inr}
 use mathlib.Core.Option.{some}
 use lib.ListN.{get_elem?}

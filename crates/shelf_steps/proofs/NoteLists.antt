@@ -1,4 +1,4 @@
--- The notices that views spell, after a step of a seat.
+-- The versions of the views that are notices, after a step of a seat.
 use Rattle.std.proofs.Common.{◌≡◌, ℕ, zero, suc, List, [], ◌∷◌, ◌++◌, set, remove, Some, slice_get, refl, ap, sym, ◌∙◌, subst, append_assoc}
 use Rattle.std.proofs.lemmas.List.{append-nil}
 use mathlib.Core.Option.{some, some-injective, some-ne-none}

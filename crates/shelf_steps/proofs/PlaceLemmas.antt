@@ -1,4 +1,4 @@
--- What a step at a shelf's word asks of a place, and what it tells of it.
+-- What a step on a shelf's word requires of a place, and what it tells of that place.
 use Rattle.std.proofs.Common.{◌≡◌, ℕ, ◌+◌, ◌<◌, arith, ap, sym, ◌∙◌, subst}
 use Rattle.atomic_table.specs.Seated.{TableId}
 use Rattle.shelf_steps.specs.Plays.{Mine, PlaceValue}

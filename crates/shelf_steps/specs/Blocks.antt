@@ -4,7 +4,7 @@ use Rattle.std.specs.Prelude.{◌≡◌, ℕ, ◌-◌, ◌<◌, List, length, sl
 use Rattle.std.specs.Arc.{arc_value}
 use Rattle.shelf_steps.specs.declared.edition.Edition.{Edition}
 
--- the editions, side by side from a slot on
+-- the contents of slots: the editions side by side, from the slot `first` on
 abbrev pub laid : List Edition → ℕ → ℕ → Option Edition
 laid items first j = slice_get items (j - first)
 

@@ -21,7 +21,7 @@ pub record Course : Type 0 where
   pub replies : List Reply
   pub images : List ImageValue
 
--- the event is of one of the sixteen workers, or of none
+-- the event is of no worker, or of one of the sixteen
 abbrev pub IsOfSixteen : Event → Type 0
 IsOfSixteen (Event.Look w) = w < 16
 IsOfSixteen (Event.Take w) = w < 16
@@ -30,7 +30,7 @@ IsOfSixteen (Event.Ask w) = w < 16
 IsOfSixteen (Event.Join w v) = w < 16
 IsOfSixteen _ = Unit {0}
 
--- so is each of these
+-- so is each of these events
 abbrev pub AreOfSixteen : List Event → Type 0
 AreOfSixteen [] = Unit {0}
 AreOfSixteen (e ∷ es) = IsOfSixteen e × AreOfSixteen es
@@ -43,7 +43,7 @@ pub record Goes (c : Course) : Type 0 where
   pub as_many : length c.images ≡ newest c.state
   pub numbered : (i edition : ℕ) → slice_get c.state.editions i ≡ Some edition → edition ≡ i
 
--- one event more
+-- the course with one more event
 abbrev pub extended : Course → Event → Reply → State → List ImageValue → Course
 extended c e r t images = record { state = t; events = c.events ++ e ∷ []; replies = c.replies ++ r ∷ []; images = images }
 
@@ -54,7 +54,7 @@ pub record IsLonger (c : Course) (e : Event) (r : Reply) (d : Course) : Type 0 w
   pub replies : d.replies ≡ c.replies ++ r ∷ []
   pub images : IsPrefix c.images d.images
 
--- all of it, as a seat knows such
+-- all of the course, in the form in which a seat knows it
 abbrev pub all_of : Course → Known
 all_of c = record { events = c.events; replies = c.replies; images = c.images }
 
@@ -62,7 +62,7 @@ all_of c = record { events = c.events; replies = c.replies; images = c.images }
 abbrev pub leading_to : State → Known → Course
 leading_to s k = record { state = s; events = k.events; replies = k.replies; images = k.images }
 
--- a beginning of what happened, behind which no event of this actor stands
+-- what is known is a beginning of the course, after which there is no event of this actor
 pub record Begins (k : Known) (a : Option ℕ) (c : Course) : Type 0 where
   pub events : (rest : List Event) × (k.events ++ rest ≡ c.events) × NoneOf a rest
   pub replies : IsPrefix k.replies c.replies
@@ -77,7 +77,7 @@ abbrev pub notes_in : List Event → ℕ
 notes_in [] = 0
 notes_in (e ∷ es) = note_of e + notes_in es
 
--- the versions of the notices that the worker took in, as they came
+-- the versions of the notices that the worker took in, from the first to the last
 abbrev pub join_of : ℕ → Event → List ℕ
 join_of w (Event.Join u v) = cond (u == w) (v ∷ []) []
 join_of w _ = []
@@ -90,7 +90,7 @@ joined_by w (e ∷ es) = join_of w e ++ joined_by w es
 abbrev pub HasDoneNothing : ℕ → List Event → Type 0
 HasDoneNothing w events = NoneOf (Some w) events × (joined_by w events ≡ [])
 
--- from one knowledge to the next: the event with this reply is the last that happened, and none of its actor stands between
+-- from what was known before to what is known after: the event with this reply is the last that happened, and no event of its actor lies between
 pub record Happened (before : Known) (e : Event) (r : Reply) (after : Known) : Type 0 where
   pub state : State
   pub goes : Goes (leading_to state after)
@@ -98,13 +98,13 @@ pub record Happened (before : Known) (e : Event) (r : Reply) (after : Known) : T
   pub replies : (rest : List Reply) × (after.replies ≡ (before.replies ++ rest) ++ r ∷ [])
   pub images : IsPrefix before.images after.images
 
--- no try at the shelf is answered that it was freed
+-- no collection of the shelf is answered with Freed
 abbrev pub NeverFreed : ℕ → List Event → List Reply → Type 0
 NeverFreed k (Event.Collect j ∷ es) (Reply.Freed ∷ rs) = (j ≢ k) × NeverFreed k es rs
 NeverFreed k (e ∷ es) (r ∷ rs) = NeverFreed k es rs
 NeverFreed k _ _ = Unit {0}
 
--- nor was it freed by any event behind what is known
+-- no event after what is known has freed the shelf
 pub record NeverFreedSince (k : ℕ) (known : Known) (c : Course) : Type 0 where
   pub events : List Event
   pub replies : List Reply
@@ -114,7 +114,8 @@ pub record NeverFreedSince (k : ℕ) (known : Known) (c : Course) : Type 0 where
   pub as_many : length replies ≡ length events
   pub never : NeverFreed k events replies
 
--- the word at which this event, the last that is known, found the shelf k: all that happened before leads to a state that has the shelf and its count so
+-- the word that this event, the last that is known, found on the shelf k: the events before it lead to a state in which the shelf and its count make
+-- this word
 pub record FoundAt (known : Known) (e : Event) (k word : ℕ) : Type 0 where
   pub before : Course
   pub goes : Goes before
@@ -128,6 +129,6 @@ abbrev pub image_of : List ImageValue → ℕ → Option ImageValue
 image_of images zero = None
 image_of images (suc n) = slice_get images n
 
--- the version with its image
+-- the edition is the version with its image
 abbrev pub IsEdition : List ImageValue → ℕ → Option Edition → Type 0
 IsEdition images v edition = (e : Edition) × (edition ≡ Some e) × (e.version ≡ v) × (image_of images v ≡ Some (arc_value e.image))

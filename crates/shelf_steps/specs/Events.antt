@@ -1,4 +1,4 @@
--- Each step is its event.
+-- Each step is one event of the table of versions.
 use Rattle.std.specs.Prelude.{◌≡◌, ℕ, ◌/◌, ◌%◌, ◌<◌, ◌⊎◌, max, [], ◌∷◌, ◌++◌, slice_set}
 use mathlib.Core.Option.{some}
 use lib.ListN.{get_elem?}
@@ -21,11 +21,11 @@ known_of (View.Loading l) = l.known
 known_of (View.Working v) = v.known
 known_of _ = record { events = []; replies = []; images = [] }
 
--- from one view to the next: the event, answered so, is the last that is known, and nothing of the seat's own stands between
+-- from the view u to the view u': the event with this reply is the last that is known, and no event of its actor lies between
 abbrev pub IsEvent : View → Event → Reply → View → Type 0
 IsEvent u e r u' = Happened (known_of u) e r (known_of u')
 
--- the same of the worker whose seat it is
+-- the same of an event of the worker whose seat it is
 abbrev pub IsWorkers : (ℕ → Event) → Reply → View → View → Type 0
 IsWorkers e r u u' = (w : ℕ) × OfWorker u (λ v. v.number ≡ w) × OfWorker u' (λ v. v.number ≡ w) × IsEvent u (e w) r u'
 
@@ -53,7 +53,7 @@ CollectsAreEvents =
     (m m' : Mine) (k version n : ℕ) → CollectsOn k version n m m'
     → IsEvent m.0 (Event.Collect k) Reply.Freed m'.0 ⊎ IsEvent m.0 (Event.Collect k) (Reply.Busy (n % 256)) m'.0
 
--- the slots of a free shelf are moved by tries at it, which have no place
+-- the slots of a free shelf are moved by collections of it, which are answered with NotNow
 abbrev pub SpareTriesAreEvents : Type 0
 SpareTriesAreEvents = (m m' : Mine) (k : ℕ) → GathersOn k m m' ⊎ PutsBackOn k m m' → IsEvent m.0 (Event.Collect k) Reply.NotNow m'.0
 
@@ -63,7 +63,7 @@ LateTakesTell =
     (m m1 m2 : Mine) (n word : ℕ) → Looks m n m1 → Takes m1 word m2 → IsLate (n % 8) m2.0
     → (table : Shelved) (l : LoaderView) (i : ℕ) → Ruled table → IsLoader table l → get_elem? table.views i ≡ some m2.0 → n / 8 < l.current
 
--- and the next look, after the drop, finds a greater one
+-- after such a take and the drop, the next look finds a greater version
 abbrev pub LateTakesRise : Type 0
 LateTakesRise =
     (m m1 m2 m3 m4 : Mine) (n word n' : ℕ) → Looks m n m1 → Takes m1 word m2 → IsLate (n % 8) m2.0 → Leaves m2 m3 → Looks m3 n' m4 → n / 8 < n' / 8
@@ -72,17 +72,17 @@ LateTakesRise =
 abbrev pub noting : Shelved → ℕ → LoaderView → Shelved
 noting table id l = record table { views = slice_set table.views id (View.Loading (with_note l)) ++ View.Noting l.current ∷ [] }
 
--- and once a worker's seat has taken one in
+-- the table once a worker's seat has taken in a notice
 abbrev pub joining : Shelved → ℕ → WorkerView → ℕ → ℕ → Shelved
 joining table id v other n = record table { views = slice_set (slice_set table.views id (View.Working (with_seen v n))) other View.Spent }
 
--- a notice that goes out is one event: what happened is longer by it, and by nothing else
+-- a notice that goes out adds one event to the course, and nothing else
 abbrev pub NotesAreEvents : Type 0
 NotesAreEvents =
     (table : Shelved) (id : ℕ) (l : LoaderView) (r : Ruled table) → get_elem? table.views id ≡ some (View.Loading l)
     → (after : Ruled (noting table id l)) × (after.course ≡ extended r.course Event.Note (Reply.Noted l.current) (noted r.course.state) r.course.images)
 
--- and so is one that is taken in
+-- so does a notice that is taken in
 abbrev pub JoinsAreEvents : Type 0
 JoinsAreEvents =
     (table : Shelved) (id other n : ℕ) (v : WorkerView) (r : Ruled table) → get_elem? table.views id ≡ some (View.Working v) → IsSettled (View.Working v)

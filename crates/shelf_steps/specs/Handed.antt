@@ -4,6 +4,6 @@ use Rattle.image_layout.specs.Image.{ImageValue}
 use Rattle.shelf_steps.specs.declared.views.LoaderView.{LoaderView}
 use Rattle.shelf_steps.specs.Ruled.{first_loader}
 
--- the loader's view once n workers' seats were handed out
+-- the loader's view at the start, once n workers' seats were handed out
 abbrev pub handed : ℕ → ImageValue → LoaderView
 handed n image = record (first_loader image) { handed = n }

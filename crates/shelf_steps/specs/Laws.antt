@@ -19,11 +19,11 @@ use Rattle.shelf_steps.specs.Ruled.{Ruled, notices_of}
 abbrev pub Shelved : Type 0
 Shelved = Table (Option Edition) View
 
--- the seat 0 is the loader's
+-- seat 0 is the loader's, with this view
 abbrev pub IsLoader : Shelved → LoaderView → Type 0
 IsLoader table l = get_elem? table.views 0 ≡ some (View.Loading l)
 
--- there is a loader, and no other seat loads
+-- there is one loader's seat, and no other
 abbrev pub OneSeatLoads : Type 0
 OneSeatLoads =
     (table : Shelved) → Ruled table
@@ -37,8 +37,8 @@ WordsAreTheLoaders =
     × (slice_get l.shelves l.current_shelf ≡ Some (Shelf.Open l.current))
     × ((k : ℕ) (x : Shelf) → slice_get l.shelves k ≡ Some x → (count : ℕ) × (count ≤ 16) × (slice_index table.words (k + 1) ≡ shelf_word x count))
 
--- there is one list of what sixteen workers do: each seat has its worker's place in it, a worker with no seat yet is
--- idle, and the count in each shelf word is the number of those that are late at the shelf or hold it
+-- there is a list of what the sixteen workers are doing: what each seat says of its worker stands there, a worker with no seat yet is idle, and the
+-- count in each shelf's word is the number of workers that are late at the shelf or hold it
 abbrev pub CountsAreWorkers : Type 0
 CountsAreWorkers =
     (table : Shelved) (l : LoaderView) → Ruled table → IsLoader table l
@@ -48,35 +48,37 @@ CountsAreWorkers =
     × ((w : ℕ) → l.handed ≤ w → w < 16 → slice_get workers w ≡ Some Worker.Idle)
     × ((k : ℕ) (x : Shelf) → slice_get l.shelves k ≡ Some x → slice_index table.words (k + 1) ≡ shelf_word x (count_by (is_at k) workers))
 
--- no two seats have one worker's number, and there are at most sixteen
+-- no two seats have the same worker's number, and each number is below sixteen
 abbrev pub NumbersDiffer : Type 0
 NumbersDiffer =
     (table : Shelved) (i j : ℕ) (v w : WorkerView) → Ruled table → get_elem? table.views i ≡ some (View.Working v)
     → get_elem? table.views j ≡ some (View.Working w)
     → (v.number < 16) × (v.number ≡ w.number → i ≡ j)
 
--- who holds a version finds its shelf open or closing with it, and has its edition, which is that version's in the loader's list
+-- if a worker holds a version, its shelf is open or closing with that version, and the worker has its edition, with the image that the loader's list
+-- has for it
 abbrev pub HeldHaveEditions : Type 0
 HeldHaveEditions =
     (table : Shelved) (l : LoaderView) (i k v : ℕ) (w : WorkerView) → Ruled table → IsLoader table l
     → get_elem? table.views i ≡ some (View.Working w) → w.now ≡ Worker.Holding k v
     → (version_on l.shelves k ≡ Some v) × IsEdition l.known.images v w.edition
 
--- a slot of an open or closing shelf that isn't at home is its own worker's, whose view holds the shelf
+-- if a slot of an open or closing shelf isn't at home, its own worker holds the shelf
 abbrev pub SlotsOutAreHeld : Type 0
 SlotsOutAreHeld =
     (table : Shelved) (l : LoaderView) (k w v : ℕ) → Ruled table → IsLoader table l → version_on l.shelves k ≡ Some v
     → w < 16 → get_elem? table.homes (16 * k + w) ≡ some none
     → (i : ℕ) × (u : WorkerView) × (get_elem? table.views i ≡ some (View.Working u)) × (u.number ≡ w) × (u.now ≡ Worker.Holding k v)
 
--- one that is at home has that version's edition
+-- a slot of an open or closing shelf that is at home has the edition of the shelf's version
 abbrev pub SlotsAtHomeAreFilled : Type 0
 SlotsAtHomeAreFilled =
     (table : Shelved) (l : LoaderView) (k w v : ℕ) (x : Option Edition) → Ruled table → IsLoader table l
     → version_on l.shelves k ≡ Some v → w < 16 → get_elem? table.homes (16 * k + w) ≡ some (some x)
     → IsEdition l.known.images v x
 
--- the slot of who holds a version is out: it isn't at home, from where a step could take it, and the loader has none of that shelf in its hand
+-- the slot of a worker that holds a version is out: it isn't at home, where a step could take it, and the loader has no slot of that shelf in its
+-- hand
 abbrev pub HoldersSlotsAreOut : Type 0
 HoldersSlotsAreOut =
     (table : Shelved) (l : LoaderView) (i k v : ℕ) (w : WorkerView) → Ruled table → IsLoader table l
@@ -89,21 +91,22 @@ FreeSlotsAreTheLoaders =
     (table : Shelved) (l : LoaderView) (k w : ℕ) → Ruled table → IsLoader table l
     → slice_get l.shelves k ≡ Some Shelf.Free → w < 16 → IsSpare l.hand k (get_elem? table.homes (16 * k + w))
 
--- the word of a shelf that a worker holds is none that a collection frees
+-- the word of a shelf that a worker holds isn't one at which a collection frees the shelf
 abbrev pub HeldShelvesAreInUse : Type 0
 HeldShelvesAreInUse =
     (table : Shelved) (l : LoaderView) (i k v version : ℕ) (w : WorkerView) → Ruled table → IsLoader table l
     → get_elem? table.views i ≡ some (View.Working w) → w.now ≡ Worker.Holding k v
     → slice_index table.words (k + 1) ≢ 512 + 65536 * version
 
--- and behind what the worker's seat knows, no event has freed the shelf
+-- no event after those that the worker's seat knows has freed the shelf that it holds
 abbrev pub HeldShelvesStay : Type 0
 HeldShelvesStay =
     (table : Shelved) (i k v : ℕ) (w : WorkerView) (r : Ruled table)
     → get_elem? table.views i ≡ some (View.Working w) → w.now ≡ Worker.Holding k v
     → NeverFreedSince k w.known r.course
 
--- seen and looked versions are at most the current one; a looked version that is still current names its shelf; one that was found late is below
+-- the versions that a worker has seen and last looked at are at most the current one, and the one last looked at is below it if the take of that came
+-- late; a worker that has looked at the version that is still current has its shelf
 abbrev pub LooksAreSo : Type 0
 LooksAreSo =
     (table : Shelved) (l : LoaderView) (i : ℕ) (w : WorkerView) → Ruled table → IsLoader table l → get_elem? table.views i ≡ some (View.Working w)
@@ -125,8 +128,9 @@ pub record TableShows (table : Shelved) (l : LoaderView) (s : State) : Type 0 wh
   pub notices : notices_of table.views ≡ s.notices
   pub unseated : (w : ℕ) → l.handed ≤ w → w < 16 → (slice_get s.workers w ≡ Some Worker.Idle) × (slice_index s.seen w ≡ 0)
 
--- there is one course of events, of which each seat knows a beginning, behind which nothing of its own stands. It leads to the state that words
--- and seats show. As many notices went out in it as the loader's view counts, and each worker took in those that its view lists, and no other
+-- there is one course of events, of which each seat knows a beginning, after which there is no step of its own on a word. It leads to the state that
+-- words and seats show. The loader's view has the number of notices that went out in it, and each worker's view lists exactly those that the worker
+-- took in
 abbrev pub OneHistory : Type 0
 OneHistory =
     (table : Shelved) → Ruled table
@@ -134,7 +138,7 @@ OneHistory =
     × ((i : ℕ) (v : WorkerView) → get_elem? table.views i ≡ some (View.Working v) → Begins v.known (Some v.number) c × (v.joined ≡ joined_by v.number c.events))
     × ((l : LoaderView) → IsLoader table l → Begins l.known None c × (l.known.images ≡ c.images) × TableShows table l c.state × (l.notes ≡ notes_in c.events))
 
--- words and seats show one state that every law of the table of versions is true of, and no other
+-- words and seats show exactly one state of which `Kept` holds, and with it every law of the table of versions
 abbrev pub OneStateIsShown : Type 0
 OneStateIsShown =
     (table : Shelved) (l : LoaderView) → Ruled table → IsLoader table l

@@ -1,4 +1,4 @@
--- What a load does to the loader's view, told by what happened.
+-- What a load and a try at a closing shelf do to the loader's view, by the events that happen.
 use Rattle.image_layout.specs.Image.{ImageValue}
 use Rattle.std.specs.Prelude.{◌≡◌, ℕ, ◌+◌, ◌<◌, [], ◌∷◌, ◌++◌, slice_get, slice_set, Some, None}
 use Rattle.version_core.specs.declared.event.Event.{Event}
@@ -10,7 +10,7 @@ use Rattle.shelf_steps.specs.declared.views.View.{View}
 use Rattle.shelf_steps.specs.Course.{Happened}
 use Rattle.shelf_steps.specs.Plays.{OfLoader, newest_of}
 
--- the loader is at rest, this shelf is free, the version is the next, and that of the shelf before is current
+-- the loader is at rest, `shelf` is free, `version` is the next one, and `before` is the shelf of the current version
 pub record MayLoad (shelf version before : ℕ) (l : LoaderView) : Type 0 where
   pub free : slice_get l.shelves shelf ≡ Some Shelf.Free
   pub empty : l.hand ≡ None
@@ -38,7 +38,7 @@ pub record Loaded (a : LoaderView) (image : ImageValue) (version shelf before : 
 abbrev pub Loads : ℕ → ℕ → ℕ → ImageValue → View → View → Type 0
 Loads shelf version before image u u' = OfLoader u (λ a. OfLoader u' (λ b. Loaded a image version shelf before b))
 
--- a closing shelf is free, with its slots at home and empty, or the count was above 0
+-- the closing shelf is free, with its slots at home and empty (Freed), or its count was above 0 (FoundBusy)
 pub record Freed (a : LoaderView) (shelf : ℕ) (b : LoaderView) : Type 0 where
   pub freed : Known
   pub collect : Happened a.known (Event.Collect shelf) Reply.Freed freed

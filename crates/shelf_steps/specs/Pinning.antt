@@ -1,4 +1,4 @@
--- What a pin does to the worker's view, told by what happened.
+-- What a pin and a release do to the worker's view, by the events that happen.
 use Rattle.std.specs.Prelude.{◌≡◌, ℕ, ◌+◌, ◌*◌, ◌<◌, ◌≤◌, true, List, [], ◌∷◌, ◌++◌, length, Option, Some, None}
 use Rattle.version_core.specs.declared.event.Event.{Event}
 use Rattle.version_core.specs.declared.event.Reply.{Reply}
@@ -10,7 +10,7 @@ use Rattle.shelf_steps.specs.declared.views.View.{View}
 use Rattle.shelf_steps.specs.Course.{Happened, IsEdition}
 use Rattle.shelf_steps.specs.Plays.{OfWorker, Mine, ShowsIn}
 
--- a look finds the version, at least all that was seen, and greater than one that was found late
+-- a look finds the version n: no older than any that was seen, and greater than the one last looked at if the take of that came late
 pub record LookedOnce (a : WorkerView) (n shelf : ℕ) (looked : Known) : Type 0 where
   pub from : a.seen ≤ n
   pub above : a.passed ≡ true → a.last < n
@@ -31,7 +31,7 @@ pub record TriedLate (a : WorkerView) (n : ℕ) (b : WorkerView) : Type 0 where
   pub joined : b.joined ≡ a.joined
   pub shows : ShowsIn b
 
--- a look and a take that finds the version there: its edition is held, which is that version's in what the worker now knows
+-- a look, and a take that finds the version still there: the worker holds e, which is the edition of that version in what the worker now knows
 pub record TriedWell (a : WorkerView) (n shelf : ℕ) (e : Edition) (b : WorkerView) : Type 0 where
   pub looked : Known
   pub look : LookedOnce a n shelf looked
@@ -50,7 +50,7 @@ Late u n u' = OfWorker u (λ a. OfWorker u' (λ b. TriedLate a n b))
 abbrev pub Well : View → ℕ → ℕ → Edition → View → Type 0
 Well u n shelf e u' = OfWorker u (λ a. OfWorker u' (λ b. TriedWell a n shelf e b))
 
--- one try after another came late, at these versions
+-- late tries, one after another, whose looks found these versions
 abbrev pub Lates : View → List ℕ → View → Type 0
 Lates u [] u' = u' ≡ u
 Lates u (n ∷ ns) u' = (mid : View) × Late u n mid × Lates mid ns u'
@@ -61,23 +61,24 @@ IsRising [] = Unit {0}
 IsRising (n ∷ []) = Unit {0}
 IsRising (n ∷ m ∷ ns) = (n < m) × IsRising (m ∷ ns)
 
--- the worker's slot of the shelf is out with it, empty, since the edition is in hand
+-- the worker's slot of the shelf is out with it, and empty: the edition was taken from it
 abbrev pub SlotOut : ℕ → View → List (ℕ × Option Edition) → Type 0
 SlotOut shelf u c = OfWorker u (λ a. c ≡ (16 * shelf + a.number, None) ∷ [])
 
--- at most three late tries and one that held: the looks rise, and the last found the version that is held
+-- at most three late tries and then one that holds: each look found a greater version than the one before, and the last found the version that is
+-- held
 abbrev pub Pins : View → ℕ → ℕ → Edition → View → Type 0
 Pins u n shelf e u' = (ns : List ℕ) × (length ns < 4) × (mid : View) × Lates u ns mid × Well mid n shelf e u' × IsRising (ns ++ n ∷ [])
 
--- four late tries, whose looks rise
+-- four late tries, whose looks each found a greater version than the one before; n is the last
 abbrev pub Moves : View → ℕ → View → Type 0
 Moves u n u' = (i j k : ℕ) × Lates u (i ∷ j ∷ k ∷ n ∷ []) u' × (i < j) × (j < k) × (k < n)
 
--- an idle worker with this number and no slot
+-- the seat of an idle worker with this number, with no slot out
 abbrev pub IsIdleAs : ℕ → Mine → Type 0
 IsIdleAs number m = OfWorker m.0 (λ a. (a.now ≡ Worker.Idle) × (a.number ≡ number)) × (m.1 ≡ [])
 
--- the worker holds the shelf with the edition in hand
+-- the worker holds the shelf, and the edition was taken from its slot
 abbrev pub IsHoldingAs : ℕ → ℕ → Edition → Mine → Type 0
 IsHoldingAs number shelf e m = OfWorker m.0 (λ a. (a.now ≡ Worker.Holding shelf e.version) × (a.number ≡ number)
     × (a.edition ≡ Some e)) × (m.1 ≡ (16 * shelf + number, None) ∷ [])

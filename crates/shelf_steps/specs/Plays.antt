@@ -1,7 +1,7 @@
 -- What each step tells the seat that makes it.
 -- m and m' are what the seat has before the step and after it: its view, and the slots that are out with it. v is a worker's view, l the
--- loader's, u the view of either; c are the slots that are out, f what each slot has by its number; k is a shelf, n the word that the
--- step found. st is what the table was asked: which word, and with which number (first).
+-- loader's, u the view of either; c are the slots that are out, f has the content of each slot by its number; k is a shelf, n the word that
+-- the step found. st is the operation on the table: its word, and the first number that it was given.
 use Rattle.image_layout.specs.Image.{ImageValue}
 use Rattle.std.specs.Prelude.{◌≡◌, ℕ, ◌+◌, ◌*◌, ◌/◌, ◌%◌, ◌<◌, ◌≤◌, ◌==◌, ◌&&◌, ◌⊎◌, max, Bool, true, false, List, [], ◌∷◌, ◌++◌, Option, Some, None, length}
 use Rattle.std.specs.Prelude.{slice_get, slice_set}
@@ -22,7 +22,7 @@ use Rattle.shelf_steps.specs.declared.views.View.{View}
 use Rattle.shelf_steps.specs.Course.{Goes, leading_to, Happened, FoundAt, IsEdition}
 use Rattle.shelf_steps.specs.Slots.{down_from, nothings}
 
--- what holds of a worker's view
+-- the view is a worker's, and P holds of it
 abbrev pub OfWorker : View → (WorkerView → Type 0) → Type 0
 OfWorker (View.Working v) P = P v
 OfWorker _ P = ⊥
@@ -36,7 +36,7 @@ pub record PlaceValue : Type 0 where
   pub table : TableId
   pub me : Mine
 
--- after a look that found this word
+-- the view after a look that found this word
 abbrev pub looked_at : WorkerView → ℕ → Known → WorkerView
 looked_at v n known = record v { now = Worker.Looked (n / 8) (n % 8); seen = n / 8; last = n / 8; passed = false; edition = None; known = known }
 
@@ -44,30 +44,32 @@ looked_at v n known = record v { now = Worker.Looked (n / 8) (n % 8); seen = n /
 abbrev pub is_open : ℕ → ℕ → Bool
 is_open n version = (n / 256 % 4 == 1) && (n / 65536 == version)
 
--- after a take that found the version: the worker holds it on the shelf k, with its edition
+-- the view after a take that found the version: the worker holds it on the shelf k, with its edition
 abbrev pub holding : WorkerView → ℕ → ℕ → Edition → Known → WorkerView
 holding v k version e known = record v { now = Worker.Holding k version; edition = Some e; known = known }
 
--- after a take that came late: the version last looked at is current no longer
+-- the view after a take that came late: the version last looked at is no longer current
 abbrev pub come_late : WorkerView → ℕ → Known → WorkerView
 come_late v k known = record v { now = Worker.Late k; passed = true; edition = None; known = known }
 
--- after a drop: the worker is idle
+-- the view after a drop: the worker is idle
 abbrev pub gone : WorkerView → Known → WorkerView
 gone v known = record v { now = Worker.Idle; edition = None; known = known }
 
--- in the history that is known, the worker is doing this, and has seen this
+-- the history that is known leads to a state in which the worker is doing and has seen what its view says
 abbrev pub ShowsIn : WorkerView → Type 0
 ShowsIn v = (s : State) × Goes (leading_to s v.known) × WorkerShows v.number v.now v.seen s
 
--- the version looked at is at least all that was seen, and greater than one that was found late
+-- the step `Looking`: the version that it finds is no older than any that was seen, and greater than the one last looked at if the take of that came
+-- late
 abbrev pub Looks : Mine → ℕ → Mine → Type 0
 Looks m n m' = OfWorker m.0 (λ v.
     (known : Known) × (m' ≡ (View.Working (looked_at v n known), m.1))
     × Happened v.known (Event.Look v.number) (Reply.Looked (n / 8) (n % 8)) known
     × (v.seen ≤ n / 8) × (v.passed ≡ true → v.last < n / 8) × ShowsIn (looked_at v n known))
 
--- whether the shelf, found at the word n, was open with the version that was looked at. Only then is it held, with its edition in the slot
+-- a take that found the word n: if the shelf was open with the version that was looked at (true), the worker holds it, with its edition in the slot;
+-- otherwise (false) the worker is late
 abbrev pub TakesFound : WorkerView → List (ℕ × Option Edition) → ℕ → ℕ → ℕ → Bool → Mine → Type 0
 TakesFound v c version k n true m' =
     (e : Edition) × (known : Known) × (m' ≡ (View.Working (holding v k version e known), (16 * k + v.number, Some e) ∷ c))
@@ -77,7 +79,7 @@ TakesFound v c version k n false m' =
     (known : Known) × (m' ≡ (View.Working (come_late v k known), c)) × Happened v.known (Event.Take v.number) Reply.Late known × ShowsIn (come_late v k known)
     × FoundAt known (Event.Take v.number) k n
 
--- so does a worker that has looked; no other takes a shelf
+-- the same of a worker that has looked; no other takes a shelf
 abbrev pub TakesAs : WorkerView → List (ℕ × Option Edition) → Worker → ℕ → Mine → Type 0
 TakesAs v c (Worker.Looked version k) n m' = TakesFound v c version k n (is_open n version) m'
 TakesAs v c _ n m' = ⊥
@@ -86,12 +88,12 @@ TakesAs v c _ n m' = ⊥
 abbrev pub Takes : Mine → ℕ → Mine → Type 0
 Takes m n m' = OfWorker m.0 (λ v. TakesAs v m.1 v.now n m')
 
--- the step `Leaving`: the worker is idle again, and the slots that are out stay so
+-- the step `Leaving`: the worker is idle again, and the slots that are out stay out
 abbrev pub Leaves : Mine → Mine → Type 0
 Leaves m m' = OfWorker m.0 (λ v. (known : Known) × (m' ≡ (View.Working (gone v known), m.1))
     × Happened v.known (Event.Drop v.number) Reply.Dropped known × ShowsIn (gone v known))
 
--- the step `GivingBack`: the worker is idle again, and its slot is out no longer
+-- the step `GivingBack`: the worker is idle again, and its slot is no longer out
 abbrev pub GivesBack : Mine → Mine → Type 0
 GivesBack m m' = OfWorker m.0 (λ v. (known : Known) × (m' ≡ (View.Working (gone v known), []))
     × Happened v.known (Event.Drop v.number) Reply.Dropped known × ShowsIn (gone v known))
@@ -112,7 +114,7 @@ IsLate k u = OfWorker u (λ v. v.now ≡ Worker.Late k)
 abbrev pub HoldsOut : ℕ → View → List (ℕ × Option Edition) → Type 0
 HoldsOut k u c = OfWorker u (λ v. (version : ℕ) × (v.now ≡ Worker.Holding k version) × (c ≡ (16 * k + v.number, v.edition) ∷ []))
 
--- what holds of the loader's view
+-- the view is the loader's, and P holds of it
 abbrev pub OfLoader : View → (LoaderView → Type 0) → Type 0
 OfLoader (View.Loading l) P = P l
 OfLoader _ P = ⊥
@@ -137,7 +139,7 @@ with_closing l k version known = record l { shelves = slice_set l.shelves k (She
 abbrev pub with_free : LoaderView → ℕ → Known → LoaderView
 with_free l k known = record l { shelves = slice_set l.shelves k Shelf.Free; hand = Some k; known = known }
 
--- the slots of the free shelf `hand` are out with the loader, or those of none
+-- the slots of the free shelf `hand` are out with the loader, or no slots if `hand` is None
 abbrev pub with_hand : LoaderView → Option ℕ → Known → LoaderView
 with_hand l hand known = record l { hand = hand; known = known }
 
@@ -157,7 +159,7 @@ AllHave version image k f = (j : ℕ) → 16 * k ≤ j → j < 16 * k + 16 → H
 abbrev pub Noted : LoaderView → Event → Reply → Known → Type 0
 Noted l e r known = Happened l.known e r known × (known.images ≡ l.known.images)
 
--- the image that the block has becomes the next version
+-- the image in the slots of the block becomes the next version
 abbrev pub OpensOn : ℕ → Mine → Mine → Type 0
 OpensOn k m m' = OfLoader m.0 (λ l.
     (image : ImageValue) × (f : ℕ → Option Edition) × (known : Known) × IsBlock f k m.1 × AllHave (newest_of l + 1) image k f
@@ -168,13 +170,13 @@ OpensOn k m m' = OfLoader m.0 (λ l.
 abbrev pub Opens : Step (Option Edition) → Mine → ℕ → Mine → Type 0
 Opens st m n m' = (k : ℕ) × (st.word ≡ k + 1) × OpensOn k m m'
 
--- the version on the shelf k becomes the current one, and the slots that are out stay so
+-- the version on the shelf k becomes the current one, and the slots that are out stay out
 abbrev pub PublishesOn : ℕ → ℕ → Mine → Mine → Type 0
 PublishesOn version k m m' = OfLoader m.0 (λ l. (known : Known)
     × (m' ≡ (View.Loading (with_current l version k known), m.1))
     × Noted l Event.Publish (Reply.Published version) known)
 
--- the step `Publishing`, which stores eight times the version and its shelf
+-- the step `Publishing`, which stores eight times the version plus its shelf
 abbrev pub Publishes : Step (Option Edition) → Mine → ℕ → Mine → Type 0
 Publishes st m n m' = (version k : ℕ) × (st.first ≡ 8 * version + k) × (k < 8) × PublishesOn version k m m'
 
@@ -188,7 +190,7 @@ ClosesOn k m m' = OfLoader m.0 (λ l.
 abbrev pub Closes : Step (Option Edition) → Mine → ℕ → Mine → Type 0
 Closes st m n m' = (k : ℕ) × (st.word ≡ k + 1) × ClosesOn k m m'
 
--- the shelf, found at the word n, is free and its slots are out with the loader, or the count was above 0
+-- a collection that found the word n: the shelf is free and its slots are out with the loader (true), or its count was above 0 (false)
 abbrev pub CollectsFound : LoaderView → ℕ → ℕ → ℕ → Bool → Mine → Type 0
 CollectsFound l k version n true m' =
     (f : ℕ → Option Edition) × (known : Known) × (m' ≡ (View.Loading (with_free l k known), down_from f (16 * k) 16 []))
@@ -197,11 +199,11 @@ CollectsFound l k version n false m' =
     (known : Known) × (m' ≡ (View.Loading (with_hand l None known), [])) × Noted l (Event.Collect k) (Reply.Busy (n % 256)) known × (0 < n % 256)
     × FoundAt known (Event.Collect k) k n
 
--- it is free where the word n says that it was closing with the version, and its count 0
+-- the shelf is free if the word n says that it was closing with the version and that its count was 0
 abbrev pub CollectsOn : ℕ → ℕ → ℕ → Mine → Mine → Type 0
 CollectsOn k version n m m' = OfLoader m.0 (λ l. CollectsFound l k version n (n == 512 + 65536 * version) m')
 
--- the step `Collecting`, on the word of a shelf, which asks for just that word
+-- the step `Collecting`, on the word of a shelf, which expects exactly that word
 abbrev pub Collects : Step (Option Edition) → Mine → ℕ → Mine → Type 0
 Collects st m n m' = (k version : ℕ) × (st.word ≡ k + 1) × (st.first ≡ 512 + 65536 * version) × CollectsOn k version n m m'
 
@@ -223,8 +225,8 @@ PutsBackOn k m m' = OfLoader m.0 (λ l. (known : Known) × (m' ≡ (View.Loading
 abbrev pub PutsBack : Step (Option Edition) → Mine → ℕ → Mine → Type 0
 PutsBack st m n m' = (k : ℕ) × (st.word ≡ k + 1) × PutsBackOn k m m'
 
--- what each step of the loader asks of its view and its slots. To open: the shelf is free, its slots are out with the loader, each filled
--- with the next version and its image, and no version is open and unpublished
+-- what each step of the loader requires of its view and its slots. To open: the shelf is free, its slots are out with the loader, each filled with
+-- the next version and its image, and no version is open and unpublished
 abbrev pub MayOpenOn : ℕ → ℕ → View → List (ℕ × Option Edition) → Type 0
 MayOpenOn k version u c = OfLoader u (λ l.
     (slice_get l.shelves k ≡ Some Shelf.Free) × (l.hand ≡ Some k) × (l.current ≡ newest_of l) × (version ≡ newest_of l + 1) × (version ≤ 1000000000)
@@ -263,7 +265,7 @@ newcomer w = record {
   known = record { events = []; replies = []; images = [] };
 }
 
--- one worker's seat more was handed out
+-- one more worker's seat was handed out
 abbrev pub one_more : LoaderView → LoaderView
 one_more l = record l { handed = l.handed + 1 }
 
@@ -272,7 +274,7 @@ abbrev pub keeps_loading : View → View
 keeps_loading (View.Loading l) = View.Loading (one_more l)
 keeps_loading u = u
 
--- and the view that it gives: that of a newcomer with the next number
+-- the view that such a split gives: that of a newcomer with the next number
 abbrev pub new_worker_view : View → View
 new_worker_view (View.Loading l) = View.Working (newcomer l.handed)
 new_worker_view u = u
@@ -281,7 +283,7 @@ new_worker_view u = u
 abbrev pub MayHandOut : View → Type 0
 MayHandOut u = OfLoader u (λ l. l.handed < 16)
 
--- one notice more went out
+-- one more notice went out
 abbrev pub with_note : LoaderView → LoaderView
 with_note l = record l { notes = l.notes + 1 }
 
@@ -312,6 +314,6 @@ joins_notice u w = u
 abbrev pub IsSettled : View → Type 0
 IsSettled u = OfWorker u (λ v. (v.now ≡ Worker.Idle) ⊎ ((k x : ℕ) × (v.now ≡ Worker.Holding k x)))
 
--- what a notice of the version has: its view, and no slot
+-- a notice of the version: its view, with no slot out
 abbrev pub IsNotice : ℕ → Mine → Type 0
 IsNotice version m = m ≡ (View.Noting version, [])

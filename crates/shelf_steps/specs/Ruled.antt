@@ -14,7 +14,7 @@ use Rattle.shelf_steps.specs.Seats.{SeatsFit}
 use Rattle.shelf_steps.specs.Slots.{SlotsFit}
 use Rattle.shelf_steps.specs.Plays.{HasImage}
 
--- the versions that the views of notices spell, in the order of their seats
+-- the versions of the views that are notices, in the order of their seats
 abbrev pub notice_of : View → List ℕ
 notice_of (View.Noting v) = v ∷ []
 notice_of _ = []
@@ -46,7 +46,7 @@ first_loader image =
       known = record { events = []; replies = []; images = image ∷ [] };
     }
 
--- version 1 is current and stands open on shelf 0
+-- the words at the start: version 1 is current and stands open on shelf 0
 abbrev pub first_words : List ℕ
 first_words = 8 ∷ 65792 ∷ 0 ∷ 0 ∷ 0 ∷ 0 ∷ 0 ∷ 0 ∷ 0 ∷ []
 

@@ -11,13 +11,13 @@ use Rattle.shelf_steps.specs.declared.views.LoaderView.{LoaderView}
 use Rattle.shelf_steps.specs.declared.views.View.{View}
 use Rattle.shelf_steps.specs.Course.{Course, Begins, IsEdition, notes_in, joined_by, HasDoneNothing}
 
--- who holds a version has its edition, and nobody else has one
+-- a worker that holds a version has its edition, and no other worker has one
 abbrev pub HasEdition : List ImageValue → Worker → Option Edition → Type 0
 HasEdition images (Worker.Holding k v) edition = IsEdition images v edition
 HasEdition images _ edition = edition ≡ None
 
--- what a worker's seat knows fits: what the worker does and has seen, its edition, a beginning of the events, behind which no step of
--- its own on a word stands, and the notices that it took in
+-- what a worker's seat knows fits: what the worker is doing and has seen, its edition, a beginning of the events after which the worker has made no
+-- step on a word, and the notices that it took in
 pub record WorkerFits (c : Course) (v : WorkerView) : Type 0 where
   pub shows : WorkerShows v.number v.now v.seen c.state
   pub last : (v.last ≤ c.state.current) × (v.last ≤ v.seen)
@@ -39,7 +39,7 @@ SeatFits c loader owner seat (View.Loading l) = (seat ≡ 0) × (l ≡ loader)
 SeatFits c loader owner seat (View.Working v) = (v.number < loader.handed) × (owner v.number ≡ seat) × WorkerFits c v
 SeatFits c loader owner seat _ = Unit {0}
 
--- all seats fit. Seat 0 is the loader's; each worker that was handed out has one seat, and no other worker has done anything
+-- all seats fit. Seat 0 is the loader's; each worker whose seat was handed out has one seat, and no other worker has done anything
 pub record SeatsFit (c : Course) (views : List View) (loader : LoaderView) : Type 0 where
   pub owner : ℕ → ℕ
   pub loader_seat : get_elem? views 0 ≡ some (View.Loading loader)

@@ -8,7 +8,7 @@ use Rattle.version_core.specs.declared.state.Worker.{Worker}
 use Rattle.shelf_steps.specs.declared.edition.Edition.{Edition}
 use Rattle.shelf_steps.specs.Course.{IsEdition}
 
--- a slot: it is none where it's out with a seat
+-- a slot as it is found: `some (some x)` if it is at home with x in it, `some none` if it is out with a seat
 abbrev pub Slot : Type 0
 Slot = Maybe (Maybe (Option Edition))
 
@@ -23,7 +23,7 @@ IsFilled images workers k w v slot =
 abbrev pub IsSpare : Option ℕ → ℕ → Slot → Type 0
 IsSpare hand k slot = ((hand ≢ Some k) × (slot ≡ some (some None))) ⊎ ((hand ≡ Some k) × (slot ≡ some none))
 
--- a slot is spare if its shelf is free, else filled, and then no slot of that shelf is in the loader's hand
+-- the slot of a free shelf is spare; that of any other shelf is filled, and the loader has no slot of that shelf in its hand
 abbrev pub SlotFits : List ImageValue → List Worker → Option ℕ → Shelf → ℕ → ℕ → Slot → Type 0
 SlotFits images workers hand Shelf.Free k w slot = IsSpare hand k slot
 SlotFits images workers hand (Shelf.Open v) k w slot = (hand ≢ Some k) × IsFilled images workers k w v slot
@@ -35,7 +35,7 @@ SlotsFit homes shelves workers images hand =
     (k w : ℕ) (x : Shelf) → slice_get shelves k ≡ Some x → w < 16
     → SlotFits images workers hand x k w (get_elem? homes (16 * k + w))
 
--- n slots with their values, from k + n - 1 down to k, before those of c
+-- n slots with their contents, from k + n - 1 down to k, followed by those of c
 abbrev pub down_from : {S : Type 0} → (ℕ → S) → ℕ → ℕ → List (ℕ × S) → List (ℕ × S)
 down_from f k zero c = c
 down_from f k (suc n) c = (k + n, f (k + n)) ∷ down_from f k n c

@@ -22,10 +22,10 @@ use Rattle.shelf_steps.specs.Plays.{newcomer, one_more}
 use Rattle.shelf_steps.specs.Laws.{Shelved}
 use Rattle.shelf_steps.specs.Events.{known_of}
 
--- A seat's step on the word i, which becomes f of what it was; `slots` is how many slots the table has, id the seat, me its view and the
--- slots that are out with it. Whatever the table is at that moment, if the rule holds of it: the seat has a new view and moves slots so that
--- the rule holds of the table after the step, by the history before and this event; all of that the seat knows then; and `tells` holds of
--- the number that was found, and of the seat after. The kit asks for as much of each operation on a word (`Allows`), but for the history
+-- A seat's step on the word i, which becomes f of what it was. `slots` is the number of slots of the table, id the seat, me its view and the slots
+-- that are out with it. Whatever the table is at that moment, if the rule holds of it, then the seat can have a new view and move slots such that the
+-- rule holds of the table after the step, with the history before and this event; the seat then knows all of that history; and `tells` holds of the
+-- number that was found and of the seat after the step. Except for the history, this is what the kit requires of each operation on a word (`Allows`)
 abbrev pub Adds : ℕ → ℕ → Mine → ℕ → (ℕ → ℕ) → Event → (ℕ → Reply) → (ℕ → Mine → Type 0) → Type 0
 Adds slots id me i f e reply tells =
     (table : Shelved) (r : Ruled table) → length table.homes ≡ slots → get_elem? table.views id ≡ some me.0
@@ -51,20 +51,21 @@ TakesAdd = (slots id k version : ℕ) (v : WorkerView) (c : Carried) → v.now �
     → Adds slots id (View.Working v, c) (k + 1) (λ n. (n + 1) % 18446744073709551616) (Event.Take v.number)
     (λ n. cond (is_open n version) (Reply.Holds version) Reply.Late) (Takes (View.Working v, c))
 
--- one that is late takes one from it
+-- a late worker subtracts one from its shelf's word
 abbrev pub LeavesAdd : Type 0
 LeavesAdd = (slots id k : ℕ) (v : WorkerView) (c : Carried) → v.now ≡ Worker.Late k
     → Adds slots id (View.Working v, c) (k + 1) (λ n. (n + (18446744073709551616 - 1)) % 18446744073709551616)
     (Event.Drop v.number) (λ _. Reply.Dropped) (λ _. Leaves (View.Working v, c))
 
--- and so does a holder, whose slot is out with it, the edition in it
+-- so does a worker that holds the shelf, whose slot is out with it, with the edition in the slot
 abbrev pub GivingsAdd : Type 0
 GivingsAdd = (slots id k version : ℕ) (v : WorkerView) → slots ≡ 128 → v.now ≡ Worker.Holding k version
     → Adds slots id (View.Working v, (16 * k + v.number, v.edition) ∷ []) (k + 1)
     (λ n. (n + (18446744073709551616 - 1)) % 18446744073709551616) (Event.Drop v.number) (λ _. Reply.Dropped)
     (λ _. GivesBack (View.Working v, (16 * k + v.number, v.edition) ∷ []))
 
--- the loader opens a free shelf by adding to its word, makes the version current by a store, and closes the shelf before by adding to its word
+-- the loader opens a free shelf by adding to its word, makes the version current by a store, and closes an older version's shelf by adding to its
+-- word
 abbrev pub OpensAdd : Type 0
 OpensAdd = (slots id k version : ℕ) (l : LoaderView) (c : Carried) → slots ≡ 128 → k < 8
     → MayOpenOn k version (View.Loading l) c
@@ -83,7 +84,7 @@ ClosesAdd = (slots id k : ℕ) (l : LoaderView) (c : Carried) → k < 8 → MayC
     → Adds slots id (View.Loading l, c) (k + 1) (λ n. (n + 256) % 18446744073709551616) (Event.Close k)
     (λ _. Reply.Closing) (Closes (step slots (k + 1) 256 0 none) (View.Loading l, c))
 
--- an exchange frees a closing shelf if its word has no count, and else finds the count
+-- a compare-exchange frees a closing shelf if its count is 0, and otherwise finds the count
 abbrev pub CollectsAdd : Type 0
 CollectsAdd = (slots id k version : ℕ) (l : LoaderView) (c : Carried) → slots ≡ 128 → k < 8
     → MayCollect k version (View.Loading l) c
@@ -91,7 +92,7 @@ CollectsAdd = (slots id k version : ℕ) (l : LoaderView) (c : Carried) → slot
     (λ n. cond (n == 512 + 65536 * version) Reply.Freed (Reply.Busy (n % 256)))
     (Collects (step slots (k + 1) (512 + 65536 * version) 0 none) (View.Loading l, c))
 
--- the slots of a free shelf are moved by exchanges that fail
+-- the slots of a free shelf are moved by compare-exchanges that fail
 abbrev pub GatheringsAdd : Type 0
 GatheringsAdd = (slots id k : ℕ) (l : LoaderView) (c : Carried) → slots ≡ 128 → k < 8
     → MayGather k (View.Loading l) c
@@ -114,7 +115,7 @@ StartIsRuled = (image : ImageValue) (items : List (Option Edition)) → FirstSlo
 abbrev pub handing : Shelved → ℕ → LoaderView → Shelved
 handing table id l = record table { views = slice_set table.views id (View.Loading (one_more l)) ++ View.Working (newcomer l.handed) ∷ [] }
 
--- by that nothing happens
+-- handing out a seat adds nothing to the course
 abbrev pub HandingsAddNothing : Type 0
 HandingsAddNothing = (table : Shelved) (id : ℕ) (l : LoaderView) (r : Ruled table)
     → get_elem? table.views id ≡ some (View.Loading l) → l.handed < 16

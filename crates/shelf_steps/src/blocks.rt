@@ -28,7 +28,7 @@ pub fn editions_of(
     Ok(editions)
 }
 
-/// Empties the slots of the shelf, and lets their images go.
+/// Empties the slots of the shelf, and drops their editions.
 pub fn empty_block(shelves: &ShelfTable, loader: &mut Place, shelf: usize)
     requires table { loader.old.table ≡ shelves.now }
     requires shelf { shelf < 8 }

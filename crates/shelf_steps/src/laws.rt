@@ -19,7 +19,7 @@ pub use crate::opening::{new_shelves, new_worker};
 pub use crate::pinning::try_once;
 pub use crate::worker_steps::{give_back, leave_late, look, take};
 
-/// Between any two steps.
+/// What holds of a table between any two steps.
 pub fn the_rule_says()
     ensures words { WordsAreTheLoaders }
     ensures counts { CountsAreWorkers }
@@ -34,24 +34,23 @@ pub fn the_rule_says()
     ensures notices { NoticesAreOfTheirTime }
 {}
 
-/// The words and what the seats know show one state of the table of versions, and no two.
+/// The words and what the seats know show exactly one state of the table of versions.
 pub fn one_state_is_shown()
     ensures { OneStateIsShown }
 {}
 
-/// Whatever is held is left alone: the holder's slot is out, so that no step can take it, and none of
-/// its shelf is in the loader's hand; the word of the shelf is none that a collection frees; and since
-/// the holder's last step no event has freed the shelf.
+/// What a worker holds is left alone: its slot is out, so that no step can take it, and the loader has no slot of that
+/// shelf; the shelf's word isn't one at which a collection frees the shelf; and no event has freed the shelf since the
+/// holder's last step.
 pub fn what_is_held_stays()
     ensures slot { HoldersSlotsAreOut }
     ensures in_use { HeldShelvesAreInUse }
     ensures never_freed { HeldShelvesStay }
 {}
 
-/// Each step keeps the rule, and makes the one history longer by its own event and by no other,
-/// whatever the table is at that moment; the seat that made it knows all of that history then. At
-/// the start the rule holds of an empty history, and a seat that is handed out is no event. Notices
-/// are those of [`notices_are_events`].
+/// Each step keeps the rule, whatever the table is at that moment, and adds its own event, and no other, to the one
+/// history; the seat that made the step then knows all of that history. At the start the rule holds with an empty
+/// history, and handing out a seat adds no event. For notices see [`notices_are_events`].
 pub fn each_step_keeps_the_rule()
     ensures start { StartIsRuled }
     ensures seat { HandingsAddNothing }
@@ -67,8 +66,8 @@ pub fn each_step_keeps_the_rule()
     ensures put_back { PuttingsAdd }
 {}
 
-/// Each step is one event of the table of versions: it is the last of which the seat then knows,
-/// and nothing of the seat's own stands between it and what the seat knew before.
+/// Each step is one event of the table of versions: the last that the seat then knows, with no event of the seat's own
+/// between it and what the seat knew before.
 pub fn each_step_is_its_event()
     ensures look { LooksAreEvents }
     ensures take { TakesAreEvents }
@@ -80,7 +79,7 @@ pub fn each_step_is_its_event()
     ensures spare { SpareTriesAreEvents }
 {}
 
-/// A notice that goes out is one event, and so is one that is taken in, at whatever moment.
+/// A notice that goes out is one event, and so is taking one in, at whatever moment.
 pub fn notices_are_events()
     ensures notes { NotesAreEvents }
     ensures joins { JoinsAreEvents }

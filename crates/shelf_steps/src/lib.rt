@@ -1,11 +1,10 @@
 //! Shelves of versions as nine words and 128 slots. Each step on a word keeps one rule and is one event of the table of
 //! versions, whatever other seats do meanwhile.
 //!
-//! The first word has the current version and its shelf, each of the others a shelf: what it is
-//! for, its version, and how many workers are at it. For each shelf and worker there is a slot that
-//! has that worker's edition.
+//! The first word has the current version and its shelf, and each other word a shelf: what it is for, its version, and
+//! how many workers are at it. For each shelf and worker there is a slot, in which that worker's edition lies.
 //!
-//! No other crate reaches the table itself: whoever changes a word does so by a step of the module `laws`.
+//! No other crate reaches the table itself: a word changes only by the steps that the module `laws` lists.
 #![tactic(auto)]
 
 mod blocks;

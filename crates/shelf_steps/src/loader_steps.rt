@@ -6,7 +6,7 @@ ghost use Rattle.shelf_steps.specs.Plays.{MayOpenOn, MayPublish, MayClose, MayCo
 use crate::places::{Place, ShelfTable};
 use crate::rule::{Closing, Collecting, Gathering, Opening, Publishing, PuttingBack};
 
-/// Opens a free shelf with the next version. Its slots, which are filled, go home.
+/// Opens a free shelf with the next version, and puts its filled slots back.
 pub fn open(shelves: &ShelfTable, loader: &mut Place, shelf: usize, version: u64)
     requires table { loader.old.table ≡ shelves.now }
     requires numbers { (shelf < 8) × (version ≤ 1000000000) }
@@ -20,7 +20,7 @@ pub fn open(shelves: &ShelfTable, loader: &mut Place, shelf: usize, version: u64
         .fetch_add::<Opening>(&mut loader.seat, shelf + 1, 256 + 65536 * version);
 }
 
-/// Makes the version current.
+/// Makes the version, which is open on this shelf, the current one.
 pub fn publish(shelves: &ShelfTable, loader: &mut Place, version: u64, shelf: usize)
     requires table { loader.old.table ≡ shelves.now }
     requires numbers { (shelf < 8) × (version ≤ 1000000000) }
@@ -48,8 +48,8 @@ pub fn close(shelves: &ShelfTable, loader: &mut Place, shelf: usize)
         .fetch_add::<Closing>(&mut loader.seat, shelf + 1, 256);
 }
 
-/// Frees a closing shelf where no worker is at it, and answers the word that was found. Then its
-/// slots are out with the loader.
+/// Frees a closing shelf if no worker is at it, and returns the word that was found. If the shelf was freed, its slots
+/// are out with the loader.
 pub fn collect(shelves: &ShelfTable, loader: &mut Place, shelf: usize, version: u64) -> u64
     requires table { loader.old.table ≡ shelves.now }
     requires numbers { (shelf < 8) × (version ≤ 1000000000) }
@@ -63,7 +63,7 @@ pub fn collect(shelves: &ShelfTable, loader: &mut Place, shelf: usize, version: 
         .compare_exchange::<Collecting>(&mut loader.seat, shelf + 1, 512 + 65536 * version, 0)
 }
 
-/// Takes the empty slots of a free shelf: a try at a shelf that isn't closing.
+/// Takes out the empty slots of a free shelf, by a try at it that fails, since the shelf isn't closing.
 pub fn gather(shelves: &ShelfTable, loader: &mut Place, shelf: usize)
     requires table { loader.old.table ≡ shelves.now }
     requires numbers { shelf < 8 }
@@ -77,7 +77,7 @@ pub fn gather(shelves: &ShelfTable, loader: &mut Place, shelf: usize)
         .compare_exchange::<Gathering>(&mut loader.seat, shelf + 1, 512, 0);
 }
 
-/// Gives the empty slots of a free shelf back, by such a try too.
+/// Puts back the empty slots of a free shelf, by a try at it that fails, since the shelf isn't closing.
 pub fn put_back(shelves: &ShelfTable, loader: &mut Place, shelf: usize)
     requires table { loader.old.table ≡ shelves.now }
     requires numbers { shelf < 8 }

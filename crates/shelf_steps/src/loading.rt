@@ -14,8 +14,8 @@ use image_verifier::Verified;
 use std::alloc::{AllocError, Global};
 use std::sync::Arc;
 
-/// The image becomes the next version, which is current, on a free shelf; the shelf before is
-/// closing. Want of memory is told before the first step.
+/// Loads the image as the next version, which is current, on the free shelf `shelf`; the shelf `before` is closing. If
+/// memory is refused, no step was made.
 pub fn load(
     shelves: &ShelfTable,
     loader: &mut Place,
@@ -39,7 +39,7 @@ pub fn load(
     Ok(())
 }
 
-// The same with an edition for each worker at hand.
+// A load with an edition for each worker at hand.
 fn load_editions(
     shelves: &ShelfTable,
     loader: &mut Place,
@@ -65,7 +65,8 @@ fn load_editions(
     close(shelves, loader, before);
 }
 
-/// Tries a closing shelf: it is free, its slots empty and at home, or the answer is how many workers are still there.
+/// Tries a closing shelf. `None` says that it is free, and its slots are empty and at home; otherwise the result is how
+/// many workers are still there.
 pub fn try_shelf(shelves: &ShelfTable, loader: &mut Place, shelf: usize, version: u64) -> Option<u8>
     requires table { loader.old.table ≡ shelves.now }
     requires numbers { (shelf < 8) × (version ≤ 1000000000) }

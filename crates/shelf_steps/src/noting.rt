@@ -6,7 +6,7 @@ ghost use Rattle.shelf_steps.specs.Splits.{IsSplit};
 use crate::places::{Place, ShelfTable};
 use crate::rule::{Joining, Noting};
 
-/// A split of the loader's seat: one notice of the current version, and no other. It takes no memory.
+/// Splits one notice of the current version from the loader's seat. It takes no memory.
 pub fn note(shelves: &ShelfTable, loader: &mut Place) -> Place
     requires table { loader.old.table ≡ shelves.now }
     requires loader { IsLoading loader.old.me.0 }
@@ -16,7 +16,7 @@ pub fn note(shelves: &ShelfTable, loader: &mut Place) -> Place
     Place { seat }
 }
 
-/// A join: the worker, which is idle or holds a version, has seen the notice's version from now on.
+/// Lets the worker, which is idle or holds a version, take in the notice: from now on it has seen the notice's version.
 pub fn join(shelves: &ShelfTable, worker: &mut Place, notice: Place)
     requires table { (worker.old.table ≡ shelves.now) × (notice.table ≡ shelves.now) }
     requires settled { IsSettled worker.old.me.0 }

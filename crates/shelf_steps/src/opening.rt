@@ -1,4 +1,4 @@
-//! The opening: version 1 is current on shelf 0, and the seats of idle workers are split from the loader's.
+//! The start of a table: version 1 is current on shelf 0, and the seats of idle workers are split from the loader's.
 ghost use Rattle.std.specs.Prelude.{◌≡◌, ◌<◌, [], IfOk};
 ghost use Rattle.std.specs.Arc.{arc_value};
 ghost use Rattle.shelf_steps.specs.Ruled.{first_loader, FirstSlot, FirstSlots};
@@ -14,7 +14,8 @@ use image_verifier::Verified;
 use std::alloc::{AllocError, Global};
 use std::sync::Arc;
 
-/// Version 1 is current on shelf 0, whose slots have the first image. No worker has a seat yet.
+/// Creates a table and the loader's seat at it. Version 1 is current on shelf 0, whose slots have the first image. No
+/// worker has a seat yet.
 pub fn new_shelves(
     alloc: Global,
     first: &Arc<Verified, Global>,
@@ -53,7 +54,7 @@ fn first_slot(place: usize, first: &Arc<Verified, Global>) -> Result<Option<Edit
     }
 }
 
-/// A split of the loader's seat: the seat of an idle worker with the next number.
+/// Splits the seat of an idle worker, with the next number, from the loader's seat.
 pub fn new_worker(shelves: &ShelfTable, loader: &mut Place) -> Place
     requires table { loader.old.table ≡ shelves.now }
     requires room { MayHandOut loader.old.me.0 }

@@ -1,4 +1,4 @@
-//! A pin without a lock: up to four looks.
+//! Pins without a lock, each with up to four looks; and releases.
 ghost use Rattle.std.specs.Prelude.{◌≡◌, ℕ, ◌+◌, ◌<◌, IfOk, IfErr, MatchResult};
 ghost use Rattle.shelf_steps.specs.Plays.{is_open};
 ghost use Rattle.shelf_steps.specs.Pinning.{Late, Well, Pins, Moves, IsIdleAs, IsHoldingAs, Releases};
@@ -13,7 +13,8 @@ fn says_open(word: u64, version: u64) -> bool
     word / 256 % 4 == 1 && word / 65536 == version
 }
 
-/// One look and one take. Where the version was gone, the shelf is left.
+/// Looks and takes once, and returns the shelf and the edition that is held. If the version was gone, leaves the shelf
+/// and returns that version as the error.
 pub fn try_once(
     shelves: &ShelfTable,
     worker: &mut Place,
@@ -40,7 +41,8 @@ pub fn try_once(
     Err(version)
 }
 
-/// Up to four tries: the shelf and the edition that is held, or the last version that was gone.
+/// Tries up to four times, and returns the shelf and the edition that is held, or as the error the last version found,
+/// which was gone.
 pub fn pin(shelves: &ShelfTable, worker: &mut Place, number: usize) -> Result<(usize, Edition), u64>
     requires table { worker.old.table ≡ shelves.now }
     requires worker { (number < 16) × IsIdleAs number worker.old.me }
@@ -61,7 +63,7 @@ pub fn pin(shelves: &ShelfTable, worker: &mut Place, number: usize) -> Result<(u
     try_once(shelves, worker, number)
 }
 
-/// Gives back what a pin has given.
+/// Gives back the edition that a pin returned, and leaves its shelf.
 pub fn release(
     shelves: &ShelfTable,
     worker: &mut Place,

@@ -12,8 +12,8 @@ use std::alloc::Global;
 use std::marker::Model;
 use std::sync::Arc;
 
-/// Nine words and 128 slots, of which the rule of the shelves is true between any two steps.
-/// Contracts see which table it is.
+/// Nine words and 128 slots, for which the rule of the shelves holds between any two steps. Contracts see which table
+/// it is.
 #[derive(Drop)]
 pub struct ShelfTable {
     pub(crate) table: Table<Option<Edition>, View, Arc<Verified, Global>, ShelfRule, Global>,
@@ -31,8 +31,8 @@ impl Model for ShelfTable {
 }
 
 impl ShelfTable {
-    /// A word as it is found: word 0 has the current version, the words from 1 on have the shelves.
-    /// It tells nothing to contracts.
+    /// The word as it is found: word 0 has the current version, and each word from 1 on a shelf. Contracts learn
+    /// nothing from it.
     pub fn word(&self, word: usize) -> u64
         requires { word < 9 }
     {
@@ -55,8 +55,8 @@ impl Model for Place {
 }
 
 impl Place {
-    /// Puts an edition, or none, into the slot at the front of those that are out with this seat,
-    /// and answers what was there.
+    /// Puts an edition, or none, into the slot at the front of those that are out with this seat, and returns what was
+    /// there.
     pub fn swap_edition(
         &mut self,
         shelves: &ShelfTable,
@@ -72,7 +72,7 @@ impl Place {
         shelves.table.shared.exchange(&mut self.seat, slot, edition)
     }
 
-    /// The slot at the front goes behind the others.
+    /// Moves the slot at the front behind the others.
     pub fn turn(&mut self)
         ensures table { self.new.table ≡ self.old.table }
         ensures turned { self.new.me ≡ (self.old.me.0, turned self.old.me.1) }

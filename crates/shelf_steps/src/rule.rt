@@ -1,4 +1,4 @@
-//! The rule between any two steps, and what each step tells the seat that makes it.
+//! The rule that holds between any two steps, and what each step tells the seat that makes it.
 
 use crate::edition::Edition;
 use crate::views::View;
@@ -7,7 +7,7 @@ use image_verifier::Verified;
 use std::alloc::Global;
 use std::sync::Arc;
 
-/// The rule of the shelves. The table is told the first image.
+/// The rule of the shelves. At the start the loader's seat knows the first image.
 pub struct ShelfRule;
 
 impl TableRule<Option<Edition>, View, Arc<Verified, Global>> for ShelfRule {
@@ -29,8 +29,8 @@ impl Play<Option<Edition>, View> for Looking {
     ghost then = { λ _. Looks };
 }
 
-/// The step by which a worker that has looked is counted at the shelf that it saw: the event
-/// `Take`. Where the version was still open there its slot goes out with it, else it is late.
+/// The step by which a worker that has looked is counted at the shelf that it saw: the event `Take`. If the version was
+/// still open there, the slot of that worker goes out with it; otherwise the worker is late.
 pub struct Taking;
 
 impl Play<Option<Edition>, View> for Taking {
@@ -76,7 +76,7 @@ impl Play<Option<Edition>, View> for Publishing {
     ghost then = { Publishes };
 }
 
-/// The step by which the loader closes a shelf whose version is current no longer: the event `Close`.
+/// The step by which the loader closes a shelf whose version is no longer current: the event `Close`.
 pub struct Closing;
 
 impl Play<Option<Edition>, View> for Closing {
@@ -85,8 +85,8 @@ impl Play<Option<Edition>, View> for Closing {
     ghost then = { Closes };
 }
 
-/// The step by which the loader tries a closing shelf: the event `Collect`. Where no worker is at
-/// it, it is free, and its slots are out with the loader.
+/// The step by which the loader tries a closing shelf: the event `Collect`. If no worker is at the shelf, it is free
+/// afterwards, and its slots are out with the loader.
 pub struct Collecting;
 
 impl Play<Option<Edition>, View> for Collecting {
@@ -135,7 +135,7 @@ impl Split<View> for Noting {
     ghost right = { new_notice };
 }
 
-/// The join by which a worker's seat takes in a notice, which is spent then: the event `Join`.
+/// The join by which a worker's seat takes in a notice, which is then spent: the event `Join`.
 pub struct Joining;
 
 impl Join<View> for Joining {

@@ -1,4 +1,4 @@
-//! What the seats know. Contracts alone see it.
+//! What the seats know. Only contracts see it.
 
 use crate::edition::Edition;
 use image_verifier::Verified;
@@ -22,11 +22,11 @@ pub struct WorkerView {
     pub seen: u64,
     /// The version last looked at.
     pub last: u64,
-    /// A late take showed that the version last looked at is no longer current.
+    /// Whether a late take showed that the version last looked at is no longer current.
     pub passed: bool,
     /// The edition that is held.
     pub edition: Option<Edition>,
-    /// The versions of the notices that were taken in, as they came.
+    /// The versions of the notices that were taken in, from the first to the last.
     pub joined: LinkedList<u64>,
     /// What happened, up to the worker's last step on a word.
     pub known: Known,
@@ -40,7 +40,7 @@ pub struct LoaderView {
     pub notes: u64,
     /// The current version.
     pub current: u64,
-    /// The shelf on which it stands.
+    /// The shelf of the current version.
     pub current_shelf: u64,
     /// What each shelf is for.
     pub shelves: LinkedList<Shelf>,
@@ -58,6 +58,6 @@ pub enum View {
     Working(WorkerView),
     /// A notice of this version.
     Noting { version: u64 },
-    /// What a notice leaves behind that was taken in.
+    /// What is left of a notice that was taken in.
     Spent,
 }

@@ -5,7 +5,7 @@ ghost use Rattle.shelf_steps.specs.Plays.{Looks, Takes, Leaves, GivesBack, IsIdl
 use crate::places::{Place, ShelfTable};
 use crate::rule::{GivingBack, Leaving, Looking, Taking};
 
-/// Looks at the current version, and answers its word: eight times the version, and its shelf.
+/// Looks at the current version, and returns its word: eight times the version, plus its shelf.
 pub fn look(shelves: &ShelfTable, worker: &mut Place) -> u64
     requires table { worker.old.table ≡ shelves.now }
     requires idle { IsIdle worker.old.me.0 }
@@ -15,9 +15,9 @@ pub fn look(shelves: &ShelfTable, worker: &mut Place) -> u64
     shelves.table.shared.load::<Looking>(&mut worker.seat, 0)
 }
 
-/// Takes the shelf that the worker saw, and answers the shelf's word as it was found. Where it was
-/// open with the version that the worker looked at, the worker holds it, and its slot is out with
-/// the worker; else the worker is late.
+/// Takes the shelf that the worker saw, and returns the shelf's word as it was found. If the shelf was open with the
+/// version that the worker looked at, the worker holds that version, and its slot is out with it; otherwise the worker
+/// is late.
 pub fn take(shelves: &ShelfTable, worker: &mut Place, shelf: usize) -> u64
     requires table { worker.old.table ≡ shelves.now }
     requires looked { (shelf < 8) × HasLooked shelf worker.old.me.0 }
@@ -30,7 +30,7 @@ pub fn take(shelves: &ShelfTable, worker: &mut Place, shelf: usize) -> u64
         .fetch_add::<Taking>(&mut worker.seat, shelf + 1, 1)
 }
 
-/// A drop: leaves the shelf at which the worker is late.
+/// Leaves the shelf at which the worker is late: the event `Drop`.
 pub fn leave_late(shelves: &ShelfTable, worker: &mut Place, shelf: usize)
     requires table { worker.old.table ≡ shelves.now }
     requires late { (shelf < 8) × IsLate shelf worker.old.me.0 }
@@ -43,7 +43,7 @@ pub fn leave_late(shelves: &ShelfTable, worker: &mut Place, shelf: usize)
         .fetch_sub::<Leaving>(&mut worker.seat, shelf + 1, 1);
 }
 
-/// A drop: gives back the shelf that the worker holds, with the slot, in which its edition lies again.
+/// Leaves the shelf that the worker holds, and puts its slot back, with the edition in it: the event `Drop`.
 pub fn give_back(shelves: &ShelfTable, worker: &mut Place, shelf: usize)
     requires table { worker.old.table ≡ shelves.now }
     requires holds { (shelf < 8) × HoldsOut shelf worker.old.me.0 worker.old.me.1 }

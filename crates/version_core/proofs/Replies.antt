@@ -1,4 +1,4 @@
--- A state and an event have one reply and one next state, but for the free shelf that is opened.
+-- A state and an event have one reply and one next state, except for which free shelf is opened.
 use Rattle.std.proofs.Common.{◌≡◌, ◌⊎◌, ℕ, ◌<◌, Some, slice_get, refl, ap, sym, ◌∙◌, arith, inl, inr}
 use Rattle.version_core.specs.declared.state.Shelf.{Shelf}
 use Rattle.version_core.specs.declared.state.Worker.{Worker}

@@ -1,4 +1,4 @@
--- Lists of notices: they rise, and which of two alike is taken out doesn't matter.
+-- Lists of notices: they never fall, and it doesn't matter which of two equal ones is removed.
 use Rattle.std.proofs.Common.{◌≡◌, ℕ, zero, suc, ◌+◌, ◌≤◌, max, List, [], ◌∷◌, ◌++◌, remove, Some, slice_get, refl, ap, sym, ◌∙◌, arith}
 use Rattle.version_core.specs.Kept.{RiseWithin}
 

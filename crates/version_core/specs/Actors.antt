@@ -1,12 +1,12 @@
--- Whose event it is.
+-- The actor of each event: a worker, the loader, or nobody.
 use Rattle.std.specs.Prelude.{◌≢◌, ℕ, List, [], ◌∷◌, Option, Some, None}
 use Rattle.version_core.specs.declared.event.Event.{Event}
 
--- no worker and not the loader
+-- neither a worker nor the loader
 abbrev pub nobody : Option ℕ
 nobody = Some 16
 
--- a worker's, or the loader's. A notice goes out and is taken in without a look at what happened: no list of own events has it
+-- who does an event: Some w is the worker w, None the loader. Note and Join are nobody's, since a seat does them without learning what has happened
 abbrev pub actor : Event → Option ℕ
 actor Event.Note = nobody
 actor (Event.Join w v) = nobody

@@ -11,7 +11,7 @@ version_of Shelf.Free = None
 version_of (Shelf.Open v) = Some v
 version_of (Shelf.Closing v) = Some v
 
--- the version on shelf k, open or closing, where there is one
+-- the version on shelf k, open or closing, if there is one
 abbrev pub version_on : List Shelf → ℕ → Option ℕ
 version_on shelves k = option_and_then version_of (slice_get shelves k)
 
@@ -26,8 +26,8 @@ abbrev pub NewestIsOpen : ℕ → ℕ → List Shelf → Type 0
 NewestIsOpen current newest shelves =
     (newest ≡ current) ⊎ ((newest ≡ current + 1) × ((k : ℕ) × (slice_get shelves k ≡ Some (Shelf.Open newest))))
 
--- eight shelves. The current one is open with the current version, and the newest version stands open. Versions are 1 to the newest,
--- no two shelves have the same, and a closing shelf's is older than the current one
+-- eight shelves. The current one is open with the current version, and the newest version stands open. Versions are 1 to the newest, no two shelves
+-- have the same version, and a closing shelf's version is older than the current one
 pub record ShelvesFit (current current_shelf newest : ℕ) (shelves : List Shelf) : Type 0 where
   pub eight : length shelves ≡ 8
   pub current_open : slice_get shelves current_shelf ≡ Some (Shelf.Open current)
@@ -41,7 +41,7 @@ pub record CountsFit (counts : List ℕ) (workers : List Worker) : Type 0 where
   pub eight : length counts ≡ 8
   pub each : (k : ℕ) → k < 8 → slice_index counts k ≡ count_by (is_at k) workers
 
--- a worker fits the shelves and the greatest version that it has seen, which is current no longer where the worker is late
+-- a worker fits the shelves and the greatest version that it has seen; if it is late, that version is older than the current one
 abbrev pub Fits : ℕ → ℕ → List Shelf → Worker → ℕ → Type 0
 Fits current current_shelf shelves Worker.Idle seen = seen ≤ current
 Fits current current_shelf shelves (Worker.Looked v k) seen = (k < 8) × (seen ≡ v) × (v ≤ current) × (v ≡ current → k ≡ current_shelf)
@@ -54,13 +54,13 @@ pub record WorkersFit (current current_shelf : ℕ) (shelves : List Shelf) (work
   pub sixteen_seen : length seen ≡ 16
   pub each : (w : ℕ) (worker : Worker) → slice_get workers w ≡ Some worker → Fits current current_shelf shelves worker (slice_index seen w)
 
--- versions that never fall, none below the one, none above the other
+-- the versions never fall, and none is below `low` or above `high`
 abbrev pub RiseWithin : ℕ → List ℕ → ℕ → Type 0
 RiseWithin low [] high = low ≤ high
 RiseWithin low (v ∷ vs) high = (low ≤ v) × RiseWithin v vs high
 
--- what every state keeps: at most 1,000,000,000 versions; shelves, counts and workers that fit one another; and notices of versions
--- that never fall and are none above the current one
+-- what holds in every state: at most 1,000,000,000 versions; shelves, counts and workers that fit one another; and notices whose versions never fall,
+-- none of them above the current one
 pub record Kept (s : State) : Type 0 where
   pub room : newest s ≤ 1000000000
   pub shelves : ShelvesFit s.current s.current_shelf (newest s) s.shelves

@@ -1,4 +1,4 @@
--- What is true over every list of events. A state that is kept is one of which `Kept` holds: every state of every run is.
+-- The laws of the table over every list of events. A state is kept if `Kept` holds of it; every state of every run is.
 use Rattle.std.specs.Prelude.{◌≡◌, ℕ, ◌<◌, ◌≤◌, List, [], ◌∷◌, ◌++◌, length, count_by, slice_index, Some}
 use Rattle.version_core.specs.declared.state.Worker.{Worker}
 use Rattle.version_core.specs.declared.event.Event.{Event}
@@ -12,7 +12,7 @@ use Rattle.version_core.specs.Kept.{Kept, is_at, version_on}
 abbrev pub EveryRunKeeps : Type 0
 EveryRunKeeps = (s : State) → IsReached s → Kept s
 
--- and so is the state after a step from a state that is kept, whatever list of events led there
+-- a step from a kept state leads to a kept state, whatever events led there
 abbrev pub EveryStepKeeps : Type 0
 EveryStepKeeps = (s t : State) (event : Event) (reply : Reply) → Kept s → Step s event reply t → Kept t
 
@@ -28,31 +28,31 @@ NoHeldShelfIsCollected = (s : State) (w k v : ℕ) → Kept s → Holds s w k v 
 abbrev pub NothingFalls : Type 0
 NothingFalls = (s t : State) (events : List Event) (replies : List Reply) → Kept s → Run s events replies t → IsLater s t
 
--- nor do they in one step
+-- the same in one step
 abbrev pub NothingFallsInAStep : Type 0
 NothingFallsInAStep = (s t : State) (event : Event) (reply : Reply) → Kept s → Step s event reply t → IsLater s t
 
--- a version has one edition for good
+-- a version keeps its edition
 abbrev pub EditionsStay : Type 0
 EditionsStay =
     (s t : State) (events : List Event) (replies : List Reply) (v e : ℕ) → Kept s → Run s events replies t
     → edition_of s.editions v ≡ Some e → edition_of t.editions v ≡ Some e
 
--- a version that is held has an edition, and who holds it and asks is told both
+-- a version that is held has an edition, and a worker that holds it and asks is told both
 abbrev pub AsksAreAnswered : Type 0
 AsksAreAnswered =
     (s : State) (w k v : ℕ) → Kept s → Holds s w k v
     → (e : ℕ) × (edition_of s.editions v ≡ Some e)
     × ((reply : Reply) (t : State) → Step s (Event.Ask w) reply t → (reply ≡ Reply.From v e) × (t ≡ s))
 
--- a worker that is idle looks and takes: with no event between, it holds the current version
+-- an idle worker that looks and takes, with no event between, holds the current version
 abbrev pub LooksAndTakesHold : Type 0
 LooksAndTakesHold =
     (s t u : State) (w : ℕ) (first second : Reply) → Kept s → IsIdle s w → Step s (Event.Look w) first t → Step t (Event.Take w) second u
     → (first ≡ Reply.Looked s.current s.current_shelf) × (second ≡ Reply.Holds s.current)
     × (u ≡ arrived (looked s w) w s.current_shelf (Worker.Holding s.current_shelf s.current)) × Holds u w s.current_shelf s.current
 
--- a worker that holds a version and drops it is idle again, and counted at its shelf no longer
+-- a worker that holds a version and drops it is idle again, and no longer counted at its shelf
 abbrev pub DropsLetGo : Type 0
 DropsLetGo =
     (s t : State) (w k v : ℕ) (reply : Reply) → Kept s → Holds s w k v → Step s (Event.Drop w) reply t
@@ -74,13 +74,13 @@ abbrev pub OpensWithEdition : Type 0
 OpensWithEdition =
     (s t : State) (e v k : ℕ) → Step s (Event.Open e) (Reply.Opened v k) t → IsOpen t k v × (v ≡ newest t) × (edition_of t.editions v ≡ Some e)
 
--- with the least free shelf opened, a state and an event have one reply and one next state
+-- if an opening takes the least free shelf, a state and an event have one reply and one next state
 abbrev pub OneReply : Type 0
 OneReply =
     (s t u : State) (event : Event) (reply other : Reply) → Kept s
     → Step s event reply t → OpensLeast s event reply → Step s event other u → OpensLeast s event other → (other ≡ reply) × (u ≡ t)
 
--- and so have a state and a list of events
+-- the same of a state and a list of events
 abbrev pub OneRun : Type 0
 OneRun =
     (s t u : State) (events : List Event) (replies others : List Reply) → Kept s
@@ -90,19 +90,19 @@ OneRun =
 abbrev pub RunsBegin : Type 0
 RunsBegin = (s : State) → IsRun s [] s
 
--- whoever keeps the list of events, and adds the event of each step, keeps a list that leads to the state
+-- a list of events that leads to a state, with the event of a step from there added, leads to the state after the step
 abbrev pub RunsGrow : Type 0
 RunsGrow =
     (s t u : State) (before events : List Event) (event : Event) (reply : Reply)
     → IsRun s before t → events ≡ before ++ event ∷ [] → Step t event reply u → IsRun s events u
 
--- and so does whoever adds the events of a run
+-- the same with the events of a run added
 abbrev pub RunsGrowByRuns : Type 0
 RunsGrowByRuns =
     (s t u : State) (before added events : List Event) (replies : List Reply)
     → IsRun s before t → events ≡ before ++ added → Run t added replies u → IsRun s events u
 
--- the replies may be kept as well
+-- the same as RunsGrow, with the list of replies
 abbrev pub RunsGrowWithReplies : Type 0
 RunsGrowWithReplies =
     (s t u : State) (before events : List Event) (event : Event) (first replies : List Reply) (reply : Reply)
@@ -114,7 +114,7 @@ RunsJoin =
     (s t u : State) (before after : List Event) (first second : List Reply)
     → Run s before first t → Run t after second u → Run s (before ++ after) (first ++ second) u
 
--- a run of two lists is a run of the one and then of the other
+-- a run of two lists joined is a run of the first and then one of the second
 abbrev pub RunsPart : Type 0
 RunsPart =
     (s u : State) (before after : List Event) (replies : List Reply) → Run s (before ++ after) replies u

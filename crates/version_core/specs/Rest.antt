@@ -13,7 +13,7 @@ pub record IsAtRest (s : State) : Type 0 where
   pub published : newest s ≡ s.current
   pub one_open : (k v : ℕ) → IsOpen s k v → v ≡ s.current
 
--- the next version is current on the shelf, and the one before is closing
+-- the state after a load: the next version is current on the shelf k, and the version before is closing
 abbrev pub loaded : State → ℕ → ℕ → State
 loaded s k edition =
     record s {
@@ -23,14 +23,14 @@ loaded s k edition =
       editions = s.editions ++ edition ∷ [];
     }
 
--- all but the three events of a load
+-- the event is none of the three of a load
 abbrev pub IsNoLoad : Event → Type 0
 IsNoLoad (Event.Open e) = ⊥
 IsNoLoad Event.Publish = ⊥
 IsNoLoad (Event.Close k) = ⊥
 IsNoLoad _ = Unit {0}
 
--- other events leave it at rest
+-- any other event leaves a table at rest
 abbrev pub RestStays : Type 0
 RestStays = (s t : State) (event : Event) (reply : Reply) → IsAtRest s → IsNoLoad event → Step s event reply t → IsAtRest t
 
@@ -41,11 +41,11 @@ LoadsRest =
     → Run s (Event.Open e ∷ Event.Publish ∷ Event.Close s.current_shelf ∷ []) (Reply.Opened v k ∷ second ∷ third ∷ []) t
     → (v ≡ newest s + 1) × (second ≡ Reply.Published v) × (third ≡ Reply.Closing) × (t ≡ loaded s k e) × IsAtRest t
 
--- at rest, an opening that has no place has no number left
+-- at rest, an opening is answered with NotNow only if no version number is left
 abbrev pub RestIsSpent : Type 0
 RestIsSpent = (s t : State) (e : ℕ) → Kept s → IsAtRest s → Step s (Event.Open e) Reply.NotNow t → newest s ≡ 1000000000
 
--- at rest, an opening that has no room finds seven shelves closing
+-- at rest, an opening finds no room only if all shelves but the current one are closing
 abbrev pub RestIsFull : Type 0
 RestIsFull =
     (s t : State) (e k : ℕ) (counts : List ℕ) → Kept s → IsAtRest s → Step s (Event.Open e) (Reply.NoRoom counts) t

@@ -26,13 +26,13 @@ pub record IsRun (s : State) (events : List Event) (t : State) : Type 0 where
 abbrev pub IsReached : State → Type 0
 IsReached s = (events : List Event) × IsRun start events s
 
--- a later state: no version has lost its edition, nothing that was seen or current has become older
+-- t is later than s: no version has lost its edition, and neither the current version nor the greatest that a worker has seen has become older
 pub record IsLater (s t : State) : Type 0 where
   pub current : s.current ≤ t.current
   pub seen : (w : ℕ) → slice_index s.seen w ≤ slice_index t.seen w
   pub editions : (opened : List ℕ) × (t.editions ≡ s.editions ++ opened)
 
--- want of memory ended the run before its first event, or before one that was about to take memory
+-- the run ended for want of memory: before its first event, or before one that takes memory
 pub record IsStopped (s : State) (events : List Event) (t : State) : Type 0 where
   pub done : ℕ
   pub replies : List Reply

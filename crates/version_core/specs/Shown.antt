@@ -1,4 +1,4 @@
--- When words show a state, and when what workers and a loader know shows it.
+-- When words show a state, and when what a worker or the loader knows shows it.
 use Rattle.std.specs.Prelude.{◌≡◌, ℕ, ◌+◌, ◌*◌, List, length, slice_get, slice_index, Some}
 use Rattle.version_core.specs.declared.state.Shelf.{Shelf}
 use Rattle.version_core.specs.declared.state.Worker.{Worker}
@@ -10,7 +10,7 @@ shelf_word Shelf.Free count = count
 shelf_word (Shelf.Open v) count = count + 256 + 65536 * v
 shelf_word (Shelf.Closing v) count = count + 512 + 65536 * v
 
--- the current version with its shelf in the first word, and in each further word a shelf with its count
+-- the first word has the current version and its shelf, and each further word a shelf with its count
 pub record WordsShow (words : List ℕ) (s : State) : Type 0 where
   pub nine : length words ≡ 9
   pub cur : slice_index words 0 ≡ 8 * s.current + s.current_shelf
@@ -21,8 +21,8 @@ pub record WorkerShows (number : ℕ) (worker : Worker) (greatest : ℕ) (s : St
   pub now : slice_get s.workers number ≡ Some worker
   pub seen : slice_index s.seen number ≡ greatest
 
--- what a loader knows: the current version and its shelf, what each shelf is for, and how many versions were opened. Where these
--- are more than the current version, the last is unpublished
+-- what the loader knows: the current version and its shelf, what each shelf is for, and how many versions were opened. If that number is greater than
+-- the current version, the last one opened is unpublished
 pub record LoaderShows (version shelf : ℕ) (known : List Shelf) (opened : ℕ) (s : State) : Type 0 where
   pub current : version ≡ s.current
   pub current_shelf : shelf ≡ s.current_shelf

@@ -3,7 +3,7 @@ use Rattle.std.specs.Prelude.{ℕ, zero, suc, ◌+◌, ◌-◌, max, List, [], �
 use Rattle.version_core.specs.declared.state.Shelf.{Shelf}
 use Rattle.version_core.specs.declared.state.Worker.{Worker}
 
--- the current version, what shelves are for, what workers do, and what was opened and noted so far
+-- the current version, what the shelves are for, what the workers are doing, and what was opened and noted so far
 pub record State : Type 0 where
   pub current : ℕ  -- the current version
   pub current_shelf : ℕ  -- and its shelf
@@ -45,7 +45,7 @@ looked s w = record s { workers = slice_set s.workers w (Worker.Looked s.current
 abbrev pub arrived : State → ℕ → ℕ → Worker → State
 arrived s w k worker = record s { counts = slice_set s.counts k (slice_index s.counts k + 1); workers = slice_set s.workers w worker }
 
--- the worker is counted at the shelf no longer
+-- the worker is idle, and no longer counted at the shelf
 abbrev pub departed : State → ℕ → ℕ → State
 departed s w k = record s { counts = slice_set s.counts k (slice_index s.counts k - 1); workers = slice_set s.workers w Worker.Idle }
 
@@ -57,7 +57,7 @@ opened s k edition = record s { shelves = slice_set s.shelves k (Shelf.Open (new
 abbrev pub published : State → ℕ → ℕ → State
 published s k version = record s { current = version; current_shelf = k }
 
--- the shelf has become this, and its count stays
+-- the shelf k is for this now, and its count stays
 abbrev pub shelved : State → ℕ → Shelf → State
 shelved s k shelf = record s { shelves = slice_set s.shelves k shelf }
 
@@ -65,6 +65,6 @@ shelved s k shelf = record s { shelves = slice_set s.shelves k shelf }
 abbrev pub noted : State → State
 noted s = record s { notices = s.notices ++ s.current ∷ [] }
 
--- the worker has seen the version of the notice at this place, which is out no longer
+-- the worker has seen the version of the notice at this place, which is no longer out
 abbrev pub joined : State → ℕ → ℕ → ℕ → State
 joined s w v place = record s { seen = slice_set s.seen w (max (slice_index s.seen w) v); notices = remove s.notices place }

@@ -1,4 +1,4 @@
--- What an event may do, by its reply. A reply that is not named never comes, and NotNow changes nothing.
+-- What an event may do, by its reply. A reply that is not listed is never given, and NotNow changes nothing.
 -- s is the state before, t the state after; w a worker, k a shelf, v a version, e an edition, r a reply.
 use Rattle.std.specs.Prelude.{◌≡◌, ◌≢◌, ℕ, ◌+◌, ◌<◌, max, Some, ◌⊎◌, slice_get, slice_index}
 use Rattle.version_core.specs.declared.state.Shelf.{Shelf}
@@ -11,7 +11,7 @@ use Rattle.version_core.specs.State.{State, newest, edition_of, looked, arrived,
 abbrev pub IsIdle : State → ℕ → Type 0
 IsIdle s w = slice_get s.workers w ≡ Some Worker.Idle
 
--- the worker has looked, and seen this version on this shelf
+-- the worker has looked, and saw this version on this shelf
 abbrev pub HasLooked : State → ℕ → ℕ → ℕ → Type 0
 HasLooked s w v k = slice_get s.workers w ≡ Some (Worker.Looked v k)
 
@@ -23,7 +23,7 @@ Holds s w k v = slice_get s.workers w ≡ Some (Worker.Holding k v)
 abbrev pub StaysAt : State → ℕ → ℕ → Type 0
 StaysAt s w k = (slice_get s.workers w ≡ Some (Worker.Late k)) ⊎ ((v : ℕ) × Holds s w k v)
 
--- nothing stands on the shelf
+-- no version stands on the shelf
 abbrev pub IsFree : State → ℕ → Type 0
 IsFree s k = slice_get s.shelves k ≡ Some Shelf.Free
 
@@ -35,7 +35,7 @@ IsOpen s k v = slice_get s.shelves k ≡ Some (Shelf.Open v)
 abbrev pub IsClosing : State → ℕ → ℕ → Type 0
 IsClosing s k v = slice_get s.shelves k ≡ Some (Shelf.Closing v)
 
--- versions are published in order, so that one above the current one is still to come
+-- the shelf is open with this version, which is above the current one: versions are published in order, so it is still to come
 abbrev pub IsUnpublished : State → ℕ → ℕ → Type 0
 IsUnpublished s k v = IsOpen s k v × (s.current < v)
 
@@ -47,54 +47,53 @@ IsOutdated s k v = IsOpen s k v × (v ≢ s.current) × (¬ (IsUnpublished s k v
 abbrev pub MayOpen : State → Type 0
 MayOpen s = ((k v : ℕ) → ¬ (IsUnpublished s k v)) × (newest s < 1000000000)
 
--- an idle worker is told the current version and its shelf, and has looked then; any other worker, NotNow
+-- an idle worker is told the current version and its shelf, and has then looked; for any other worker, NotNow
 abbrev pub LookStep : State → ℕ → Reply → State → Type 0
 LookStep s w (Reply.Looked v k) t = IsIdle s w × (v ≡ s.current) × (k ≡ s.current_shelf) × (t ≡ looked s w)
 LookStep s w Reply.NotNow t = (¬ (IsIdle s w)) × (t ≡ s)
 LookStep s w _ t = ⊥
 
--- a worker that has looked holds the version, where the shelf that it saw is still open with it, else it is late; any other worker,
--- NotNow
+-- a worker that has looked holds the version if the shelf that it saw is still open with it; otherwise it is late. For any other worker, NotNow
 abbrev pub TakeStep : State → ℕ → Reply → State → Type 0
 TakeStep s w (Reply.Holds v) t = (k : ℕ) × HasLooked s w v k × IsOpen s k v × (t ≡ arrived s w k (Worker.Holding k v))
 TakeStep s w Reply.Late t = (v k : ℕ) × HasLooked s w v k × (¬ (IsOpen s k v)) × (t ≡ arrived s w k (Worker.Late k))
 TakeStep s w Reply.NotNow t = ((v k : ℕ) → ¬ (HasLooked s w v k)) × (t ≡ s)
 TakeStep s w _ t = ⊥
 
--- a worker that is late at a shelf or holds it is counted there no longer, and idle; any other worker, NotNow
+-- a worker that is late at a shelf or holds it is idle and no longer counted there; for any other worker, NotNow
 abbrev pub DropStep : State → ℕ → Reply → State → Type 0
 DropStep s w Reply.Dropped t = (k : ℕ) × StaysAt s w k × (t ≡ departed s w k)
 DropStep s w Reply.NotNow t = ((k : ℕ) → ¬ (StaysAt s w k)) × (t ≡ s)
 DropStep s w _ t = ⊥
 
--- any free shelf may be opened, with the next version. The count of those still late at it stays. Where none is free the counts are
--- told; where no version may be opened, NotNow
+-- any free shelf may be opened with the next version; its count, of workers still late there, stays. If no shelf is free, the reply has the counts;
+-- if no version may be opened, NotNow
 abbrev pub OpenStep : State → ℕ → Reply → State → Type 0
 OpenStep s e (Reply.Opened v k) t = MayOpen s × IsFree s k × (v ≡ newest s + 1) × (t ≡ opened s k e)
 OpenStep s e (Reply.NoRoom counts) t = MayOpen s × ((k : ℕ) → ¬ (IsFree s k)) × (counts ≡ s.counts) × (t ≡ s)
 OpenStep s e Reply.NotNow t = (¬ (MayOpen s)) × (t ≡ s)
 OpenStep s e _ t = ⊥
 
--- the version that is open and unpublished becomes the current one; where there is none, NotNow
+-- the version that is open and unpublished becomes the current one; if there is none, NotNow
 abbrev pub PublishStep : State → Reply → State → Type 0
 PublishStep s (Reply.Published v) t = (k : ℕ) × IsUnpublished s k v × (t ≡ published s k v)
 PublishStep s Reply.NotNow t = ((k v : ℕ) → ¬ (IsUnpublished s k v)) × (t ≡ s)
 PublishStep s _ t = ⊥
 
--- an open shelf whose version is outdated is closing, and its count stays; any other shelf, NotNow
+-- an open shelf whose version is outdated is closing, and its count stays; for any other shelf, NotNow
 abbrev pub CloseStep : State → ℕ → Reply → State → Type 0
 CloseStep s k Reply.Closing t = (v : ℕ) × IsOutdated s k v × (t ≡ shelved s k (Shelf.Closing v))
 CloseStep s k Reply.NotNow t = ((v : ℕ) → ¬ (IsOutdated s k v)) × (t ≡ s)
 CloseStep s k _ t = ⊥
 
--- a closing shelf is freed where its count is 0, else the count is told and nothing changes; any other shelf, NotNow
+-- a closing shelf is freed if its count is 0; otherwise the reply has the count, and nothing changes. For any other shelf, NotNow
 abbrev pub CollectStep : State → ℕ → Reply → State → Type 0
 CollectStep s k Reply.Freed t = (v : ℕ) × IsClosing s k v × (slice_index s.counts k ≡ 0) × (t ≡ shelved s k Shelf.Free)
 CollectStep s k (Reply.Busy count) t = (v : ℕ) × IsClosing s k v × (slice_index s.counts k ≡ count) × (0 < count) × (t ≡ s)
 CollectStep s k Reply.NotNow t = ((v : ℕ) → ¬ (IsClosing s k v)) × (t ≡ s)
 CollectStep s k _ t = ⊥
 
--- a worker that holds a version is told it and its edition, and nothing changes; any other worker, NotNow
+-- a worker that holds a version is told that version and its edition, and nothing changes; for any other worker, NotNow
 abbrev pub AskStep : State → ℕ → Reply → State → Type 0
 AskStep s w (Reply.From v e) t = (k : ℕ) × Holds s w k v × (edition_of s.editions v ≡ Some e) × (t ≡ s)
 AskStep s w Reply.NotNow t = ((k v : ℕ) → ¬ (Holds s w k v)) × (t ≡ s)
@@ -117,7 +116,8 @@ IsNoted s v = (place : ℕ) × (slice_get s.notices place ≡ Some v)
 abbrev pub MayJoin : State → ℕ → ℕ → Type 0
 MayJoin s w v = IsSettled s w × IsNoted s v
 
--- a settled worker takes in one such notice, and is told the greatest version that it has seen; else NotNow
+-- a settled worker takes in a notice of the version, and is told the greatest version that it has seen; if it isn't settled, or no such notice is
+-- out, NotNow
 abbrev pub JoinStep : State → ℕ → ℕ → Reply → State → Type 0
 JoinStep s w v (Reply.Joined seen) t =
     IsSettled s w × (seen ≡ max (slice_index s.seen w) v) × ((place : ℕ) × (slice_get s.notices place ≡ Some v) × (t ≡ joined s w v place))
@@ -137,13 +137,13 @@ Step s (Event.Ask w) r t = AskStep s w r t
 Step s Event.Note r t = NoteStep s r t
 Step s (Event.Join w v) r t = JoinStep s w v r t
 
--- a version is about to be opened, or a notice to go out: the events that take memory
+-- the event takes memory: a version is about to be opened, or a notice to go out
 abbrev pub Grows : State → Event → Type 0
 Grows s (Event.Open e) = MayOpen s × ((k : ℕ) × IsFree s k)
 Grows s Event.Note = Unit {0}
 Grows s _ = ⊥
 
--- the shelf that is opened is the least of those that are free
+-- an opening takes the least free shelf
 abbrev pub OpensLeast : State → Event → Reply → Type 0
 OpensLeast s (Event.Open e) (Reply.Opened v k) = (j : ℕ) → j < k → ¬ (IsFree s j)
 OpensLeast s _ _ = Unit {0}

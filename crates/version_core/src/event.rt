@@ -1,4 +1,4 @@
-//! The events of the table of versions, and what they answer.
+//! The events of the table of versions, and the replies to them.
 
 /// What may happen to the table. Workers are numbered from 0 to 15, shelves from 0 to 7.
 #[derive(Clone, Copy, PartialEq, Eq, Debug)]
@@ -13,11 +13,11 @@ pub enum Event {
     Open { edition: u64 },
     /// The version that is open and unpublished becomes the current one.
     Publish,
-    /// An open shelf is closed whose version is neither current nor unpublished.
+    /// An open shelf whose version is neither current nor unpublished is closed.
     Close { shelf: usize },
     /// A closing shelf is freed, if no worker is there.
     Collect { shelf: usize },
-    /// A worker asks for the edition that it holds.
+    /// A worker asks for the version that it holds and its edition.
     Ask { worker: usize },
     /// A notice of the current version goes out.
     Note,
@@ -26,7 +26,7 @@ pub enum Event {
     Join { worker: usize, version: u64 },
 }
 
-/// What an event is answered with.
+/// The reply to an event.
 #[derive(Clone, Copy, PartialEq, Eq, Debug)]
 pub enum Reply {
     /// The current version, and its shelf.
@@ -39,7 +39,7 @@ pub enum Reply {
     Dropped,
     /// The new version, and its shelf.
     Opened { version: u64, shelf: usize },
-    /// No shelf is free. The counts of all eight say where workers are.
+    /// No shelf is free. The counts say how many workers are at each of the eight.
     NoRoom { counts: [u8; 8] },
     /// The new current version.
     Published { version: u64 },
@@ -47,14 +47,14 @@ pub enum Reply {
     Closing,
     /// The shelf is free.
     Freed,
-    /// So many workers are still at the shelf.
+    /// This many workers are still at the shelf.
     Busy { count: u8 },
     /// The version that the worker holds, and its edition.
     From { version: u64, edition: u64 },
-    /// A notice of this version is out.
+    /// A notice of this version went out.
     Noted { version: u64 },
     /// The greatest version that the worker has seen.
     Joined { seen: u64 },
-    /// The event has no place in this state, and changed nothing.
+    /// The event isn't possible in this state, and changed nothing.
     NotNow,
 }

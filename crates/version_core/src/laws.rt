@@ -10,8 +10,8 @@ ghost use Rattle.version_core.specs.State.{start};
 ghost use Rattle.version_core.specs.Kept.{Kept};
 ghost use Rattle.version_core.specs.Rest.{IsAtRest, RestStays, LoadsRest, RestIsSpent, RestIsFull};
 
-/// What holds in every state of every run from the start, whatever the events: each such state is kept, and the rest is
-/// true of every state that is kept.
+/// The laws of every run from the start, whatever its events: each state that it reaches satisfies `Kept`, and the
+/// other laws hold of every state that does.
 pub fn every_run()
     ensures kept { EveryRunKeeps }
     ensures counts { CountsAreWorkers }
@@ -22,9 +22,8 @@ pub fn every_run()
     ensures replies { OneRun }
 {}
 
-/// What one step does, for whoever has a state that is kept and no list of the events before it.
-/// The start is kept, a step leads from kept to kept, and the state and the event leave nothing
-/// open but which free shelf is opened.
+/// The laws of one step, for a state that satisfies `Kept`, whatever events led there. The start satisfies it, and each
+/// step preserves it. If an opening takes the least free shelf, state and event determine the reply and the next state.
 pub fn every_step()
     ensures start { Kept start }
     ensures kept { EveryStepKeeps }
@@ -33,22 +32,22 @@ pub fn every_step()
     ensures reply { OneReply }
 {}
 
-/// A notice never tells of a version that isn't published yet, and what a worker has taken in by
-/// one it never falls behind.
+/// The laws of notices: a notice is of a version that was published, and once a worker has taken it in, no look of the
+/// worker finds an older version.
 pub fn notices()
     ensures versions { NoticesAreOfTheirTime }
     ensures looks { JoinedVersionsStay }
 {}
 
-/// Who is idle, looks and takes at once holds the current version; who holds a version and drops it is idle.
+/// The laws of holding: an idle worker that looks and takes, with no event between, holds the current version; a worker
+/// that drops the version that it holds is idle.
 pub fn holding()
     ensures takes { LooksAndTakesHold }
     ensures drops { DropsLetGo }
 {}
 
-/// Runs may be put together and taken apart. Whoever keeps the list of events beside a core adds
-/// the event of each step, or the events of a run, and the list still leads to the core's state. A
-/// step that is refused adds none.
+/// The laws by which runs are joined and parted. A list of events that leads to a core's state still does when the
+/// event of a step, or the events of a run, are added to it. A step that is refused memory adds none.
 pub fn runs_in_parts()
     ensures begin { RunsBegin }
     ensures grow { RunsGrow }
@@ -58,8 +57,10 @@ pub fn runs_in_parts()
     ensures part { RunsPart }
 {}
 
-/// Between two loads the table is at rest: nothing is unpublished, and no version but the current one is open. A load
-/// opens, publishes and closes the shelf that was current. It leads from rest to rest, and says why it can't begin.
+/// The laws of the table at rest, as it is between two loads: nothing is unpublished, and no version but the current
+/// one is open. A load opens the next version, publishes it and closes the shelf that was current, which leaves the
+/// table at rest again. If a load can't begin, either no version number is left, or all shelves but the current one are
+/// closing.
 pub fn at_rest()
     ensures start { IsAtRest start }
     ensures stays { RestStays }

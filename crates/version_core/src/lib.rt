@@ -1,13 +1,13 @@
 //! The table of timetable versions as a state machine: which version is current, which worker holds which, and when a
 //! shelf may be used again.
 //!
-//! A loader opens a free shelf with an edition, publishes it, closes the shelf of the version
-//! before and collects that shelf once no worker is there. A worker looks at the current version,
-//! takes its shelf, and drops it. Between the look and the take the version may be gone: then the
-//! worker is late, and looks again.
+//! A loader opens a free shelf with an edition, as the next version, publishes that version, closes the shelf of the
+//! version before, and collects that shelf once no worker is there. A worker looks at the current version, takes its
+//! shelf, and later drops it. If the version was closed between the look and the take, the worker is late: it drops the
+//! shelf and looks again.
 //!
-//! A notice of the current version goes out with whoever waits for that version; the worker that
-//! takes it in has seen the version, and holds no older one by a later look.
+//! A notice of the current version may go out at any time, to whoever waits for that version. A worker that takes it in
+//! has seen the version: no later look of the worker finds an older one.
 #![tactic(auto)]
 
 mod event;

@@ -66,7 +66,7 @@ impl Model for Core {
 }
 
 impl Core {
-    /// Version 1, with edition 0, is current on shelf 0. All workers are idle.
+    /// Creates the table at its start: version 1, with edition 0, is current on shelf 0, and all workers are idle.
     pub fn new(alloc: Global) -> Result<Core, AllocError>
         ensures { IfOk result (λ core. core ≡ start) }
     {
@@ -86,7 +86,8 @@ impl Core {
         })
     }
 
-    /// One event. Only the opening of a version and a notice that goes out take memory.
+    /// Takes one event, and returns the reply. Only the opening of a version and a notice need memory; if it is
+    /// refused, nothing changes.
     pub fn step(&mut self, event: Event) -> Result<Reply, AllocError>
         ensures step { IfOk result (λ reply. Step self.old event reply self.new) }
         ensures least { IfOk result (OpensLeast self.old event) }
@@ -116,28 +117,28 @@ impl Core {
         (self.current, self.current_shelf)
     }
 
-    /// The greatest version that the worker has seen: 0 before its first look; none where there is no such worker.
+    /// The greatest version that the worker has seen, 0 before it has seen any; `None` if there is no such worker.
     pub fn seen(&self, worker: usize) -> Option<u64>
         ensures { result ≡ slice_get self.now.seen worker }
     {
         self.seen.get(worker).copied()
     }
 
-    /// What the worker is doing; none where there is no such worker.
+    /// What the worker is doing; `None` if there is no such worker.
     pub fn worker(&self, worker: usize) -> Option<Worker>
         ensures { result ≡ slice_get self.now.workers worker }
     {
         self.workers.get(worker).copied()
     }
 
-    /// What the shelf is for; none where there is no such shelf.
+    /// What the shelf is for; `None` if there is no such shelf.
     pub fn shelf(&self, shelf: usize) -> Option<Shelf>
         ensures { result ≡ slice_get self.now.shelves shelf }
     {
         self.shelves.get(shelf).copied()
     }
 
-    /// An idle worker looks at the current version.
+    /// Lets an idle worker look at the current version: the event `Look`.
     pub fn look(&mut self, worker: usize) -> Reply
         ensures { LookStep self.old worker result self.new }
     {
@@ -170,7 +171,8 @@ impl Core {
         Reply::Looked { version, shelf }
     }
 
-    /// A worker that has looked goes to its shelf. It holds the version, if that is open there still, and else is late.
+    /// Lets a worker that has looked take the shelf that it saw: the event `Take`. The worker holds the version if that
+    /// is still open there; otherwise it is late.
     pub fn take(&mut self, worker: usize) -> Reply
         ensures { TakeStep self.old worker result self.new }
     {
@@ -223,7 +225,7 @@ impl Core {
         self.workers[worker] = Worker::Late { shelf };
     }
 
-    /// A worker leaves the shelf that it holds, or at which it is late: the event `Drop`.
+    /// Lets a worker leave the shelf that it holds, or at which it is late: the event `Drop`.
     pub fn leave(&mut self, worker: usize) -> Reply
         ensures { DropStep self.old worker result self.new }
     {
@@ -253,7 +255,7 @@ impl Core {
         self.workers[worker] = Worker::Idle;
     }
 
-    /// Opens the least free shelf with an edition, as the next version. A refusal changes nothing.
+    /// Opens the least free shelf with an edition, as the next version. If memory is refused, nothing changes.
     pub fn open(&mut self, edition: u64) -> Result<Reply, AllocError>
         ensures step { IfOk result (λ reply. OpenStep self.old edition reply self.new) }
         ensures least { IfOk result (OpensLeast self.old (Event.Open edition)) }
@@ -274,11 +276,12 @@ impl Core {
         Ok(Reply::Opened { version, shelf })
     }
 
-    /// Whether a version may be opened, if a shelf is free: none is open and unpublished, and a number is left.
+    /// Whether a version may be opened once a shelf is free: none is open and unpublished, and a version number is
+    /// left.
     pub fn may_open(&self) -> bool
         ensures { MatchBool result (MayOpen self.now) (¬ (MayOpen self.now)) }
     {
-        // Where nothing waits to be published, the newest version is the current one.
+        // If nothing waits to be published, the newest version is the current one.
         let newest = self.editions.len() as u64;
         newest == self.current && newest < MOST_VERSIONS
     }
@@ -306,7 +309,7 @@ impl Core {
         }
     }
 
-    /// The version that is open and unpublished becomes the current one.
+    /// Makes the version that is open and unpublished the current one.
     pub fn publish(&mut self) -> Reply
         ensures { PublishStep self.old result self.new }
     {
@@ -427,7 +430,7 @@ impl Core {
         self.editions[version as usize - 1]
     }
 
-    /// A notice of the current version goes out. A refusal changes nothing.
+    /// Sends out a notice of the current version. If memory is refused, nothing changes.
     pub fn note(&mut self) -> Result<Reply, AllocError>
         ensures step { IfOk result (λ reply. NoteStep self.old reply self.new) }
         ensures same { OnErr result (self.new ≡ self.old) }
@@ -437,7 +440,7 @@ impl Core {
         Ok(Reply::Noted { version })
     }
 
-    /// A worker that is idle or holds a version takes in a notice of this version, where one is out.
+    /// Lets a worker that is idle or holds a version take in a notice of this version, if one is out.
     pub fn join(&mut self, worker: usize, version: u64) -> Reply
         ensures { JoinStep self.old worker version result self.new }
     {

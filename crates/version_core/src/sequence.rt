@@ -7,8 +7,8 @@ use crate::event::{Event, Reply};
 use crate::machine::Core;
 use std::alloc::{AllocError, Global};
 
-/// Takes the events one after another, each opening on the least free shelf. Refused for want of
-/// memory, it leaves the core after a beginning of them.
+/// Takes the events one after another, and returns their replies. Each opening takes the least free shelf. If memory is
+/// refused, the core has taken only the events before the one that needed it, or none.
 pub fn run(alloc: Global, core: &mut Core, events: &[Event]) -> Result<Vec<Reply>, AllocError>
     ensures run { IfOk result (λ replies. Run core.old events.now replies.items core.new) }
     ensures least { IfOk result (λ replies. LeastRun core.old events.now replies.items core.new) }

@@ -6,7 +6,7 @@ pub const MOST_VERSIONS: u64 = 1_000_000_000;
 /// What a shelf is for.
 #[derive(Clone, Copy, PartialEq, Eq, Debug)]
 pub enum Shelf {
-    /// Nothing stands here, though workers may still be late.
+    /// No version stands here, though late workers may still be counted.
     Free,
     /// Workers that have looked at this version may take it.
     Open { version: u64 },
@@ -21,7 +21,7 @@ pub enum Worker {
     Idle,
     /// It saw this version as the current one, on this shelf.
     Looked { version: u64, shelf: usize },
-    /// It came to this shelf and the version was gone. It is counted there all the same.
+    /// It took this shelf after the version that it had looked at was gone. It is counted there all the same.
     Late { shelf: usize },
     /// It holds the version on this shelf.
     Holding { shelf: usize, version: u64 },
