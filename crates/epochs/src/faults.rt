@@ -10,14 +10,14 @@ use thiserror::Error;
 #[derive(Clone, Copy, Debug, PartialEq, Eq, Error)]
 pub enum PinFault {
     /// Each version that a look found was gone before it could be held. `newest` is the last of them.
-    #[error("each version was gone before it could be held, version {newest} as the last")]
+    #[error("each version was gone before it could be held; the last was version {newest}")]
     Moved { newest: u64 },
     #[error("the seat holds a version already")]
     AlreadyPinned,
     #[error("the seat holds no version")]
     NotPinned,
     /// The shelves say something else of the seat's worker than the seat does.
-    #[error("the shelves know the seat's worker otherwise than the seat does")]
+    #[error("the shelves and the seat disagree about the seat's worker")]
     SeatLost,
     #[error("out of memory")]
     OutOfMemory,
@@ -50,10 +50,10 @@ impl PinFault {
 pub enum PublishFault {
     /// Workers are at each shelf but the current one. `counts` says how many are at each, and has 0 for the current
     /// one.
-    #[error("workers are at every shelf: {counts:?}")]
+    #[error("workers are at every shelf but the current one: {counts:?}")]
     ShelvesFull { counts: [u8; 8] },
     /// The last version that there is was published.
-    #[error("no version is left")]
+    #[error("no version number is left")]
     VersionsSpent,
     #[error("out of memory")]
     OutOfMemory,

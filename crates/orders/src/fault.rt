@@ -15,12 +15,12 @@ pub enum OrderFault {
     #[error("too many orders are waiting")]
     OrdersFull,
     /// The feed's load or its publish was refused, with this number.
-    #[error("the load was refused with {refusal}")]
+    #[error("the load was refused with fault {refusal}")]
     LoadRefused { refusal: u8 },
     /// There was no memory to wait, or none to report the version that was published.
     #[error("out of memory")]
     OutOfMemory,
-    #[error("the loader takes no orders any more")]
+    #[error("the loader no longer takes orders")]
     LoaderGone,
 }
 

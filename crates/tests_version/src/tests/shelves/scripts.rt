@@ -28,7 +28,7 @@ use std::test::*;
 const EIGHT_VERSIONS: &str = "\
 each 0..6
 pin 7: ok, 8 at 8
-publish 9: workers are at every shelf: [1, 1, 1, 1, 1, 1, 1, 0]; 9 back
+publish 9: workers are at every shelf but the current one: [1, 1, 1, 1, 1, 1, 1, 0]; 9 back
 release 0: ok, nothing
 publish 9: 9
 pin 0: ok, 9 at 9
