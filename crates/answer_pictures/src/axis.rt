@@ -11,7 +11,7 @@ const LEFT: u64 = 190;
 
 const LENGTH: u64 = 740;
 
-// The most steps from mark to mark that the time between two ends takes. Ends on marks may take one step more.
+// The most steps from mark to mark that the time from `first` to `last` takes. Moving both ends to marks may add one.
 const MOST_STEPS: u32 = 8;
 
 // How far apart marks may be, in seconds.

@@ -23,7 +23,7 @@ IsWithin times stop secs = (d : ℕ) × (time_at times stop ≡ Some d) × (d �
 abbrev pub IsUndercut : List (Option ℕ) → ℕ → ℕ → Type 0
 IsUndercut times stop secs = (d : ℕ) → time_at times stop ≡ Some d → secs < d
 
--- some walk between the two stops takes `secs` seconds, where a time above the cap is cut to it
+-- some walk between the two stops takes `secs` seconds, cut to the cap if it takes more
 abbrev pub IsToldTime : List Footpath → ℕ → ℕ → ℕ → ℕ → Type 0
 IsToldTime listed cap from to secs = (walk : List Footpath) × IsWalkBetween listed from to walk × (min (walk_secs walk) cap ≡ secs)
 

@@ -43,7 +43,7 @@ pub record IsImage (w : List ℕ) (t : TimetableValue) (n : NamesValue) : Type 0
   pub first : layout_of w ≡ FIRST_LAYOUT → AreFirst n
   pub spelled : w ≡ image_in (layout_of w) t n
 
--- what an image holds, and the layout that its words name: these three have one spelling
+-- what an image holds, and the layout that its words name: together they have at most one spelling
 pub record ImageValue : Type 0 where
   pub layout : ℕ
   pub timetable : TimetableValue

@@ -121,7 +121,7 @@ fn footpath_at(words: &[u32], place: usize) -> Footpath
 
 impl Verified {
     /// How many stops there are. The contract also says what holds of every image: its timetable is legal
-    /// and within the limits, and its names fit.
+    /// and within the limits, and its names fit the timetable.
     pub fn stops(&self) -> u32
         ensures stops { result ≡ self.now.timetable.stops }
         ensures kept { HasImage self.now.timetable self.now.names }
