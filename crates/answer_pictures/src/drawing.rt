@@ -28,9 +28,9 @@ const LINES_A_SCALE: usize = 30;
 const SCALE_HEIGHT: u64 = 32;
 
 /// The picture of journeys along an axis, as the text of an SVG file: the title, the times at the
-/// marks of the axis, a line for the direct walk if there is one, which takes `walk` seconds, a
-/// group for each journey in order, and that `left` more aren't drawn, or that there is none. The
-/// only error is that memory runs out.
+/// marks of the axis, a line for the direct walk of `walk` seconds if there is one, a group for each
+/// journey in order, and a remark if there is no journey, or if `left` more aren't drawn. The only
+/// error is that memory runs out.
 pub fn picture(
     alloc: Global,
     heading: &Heading,
@@ -78,8 +78,8 @@ fn height_of(first: u64, index: usize) -> u64 {
         .saturating_add(first)
 }
 
-/// The y coordinates of the times of the axis: above the first line, after each thirty lines that
-/// more follow, and below the last.
+/// The y coordinates of the times of the axis: above the first line, after each thirty lines if more
+/// follow, and below the last.
 fn scale_heights(alloc: Global, first: u64, lines: usize) -> Result<Vec<u64>, AllocError> {
     let mut heights = Vec::new(alloc);
     heights.push(FIRST_SCALE)?;

@@ -65,7 +65,7 @@ fn line_by<C: Told>(
     profile_reply(alloc, form, image, version, criterion, &answer)
 }
 
-/// The line of reply that has an answer over the image of version `version`.
+/// The line of reply for an answer over the image of version `version`.
 ///
 /// # Errors
 ///

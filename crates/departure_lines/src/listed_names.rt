@@ -12,8 +12,8 @@ use image_verifier::Verified;
 use std::alloc::{AllocError, Global};
 use std::collections::BTreeMap;
 
-/// The names of a list, each with whether a stop was found that has it. It is a tree and no hash table, since a
-/// feed could choose its stop_ids so that their hashes collide.
+/// The names of a list, each with whether a stop was found that has it. This is a tree and not a hash table, since
+/// a feed could choose its stop_ids so that their hashes collide.
 pub(crate) type FoundNames<'a> = BTreeMap<&'a str, bool>;
 
 /// The names of a list, before any was found.
@@ -35,7 +35,7 @@ fn add_name<'a>(found: &mut FoundNames<'a>, name: &'a str) -> Result<(), AllocEr
     Ok(())
 }
 
-/// For each stop whether it is the lowest one that has a listed name. These names are found from now on.
+/// For each stop whether it is the lowest one that has a listed name. Notes which listed names were found.
 pub(crate) fn mark_stops(
     alloc: Global,
     image: &Verified,

@@ -55,7 +55,7 @@ pub fn append_times(lines: &mut String, departure: u32, arrival: u32) -> Result<
     Ok(())
 }
 
-/// Adds a word and a number, if there is one.
+/// Adds a word and a number, if there is a number.
 pub fn append_number(lines: &mut String, word: &str, number: Option<u32>) -> Result<(), AllocError>
     ensures { OnOk result (string_bytes lines.new ≡ string_bytes lines.old ++ number_if_some word.now number) }
 {

@@ -1,5 +1,5 @@
 -- The closure of listed footpaths, what a legal timetable asks of it, and why it isn't made. (Closed footpaths:
--- Dibbelt, Pajor, Strasser, Wagner: Connection Scan Algorithm, ACM JEA 2018. That loops count among them, and their limits, are our own.)
+-- Dibbelt, Pajor, Strasser, Wagner: Connection Scan Algorithm, ACM JEA 2018. The limits, and that loops count as footpaths, are our own.)
 use Rattle.std.specs.Prelude.{ℕ, ◌+◌, ◌<◌, ◌≤◌, List, length, All, Contains}
 use Rattle.timetable.specs.declared.network.Footpath.{Footpath}
 use Rattle.timetable.specs.Journeys.{walk_secs}

@@ -156,7 +156,7 @@ pub fn close_within(
 
 /// The closure of listed footpaths: one footpath for each ordered pair of stops that a non-empty
 /// walk over them joins, with the least time in seconds of such a walk, in the order of the stop
-/// that it leads into, then of the stop that it leaves. It meets what a legal timetable asks of its
+/// that it leads into, then of the stop that it leaves. A legal timetable asks for closed
 /// footpaths, as the Connection Scan Algorithm does (Dibbelt, Pajor, Strasser, Wagner, ACM JEA
 /// 2018). A loop is a footpath like any other here: a way there and back may undercut it. Each of
 /// the `stops` stops has a listed loop.

@@ -27,7 +27,7 @@ pub fn one_closure()
         → closure ≡ other }
 {}
 
-/// Footpaths that are closed already stay as they are.
+/// Footpaths that meet what a legal timetable asks of its footpaths are their own closure.
 pub fn closed_stays()
     ensures { (stops : ℕ) (paths : List Footpath) → HasLegalFootpaths stops paths → IsClosure paths paths }
 {}

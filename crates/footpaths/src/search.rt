@@ -1,4 +1,4 @@
-//! The least times of walks into one stop: from the stop backwards, the nearest stop first.
+//! The least times of walks into one stop, found from that stop backwards, the nearest stop first.
 
 ghost use Rattle.std.specs.Prelude.{◌≡◌, ◌<◌, ◌≤◌, ◌+◌, ◌*◌, true, false, ℕ, [], None, Some, is_none, Contains};
 ghost use Rattle.std.specs.Prelude.{All, length, min, IfOk, OnOk, ◌⊎◌};

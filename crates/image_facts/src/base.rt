@@ -47,14 +47,14 @@ fn append_utc(lines: &mut String, instant: i64) -> Result<(), AllocError>
     }
 }
 
-// The day of UTC that has the instant. Day 0 is 1970-01-01.
+// The UTC day of an instant. Day 0 is 1970-01-01.
 fn day_of(instant: i64) -> i64
     ensures { result ≡ utc_day instant }
 {
     instant.div_euclid(DAY)
 }
 
-// The second of its day of UTC at which the instant is.
+// The seconds from the start of an instant's UTC day to the instant.
 fn second_of(instant: i64) -> u32
     ensures { result ≡ utc_second instant }
 {

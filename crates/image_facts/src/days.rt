@@ -31,8 +31,8 @@ fn append_entries(lines: &mut String, days: &[u32]) -> Result<(), AllocError>
     Ok(())
 }
 
-// Counts one more entry of a day and, if it is the last of its sequence, adds the day's line. Returns how many
-// entries of the next entry's sequence are counted so far.
+// Counts one more entry of a day. If it is the last of its sequence, it adds the day's line and returns 0, else it
+// returns the new count.
 fn append_entry(
     lines: &mut String,
     count: usize,
@@ -51,7 +51,7 @@ fn append_entry(
     Ok(count + 1)
 }
 
-// Whether the entries after one of a day go on with another day, or end.
+// Whether an entry of a day is the last of its sequence, given the entries after it.
 fn is_last(day: u32, more: &[u32]) -> bool
     ensures { result ≡ is_last_of day more.now }
 {

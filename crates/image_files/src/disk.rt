@@ -11,7 +11,7 @@ use std::rt::Files;
 pub trait ImageDisk {
     type Image: OpenFile + Read + Drop;
 
-    // The bytes that a file opened at a path may hold, `None` if they aren't known. The path comes first.
+    // Whether a file opened at this path may hold these bytes. `None` stands for bytes that aren't known.
     ghost may_hold: { Self → List ℕ → Option (List ℕ) → Type 0 } = { λ _ _ _. Unit {0} };
 
     /// Opens the file at a path, at its first byte.

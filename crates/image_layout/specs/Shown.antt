@@ -11,7 +11,7 @@ use Rattle.image_layout.specs.Fields.{from_of, to_of, dep_of, arr_of, trip_of, f
 use Rattle.image_layout.specs.Fields.{foot_secs_of, name_index_of, day_of, repeat_of}
 use Rattle.image_layout.specs.Text.{padded_text_of}
 
--- connection i: flag 1 lets passengers board, and flag 2 alight
+-- connection i: flag 1 lets passengers board, and flag 2 lets them alight
 abbrev pub connection_of : List ℕ → ℕ → Connection
 connection_of w i = record {
   from = from_of w i;

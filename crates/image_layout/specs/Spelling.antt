@@ -20,7 +20,7 @@ connection_words c = c.from ∷ c.to ∷ c.dep ∷ c.arr ∷ c.trip ∷ flags c 
 abbrev pub footpath_count_below : List Footpath → ℕ → ℕ
 footpath_count_below paths s = count_by (λ f. nat_lt f.to s) paths
 
--- the foot index: for each stop how many footpaths lead into the stops before it, and one more word for the stops together
+-- the foot index: for each stop how many footpaths lead into the stops before it, and then how many lead into all stops
 abbrev pub foot_index : TimetableValue → List ℕ
 foot_index p = map (footpath_count_below p.footpaths) (range_with_len 0 (p.stops + 1))
 
@@ -36,7 +36,7 @@ name_list n = n.stops ++ map (λ (t : TripNameValue). t.name) n.trips
 abbrev pub byte_count_before : List (List ℕ) → ℕ → ℕ
 byte_count_before ns i = length (concat (take i ns))
 
--- the name index: for each name how many bytes come before it, and one more word for the names together
+-- the name index: for each name how many bytes come before it, and then how many bytes there are
 abbrev pub name_index : NamesValue → List ℕ
 name_index n = map (byte_count_before (name_list n)) (range_with_len 0 (length (name_list n) + 1))
 

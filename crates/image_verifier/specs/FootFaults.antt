@@ -32,7 +32,7 @@ foot_fault w s =
     else (if not (any_between (is_from w s) (foot_index_of w s) (foot_index_of w (s + 1))) then Some (NoLoop s)
     else None))
 
--- the fault of the index as a whole: it must end with the number of footpaths, and begin with 0 even if there are no stops
+-- the fault of the whole: the foot index must end with the number of footpaths, and begin with 0 even if there are no stops
 abbrev pub foot_end_fault : List ℕ → Option ImageFault
 foot_end_fault w =
     if not (foot_index_of w (header_of w).stops == (header_of w).footpaths) || not (foot_index_of w 0 == 0) then Some (FootRange (header_of w).stops)

@@ -19,8 +19,8 @@ is_bad_name_range w i = (i == 0 && not (name_index_of w 0 == 0)) || nat_lt (name
 unfoldable pub name_fault : List ℕ → ℕ → Option ImageFault
 name_fault w i = if is_bad_name_range w i || not (is_utf8 (name_of w i)) then Some (BadNames i) else None
 
--- the fault of the index as a whole: it must end with the number of bytes, and begin with 0 even if there are no names;
--- or of the spare bytes, which must be 0
+-- the fault of the whole: the name index must end with the number of bytes, and begin with 0 even if there are no names, and the spare bytes
+-- must be 0
 unfoldable pub names_end_fault : List ℕ → Option ImageFault
 names_end_fault w =
     if not (name_index_of w (name_count w) == (header_of w).name_bytes) || not (name_index_of w 0 == 0) || not

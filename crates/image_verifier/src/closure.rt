@@ -83,8 +83,8 @@ fn into_fault(words: &[u32], into: usize, secs: &mut [u32]) -> Option<ImageFault
     None
 }
 
-/// The first fault of the closure: two footpaths end to end that are shorter than the direct one, or have
-/// none. The table is empty.
+/// The first fault of the closure: two footpaths end to end that are shorter than the direct one, or
+/// without a direct one. The table `secs` is empty.
 pub fn closure_fault(words: &[u32], secs: &mut [u32]) -> Option<ImageFault>
     requires whole { IsWhole words.now }
     requires ranges { HasFootRanges words.now }

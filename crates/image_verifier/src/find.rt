@@ -33,7 +33,7 @@ fn is_name(words: &[u32], name: usize, bytes: &[u8]) -> bool
     true
 }
 
-/// The least stop whose name is these bytes.
+/// The lowest stop whose name is these bytes, if there is one.
 pub fn stop_named(words: &[u32], bytes: &[u8]) -> Option<u32>
     requires { IsAccepted words.now }
     ensures found { IfSome result (λ s. (s < (header_of words.now).stops) × (name_of words.now s ≡ bytes.now)) }

@@ -1,4 +1,4 @@
-//! Copies of an image's timetable and names, from which it can be written again.
+//! Copies an image's timetable and names, so that the image can be written again.
 
 ghost use Rattle.std.specs.Prelude.{◌≡◌, ◌<◌, ◌++◌, map, string_bytes, IfOk, OnOk};
 ghost use Rattle.image_layout.specs.Places.{header_of};

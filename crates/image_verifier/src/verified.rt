@@ -57,8 +57,8 @@ impl Model for Verified {
 }
 
 /// Returns the words as an image, or gives them back with their first fault. Every image is
-/// accepted, unless memory runs out: all of it is taken after the header was judged and before
-/// anything else is judged.
+/// accepted, unless memory runs out. All memory is taken after the header is judged and before
+/// anything else is.
 pub fn verify(alloc: Global, words: Vec<u32>) -> Result<Verified, (Vec<u32>, ImageFault)>
     ensures shown { IfOk result (λ v. IsImage words.items v.timetable v.names) }
     ensures layout { IfOk result (λ v. v.layout ≡ layout_of words.items) }
@@ -260,8 +260,8 @@ impl Verified {
         repeat_at(&self.words, trip)
     }
 
-    /// Copies of the timetable and the names. No other call on an image takes memory, and the only
-    /// error is that there is none.
+    /// Copies of the timetable and the names. No other call on an image takes memory. The only error
+    /// is that memory runs out.
     pub fn to_timetable(&self, alloc: Global) -> Result<(Timetable, Names), AllocError>
         ensures timetable { IfOk result (λ made. made.0 ≡ self.now.timetable) }
         ensures names { IfOk result (λ made. made.1 ≡ self.now.names) }

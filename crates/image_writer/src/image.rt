@@ -21,7 +21,7 @@ use timetable::{Names, Timetable};
 ///
 /// The timetable is legal and within the limits. There is a name for each stop and each trip, and
 /// together the names have at most `MAX_NAME_BYTES` bytes. All memory is taken before the first
-/// word is written, and the only error is that there is none.
+/// word is written. The only error is that memory runs out.
 pub fn write(alloc: Global, timetable: &Timetable, names: &Names) -> Result<Vec<u32>, AllocError>
     requires { IsWritable timetable.now names.now }
     ensures image { IfOk result (λ words. IsImage words.items timetable.now names.now) }
