@@ -2,7 +2,7 @@
 use Rattle.std.specs.Prelude.{ℕ, List}
 use Rattle.answer_pictures.specs.declared.lines.Way.{Way}
 
--- how one gets on, from when to when, from where to where, and by which trip if it is a ride
+-- a part of a journey: its way, its start and end, the names of the stops where it begins and ends, and for a ride that of the trip
 pub record StretchValue : Type 0 where
   pub way : Way
   pub start : ℕ
@@ -18,7 +18,7 @@ pub record LineValue : Type 0 where
   pub stretches : List StretchValue
   pub note : List ℕ
 
--- both ends of the journeys, and what was asked
+-- the names of the stops from and to which the journeys lead, and what was asked
 pub record HeadingValue : Type 0 where
   pub from : List ℕ
   pub to : List ℕ

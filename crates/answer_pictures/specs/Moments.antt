@@ -1,4 +1,4 @@
--- Times as a picture has them: of the day on which they are, without seconds where none are needed.
+-- Times in a picture: as the clock shows them on their day, and without seconds if none are needed.
 use Rattle.std.specs.Prelude.{◌/◌, ◌%◌, ℕ, List, [], ◌∷◌, ◌++◌, Bool, not, ◌==◌, ◌&&◌, nat_lt, if◌then◌else◌, codes, decimal}
 use Rattle.std.specs.List.{list_all}
 use Rattle.timetable.specs.Clocks.{two_digits}
@@ -8,19 +8,19 @@ use Rattle.answer_pictures.specs.LineValue.{LineValue, StretchValue}
 abbrev pub minute_text : ℕ → List ℕ
 minute_text time = two_digits (time / 3600 % 24) ++ 58 ∷ two_digits (time / 60 % 60)
 
--- the seconds, where they are shown
+-- the seconds, if they are shown
 abbrev pub seconds_text : Bool → ℕ → List ℕ
 seconds_text exact time = if exact then 58 ∷ two_digits (time % 60) else []
 
--- how many days after the first it is
+-- after the first day, how many days later it is
 abbrev pub days_text : ℕ → List ℕ
 days_text time = if nat_lt time 86400 then [] else codes " +" ++ decimal (time / 86400)
 
--- a time of a picture that shows seconds, or doesn't
+-- a time, in a picture that shows seconds or one that doesn't
 unfoldable pub moment_text : Bool → ℕ → List ℕ
 moment_text exact time = minute_text time ++ seconds_text exact time ++ days_text time
 
--- a time that loses nothing if its seconds aren't shown
+-- a whole minute: the time loses nothing if its seconds aren't shown
 abbrev pub is_whole : ℕ → Bool
 is_whole time = time % 60 == 0
 

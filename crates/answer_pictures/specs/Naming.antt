@@ -2,7 +2,7 @@
 use Rattle.std.specs.Prelude.{ℕ, List, [], slice_get, Option, Some, None, option_map}
 use Rattle.timetable.specs.NamesValue.{NamesValue, TripNameValue}
 
--- the bytes of a name, and none where there is no such name
+-- the bytes of a name, or none if there is no such name
 abbrev pub bytes_or_none : Option (List ℕ) → List ℕ
 bytes_or_none None = []
 bytes_or_none (Some name) = name

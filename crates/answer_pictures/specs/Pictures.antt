@@ -11,19 +11,19 @@ use Rattle.answer_pictures.specs.Style.{style, legend}
 use Rattle.answer_pictures.specs.Told.{later}
 use Rattle.answer_pictures.specs.Words.{escaped, escaped_cut}
 
--- where a time lies on an axis that is 740 long and begins at 190
+-- the x coordinate of a time on an axis that begins at 190 and is 740 long
 abbrev pub place : Axis → ℕ → ℕ
 place axis time = 190 + (min time axis.end - axis.start) * 740 / max (axis.end - axis.start) 1
 
--- how long it is from one time to another: it is seen, however short it is
+-- the length from one time to another: at least 1, so that it is seen however short it is
 abbrev pub length_between : Axis → ℕ → ℕ → ℕ
 length_between axis start end = max (place axis end - place axis start) 1
 
--- a journey that departs at a time or later, and arrives at another or earlier
+-- the journey departs no earlier than the first time, and arrives no later than the last
 abbrev pub IsBetween : ℕ → ℕ → LineValue → Type 0
 IsBetween first last line = (first ≤ line.departure) × (line.arrival ≤ last)
 
--- a journey that the axis covers
+-- the axis covers the journey
 abbrev pub LiesOn : Axis → LineValue → Type 0
 LiesOn axis line = IsBetween axis.start axis.end line
 
@@ -38,7 +38,7 @@ group_text y = codes "<g transform=\"translate(0 " ++ decimal y ++ codes ")\">\n
 unfoldable pub grid_text : Axis → ℕ → ℕ → List ℕ
 grid_text axis bottom time = codes "<path class=\"grid\" d=\"M" ++ decimal (place axis time) ++ codes " 110V" ++ decimal bottom ++ codes "\"/>\n"
 
--- a mark's time
+-- the time at a mark
 unfoldable pub tick_text : Axis → ℕ → List ℕ
 tick_text axis time =
     codes "<text class=\"tick\"" ++ attribute_text (codes " x") (place axis time) ++ codes ">" ++ moment_text false time ++ codes "</text>\n"
@@ -47,7 +47,7 @@ tick_text axis time =
 unfoldable pub scale_text : Axis → List ℕ → ℕ → List ℕ
 scale_text axis marks y = group_text y ++ flat_map (tick_text axis) marks ++ codes "</g>\n"
 
--- a ride is thick, a walk a broken line, a change a dot
+-- how a part's shape begins: a ride is a thick bar, a walk a dashed line, a change a dot
 abbrev pub way_text : Way → List ℕ
 way_text Ride = codes "<rect class=\"ride\" y=\"-9\" height=\"18\" rx=\"4\" x=\""
 way_text Walk = codes "<path class=\"walk\" d=\"M"
@@ -63,12 +63,12 @@ end_text Ride = codes "</title></rect>\n"
 end_text Walk = codes "</title></path>\n"
 end_text Change = codes "</title></path>\n"
 
--- from where to where a part of a journey goes on the axis
+-- the shape of a part: where it begins on the axis, and how long it is
 unfoldable pub shape_text : Axis → StretchValue → List ℕ
 shape_text axis s =
     way_text s.way ++ decimal (place axis s.start) ++ between_text s.way ++ decimal (length_between axis s.start s.end) ++ codes "\"><title>"
 
--- what is done: the trip, or how one gets on without one
+-- what a part is: a ride by its trip, or on foot, or a change
 abbrev pub lead_text : Way → List ℕ → List ℕ
 lead_text Ride trip = escaped trip
 lead_text Walk trip = codes "on foot"
@@ -78,11 +78,11 @@ lead_text Change trip = codes "change"
 unfoldable pub end_at : List ℕ → Bool → List ℕ → ℕ → List ℕ
 end_at before exact stop time = before ++ escaped stop ++ codes " " ++ moment_text exact time
 
--- what is told of a part where one points at it
+-- the title of a part, which is seen when one points at it
 unfoldable pub told_text : Bool → StretchValue → List ℕ
 told_text exact s = lead_text s.way s.trip ++ end_at (codes ": ") exact s.from s.start ++ end_at (codes ", ") exact s.to s.end
 
--- a trip's name on its ride, where it has room
+-- a trip's name on its ride, if it has room
 abbrev pub has_room : Axis → StretchValue → Bool
 has_room axis s = nat_le (length s.trip) ((length_between axis s.start s.end - 10) / 7)
 
@@ -97,18 +97,18 @@ badge_text axis s = if has_room axis s then trip_text axis s else []
 unfoldable pub stretch_text : Axis → Bool → StretchValue → List ℕ
 stretch_text axis exact s = shape_text axis s ++ told_text exact s ++ end_text s.way ++ badge_text axis s
 
--- when one departs and arrives
+-- when a journey departs and arrives
 unfoldable pub label_text : Bool → LineValue → List ℕ
 label_text exact line =
     codes "<text class=\"time\" x=\"16\" y=\"5\">" ++ moment_text exact line.departure ++ (32 ∷ 226 ∷ 128 ∷ 147 ∷ 32 ∷ []) ++ moment_text exact line.arrival
     ++ codes "</text>\n"
 
--- from the departure to the arrival: what nothing else lies over is waiting
+-- a line from the departure to the arrival: wherever no part covers it, it shows waiting
 unfoldable pub wait_text : Axis → LineValue → List ℕ
 wait_text axis line =
     codes "<path class=\"wait\" d=\"M" ++ decimal (place axis line.departure) ++ codes " 0H" ++ decimal (place axis line.arrival) ++ codes "\"/>\n"
 
--- a note below a line, as much of it as the axis has room for, and the whole where one points at it
+-- a note below a line, cut to what the axis has room for; the whole note is seen when one points at it
 unfoldable pub note_text : List ℕ → List ℕ
 note_text note =
     (codes "<svg x=\"190\" y=\"10\" width=\"740\" height=\"20\"><text class=\"note\" y=\"12\"><title>" ++ escaped note ++ codes "</title>")
@@ -172,8 +172,8 @@ heading_text h shown left =
 unfoldable pub axis_text : Axis → ℕ → List ℕ → List ℕ → List ℕ
 axis_text axis bottom marks heights = flat_map (grid_text axis bottom) marks ++ flat_map (scale_text axis marks) heights
 
--- a text that begins and ends as an SVG file, with its heading and the axis, the direct walk if there is one, a group for each journey in order and
--- no other, and behind them that there is none, or how many aren't drawn; seconds are left out only if no time of a journey has any
+-- an SVG file with its heading and the axis, the direct walk if there is one, a group for each journey in order and for no other, and then that
+-- there is none, or how many aren't drawn; seconds are left out only if no time of a journey has any
 pub record IsPicture (h : HeadingValue) (axis : Axis) (walk : Option ℕ) (lines : List LineValue) (left : ℕ) (text : List ℕ) : Type 0 where
   pub height : ℕ
   pub bottom : ℕ

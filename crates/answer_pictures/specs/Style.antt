@@ -1,4 +1,4 @@
--- How a picture looks: no markup but its own, and no words from outside.
+-- How a picture looks: fixed texts, which hold nothing from outside.
 use Rattle.std.specs.Prelude.{ℕ, List, codes}
 
 unfoldable pub style : List ℕ

@@ -16,7 +16,7 @@ use Rattle.answer_pictures.specs.LineValue.{HeadingValue, StretchValue, LineValu
 use Rattle.answer_pictures.specs.Moments.{moment_text}
 use Rattle.answer_pictures.specs.Naming.{stop_bytes, trip_bytes}
 
--- how one gets on, from when to when, from where to where, and by which trip
+-- a ride from its first connection to its last
 abbrev pub ride_part : NamesValue → Connection → Connection → StretchValue
 ride_part names first last = record {
   way = Ride;
@@ -27,11 +27,11 @@ ride_part names first last = record {
   to = stop_bytes names last.to;
 }
 
--- a time so many seconds later, at most the greatest
+-- a time some seconds later, or the greatest time if that would be past it
 abbrev pub later : ℕ → ℕ → ℕ
 later time secs = min (time + secs) 4294967295
 
--- a footpath to the stop from which it leads is a change
+-- how a footpath is walked: one from a stop to itself is a change
 abbrev pub way_on_foot : Footpath → Way
 way_on_foot footpath = if footpath.from == footpath.to then Change else Walk
 
@@ -78,13 +78,13 @@ pub record IsLineOf (t : TimetableValue) (names : NamesValue) (time : ℕ) (told
 abbrev pub own_moment : ℕ → List ℕ
 own_moment time = moment_text (not (time % 60 == 0)) time
 
--- what was asked, behind a date
+-- what was asked, after a date
 abbrev pub asked_text : CriterionName → Query → List ℕ
 asked_text criterion query =
     (codes ": departing " ++ own_moment query.from) ++ (codes " to " ++ own_moment query.until) ++ (codes ", arriving by " ++ own_moment query.by)
     ++ (codes "; best by " ++ name_text criterion)
 
--- what is above a picture: both ends of a query by their names, and what it asks, behind a date
+-- what is above a picture: the names of a query's source and target, and, after a date, what it asks
 pub record IsHeadingOf (names : NamesValue) (criterion : CriterionName) (q : Query) (h : HeadingValue) : Type 0 where
   pub from : h.from ≡ stop_bytes names q.source
   pub to : h.to ≡ stop_bytes names q.target

@@ -1,13 +1,13 @@
--- Words as XML tells them.
+-- Texts escaped for XML.
 use Rattle.std.specs.Prelude.{ℕ, zero, suc, List, [], ◌∷◌, ◌++◌, Bool, not, ◌==◌, ◌&&◌, nat_le, if◌then◌else◌, codes, chars}
 use Rattle.std.specs.List.{flat_map}
 use Rattle.std.specs.Char.{encode_utf8}
 
--- XML allows each character but the controls and two that are none
+-- the characters that are written as they are, unless they are markup: XML allows them, and besides them only tabs and the ends of lines
 abbrev pub is_xml : ℕ → Bool
 is_xml c = nat_le 32 c && (not (c == 65534) && not (c == 65535))
 
--- a character by its name where it would be markup, and a replacement where XML has none
+-- a character, escaped: markup as an entity, and a character that isn't is_xml as the replacement character
 abbrev pub escaped_letter : ℕ → List ℕ
 escaped_letter c =
     if c == 38 then codes "&amp;"
@@ -18,7 +18,7 @@ escaped_letter c =
 abbrev pub escaped : List ℕ → List ℕ
 escaped text = flat_map escaped_letter (chars text)
 
--- so many characters, and three dots in the place of more
+-- the first characters, escaped, and three dots if there are more
 abbrev pub cut_letters : ℕ → List ℕ → List ℕ
 cut_letters zero [] = []
 cut_letters zero (c ∷ letters) = codes "..."

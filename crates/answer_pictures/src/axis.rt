@@ -6,15 +6,15 @@ ghost use Rattle.answer_pictures.specs.Pictures.{IsBetween, LiesOn, length_betwe
 use crate::lines::JourneyLine;
 use std::alloc::{AllocError, Global};
 
-// Where the axis begins, and how long it is.
+// The x coordinate at which the axis begins, and its length.
 const LEFT: u64 = 190;
 
 const LENGTH: u64 = 740;
 
-// As many marks as there are, at most, beside the first.
+// The most steps from mark to mark that the time from `first` to `last` takes. Moving both ends to marks may add one.
 const MOST_STEPS: u32 = 8;
 
-// How far marks may be from one another, in seconds.
+// How far apart marks may be, in seconds.
 const STEPS: [u32; 13] = [
     60, 120, 300, 600, 900, 1800, 3600, 7200, 10800, 21600, 43200, 86400, 172800,
 ];
@@ -22,7 +22,7 @@ const STEPS: [u32; 13] = [
 // The seconds of a day.
 const DAY: u32 = 86400;
 
-/// From when to when the axis of a picture goes, in seconds after the base, and how far its marks are from one another.
+/// The first and the last time of a picture's axis, in seconds after the base, and how far apart its marks are.
 #[derive(Clone, Copy, Debug, PartialEq, Eq)]
 pub struct Axis {
     pub start: u32,
@@ -31,7 +31,7 @@ pub struct Axis {
 }
 
 impl Axis {
-    /// An axis on which two times and all between them lie, with both of its ends on marks.
+    /// An axis that covers all times from `first` to `last`, with both of its ends on marks.
     pub fn covering(first: u32, last: u32) -> Axis
         ensures { (result.start ≤ first) × (last ≤ result.end) }
     {
@@ -46,8 +46,8 @@ impl Axis {
         Axis { start, end, step }
     }
 
-    /// An axis on which each journey lies from its departure to its arrival; if there is none, one
-    /// that covers two times.
+    /// An axis that covers each journey from its departure to its arrival; if there is none, one that
+    /// covers all times from `from` to `until`.
     pub fn of_lines(lines: &[JourneyLine], from: u32, until: u32) -> Axis
         ensures { All (LiesOn result) lines.now }
     {
@@ -58,7 +58,7 @@ impl Axis {
         Axis::covering(first, last)
     }
 
-    /// Where a time lies, from the left; one before the axis at its start, one behind it at its end.
+    /// The x coordinate of a time. A time before the axis is put at its start, one after it at its end.
     pub(crate) fn place(&self, time: u32) -> u64
         ensures { result ≡ place self.now time }
     {
@@ -67,7 +67,7 @@ impl Axis {
         LEFT + after as u64 * LENGTH / span as u64
     }
 
-    /// How long it is from one time to another.
+    /// The length from one time to another on the axis, at least 1.
     pub(crate) fn length(&self, start: u32, end: u32) -> u64
         ensures { result ≡ length_between self.now start end }
     {
@@ -88,7 +88,7 @@ impl Axis {
     }
 }
 
-/// The first departure of journeys, and their last arrival.
+/// The first departure and the last arrival of journeys.
 fn ends_of(lines: &[JourneyLine]) -> (u32, u32)
     ensures { All (IsBetween result.0 result.1) lines.now }
 {
@@ -107,7 +107,7 @@ fn later_of(one: u32, other: u32) -> u32
     if one < other { other } else { one }
 }
 
-/// How far marks are from one another on an axis of so many seconds.
+/// How far apart the marks are, in seconds, on an axis for `span` seconds.
 fn step_for(span: u32) -> u32 {
     for step in STEPS {
         if span as u64 <= step as u64 * MOST_STEPS as u64 {

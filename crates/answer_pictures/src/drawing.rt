@@ -15,21 +15,22 @@ use crate::putting::{put_attribute, put_element, put_number, put_numbers, put_sh
 use crate::style::{legend, style};
 use std::alloc::{AllocError, Global};
 
-// Where the first times of the axis are, the first line, and how far each line is from the next.
+// The y coordinates of the first times of the axis and of the first line, and how far apart lines are.
 const FIRST_SCALE: u64 = 102;
 
 const FIRST_LINE: u64 = 134;
 
 const LINE_HEIGHT: u64 = 48;
 
-// The times of the axis are repeated behind so many lines, with so much room.
+// The times of the axis are repeated after this many lines, and take this much room.
 const LINES_A_SCALE: usize = 30;
 
 const SCALE_HEIGHT: u64 = 32;
 
 /// The picture of journeys along an axis, as the text of an SVG file: the title, the times at the
-/// marks of the axis, a line for the direct walk of so many seconds if there is one, a group for
-/// each journey in order, and how many more there are. The only error is that memory runs out.
+/// marks of the axis, a line for the direct walk of `walk` seconds if there is one, a group for each
+/// journey in order, and a remark if there is no journey, or if `left` more aren't drawn. The only
+/// error is that memory runs out.
 pub fn picture(
     alloc: Global,
     heading: &Heading,
@@ -60,7 +61,7 @@ pub fn picture(
     Ok(out)
 }
 
-/// Where the first journey is: below the direct walk.
+/// The y coordinate of the first journey: below the direct walk, if there is one.
 fn first_line(walk: Option<u32>) -> u64 {
     match walk {
         None => FIRST_LINE,
@@ -68,7 +69,7 @@ fn first_line(walk: Option<u32>) -> u64 {
     }
 }
 
-/// The height of a line: above each thirtieth there is room for the times of the axis.
+/// The y coordinate of a line. After each thirty lines there is room for the times of the axis.
 fn height_of(first: u64, index: usize) -> u64 {
     let scales = index / LINES_A_SCALE;
     (index as u64)
@@ -77,8 +78,8 @@ fn height_of(first: u64, index: usize) -> u64 {
         .saturating_add(first)
 }
 
-/// Where the times of the axis are: above the first of so many lines, above each thirtieth behind
-/// it, and below the last.
+/// The y coordinates of the times of the axis: above the first line, after each thirty lines if more
+/// follow, and below the last.
 fn scale_heights(alloc: Global, first: u64, lines: usize) -> Result<Vec<u64>, AllocError> {
     let mut heights = Vec::new(alloc);
     heights.push(FIRST_SCALE)?;
@@ -103,7 +104,7 @@ fn put_size(out: &mut String, height: u64) -> Result<(), AllocError>
     Ok(())
 }
 
-/// The whole names and what was asked, for who hears the picture.
+/// Adds the full names and what was asked, for screen readers.
 fn put_title(out: &mut String, heading: &Heading) -> Result<(), AllocError>
     ensures { OnOk result (string_bytes out.new ≡ string_bytes out.old ++ title_text heading.now) }
 {
@@ -118,7 +119,7 @@ fn put_title(out: &mut String, heading: &Heading) -> Result<(), AllocError>
     Ok(())
 }
 
-/// The names, as much of them as there is room for, and what was asked, for who sees it.
+/// Adds the title that is seen: the names, as far as there is room, and what was asked.
 fn put_shown_title(out: &mut String, heading: &Heading) -> Result<(), AllocError>
     ensures { OnOk result (string_bytes out.new ≡ string_bytes out.old ++ shown_title heading.now) }
 {
@@ -228,7 +229,7 @@ fn put_ticks(out: &mut String, axis: Axis, marks: &[u32]) -> Result<(), AllocErr
     Ok(())
 }
 
-/// The times of all marks, at a height.
+/// Adds the times of all marks, at a height.
 fn put_scale(out: &mut String, axis: Axis, marks: &[u32], y: u64) -> Result<(), AllocError>
     ensures { OnOk result (string_bytes out.new ≡ string_bytes out.old ++ scale_text axis marks.now y) }
 {
@@ -322,7 +323,7 @@ fn put_lines(
     Ok(())
 }
 
-/// Adds that there is no journey, or how many aren't drawn.
+/// Adds that there is no journey, or how many aren't drawn, if either is so.
 fn put_remark_words(out: &mut String, shown: usize, left: usize) -> Result<(), AllocError>
     ensures { OnOk result (string_bytes out.new ≡ string_bytes out.old ++ remark_words shown left) }
 {

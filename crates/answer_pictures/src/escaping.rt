@@ -1,19 +1,20 @@
-//! Words as XML tells them.
+//! Escapes texts for XML.
 
 ghost use Rattle.std.specs.Prelude.{◌≡◌, ◌++◌, codes, OnOk, string_bytes};
 ghost use Rattle.answer_pictures.specs.Words.{escaped, escaped_cut, escaped_letter, is_xml};
 
 use std::alloc::AllocError;
 
-/// Whether XML allows a character.
+/// Whether a character is written as it is, unless it is markup. XML allows all of these, and besides them
+/// only tabs and the ends of lines.
 fn is_xml(letter: char) -> bool
     ensures { result ≡ is_xml letter }
 {
     letter >= ' ' && letter != '\u{FFFE}' && letter != '\u{FFFF}'
 }
 
-/// Adds a character so that XML tells it: by its name where it would be markup, and as a
-/// replacement where XML has none.
+/// Adds a character, escaped: markup as an entity, and a character that isn't `is_xml` as the replacement
+/// character.
 fn put_letter(out: &mut String, letter: char) -> Result<(), AllocError>
     ensures { OnOk result (string_bytes out.new ≡ string_bytes out.old ++ escaped_letter letter) }
 {
@@ -30,7 +31,7 @@ fn put_letter(out: &mut String, letter: char) -> Result<(), AllocError>
     }
 }
 
-/// Adds words as XML tells them.
+/// Adds a text, escaped.
 pub(crate) fn put_words(out: &mut String, words: &str) -> Result<(), AllocError>
     ensures { OnOk result (string_bytes out.new ≡ string_bytes out.old ++ escaped words.now) }
 {
@@ -46,7 +47,7 @@ fn put_dots(out: &mut String) -> Result<(), AllocError>
     out.push_str("...")
 }
 
-/// Adds so many characters of words, and three dots where there are more.
+/// Adds the first `most` characters of a text, escaped, and three dots if there are more.
 pub(crate) fn put_cut(out: &mut String, words: &str, most: usize) -> Result<(), AllocError>
     ensures { OnOk result (string_bytes out.new ≡ string_bytes out.old ++ escaped_cut most words.now) }
 {

@@ -15,13 +15,13 @@ use std::alloc::{AllocError, Global};
 use std::fmt::Write as _;
 use timetable::Query;
 
-// A day, and how far zones are ahead of UTC at most, but for some islands, in seconds.
+// The seconds of a day, and how far zones are ahead of UTC at most, apart from some islands.
 const DAY: i64 = 86400;
 
 const MOST_AHEAD: i64 = 46800;
 
-/// Both ends of a query's journeys by their names, and what it asks: the date from which times
-/// count, the window, and what is best.
+/// The names of a query's source and target, and what it asks: the date from which times count, the
+/// window, and the criterion.
 pub fn heading_of(
     alloc: Global,
     image: &Verified,
@@ -37,7 +37,8 @@ pub fn heading_of(
     Ok(Heading { from, to, about })
 }
 
-/// The date of the day that begins at an instant, for zones from ten hours behind UTC to thirteen ahead.
+/// The date of the day that begins at an instant, for zones from ten hours behind UTC to thirteen ahead; an
+/// empty text if its year isn't one of -9999 to 9999.
 fn date_text(alloc: Global, base: i64) -> Result<String, AllocError> {
     let day = base.saturating_add(MOST_AHEAD).div_euclid(DAY);
     match Date::from_unix_epoch_day(day) {
@@ -49,7 +50,7 @@ fn date_text(alloc: Global, base: i64) -> Result<String, AllocError> {
     }
 }
 
-/// Adds the window, and what is best.
+/// Adds the window and the criterion.
 fn put_asked(out: &mut String, criterion: CriterionName, query: &Query) -> Result<(), AllocError>
     ensures { OnOk result (string_bytes out.new ≡ string_bytes out.old ++ asked_text criterion query.now) }
 {
@@ -60,7 +61,7 @@ fn put_asked(out: &mut String, criterion: CriterionName, query: &Query) -> Resul
     Ok(())
 }
 
-/// Adds a time behind a text, with its seconds if it has any.
+/// Adds a text and a time, with its seconds if it has any.
 fn put_own(out: &mut String, before: &str, time: u32) -> Result<(), AllocError>
     ensures { OnOk result (string_bytes out.new ≡ string_bytes out.old ++ (before.now ++ own_moment time)) }
 {

@@ -2,7 +2,7 @@
 
 use std::marker::Model;
 
-/// How one gets on.
+/// How a part of a journey is travelled.
 #[derive(Clone, Copy, Debug, PartialEq, Eq)]
 pub enum Way {
     Ride,
@@ -12,8 +12,8 @@ pub enum Way {
     Change,
 }
 
-/// A part of a journey: how one gets on, from when to when in seconds after the base, from where to
-/// where, and for a ride by which trip.
+/// A part of a journey: its way, its start and end in seconds after the base, the names of the stops
+/// where it begins and ends, and for a ride that of the trip.
 #[derive(Drop)]
 pub struct Stretch {
     pub way: Way,
@@ -33,7 +33,7 @@ pub struct JourneyLine {
     pub note: String,
 }
 
-/// What is above the journeys: from where to where they are, and what was asked.
+/// What is above the journeys: the names of the stops from and to which they lead, and what was asked.
 #[derive(Drop)]
 pub struct Heading {
     pub from: String,

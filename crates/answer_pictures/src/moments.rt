@@ -1,4 +1,4 @@
-//! Times as a picture has them: of the day on which they are, and without seconds where none are needed.
+//! Times in a picture: as the clock shows them on their day, and without seconds if none are needed.
 
 ghost use Rattle.std.specs.Prelude.{◌≡◌, ◌++◌, OnOk, string_bytes};
 ghost use Rattle.std.specs.List.{list_all};
@@ -13,7 +13,7 @@ use std::fmt::Write as _;
 // The seconds of a day.
 const DAY: u32 = 86400;
 
-/// Adds a time: its hours and minutes, its seconds where they are shown, and on a later day how many days later.
+/// Adds a time: its hours and minutes, its seconds if `exact`, and after the first day how many days later it is.
 pub(crate) fn put_moment(out: &mut String, exact: bool, time: u32) -> Result<(), AllocError>
     ensures { OnOk result (string_bytes out.new ≡ string_bytes out.old ++ moment_text exact time) }
 {

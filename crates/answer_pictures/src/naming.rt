@@ -1,4 +1,4 @@
-//! The names of an image as texts, for whoever tells journeys to people.
+//! The names of an image as texts, for journeys that people read.
 
 ghost use Rattle.std.specs.Prelude.{◌≡◌, ◌<◌, ◌+◌, ℕ, List, slice_get, string_bytes, IfOk};
 ghost use Rattle.timetable.specs.Legal.{At};
@@ -9,7 +9,7 @@ use image_verifier::Verified;
 use std::alloc::{AllocError, Global};
 use timetable::Connection;
 
-/// A connection of an image, if it has so many.
+/// The connection at index `place`, if the image has it.
 pub fn connection_at(image: &Verified, place: u32) -> Option<Connection>
     ensures { result ≡ slice_get image.now.timetable.connections place }
 {
@@ -47,7 +47,7 @@ fn text_of_name(alloc: Global, image: &Verified, i: usize) -> Result<String, All
     }
 }
 
-/// The name of a stop, and nothing where there is no such stop.
+/// The name of a stop, or an empty text if there is no such stop.
 pub fn stop_name(alloc: Global, image: &Verified, stop: u32) -> Result<String, AllocError>
     ensures { IfOk result (λ name. string_bytes name ≡ stop_bytes image.now.names stop) }
 {
@@ -58,7 +58,7 @@ pub fn stop_name(alloc: Global, image: &Verified, stop: u32) -> Result<String, A
     }
 }
 
-/// The name of a trip, and nothing where there is no such trip.
+/// The name of a trip, or an empty text if there is no such trip.
 pub fn trip_name(alloc: Global, image: &Verified, trip: u32) -> Result<String, AllocError>
     ensures { IfOk result (λ name. string_bytes name ≡ trip_bytes image.now.names trip) }
 {

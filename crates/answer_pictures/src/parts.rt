@@ -23,7 +23,7 @@ pub(crate) fn put_group(out: &mut String, y: u64) -> Result<(), AllocError>
     Ok(())
 }
 
-/// How a part begins: a ride is thick, a walk a broken line, a change a dot.
+/// How a part's shape begins: a ride is a thick bar, a walk a dashed line, a change a dot.
 fn way_text(way: Way) -> &'static str
     ensures { result.now ≡ way_text way }
 {
@@ -77,7 +77,7 @@ fn put_lead(out: &mut String, stretch: &Stretch) -> Result<(), AllocError>
     }
 }
 
-/// Adds a stop and a time behind a text.
+/// Adds a text, a stop and a time.
 fn put_end_at(
     out: &mut String,
     before: &str,

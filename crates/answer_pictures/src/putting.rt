@@ -52,7 +52,7 @@ pub(crate) fn put_attribute(out: &mut String, name: &str, number: u64) -> Result
     put_text(out, "\"")
 }
 
-/// Adds words between an element's beginning and its end.
+/// Adds a text, escaped, between an element's beginning and its end.
 pub(crate) fn put_element(
     out: &mut String,
     opening: &str,
@@ -67,7 +67,7 @@ pub(crate) fn put_element(
     put_text(out, closing)
 }
 
-/// Adds so much of a text as there is room for between an element's beginning and its end.
+/// Adds the first `most` characters of a text, escaped, between an element's beginning and its end.
 pub(crate) fn put_short(
     out: &mut String,
     opening: &str,

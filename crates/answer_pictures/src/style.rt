@@ -3,7 +3,7 @@
 ghost use Rattle.std.specs.Prelude.{◌≡◌};
 ghost use Rattle.answer_pictures.specs.Style.{legend, style};
 
-/// The colours and letters of a picture, in light and in dark.
+/// The colours and fonts of a picture, for light and dark screens.
 pub(crate) fn style() -> &'static str
     ensures { result.now ≡ style }
 {

@@ -12,8 +12,8 @@ use std::alloc::{AllocError, Global};
 use std::fmt::Write as _;
 use timetable::{Connection, Footpath, Journey, Ride};
 
-/// A journey over an image that departs at a time, as a line of a picture: when it departs and
-/// arrives, its rides and walks, and below them its trips and where each is left.
+/// A journey over an image that departs at `departure`, as a line of a picture: when it departs and
+/// arrives, its rides and walks, and below them its trips, with the stop at which each is left.
 pub fn journey_line(
     alloc: Global,
     image: &Verified,
@@ -33,8 +33,8 @@ pub fn journey_line(
     })
 }
 
-/// What one does: how many trips and how much on foot where that counts, each trip with where it is
-/// left, and each walk to another stop.
+/// The note below a journey: the number of trips and the seconds on foot, each if it counts; each trip,
+/// with the stop at which it is left; and each walk to another stop.
 fn note_of(
     alloc: Global,
     image: &Verified,
@@ -50,7 +50,7 @@ fn note_of(
     Ok(note)
 }
 
-/// Adds how many trips there are, and how many seconds on foot, each where it counts.
+/// Adds the number of trips and the seconds on foot, each if it counts.
 fn append_counts(note: &mut String, told: ToldValue) -> Result<(), AllocError> {
     match told.trips {
         None => {}
@@ -63,7 +63,7 @@ fn append_counts(note: &mut String, told: ToldValue) -> Result<(), AllocError> {
     Ok(())
 }
 
-/// Adds the walk to the first trip, if there is one, and gives what comes before the next part.
+/// Adds the walk to the first trip, if there is one, and returns what comes before the next part.
 fn append_start(
     note: &mut String,
     alloc: Global,
@@ -76,7 +76,7 @@ fn append_start(
     }
 }
 
-/// Adds a ride and the walks after it behind a comma, and gives what comes before the next.
+/// Adds a comma, a ride and the walks after it, and returns what comes before the next part.
 fn append_ride(
     note: &mut String,
     alloc: Global,
@@ -97,7 +97,8 @@ fn append_ride(
     Ok(comma)
 }
 
-/// Adds a walk to another stop behind a comma, and gives what comes before the next. A change at one stop is none.
+/// Adds a comma and a walk to another stop, and returns what comes before the next part. A change at one
+/// stop adds nothing.
 fn append_walk(
     note: &mut String,
     alloc: Global,
@@ -229,7 +230,7 @@ fn walk_stretch(
     })
 }
 
-/// A footpath to the stop from which it leads is a change.
+/// How a footpath is walked: one from a stop to itself is a change.
 fn way_on_foot(footpath: Footpath) -> Way
     ensures { result ≡ way_on_foot footpath }
 {

@@ -1,4 +1,4 @@
--- A query's answer, told in a line.
+-- A query's answer in a line of reply.
 use Rattle.std.proofs.Common.{◌≡◌, ℕ, List, Option, Contains, map, ap, ◌∙◌, subst}
 use Rattle.serde_json.specs.Data.{Data}
 use Rattle.criteria.specs.Laws.{Rules}

@@ -1,4 +1,4 @@
--- The legs of a journey over an image, as a reply tells them.
+-- The legs of a journey over an image, as a reply has them.
 use Rattle.std.specs.Prelude.{◌++◌, ◌∷◌, ℕ, List, [], Option, Some, None, map, option_map, slice_get}
 use Rattle.std.specs.List.{flat_map}
 use Rattle.serde_json.specs.Data.{Data}
@@ -14,7 +14,7 @@ abbrev pub or_zero : Option ℕ → ℕ
 or_zero None = 0
 or_zero (Some n) = n
 
--- the service day of a trip, and which of that day's repeats it is
+-- the service day of a trip, and which of that day's repeats it is; both 0 if there is no such trip
 abbrev pub day_of : NamesValue → ℕ → ℕ
 day_of names trip = or_zero (option_map (λ (t : TripNameValue). t.day) (slice_get names.trips trip))
 
@@ -31,7 +31,7 @@ ride_leg names first last =
     ride_data (ridden (trip_bytes names first.trip) (day_of names first.trip) (repeat_of names first.trip)
     (stop_bytes names first.from) first.dep (stop_bytes names last.to) last.arr)
 
--- the ride of a leg. Each leg of a journey that counts has its connections
+-- the ride of a leg, if the image has its connections; it has those of each journey that counts
 abbrev pub ride_between : NamesValue → Option Connection → Option Connection → List Data
 ride_between names (Some first) (Some last) = ride_leg names first last ∷ []
 ride_between names (Some first) None = []

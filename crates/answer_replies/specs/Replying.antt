@@ -1,4 +1,4 @@
--- What a query's answer is, and the line that replies it.
+-- What a query's answer is, and the line of reply that has it.
 use Rattle.std.specs.Prelude.{◌≡◌, ℕ, List, Option, Contains, map}
 use Rattle.serde_json.specs.Data.{Data}
 use Rattle.criteria.specs.Laws.{Rules}
@@ -17,21 +17,21 @@ use Rattle.answer_replies.specs.declared.point_form.PointForm.{PointForm}
 use Rattle.answer_replies.specs.Legs.{legs_data}
 use Rattle.answer_replies.specs.Valuing.{arrival_told, by_arrival, by_trips, by_walking, trips_told, walking_told}
 
--- a best departure, as it is told: when it is, what its journey is worth, and the journey
+-- a best departure as a point of the reply: its time, what its journey is worth, and the journey
 abbrev pub bare_data : {V : Type 0} → (V → ToldValue) → Departure V → Data
 bare_data told departure = point_data departure.time (told departure.value) (text_of departure.journey)
 
--- and its journey's legs over the image
+-- the same with the legs of its journey over the image
 abbrev pub data_with_legs : {V : Type 0} → ImageValue → (V → ToldValue) → Departure V → Data
 data_with_legs image told departure = legged_data departure.time (told departure.value) (text_of departure.journey) (legs_data image departure.journey)
 
--- best departures, as they are told in each form
+-- best departures as the points of a reply, in each form
 abbrev pub departures_data : {V : Type 0} → PointForm → ImageValue → (V → ToldValue) → List (Departure V) → List Data
 departures_data PointForm.Bare image told departures = map (bare_data told) departures
 departures_data PointForm.WithLegs image told departures = map (data_with_legs image told) departures
 
 -- the query is answered over the image: its points are exactly the undominated points of all journeys that count for it, in order, each
--- once, and no journey that counts is unbeaten by them; each is told with a journey that attains it; and the direct footpath is told
+-- once, and no journey that counts is unbeaten by them; the reply has each with a journey that attains it, and the direct footpath
 pub record IsAnswered {V : Type 0} (form : PointForm) (told : V → ToldValue) (rules : Rules V) (image : ImageValue) (version : ℕ) (q : Query)
     (reply : List ℕ) : Type 0 where
   pub departures : List (Departure V)
@@ -41,7 +41,7 @@ pub record IsAnswered {V : Type 0} (form : PointForm) (told : V → ToldValue) (
   pub direct : IsWay image.timetable q.target q.source walk
   pub reply_is : reply ≡ line_of (profile_data (departures_data form image told departures) version walk)
 
--- by the criterion that is asked for
+-- the same by the criterion that is asked for
 abbrev pub IsAnsweredBy : PointForm → CriterionName → ImageValue → ℕ → Query → List ℕ → Type 0
 IsAnsweredBy form CriterionName.Arrival image version q reply = IsAnswered form arrival_told by_arrival image version q reply
 IsAnsweredBy form CriterionName.ArrivalTrips image version q reply = IsAnswered form trips_told by_trips image version q reply

@@ -1,4 +1,4 @@
--- What journeys are worth, by each criterion, and what is told of their values.
+-- What journeys are worth, by each criterion, and what is shown of their values.
 use Rattle.std.specs.Prelude.{◌+◌, ◌&&◌, ℕ, Some, None, min, nat_le, nat_lt}
 use Rattle.std.specs.Ordering.{nat_cmp, ordering_then}
 use Rattle.criteria.specs.Laws.{Rules, time_limit}
@@ -20,7 +20,7 @@ by_arrival = record {
 abbrev pub arrival_told : ℕ → ToldValue
 arrival_told v = record { arrival = v; trips = None; walked = None }
 
--- with the number of trips, up to 65,535
+-- the time of arrival with the number of trips, up to 65,535
 abbrev pub by_trips : Rules TimeTrips
 by_trips = record {
   arrive = λ time. record { time = time; trips = 0 };
@@ -34,7 +34,7 @@ by_trips = record {
 abbrev pub trips_told : TimeTrips → ToldValue
 trips_told v = record { arrival = v.time; trips = Some v.trips; walked = None }
 
--- and with the seconds of all footpaths, up to 4,294,967,295
+-- both with the seconds of all footpaths, up to 4,294,967,295
 abbrev pub by_walking : Rules TimeTripsWalk
 by_walking = record {
   arrive = λ time. record { time = time; trips = 0; walked = 0 };

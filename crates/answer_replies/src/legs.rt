@@ -1,4 +1,4 @@
-//! The legs of a journey, told by the names of an image.
+//! The legs of a journey, with the names of an image.
 
 ghost use Rattle.std.specs.Prelude.{◌≡◌, ◌++◌, ◌∷◌, [], slice_get, IfOk, OnOk, map};
 ghost use Rattle.std.specs.List.{flat_map};
@@ -68,7 +68,7 @@ fn add_ride(
     Ok(())
 }
 
-// The ride of a leg, if the image has its connections, as it has those of each journey that counts.
+// Adds the ride of a leg, if the image has its connections. It has those of each journey that counts.
 fn add_leg(
     legs: &mut JourneyLegs,
     alloc: Global,
@@ -107,11 +107,11 @@ fn ride_told(
     })
 }
 
-// The service day of a trip, and 0 where there is no such trip.
+// The service day of a trip, or 0 if there is no such trip.
 fn day_of(image: &Verified, trip: u32) -> u32
     ensures { result ≡ day_of image.now.names trip }
 {
-    // Says of the image what each one keeps: it has a name for each trip.
+    // The contract of this call says that the image has a name for each trip.
     image.stops();
     if trip < image.trips() {
         image.trip_day(trip as usize)
@@ -120,11 +120,11 @@ fn day_of(image: &Verified, trip: u32) -> u32
     }
 }
 
-// Which of its day's repeats a trip is, and 0 where there is no such trip.
+// Which of its day's repeats a trip is, or 0 if there is no such trip.
 fn repeat_of(image: &Verified, trip: u32) -> u32
     ensures { result ≡ repeat_of image.now.names trip }
 {
-    // Says of the image what each one keeps: it has a name for each trip.
+    // The contract of this call says that the image has a name for each trip.
     image.stops();
     if trip < image.trips() {
         image.trip_repeat(trip as usize)

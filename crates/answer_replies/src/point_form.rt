@@ -1,10 +1,10 @@
-//! In which form a profile's reply tells journeys.
+//! The form in which a profile's reply has journeys.
 
 /// What the reply to a profile has of each point's journey.
 #[derive(Clone, Copy, Debug, PartialEq, Eq)]
 pub enum PointForm {
-    /// Its text alone: numbers of the image.
+    /// Only its text, in numbers of the image.
     Bare,
-    /// Its legs too, by the names of stops and trips.
+    /// Its text, and its legs with the names of stops and trips.
     WithLegs,
 }

@@ -1,4 +1,4 @@
-//! A query's answer as the line that replies it.
+//! A query's answer as a line of reply.
 
 ghost use Rattle.std.specs.Prelude.{◌≡◌, IfOk, map, string_bytes};
 ghost use Rattle.timetable.specs.Queries.{IsAskable};
@@ -17,7 +17,7 @@ use sources::InPlace;
 use std::alloc::{AllocError, Global};
 use timetable::Query;
 
-/// The line that replies to a query over the image of that version, by the criterion of a name.
+/// The line that replies to a query over the image of version `version`, by the criterion of this name.
 ///
 /// # Errors
 ///
@@ -47,7 +47,7 @@ pub fn reply_by_name(
     }
 }
 
-// The reply that answers a query. The image is read where it lies.
+// The line that replies to a query, by this criterion. The image is read in place.
 fn line_by<C: Told>(
     alloc: Global,
     form: PointForm,
@@ -65,7 +65,7 @@ fn line_by<C: Told>(
     profile_reply(alloc, form, image, version, criterion, &answer)
 }
 
-/// The line that replies an answer over the image of that version.
+/// The line of reply for an answer over the image of version `version`.
 ///
 /// # Errors
 ///
@@ -85,7 +85,7 @@ pub fn profile_reply<C: Told>(
     points.profile_line(alloc, version, answer.walk)
 }
 
-// What is told of each departure, in the form.
+// The points of the reply, one for each departure, in the form.
 fn points_told<C: Told>(
     alloc: Global,
     form: PointForm,
@@ -101,7 +101,7 @@ fn points_told<C: Told>(
     }
 }
 
-// What is told of each departure without its legs.
+// The points of the reply without legs, one for each departure.
 fn bare_points<C: Told>(
     alloc: Global,
     criterion: &C,
@@ -122,7 +122,7 @@ fn bare_points<C: Told>(
     Ok(points)
 }
 
-// What is told of each departure, with the legs of its journey.
+// The points of the reply, one for each departure, with the legs of its journey.
 fn points_with_legs<C: Told>(
     alloc: Global,
     image: &Verified,

@@ -15,7 +15,7 @@ unfoldable pub times_json : ℕ → ℕ → List ℕ
 times_json departure arrival =
     (codes "{\"arr\":\"" ++ clock_bytes arrival) ++ (codes "\",\"dep\":\"" ++ clock_bytes departure) ++ codes "\""
 
--- its trips and the seconds walked where the criterion counts them
+-- its trips and the seconds walked, each if the criterion counts it
 unfoldable pub counts_json : ToldValue → List ℕ
 counts_json told = number_if_some (codes ",\"trips\":") told.trips ++ number_if_some (codes ",\"walked\":") told.walked ++ codes "}"
 
@@ -43,7 +43,7 @@ abbrev pub walk_json : Option ℕ → List ℕ
 walk_json None = codes ",\"walk\":null"
 walk_json (Some seconds) = codes ",\"walk\":" ++ decimal seconds
 
--- what stands before the points of a stop, and behind them: its stop_id, and the seconds of the direct footpath
+-- what comes before the points of a stop, with its stop_id, and after them, with the seconds of the direct footpath
 unfoldable pub json_head : List ℕ → List ℕ
 json_head name = codes "{\"from\":" ++ compact_text (string name) ++ codes ",\"points\":["
 

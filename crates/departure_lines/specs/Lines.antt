@@ -6,7 +6,7 @@ use Rattle.timetable.specs.Clocks.{clock_bytes}
 use Rattle.journeys.specs.declared.answering.Departure.{Departure}
 use Rattle.departure_lines.specs.Words.{departure_line, numbered_text, values_text, walk_word}
 
--- the line of a best departure from a stop, behind the stop_id
+-- the line of a best departure from a stop, after the stop_id
 unfoldable pub line_from : {V : Type 0} → (V → ToldValue) → List ℕ → Departure V → List ℕ
 line_from told name departure = (name ++ codes " ") ++ departure_line told numbered_text departure
 
@@ -31,7 +31,7 @@ unfoldable pub sum_line : List ℕ → ℕ → ℕ → ℕ → ℕ → Option �
 sum_line name count first last least walk =
     sum_words name count first last ++ (codes " least " ++ decimal least) ++ walk_word walk ++ codes "\n"
 
--- how many departures a stop has, the first, the last, the least seconds of travel, and those of the direct footpath
+-- the line of a stop: the number of its departures, the first, the last, the least seconds of travel, and those of the direct footpath
 pub record IsSummed {V : Type 0} (told : V → ToldValue) (name : List ℕ) (points : List (Point V)) (walk : Option ℕ) (text : List ℕ) : Type 0 where
   pub first : Point V
   pub last : Point V

@@ -5,7 +5,7 @@ use Rattle.journeys.specs.Questions.{IsNamed, NamesNone}
 use Rattle.departure_lines.specs.declared.stop_lists.Wanted.{Wanted}
 use Rattle.departure_lines.specs.declared.stop_lists.Wanted.TheVariants.{All, Of}
 
--- whether there is a mark, and it is set
+-- there is a mark, and it is set
 abbrev pub is_set : Option Bool → Bool
 is_set None = false
 is_set (Some mark) = mark
@@ -15,17 +15,17 @@ abbrev pub is_wanted : Wanted → ℕ → Bool
 is_wanted All stop = true
 is_wanted (Of marks) stop = is_set (slice_get marks.items stop)
 
--- names of stops: each is a stop_id, and a stop is wanted exactly if it is the least of one of the names
+-- each listed name is a stop_id, and a stop is wanted exactly if it is the lowest that has one of the names
 pub record AreWanted (names : NamesValue) (listed : List (List ℕ)) (wanted : Wanted) : Type 0 where
   pub all_named : (name : List ℕ) → Contains listed name → (stop : ℕ) × IsNamed names name stop
   pub exactly : (stop : ℕ) → (is_wanted wanted stop ≡ true) ↔ ((name : List ℕ) × Contains listed name × IsNamed names name stop)
 
--- the same of marks
+-- the same for marks
 pub record AreMarked (names : NamesValue) (listed : List (List ℕ)) (marks : List Bool) : Type 0 where
   pub all_named : (name : List ℕ) → Contains listed name → (stop : ℕ) × IsNamed names name stop
   pub exactly : (stop : ℕ) → (slice_get marks stop ≡ Some true) ↔ ((name : List ℕ) × Contains listed name × IsNamed names name stop)
 
--- the name of a number, from 1 on, is no stop_id, and those before it are
+-- the name with this number, from 1 on, isn't a stop_id, and all before it are
 pub record IsUnknownLine (names : NamesValue) (listed : List (List ℕ)) (number : ℕ) : Type 0 where
   pub place : ℕ
   pub name : List ℕ

@@ -23,7 +23,7 @@ use Rattle.departure_lines.specs.declared.form.LineForm.{LineForm}
 use Rattle.departure_lines.specs.declared.stop_lines.Counts.{Counts}
 use Rattle.departure_lines.specs.declared.stop_lists.Wanted.{Wanted}
 
--- points with journeys: each departure is that of a point, with a journey that attains it, and what is said of all of them holds
+-- points with journeys: there are departures, one for each point in order, each with a journey that attains it, of which `said` holds
 pub record HasJourneys {V : Type 0} (rules : Rules V) (t : TimetableValue) (q : Query) (points : List (Point V))
     (said : List (Departure V) → Type 0) : Type 0 where
   pub departures : List (Departure V)
@@ -43,7 +43,7 @@ IsInForm told rules LineForm.Json image q points walk text =
 IsInForm told rules LineForm.JsonPoints image q points walk text =
     text ≡ json_if_some (stop_bytes image.names q.source) (map (point_json told) points) walk
 
--- the query from a stop is answered, by so many points; the text shows them
+-- the answer of the query has `count` points, and the text shows them
 pub record IsShownFrom {V : Type 0} (told : V → ToldValue) (rules : Rules V) (form : LineForm) (image : ImageValue) (q : Query)
     (count : ℕ) (text : List ℕ) : Type 0 where
   pub points : List (Point V)
@@ -60,11 +60,11 @@ pub record ShowsStop {V : Type 0} (told : V → ToldValue) (rules : Rules V) (fo
   pub added : new ≡ old ++ text
   pub shown : IsShownFrom told rules form image q count text
 
--- the stops that are wanted, but for the target
+-- the stops that are wanted, except the target
 abbrev pub is_shown : Wanted → ℕ → ℕ → Bool
 is_shown wanted target stop = not (nat_eq stop target) && is_wanted wanted stop
 
--- those below a number, rising
+-- those below n, in ascending order
 abbrev pub shown_stops : Wanted → ℕ → ℕ → List ℕ
 shown_stops wanted target n = filter (is_shown wanted target) (range_with_len 0 n)
 
@@ -72,7 +72,7 @@ shown_stops wanted target n = filter (is_shown wanted target) (range_with_len 0 
 abbrev pub one_if_some : ℕ → ℕ
 one_if_some points = min points 1
 
--- the stops below a number are shown, one after the other; so many have points, and so many points they have
+-- the text shows the stops below n, one after the other: `stops` of them have points, and `points` points in all
 pub record AreListed {V : Type 0} (told : V → ToldValue) (rules : Rules V) (form : LineForm) (image : ImageValue) (d : Destination)
     (wanted : Wanted) (n stops points : ℕ) (text : List ℕ) : Type 0 where
   pub parts : List (ℕ × List ℕ)
@@ -96,7 +96,7 @@ last_line LineForm.Journeys stops points read = counts_line stops points read
 last_line LineForm.Points stops points read = counts_line stops points read
 last_line LineForm.Summary stops points read = counts_line stops points read
 
--- all stops that are wanted are shown, and then the counts, of which the last is the number of connections of the window
+-- all wanted stops except the target are shown, and then the counts, with the number of connections of the window
 pub record AreShown {V : Type 0} (told : V → ToldValue) (rules : Rules V) (form : LineForm) (image : ImageValue) (d : Destination)
     (wanted : Wanted) (printed : List ℕ) : Type 0 where
   pub stops : ℕ

@@ -6,7 +6,7 @@ use Rattle.timetable.specs.JourneyValue.{JourneyValue}
 use Rattle.journeys.specs.Texts.{text_of}
 use Rattle.journeys.specs.declared.answering.Departure.{Departure}
 
--- when one departs and arrives
+-- the times of departure and arrival
 unfoldable pub times_text : ℕ → ℕ → List ℕ
 times_text departure arrival = (codes "dep " ++ clock_bytes departure) ++ (codes " arr " ++ clock_bytes arrival)
 
@@ -15,7 +15,7 @@ abbrev pub number_if_some : List ℕ → Option ℕ → List ℕ
 number_if_some word None = []
 number_if_some word (Some n) = word ++ decimal n
 
--- the times of a point, and its trips and the seconds walked where the criterion counts them
+-- the times of a point, and its trips and the seconds walked, each if the criterion counts it
 unfoldable pub values_text : ℕ → ToldValue → List ℕ
 values_text departure told =
     times_text departure told.arrival ++ number_if_some (codes " trips ") told.trips ++ number_if_some (codes " walked ") told.walked
@@ -32,7 +32,7 @@ numbered_text journey = codes " " ++ text_of journey
 unfoldable pub departure_line : {V : Type 0} → (V → ToldValue) → (JourneyValue → List ℕ) → Departure V → List ℕ
 departure_line told words departure = point_text departure.time (told departure.value) ++ words departure.journey ++ codes "\n"
 
--- the seconds of the direct footpath, if there is one
+-- the seconds of the direct footpath, or that there is none
 abbrev pub walk_word : Option ℕ → List ℕ
 walk_word None = codes " walk none"
 walk_word (Some seconds) = codes " walk " ++ decimal seconds

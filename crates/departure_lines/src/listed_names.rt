@@ -12,11 +12,11 @@ use image_verifier::Verified;
 use std::alloc::{AllocError, Global};
 use std::collections::BTreeMap;
 
-/// The names of a list, each with whether a stop was found that has it. It is a tree, since a feed could choose its
-/// stop_ids so that they collide in a hash.
+/// The names of a list, each with whether a stop was found that has it. This is a tree and not a hash table, since
+/// a feed could choose its stop_ids so that their hashes collide.
 pub(crate) type FoundNames<'a> = BTreeMap<&'a str, bool>;
 
-/// The names of a list, of which none was found.
+/// The names of a list, before any was found.
 pub(crate) fn names_of<'a>(alloc: Global, listed: &[&'a str]) -> Result<FoundNames<'a>, AllocError>
     ensures { IfOk result (λ found. AreSought (map (λ name. name.now) listed.now) found) }
 {
@@ -35,7 +35,7 @@ fn add_name<'a>(found: &mut FoundNames<'a>, name: &'a str) -> Result<(), AllocEr
     Ok(())
 }
 
-/// For each stop whether it is the least one of a name that is listed.
+/// For each stop whether it is the lowest one that has a listed name. Notes which listed names were found.
 pub(crate) fn mark_stops(
     alloc: Global,
     image: &Verified,
@@ -55,7 +55,7 @@ pub(crate) fn mark_stops(
     Ok(marks)
 }
 
-// Whether a name is listed and wasn't found before; now it is.
+// Whether a name is listed and wasn't found before. If it is listed, it is found from now on.
 fn is_first_found(found: &mut FoundNames<'_>, name: &str) -> bool
     ensures first { result ≡ is_missing (found_at found.old name.now) }
     ensures found { (q : List ℕ) → found_at found.new q

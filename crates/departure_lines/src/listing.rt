@@ -27,7 +27,7 @@ pub fn append_by_numbers<C: Told>(
     Ok(())
 }
 
-/// Adds what is printed of a point before its journey.
+/// Adds what is printed of a point before its journey, with a colon.
 pub fn append_point(lines: &mut String, departure: u32, told: ToldValue) -> Result<(), AllocError>
     ensures { OnOk result (string_bytes lines.new ≡ string_bytes lines.old ++ point_text departure told) }
 {
@@ -46,7 +46,7 @@ pub fn append_values(lines: &mut String, departure: u32, told: ToldValue) -> Res
     Ok(())
 }
 
-/// Adds when one departs and arrives.
+/// Adds the times of departure and arrival.
 pub fn append_times(lines: &mut String, departure: u32, arrival: u32) -> Result<(), AllocError>
     ensures { OnOk result (string_bytes lines.new ≡ string_bytes lines.old ++ times_text departure arrival) }
 {
@@ -55,7 +55,7 @@ pub fn append_times(lines: &mut String, departure: u32, arrival: u32) -> Result<
     Ok(())
 }
 
-/// Adds a word and a number, if there is one.
+/// Adds a word and a number, if there is a number.
 pub fn append_number(lines: &mut String, word: &str, number: Option<u32>) -> Result<(), AllocError>
     ensures { OnOk result (string_bytes lines.new ≡ string_bytes lines.old ++ number_if_some word.now number) }
 {
@@ -72,7 +72,7 @@ fn append_journey(lines: &mut String, alloc: Global, journey: &Journey) -> Resul
     put_word(lines, text.as_str())
 }
 
-/// Adds the seconds of the direct footpath, if there is one.
+/// Adds the seconds of the direct footpath, or that there is none.
 pub fn append_direct(lines: &mut String, walk: Option<u32>) -> Result<(), AllocError>
     ensures { OnOk result (string_bytes lines.new ≡ string_bytes lines.old ++ walk_word walk) }
 {

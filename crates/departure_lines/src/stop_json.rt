@@ -16,7 +16,8 @@ use serde_json::Value;
 use std::alloc::{AllocError, Global};
 use text_pieces::{put_clock, put_number, put_text};
 
-/// Adds the line of a stop of a name, if it has departures, with their journeys and the seconds of the direct footpath.
+/// Adds the line of the stop called `name`, if it has departures, with their journeys and the seconds of the
+/// direct footpath.
 pub fn append_json<C: Told>(
     lines: &mut String,
     alloc: Global,
@@ -37,7 +38,7 @@ pub fn append_json<C: Told>(
     Ok(())
 }
 
-/// The same without journeys.
+/// Adds the same line without journeys.
 pub fn append_json_points<C: Told>(
     lines: &mut String,
     alloc: Global,
@@ -58,7 +59,7 @@ pub fn append_json_points<C: Told>(
     Ok(())
 }
 
-// Adds what stands before the points.
+// Adds what comes before the points.
 fn append_head(lines: &mut String, alloc: Global, name: String) -> Result<(), AllocError>
     ensures { OnOk result (string_bytes lines.new ≡ string_bytes lines.old ++ json_head (string_bytes name)) }
 {
@@ -77,7 +78,7 @@ fn quoted(alloc: Global, text: String) -> Result<String, AllocError>
     value.to_string(alloc)
 }
 
-// Adds what stands behind the points.
+// Adds what comes after the points.
 fn append_tail(lines: &mut String, walk: Option<u32>) -> Result<(), AllocError>
     ensures { OnOk result (string_bytes lines.new ≡ string_bytes lines.old ++ json_tail walk) }
 {
@@ -127,7 +128,7 @@ fn append_points<C: Told>(
     Ok(())
 }
 
-// Adds a comma before each but the first.
+// Adds a comma, unless this is the first place.
 fn put_comma(lines: &mut String, place: usize) -> Result<(), AllocError>
     ensures { OnOk result (string_bytes lines.new ≡ string_bytes lines.old ++ comma_before place) }
 {
@@ -153,7 +154,7 @@ fn append_journey<C: Told>(
     Ok(())
 }
 
-// A journey's text has nothing that JSON escapes.
+// Adds a journey's text, which has nothing that JSON escapes.
 fn append_member(lines: &mut String, journey: &str) -> Result<(), AllocError>
     ensures { OnOk result (string_bytes lines.new ≡ string_bytes lines.old ++ journey_member journey.now) }
 {

@@ -29,14 +29,14 @@ pub struct Shown<'a, C: Told> {
     pub profiles: &'a Profiles<C>,
 }
 
-/// How many stops have departures, and how many these are.
+/// The number of stops that have departures, and the number of all their departures.
 #[derive(Clone, Copy)]
 pub struct Counts {
     pub stops: usize,
     pub points: usize,
 }
 
-/// Adds the lines of each stop that is wanted, but for the target, in order.
+/// Adds the lines of each wanted stop except the target, in order, and returns the counts.
 pub fn append_stops<C: Told>(
     lines: &mut String,
     shown: &Shown<'_, C>,
@@ -97,7 +97,7 @@ fn is_shown(wanted: &Wanted, target: u32, stop: u32) -> bool
     wanted.has(stop)
 }
 
-// One stop more, with so many departures, if it has some.
+// The counts after one more stop, which has `points` departures. A stop without departures isn't counted.
 fn counted(counts: Counts, points: usize) -> Result<Counts, AllocError>
     ensures { IfOk result (λ next. (next.stops ≡ counts.stops + one_if_some points)
         × (next.points ≡ counts.points + points)) }
@@ -107,7 +107,7 @@ fn counted(counts: Counts, points: usize) -> Result<Counts, AllocError>
     Ok(Counts { stops, points })
 }
 
-// No memory has room for more than 2^64 - 1.
+// The sum of two counts. One past 2^64 - 1 is out of memory: no memory has room for so many.
 fn sum_of(count: usize, more: usize) -> Result<usize, AllocError>
     ensures { IfOk result (λ sum. sum ≡ count + more) }
 {

@@ -13,14 +13,14 @@ use std::alloc::{AllocError, Global};
 #[derive(Drop)]
 pub enum Wanted {
     All,
-    /// For each stop whether it is.
+    /// For each stop whether it is wanted.
     Of(Vec<bool>),
 }
 
 /// Why it isn't known which stops are wanted.
 #[derive(Drop)]
 pub enum ListFault {
-    /// The line of this number, from 1 on, is no stop_id of the image.
+    /// The line with this number, from 1 on, isn't a stop_id of the image.
     UnknownStop(usize),
     OutOfMemory,
 }
@@ -42,9 +42,9 @@ impl Wanted {
     ghost use Rattle.departure_lines.specs.Naming.{AreWanted, IsUnknownLine, is_wanted};
     ghost use Rattle.departure_lines.specs.declared.stop_lists.ListFault.TheVariants.{UnknownStop};
 
-    /// The stops that a list names, one stop_id on each line. The error is the first line that is no stop_id of the
-    /// image, or that memory runs out. Lines and stops are each gone through once, so that long lists over large
-    /// images don't take their product.
+    /// The stops that a list names, one stop_id on each line: of stops with the same stop_id, the lowest. The error is
+    /// the first line that isn't a stop_id of the image, or that memory runs out. Lines and stops are gone through once
+    /// each, and each is looked up in a tree.
     pub fn listed(alloc: Global, image: &Verified, list: &str) -> Result<Wanted, ListFault>
         ensures wanted { IfOk result (λ wanted. AreWanted image.now.names (lines list.now) wanted) }
         ensures unknown { IfErr result (λ fault. (number : ℕ) → fault ≡ UnknownStop number
@@ -76,7 +76,7 @@ fn is_marked(marks: &[bool], stop: u32) -> bool
     }
 }
 
-// For each stop whether a line is its stop_id; or the first line that is none.
+// For each stop whether it is the lowest one that has a listed name; or the first line that isn't a stop_id.
 fn marks_of(alloc: Global, image: &Verified, list: &str) -> Result<Vec<bool>, ListFault>
     ensures marks { IfOk result (λ marks. AreMarked image.now.names (lines list.now) marks.items) }
     ensures unknown { IfErr result (λ fault. (number : ℕ) → fault ≡ UnknownStop number
@@ -85,7 +85,7 @@ fn marks_of(alloc: Global, image: &Verified, list: &str) -> Result<Vec<bool>, Li
     let listed = lines_of(alloc, list)?;
     let mut found = names_of(alloc, &listed)?;
     let marks = mark_stops(alloc, image, &mut found)?;
-    // Says of the image what each one keeps: each name is that of one of its stops.
+    // The contract of this call says that the image has as many names of stops as it has stops.
     image.stops();
     match first_missing(&listed, &found) {
         Some(number) => Err(ListFault::UnknownStop(number)),

@@ -12,7 +12,7 @@ use journeys::Departure;
 use std::alloc::{AllocError, Global};
 use text_pieces::{put_clock, put_number, put_text};
 
-/// Adds the line of each departure from the stop of a name, with its journey.
+/// Adds the line of each departure from the stop called `name`, with its journey.
 pub fn append_lines<C: Told>(
     lines: &mut String,
     alloc: Global,
@@ -77,7 +77,7 @@ fn append_point_line<C: Told>(
     Ok(())
 }
 
-/// Adds one line for all departures, if there are some.
+/// Adds one line for all departures, if there are any.
 pub fn append_summary<C: Told>(
     lines: &mut String,
     criterion: &C,

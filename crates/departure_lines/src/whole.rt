@@ -15,10 +15,10 @@ use journeys::window_len;
 use profile_scan::{Destination, InPlace, profiles_to};
 use std::alloc::{AllocError, Global};
 
-/// The text of the best departures from each stop that is wanted, but for the target, in order, in a form; then how
-/// many stops have departures, how many these are, and how many connections were read.
+/// The text of the best departures from each wanted stop except the target, in order and in the given form; then the
+/// numbers of stops that have departures, of these departures, and of connections read.
 ///
-/// All stops are answered by one scan, over the image where it is. The only error is that memory runs out.
+/// One scan answers for all stops; it reads the image in place. The only error is that memory runs out.
 pub fn departures_text<C: Told>(
     alloc: Global,
     image: &Verified,

@@ -1,4 +1,4 @@
--- Listed footpaths have a closure: the least times are found by letting in one listed footpath after the other, over which a least walk goes once at most.
+-- Listed footpaths have a closure: the least times are found by letting in one listed footpath after the other; a least walk goes over it at most once.
 use Rattle.std.proofs.Common.{◌≡◌, ◌≢◌, ℕ, zero, suc, ◌+◌, ◌<◌, ◌≤◌, ◌⊎◌, inl, inr, List, [], ◌∷◌, ◌++◌, Contains, refl, sym, ap, subst, ◌∙◌, arith}
 use Rattle.std.proofs.lemmas.Bool.{cases_eq, cases_lt}
 use Rattle.std.proofs.lemmas.List.Elements.{Contains-push_cases}

@@ -1,4 +1,4 @@
--- Closures meet what a legal timetable asks of footpaths; there is one at most; closed footpaths are their own.
+-- A closure meets what a legal timetable asks of footpaths; there is at most one; closed footpaths are their own closure.
 use Rattle.std.proofs.Common.{◌≡◌, ◌≢◌, ℕ, ◌+◌, ◌<◌, ◌≤◌, List, [], ◌∷◌, ◌++◌, length, Contains, refl, sym, ap, subst, ◌∙◌, arith}
 use Rattle.std.proofs.lemmas.List.Elements.{All-contains}
 use Rattle.reasoning.proofs.ListLemmas.{contains_at, at_contains}

@@ -1,4 +1,4 @@
--- Lists of footpaths by the stop led into, then by the stop left.
+-- Lists of footpaths in the order of the stop that they lead into, then of the stop that they leave.
 use Rattle.std.proofs.Common.{◌≡◌, ℕ, zero, suc, ◌+◌, ◌<◌, ◌≤◌, ◌⊎◌, inl, inr, List, [], ◌∷◌, length, Some, Contains, refl, sym, ap, subst, ◌∙◌, arith}
 use Rattle.std.proofs.lemmas.Option.{same_Some, none-some}
 use Rattle.reasoning.proofs.ListLemmas.{contains_at, at_contains}

@@ -1,4 +1,4 @@
--- How what is known of the walks into a stop changes.
+-- How a search changes what is known of the walks into a stop.
 use Rattle.std.proofs.Common.{◌≡◌, ◌≢◌, ℕ, ◌+◌, ◌<◌, ◌≤◌, inl, inr, false, List, [], ◌∷◌, ◌++◌, length, Option, Some, None, All, Contains, get_or, set}
 use Rattle.std.proofs.Common.{sum_by, is_none, true≢false, refl, sym, subst, ◌∙◌, arith}
 use Rattle.std.specs.BinaryHeap.{heap_items, heap_len}

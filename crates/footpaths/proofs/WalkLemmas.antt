@@ -1,4 +1,4 @@
--- A table of times of walks into a stop, in which no footpath makes a time less, has the least times.
+-- A table of times of walks into a stop has the least times if no footpath lowers one.
 use Rattle.std.proofs.Common.{◌≡◌, ◌≢◌, ℕ, ◌+◌, inl, inr, List, [], ◌∷◌, length, Option, Some, None, All, Contains, refl, sym, ap, subst, ◌∙◌}
 use Rattle.std.proofs.Common.{arith}
 use Rattle.std.specs.List.Sorted.{IsPermutation}

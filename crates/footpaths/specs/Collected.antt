@@ -1,4 +1,4 @@
--- The closure while it is collected, stop by stop led into.
+-- The closure while it is collected, target by target.
 use Rattle.std.specs.Prelude.{◌≡◌, ℕ, ◌<◌, ◌≤◌, List, [], ◌∷◌, Option, Some, None, Contains}
 use Rattle.timetable.specs.declared.network.Footpath.{Footpath}
 use Rattle.timetable.specs.Legal.{HasFootpath, AreInOrder}
@@ -8,7 +8,7 @@ use Rattle.footpaths.specs.Walks.{AreJoined}
 use Rattle.footpaths.specs.Search.{IsToldLeast}
 use Rattle.footpaths.specs.Closure.{HasMorePairs}
 
--- the footpaths of the closure into the stops below one, with times told no further than a cap
+-- the footpaths of the closure into stops below `stops`, with greater times cut to the cap
 pub record IsClosedInto (listed : List Footpath) (cap stops : ℕ) (closed : List Footpath) : Type 0 where
   pub in_order : AreInOrder closed
   pub below : (f : Footpath) → Contains closed f → f.to < stops
@@ -20,7 +20,7 @@ abbrev pub taken : Option ℕ → ℕ → ℕ → List Footpath
 taken None stop target = []
 taken (Some secs) stop target = record { from = stop; to = target; secs = secs } ∷ []
 
--- why a footpath isn't added: there are as many as are allowed
+-- why a footpath isn't added: there are `most` already, or there is no memory
 abbrev pub IsAddFault : ℕ → ℕ → FootFault → Type 0
 IsAddFault count most TooManyFootpaths = most ≤ count
 IsAddFault count most WalkTooLong = ⊥

@@ -1,4 +1,4 @@
--- What is known while the least walks into one stop are sought.
+-- What is known during the search for the least walks into one stop.
 use Rattle.std.specs.Prelude.{◌≡◌, ℕ, ◌+◌, ◌*◌, ◌<◌, ◌≤◌, ◌⊎◌, suc, List, length, min, Option, Some, None, Contains, All, slice_index_or, sum_by}
 use Rattle.std.specs.BinaryHeap.{heap_items, heap_len}
 use Rattle.timetable.specs.declared.network.Footpath.{Footpath}
@@ -11,23 +11,23 @@ use Rattle.footpaths.specs.declared.search.Search.{Search}
 abbrev pub time_at : List (Option ℕ) → ℕ → Option ℕ
 time_at times stop = slice_index_or times stop None
 
--- a time that was found at a stop
+-- a time that was found for a stop
 abbrev pub found_at : ℕ → ℕ → Found
 found_at secs stop = record { secs = record { 0 = secs }; stop = stop }
 
--- the table has a time for the stop, of at most so many seconds
+-- the table has a time for the stop, of at most `secs` seconds
 abbrev pub IsWithin : List (Option ℕ) → ℕ → ℕ → Type 0
 IsWithin times stop secs = (d : ℕ) × (time_at times stop ≡ Some d) × (d ≤ secs)
 
--- no time of the table for the stop is as low
+-- the table has a greater time for the stop, or none
 abbrev pub IsUndercut : List (Option ℕ) → ℕ → ℕ → Type 0
 IsUndercut times stop secs = (d : ℕ) → time_at times stop ≡ Some d → secs < d
 
--- a walk takes so many seconds, told no further than a cap
+-- some walk between the two stops takes `secs` seconds, cut to the cap if it takes more
 abbrev pub IsToldTime : List Footpath → ℕ → ℕ → ℕ → ℕ → Type 0
 IsToldTime listed cap from to secs = (walk : List Footpath) × IsWalkBetween listed from to walk × (min (walk_secs walk) cap ≡ secs)
 
--- the footpath, then a walk of so many seconds or none at all, lead to the target
+-- some walk from where the footpath begins into the target takes `secs` seconds more than the footpath, cut to the cap
 abbrev pub IsBackFrom : List Footpath → ℕ → ℕ → Footpath → ℕ → Type 0
 IsBackFrom listed cap target f secs = IsToldTime listed cap f.from target (min (f.secs + secs) cap)
 
@@ -40,7 +40,7 @@ pub record AreReached (times : List (Option ℕ)) (reached : List ℕ) : Type 0 
   pub has : (stop secs : ℕ) → time_at times stop ≡ Some secs → Contains reached stop
   pub inside : All (λ s. s < length times) reached
 
--- no footpath into a stop, walked before so many seconds, makes a time less
+-- no footpath into the stop, walked before `secs` more seconds, would lower a time
 abbrev pub IsFollowed : List Footpath → List (Option ℕ) → ℕ → ℕ → Type 0
 IsFollowed listed times stop secs = (f : Footpath) → Contains listed f → f.to ≡ stop → IsWithin times f.from (f.secs + secs)
 
@@ -53,11 +53,11 @@ abbrev pub ArePendingOrFollowed : List Footpath → List (Option ℕ) → List F
 ArePendingOrFollowed listed times pending = (stop secs : ℕ) → time_at times stop ≡ Some secs → Contains pending (found_at secs stop)
     ⊎ IsFollowed listed times stop secs
 
--- what is pending is at stops of the table
+-- all pending times are for stops of the table
 abbrev pub ArePendingInside : List (Option ℕ) → List Found → Type 0
 ArePendingInside times pending = All (λ x. x.stop < length times) pending
 
--- times only fall, what is pending stays so, and what is new is pending
+-- times only fall, what is pending remains pending, and new times are pending
 pub record Grows (times : List (Option ℕ)) (pending : List Found) (times' : List (Option ℕ)) (pending' : List Found) : Type 0 where
   pub same_length : length times' ≡ length times
   pub inside : ArePendingInside times pending → ArePendingInside times' pending'
@@ -65,7 +65,7 @@ pub record Grows (times : List (Option ℕ)) (pending : List Found) (times' : Li
   pub kept : (x : Found) → Contains pending x → Contains pending' x
   pub fresh : (stop secs : ℕ) → time_at times' stop ≡ Some secs → (time_at times stop ≡ Some secs) ⊎ Contains pending' (found_at secs stop)
 
--- what a place of the table weighs, and the table
+-- the weight of an entry, and of the table: each lower time lessens it
 abbrev pub weight_of : ℕ → Option ℕ → ℕ
 weight_of cap None = suc cap
 weight_of cap (Some secs) = secs
@@ -73,7 +73,7 @@ weight_of cap (Some secs) = secs
 abbrev pub weight : ℕ → List (Option ℕ) → ℕ
 weight cap times = sum_by (weight_of cap) times
 
--- that a walk from a stop takes so many seconds is taken in: the table has that time or a lesser one, and what was known stays so
+-- the search took in that some walk from the stop takes `secs` seconds: the table has that time or a lower one, and what was known still holds
 pub record TakesTime (old : Search) (stop secs : ℕ) (new : Search) : Type 0 where
   pub grows : Grows old.times.items (heap_items old.pending) new.times.items (heap_items new.pending)
   pub within : IsWithin new.times.items stop secs
@@ -83,7 +83,7 @@ pub record TakesTime (old : Search) (stop secs : ℕ) (new : Search) : Type 0 wh
   pub falls : (cap : ℕ) → secs ≤ cap
       → 2 * weight cap new.times.items + heap_len new.pending ≤ 2 * weight cap old.times.items + heap_len old.pending
 
--- the table tells the least time of a walk from each stop to the target
+-- the least time of a walk between the two stops, cut to the cap; None if no walk joins them
 abbrev pub IsToldLeast : List Footpath → ℕ → ℕ → ℕ → Option ℕ → Type 0
 IsToldLeast listed cap from to None = (walk : List Footpath) → ¬ IsWalkBetween listed from to walk
 IsToldLeast listed cap from to (Some secs) =

@@ -4,7 +4,7 @@ use Rattle.timetable.specs.declared.network.Footpath.{Footpath}
 use Rattle.timetable.specs.TimetableValue.{TimetableValue}
 use Rattle.timetable.specs.Journeys.{IsWalk, walk_end, walk_secs}
 
--- a timetable of footpaths alone: what a walk goes over
+-- a timetable with nothing but footpaths, over which a walk goes
 abbrev pub on_foot : List Footpath → TimetableValue
 on_foot listed = record { stops = 0; trips = 0; connections = []; footpaths = listed }
 
@@ -14,11 +14,11 @@ pub record IsWalkBetween (listed : List Footpath) (from to : ℕ) (walk : List F
   pub some : walk ≢ []
   pub ends : walk_end from walk ≡ to
 
--- such a walk is there
+-- there is such a walk
 abbrev pub AreJoined : List Footpath → ℕ → ℕ → Type 0
 AreJoined listed from to = (walk : List Footpath) × IsWalkBetween listed from to walk
 
--- one of the walks takes so many seconds, and none takes less
+-- one of the walks takes `secs` seconds, and none takes less
 pub record IsLeastTime (listed : List Footpath) (from to secs : ℕ) : Type 0 where
   pub walked : (walk : List Footpath) × IsWalkBetween listed from to walk × (walk_secs walk ≡ secs)
   pub least : (walk : List Footpath) → IsWalkBetween listed from to walk → secs ≤ walk_secs walk

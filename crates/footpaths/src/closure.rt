@@ -1,5 +1,5 @@
-//! The closure of listed footpaths: one for each ordered pair of stops that a walk over listed ones
-//! joins, with the least time of any.
+//! The closure of listed footpaths: a footpath for each ordered pair of stops that a walk over listed
+//! ones joins, with the least time of such a walk.
 
 ghost use Rattle.std.specs.Prelude.{◌≡◌, ◌<◌, ◌≤◌, ◌+◌, ◌^◌, [], ◌∷◌, ◌++◌, ℕ, length, true, false, None, All};
 ghost use Rattle.std.specs.Prelude.{Contains, IfOk, IfErr, OnOk, slice_set};
@@ -15,7 +15,7 @@ use std::alloc::Global;
 use timetable::Footpath;
 use timetable::limits::{MAX_FOOTPATHS, MAX_WALK_SECS};
 
-// Takes a stop's time, where it has one, out of the table and into the closure, as a footpath into the target.
+// Moves a stop's time, if it has one, from the table into the closure, as a footpath into the target.
 fn take_time(
     times: &mut [Option<u32>],
     stop: u32,
@@ -43,7 +43,7 @@ fn take_time(
     }
 }
 
-// Adds a footpath, unless there are as many as are allowed.
+// Adds a footpath, unless there are `most` already.
 fn add(closed: &mut Vec<Footpath>, path: Footpath, most: usize) -> Result<(), FootFault>
     ensures closed { OnOk result (closed.new.items ≡ closed.old.items ++ path ∷ []) }
     ensures few { OnOk result (length closed.new.items ≤ most) }
@@ -58,7 +58,7 @@ fn add(closed: &mut Vec<Footpath>, path: Footpath, most: usize) -> Result<(), Fo
     }
 }
 
-// Takes the times of the table out of it and into the closure, as footpaths into the target from the stops reached.
+// Moves the times of the stops reached from the table into the closure, as footpaths into the target.
 fn collect(
     times: &mut [Option<u32>],
     reached: &[u32],
@@ -83,7 +83,7 @@ fn collect(
     Ok(())
 }
 
-// The closure with times told no further than a cap.
+// The closure, with greater times cut to `cap`.
 fn close_to(
     alloc: Global,
     stops: u32,
@@ -113,7 +113,7 @@ fn close_to(
     Ok(closed)
 }
 
-// Whether a footpath takes longer than so many seconds.
+// Whether some footpath takes longer than `longest` seconds.
 fn has_longer(closed: &[Footpath], longest: u32) -> bool
     ensures longer { result ≡ true → (f : _) × Contains closed.now f × (longest < f.secs) }
     ensures short { result ≡ false → All (λ f. f.secs ≤ longest) closed.now }
@@ -126,12 +126,13 @@ fn has_longer(closed: &[Footpath], longest: u32) -> bool
     false
 }
 
-/// The closure of listed footpaths, as [`close`] gives it, within limits: so many footpaths at
-/// most, and none that takes longer than so many seconds.
+/// The closure of listed footpaths, as [`close`] gives it, with other limits: at most `most`
+/// footpaths, none of which takes longer than `longest` seconds.
 ///
 /// # Errors
 ///
-/// `TooManyFootpaths` where the closure has more, else `WalkTooLong` where one of them takes longer.
+/// `TooManyFootpaths` if the closure has more, else `WalkTooLong` if one of them takes longer;
+/// `OutOfMemory`.
 pub fn close_within(
     alloc: Global,
     stops: u32,
@@ -154,16 +155,16 @@ pub fn close_within(
 }
 
 /// The closure of listed footpaths: one footpath for each ordered pair of stops that a non-empty
-/// walk over them joins, of the least time in seconds of any such walk, by the stop led into, then
-/// by the stop left. It is what a legal timetable asks of its footpaths, as the Connection Scan
-/// Algorithm does (Dibbelt, Pajor, Strasser, Wagner, ACM JEA 2018). A loop is a footpath like any
-/// other here: a way there and back may undercut it. There are so many stops, and each has a listed
-/// loop.
+/// walk over them joins, with the least time in seconds of such a walk, in the order of the stop
+/// that it leads into, then of the stop that it leaves. A legal timetable asks for closed
+/// footpaths, as the Connection Scan Algorithm does (Dibbelt, Pajor, Strasser, Wagner, ACM JEA
+/// 2018). A loop is a footpath like any other here: a way there and back may undercut it. Each of
+/// the `stops` stops has a listed loop.
 ///
 /// # Errors
 ///
-/// `TooManyFootpaths` where the closure has more than `MAX_FOOTPATHS` footpaths, else `WalkTooLong`
-/// where one of them takes more than `MAX_WALK_SECS`.
+/// `TooManyFootpaths` if the closure has more than `MAX_FOOTPATHS` footpaths, else `WalkTooLong` if
+/// one of them takes more than `MAX_WALK_SECS`; `OutOfMemory`.
 pub fn close(alloc: Global, stops: u32, listed: &[Footpath]) -> Result<Vec<Footpath>, FootFault>
     requires in_range { AreInRange listed.now stops }
     requires loops { HasLoops listed.now stops }

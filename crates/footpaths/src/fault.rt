@@ -24,14 +24,14 @@ impl FootFault {
     ghost use Rattle.std.specs.Prelude.{codes};
     ghost use Rattle.footpaths.specs.FaultNumber.{fault_told};
 
-    /// The number by which the fault is told, from 41 to 43.
+    /// The number of the fault, from 41 to 43.
     pub fn number(self) -> u8
         ensures { result ≡ (fault_told self).0 }
     {
         self as u8
     }
 
-    /// The name by which the fault is told.
+    /// The name of the fault, such as `WalkTooLong`.
     pub fn name(self) -> &'static str
         ensures { result.now ≡ (fault_told self).1 }
     {

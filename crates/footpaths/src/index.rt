@@ -10,13 +10,14 @@ use timetable::Footpath;
 /// Listed footpaths in the order of the stops that they lead into.
 #[derive(Drop)]
 pub(crate) struct Index {
-    /// By stop: the place of the first footpath into it. One entry more ends the last stop's.
+    /// By stop: the index in `paths` of the first footpath into it. One more entry is the end of the last stop's.
     pub first: Vec<usize>,
     pub paths: Vec<Footpath>,
     ghost ranges: { AreRanges first.items (length paths.items) },
 }
 
-// The listed footpaths into each stop, from the last to the first. The n-th footpath is meant by n, and none by 0.
+// The listed footpaths into each stop, chained from the last to the first. The footpath at index i is written as
+// i + 1, and 0 is none.
 #[derive(Drop)]
 struct Chains {
     // By stop: the last footpath into it.
@@ -25,7 +26,7 @@ struct Chains {
     before: Vec<usize>,
 }
 
-// Chains the footpaths.
+// Chains the listed footpaths into each stop.
 fn chain(alloc: Global, stops: u32, listed: &[Footpath]) -> Result<Chains, AllocError>
     requires { All (λ f. f.to < stops) listed.now }
     ensures stops { IfOk result (λ c. length c.last.items ≡ stops) }
@@ -41,7 +42,7 @@ fn chain(alloc: Global, stops: u32, listed: &[Footpath]) -> Result<Chains, Alloc
     Ok(Chains { last, before })
 }
 
-// Adds the footpaths of a chain, from its last one.
+// Adds the footpaths of a chain, from `last` to its first one.
 fn add_chain(
     listed: &[Footpath],
     before: &[usize],
@@ -64,7 +65,7 @@ fn add_chain(
 }
 
 impl Index {
-    /// Brings listed footpaths between so many stops into order.
+    /// Brings listed footpaths between `stops` stops into the order of the stops that they lead into.
     pub fn new(alloc: Global, stops: u32, listed: &[Footpath]) -> Result<Index, AllocError>
         requires { All (λ f. (f.from < stops) × (f.to < stops)) listed.now }
         ensures index { IfOk result (λ i. IsIndex listed.now i.first.items i.paths.items) }

@@ -1,4 +1,4 @@
-//! The closure of listed footpaths: for each ordered pair of stops the least time of a walk over them.
+//! The closure of listed footpaths: for each ordered pair of stops, the least time of a walk over them.
 #![tactic(auto)]
 
 mod closure;

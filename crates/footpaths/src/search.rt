@@ -1,4 +1,4 @@
-//! The least times of walks into one stop: from the stop backwards, the nearest stop first.
+//! The least times of walks into one stop, found from that stop backwards, the nearest stop first.
 
 ghost use Rattle.std.specs.Prelude.{◌≡◌, ◌<◌, ◌≤◌, ◌+◌, ◌*◌, true, false, ℕ, [], None, Some, is_none, Contains};
 ghost use Rattle.std.specs.Prelude.{All, length, min, IfOk, OnOk, ◌⊎◌};
@@ -16,7 +16,7 @@ use std::cmp::Reverse;
 use std::collections::BinaryHeap;
 use timetable::Footpath;
 
-/// A time that was found at a stop. The greatest one has the least time.
+/// A time that was found for a stop. In the order of this type, the greatest has the least time.
 #[derive(Clone, Copy, Debug, PartialEq, Eq, PartialOrd, Ord)]
 pub(crate) struct Found {
     pub secs: Reverse<u32>,
@@ -26,15 +26,15 @@ pub(crate) struct Found {
 /// What is known of the walks into one stop.
 #[derive(Drop)]
 pub(crate) struct Search {
-    /// By stop: the least time found of a walk from there, told no further than a cap.
+    /// By stop: the least time found of a walk from there. Times above a cap are cut to it.
     pub times: Vec<Option<u32>>,
     /// The stops that have a time.
     pub reached: Vec<u32>,
-    /// The times that were found; those that are still in the table aren't followed back yet.
+    /// Times that were found and not followed back yet. Those that are no longer in the table are obsolete.
     pub pending: BinaryHeap<Found>,
 }
 
-// Whether so many seconds are less than what is known.
+// Whether `secs` is less than the known time, or no time is known.
 #[inline(always)]
 fn is_lower(known: Option<u32>, secs: u32) -> bool
     ensures lower { result ≡ true → (d : ℕ) → known ≡ Some d → secs < d }
@@ -47,7 +47,7 @@ fn is_lower(known: Option<u32>, secs: u32) -> bool
 }
 
 impl Search {
-    /// Nothing is known yet.
+    /// A search in which nothing is known yet.
     pub fn new(alloc: Global, stops: u32) -> Result<Search, AllocError>
         ensures times { IfOk result (λ s. (stop : ℕ) → time_at s.times.items stop ≡ None) }
         ensures count { IfOk result (λ s. length s.times.items ≡ stops) }
@@ -61,7 +61,7 @@ impl Search {
         })
     }
 
-    // Takes in that a walk from a stop takes so many seconds.
+    // Takes in that some walk from `stop` takes `secs` seconds.
     #[inline(always)]
     fn offer(&mut self, stop: u32, secs: u32) -> Result<(), AllocError>
         requires in_table { stop < length self.old.times.items }
@@ -74,7 +74,7 @@ impl Search {
         Ok(())
     }
 
-    // Writes a lower time down, of a stop that is new or not.
+    // Writes down a lower time for a stop. If the stop is new, it is also added to those reached.
     #[inline(never)]
     fn note(&mut self, stop: u32, secs: u32, is_new: bool) -> Result<(), AllocError>
         requires in_table { stop < length self.old.times.items }
@@ -93,7 +93,7 @@ impl Search {
         Ok(())
     }
 
-    // Walks a footpath backwards that leads to where a walk of so many seconds begins.
+    // Goes back along a footpath that leads to where a walk of `secs` seconds begins.
     #[inline(always)]
     fn step(&mut self, path: Footpath, secs: u32, cap: u32) -> Result<(), AllocError>
         requires in_table { path.from < length self.old.times.items }
@@ -112,7 +112,7 @@ impl Search {
         self.offer(path.from, path.secs.saturating_add(secs).min(cap))
     }
 
-    // Walks footpaths backwards that lead to where a walk of so many seconds begins.
+    // Goes back along footpaths that lead to where a walk of `secs` seconds begins.
     fn spread(&mut self, paths: &[Footpath], secs: u32, cap: u32) -> Result<(), AllocError>
         requires in_table { All (λ f. f.from < length self.old.times.items) paths.now }
         ensures grows { OnOk result (Grows self.old.times.items (heap_items self.old.pending) self.new.times.items
@@ -133,7 +133,7 @@ impl Search {
         Ok(())
     }
 
-    // Follows a time back, unless a lesser one was found since.
+    // Follows a time back, unless a lower one was found since.
     fn follow(&mut self, index: &Index, next: Found, cap: u32) -> Result<(), AllocError>
         requires over { IsOver (length self.old.times.items) index.now.first.items index.now.paths.items }
         requires in_table { next.stop < length self.old.times.items }
@@ -180,8 +180,8 @@ impl Search {
         Ok(())
     }
 
-    /// Finds the least time of a walk from each stop into the target, told no further than a cap,
-    /// and sorts the stops reached.
+    /// Finds the least time of a walk from each stop into the target, with greater times cut to
+    /// `cap`, and sorts the stops reached.
     pub fn fill(&mut self, index: &Index, target: u32, cap: u32) -> Result<(), AllocError>
         requires over { IsOver (length self.old.times.items) index.now.first.items index.now.paths.items }
         requires in_table { target < length self.old.times.items }

@@ -1,4 +1,4 @@
--- An entry more of a list of days.
+-- One more entry of a list of days.
 use Rattle.std.proofs.Common.{◌≡◌, ◌++◌, ◌+◌, ◌∙◌, ◌∷◌, ℕ, List, [], ap, append_assoc, arith, false, get_or, length, map, refl, sym, take, true}
 use Rattle.std.specs.Prelude.{MatchOption, None, Option, Some, slice_get}
 use Rattle.std.specs.Option.{option_map}

@@ -14,11 +14,11 @@ utc_day instant = int_div_euclid instant (pos 86_400)
 abbrev pub utc_second : ℤ → ℕ
 utc_second instant = unsigned_abs (int_rem_euclid instant (pos 86_400))
 
--- a minus sign before the years before the year 0
+-- a minus sign for years before the year 0
 abbrev pub sign_text : ℤ → List ℕ
 sign_text year = if is_negative year then codes "-" else []
 
--- a year in four digits, behind its sign
+-- a year in four digits, after its sign
 unfoldable pub year_text : ℤ → List ℕ
 year_text year = (sign_text year ++ two_digits (unsigned_abs year / 100)) ++ two_digits (unsigned_abs year % 100)
 
@@ -33,7 +33,7 @@ base_line base = (codes "base " ++ signed_decimal base) ++ codes "\n"
 unfoldable pub utc_line : Date → ℕ → List ℕ
 utc_line date second = (((codes "utc " ++ date_text date) ++ codes "T") ++ clock_bytes second) ++ codes "Z\n"
 
--- the line of an instant, if its day is a day of the calendar, whose years are -9999 to 9999; or the line that says that it is none
+-- the line of an instant, if its day is a day of the calendar, whose years are -9999 to 9999; else the line that says that there is none
 abbrev pub IsUtcLine : ℤ → List ℕ → Type 0
 IsUtcLine instant line =
     ((date : Date) × (epoch_day date ≡ utc_day instant) × (line ≡ utc_line date (utc_second instant)))

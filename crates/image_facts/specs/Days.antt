@@ -8,7 +8,7 @@ use Rattle.timetable.specs.NamesValue.{NamesValue, TripNameValue}
 abbrev pub trip_days : NamesValue → List ℕ
 trip_days names = map (λ (t : TripNameValue). t.day) names.trips
 
--- how many trips are of a day
+-- how many trips a day has
 abbrev pub trips_on : List ℕ → ℕ → ℕ
 trips_on of_trips day = count_by (λ d. d == day) of_trips
 

@@ -1,4 +1,4 @@
--- What is to come of days in order, of which some entries of the first were counted.
+-- The lines that are still to come for a list of days, when some entries of its first day were counted already.
 use Rattle.std.specs.Prelude.{ℕ, List, [], ◌∷◌, ◌++◌, ◌+◌, ◌==◌, Bool, true, not, if◌then◌else◌}
 use Rattle.image_facts.specs.Days.{day_line}
 
@@ -7,7 +7,7 @@ abbrev pub is_last_of : ℕ → List ℕ → Bool
 is_last_of day [] = true
 is_last_of day (next ∷ rest) = not (next == day)
 
--- a line where the day changes, with how many entries of it there are
+-- the lines for the rest of a list: one wherever the day changes or the list ends, with the number of entries up to there
 unfoldable pub rest_text : ℕ → List ℕ → List ℕ
 rest_text counted [] = []
 rest_text counted (day ∷ rest) =

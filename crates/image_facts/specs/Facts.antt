@@ -9,13 +9,13 @@ use Rattle.image_facts.specs.Days.{HasDays, trip_days}
 unfoldable pub number_line : List ℕ → ℕ → List ℕ
 number_line word number = (word ++ decimal number) ++ codes "\n"
 
--- the layout, and how many bytes the image has: four a word
+-- the layout, and how many bytes the image has: four for each word
 unfoldable pub file_text : ImageValue → List ℕ
 file_text image =
     number_line (codes "layout ") image.layout
     ++ number_line (codes "bytes ") (4 * length (image_in image.layout image.timetable image.names))
 
--- how much the image has, and how many bytes its names have together
+-- the counts of the image, and how many bytes its names have together
 unfoldable pub counts_text : ImageValue → List ℕ
 counts_text image =
     (((number_line (codes "stops ") image.timetable.stops ++ number_line (codes "trips ") image.timetable.trips)

@@ -15,8 +15,8 @@ use timetable::Clock;
 /// The seconds of a day of UTC.
 const DAY: i64 = 86400;
 
-/// Adds an instant: in seconds after 1970-01-01T00:00:00Z, and as a date and a time of UTC if its
-/// year is one of -9999 to 9999.
+/// Adds an instant in seconds after 1970-01-01T00:00:00Z, and as a date and a time of UTC, or `none` if
+/// its year isn't one of -9999 to 9999.
 pub fn append_base(lines: &mut String, base: i64) -> Result<(), AllocError>
     ensures { OnOk result ((text : List ℕ) × HasBase base text
         × (string_bytes lines.new ≡ string_bytes lines.old ++ text)) }
@@ -47,14 +47,14 @@ fn append_utc(lines: &mut String, instant: i64) -> Result<(), AllocError>
     }
 }
 
-// The day that has an instant.
+// The UTC day of an instant. Day 0 is 1970-01-01.
 fn day_of(instant: i64) -> i64
     ensures { result ≡ utc_day instant }
 {
     instant.div_euclid(DAY)
 }
 
-// The second of an instant's day.
+// The seconds from the start of an instant's UTC day to the instant.
 fn second_of(instant: i64) -> u32
     ensures { result ≡ utc_second instant }
 {

@@ -1,4 +1,4 @@
-//! How many trips each day has: the days are a list in order, with an entry for each trip.
+//! How many trips each day has, counted in a sorted list of days with an entry for each trip.
 
 ghost use Rattle.std.specs.Prelude.{◌≡◌, ◌≤◌, ◌<◌, ◌+◌, ◌++◌, ◌∷◌, List, ℕ, IfOk, OnOk, string_bytes};
 ghost use Rattle.std.specs.List.Sorted.{IsNonDecreasing};
@@ -8,7 +8,7 @@ ghost use Rattle.image_facts.specs.Entries.{is_last_of, rest_text};
 use std::alloc::AllocError;
 use text_pieces::{put_number, put_text};
 
-/// Adds a line for each day of a list in order, the earliest first, with how many entries the day has.
+/// Adds a line for each day of a sorted list, the earliest first, with the number of its entries.
 pub fn append_days(lines: &mut String, days: &[u32]) -> Result<(), AllocError>
     requires { IsNonDecreasing days.now }
     ensures { OnOk result ((text : List ℕ) × HasDays days.now text
@@ -18,7 +18,7 @@ pub fn append_days(lines: &mut String, days: &[u32]) -> Result<(), AllocError>
     Ok(())
 }
 
-// Adds a line for each day of a list, with how many entries in a row it has.
+// Adds a line for each sequence of equal days in a list, with its length.
 fn append_entries(lines: &mut String, days: &[u32]) -> Result<(), AllocError>
     ensures { OnOk result (string_bytes lines.new ≡ string_bytes lines.old ++ rest_text 0 days.now) }
 {
@@ -31,7 +31,8 @@ fn append_entries(lines: &mut String, days: &[u32]) -> Result<(), AllocError>
     Ok(())
 }
 
-// Counts one entry more of a day, and adds the day's line at its last one: how many entries of the next were counted.
+// Counts one more entry of a day. If it is the last of its sequence, it adds the day's line and returns 0, else it
+// returns the new count.
 fn append_entry(
     lines: &mut String,
     count: usize,
@@ -50,7 +51,7 @@ fn append_entry(
     Ok(count + 1)
 }
 
-// Whether a day's last entry is before these.
+// Whether an entry of a day is the last of its sequence, given the entries after it.
 fn is_last(day: u32, more: &[u32]) -> bool
     ensures { result ≡ is_last_of day more.now }
 {

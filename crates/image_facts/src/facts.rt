@@ -28,7 +28,7 @@ pub fn facts_of(alloc: Global, image: &Verified) -> Result<String, AllocError>
     Ok(lines)
 }
 
-// Adds what the file is.
+// Adds the layout and the size of the image's file.
 fn append_file(lines: &mut String, image: &Verified) -> Result<(), AllocError>
     ensures { OnOk result (string_bytes lines.new ≡ string_bytes lines.old ++ file_text image.now) }
 {
@@ -37,7 +37,7 @@ fn append_file(lines: &mut String, image: &Verified) -> Result<(), AllocError>
     Ok(())
 }
 
-// Adds how much the image has.
+// Adds the counts of the image.
 fn append_counts(lines: &mut String, image: &Verified) -> Result<(), AllocError>
     ensures { OnOk result (string_bytes lines.new ≡ string_bytes lines.old ++ counts_text image.now) }
 {
@@ -57,7 +57,7 @@ fn header_of(image: &Verified) -> Header
     Header::of(image.words())
 }
 
-// The size of the image's file.
+// The size of the image's file in bytes.
 fn byte_count(image: &Verified) -> u64
     ensures { result ≡ 4 * length (image_in image.now.layout image.now.timetable image.now.names) }
 {

@@ -1,7 +1,7 @@
 -- Which bytes an image is read from.
 use Rattle.std.specs.Prelude.{◌≡◌, ◌≢◌, ℕ, List, Option, IfSome, codes}
 
--- it is so of the bytes at a path, all of them, if they are known: of the input's for `-`, else of those that a file at the path may hold
+-- Is holds of all bytes that are read, if they are known: those of the input for the path `-`, else those that a file at the path may hold
 pub record HoldsOfBytes (may_hold : List ℕ → Option (List ℕ) → Type 0) (path : List ℕ) (input : Option (List ℕ))
     (Is : List ℕ → Type 0) : Type 0 where
   pub held : Option (List ℕ)

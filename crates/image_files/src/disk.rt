@@ -1,4 +1,4 @@
-//! Where the files of images are.
+//! Opens the files of images.
 
 ghost use Rattle.std.specs.Prelude.{ℕ, List, Option, IfOk};
 
@@ -11,10 +11,10 @@ use std::rt::Files;
 pub trait ImageDisk {
     type Image: OpenFile + Read + Drop;
 
-    // What a file that is opened at a path may hold, none where that isn't known: first the path, then the bytes.
+    // Whether a file opened at this path may hold these bytes. `None` stands for bytes that aren't known.
     ghost may_hold: { Self → List ℕ → Option (List ℕ) → Type 0 } = { λ _ _ _. Unit {0} };
 
-    /// The file at a path, open at its first byte.
+    /// Opens the file at a path, at its first byte.
     fn image_file(&self, path: &str) -> io::Result<Self::Image>
         ensures { IfOk result (λ file. may_hold self.now path.now (Self.Image.remaining file)) };
 }
@@ -22,7 +22,7 @@ pub trait ImageDisk {
 impl<H: Files> ImageDisk for H {
     type Image = H::File;
 
-    // nothing is known of a machine's files
+    // nothing is known about the files of a machine
     ghost may_hold = { λ _ _ _. Unit {0} };
 
     fn image_file(&self, path: &str) -> io::Result<H::File> {

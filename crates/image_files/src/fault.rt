@@ -1,4 +1,4 @@
-//! Why a file or a reader has no words of an image.
+//! Why a file or a reader gave no words.
 
 use std::alloc::AllocError;
 use std::io;
@@ -6,9 +6,9 @@ use std::io;
 /// Why there are no words.
 #[derive(Drop)]
 pub enum ImageFileFault {
-    /// The bytes aren't whole words.
+    /// The number of bytes isn't a multiple of four.
     OddLength,
-    /// They couldn't be read.
+    /// The bytes couldn't be read.
     Unreadable,
     OutOfMemory,
 }

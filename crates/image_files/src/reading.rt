@@ -1,4 +1,4 @@
-//! Bytes by pieces, and the words that they spell.
+//! Reads words from bytes, piece by piece.
 
 ghost use Rattle.std.specs.Prelude.{◌≡◌, ◌≢◌, ◌<◌, ◌≤◌, ◌%◌, ◌*◌, ◌^◌, length, take, ◌++◌, IfOk, OnOk, IfSome};
 ghost use Rattle.std.specs.Io.KnownBytes.{Consumes, IsAtEnd};
@@ -12,10 +12,10 @@ use std::fs::OpenFile;
 use std::io;
 use std::io::Read;
 
-/// How many words are read or written at once: so an image is held once, and not as bytes beside words.
+/// How many words are read or written at once. So memory holds an image once, and not also as bytes.
 pub const PIECE_WORDS: usize = 16_384;
 
-/// The words of the file at the path, or of the input for `-`: all of them.
+/// Reads all words of the file at the path, or of the input if the path is `-`.
 pub fn image_words<H: ImageDisk + AllocGlobal, I: Read>(
     rt: &H,
     path: &str,
@@ -36,7 +36,7 @@ pub fn image_words<H: ImageDisk + AllocGlobal, I: Read>(
     words_of(rt.alloc(), &mut file, &mut piece, ahead)
 }
 
-/// Reads once, and again where the read was interrupted; how many bytes came.
+/// Reads once, and again as long as the read is interrupted. Returns the number of bytes read.
 fn read_some<R: Read>(reader: &mut R, piece: &mut [u8]) -> io::Result<usize>
     ensures within { IfOk result (λ n. n ≤ length piece.new) }
     ensures bytes { IfOk result (λ n. Consumes (R.remaining reader.old) (R.remaining reader.new) (take n piece.new)) }
@@ -55,7 +55,7 @@ fn read_some<R: Read>(reader: &mut R, piece: &mut [u8]) -> io::Result<usize>
     Err(io::Error::from(io::ErrorKind::TimedOut))
 }
 
-/// Reads until the piece is full or the reader ends; how many bytes came.
+/// Reads until the piece is full or the reader ends. Returns the number of bytes read.
 fn fill<R: Read>(reader: &mut R, piece: &mut [u8]) -> io::Result<usize>
     ensures within { IfOk result (λ n. n ≤ length piece.new) }
     ensures bytes { IfOk result (λ n. Consumes (R.remaining reader.old) (R.remaining reader.new) (take n piece.new)) }
@@ -75,8 +75,8 @@ fn fill<R: Read>(reader: &mut R, piece: &mut [u8]) -> io::Result<usize>
     Err(io::Error::from(io::ErrorKind::TimedOut))
 }
 
-/// The words that a reader's bytes spell, least byte first; they come by pieces of whole words, and
-/// `ahead` is how many words are expected.
+/// Reads a reader to its end, in pieces of whole words, and returns the words that its bytes spell, the
+/// least significant byte first. Memory for `ahead` words is taken at the start.
 fn words_of<R: Read>(
     alloc: Global,
     reader: &mut R,
@@ -102,7 +102,7 @@ fn words_of<R: Read>(
     Err(ImageFileFault::Unreadable)
 }
 
-/// Room for so many words, as bytes.
+/// A piece with room for this many words, as bytes.
 fn new_piece(alloc: Global, words: usize) -> Result<Vec<u8>, AllocError>
     requires { 4 * words < 2 ^ 64 }
     ensures { IfOk result (λ piece. length piece.items ≡ 4 * words) }
@@ -110,7 +110,7 @@ fn new_piece(alloc: Global, words: usize) -> Result<Vec<u8>, AllocError>
     Ok(vec![in alloc; 0u8; 4 * words]?)
 }
 
-/// Puts the words that the bytes spell at the end. Memory is asked for once, and none where there is room.
+/// Adds the words that the bytes spell. Memory is requested at most once, and not at all if there is room.
 fn append_words(words: &mut Vec<u32>, bytes: &[u8]) -> Result<(), AllocError>
     requires { length bytes.now % 4 ≡ 0 }
     ensures { OnOk result (bytes_of words.new.items ≡ bytes_of words.old.items ++ bytes.now) }

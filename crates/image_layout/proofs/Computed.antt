@@ -1,4 +1,4 @@
--- The small images of the laws, computed from both ends.
+-- The small images of the laws, computed both ways: the words from the timetable and names, and these from the words.
 use Rattle.std.proofs.Common.{◌≡◌, refl}
 use Rattle.image_layout.specs.declared.layout.TheConstants.{FIRST_LAYOUT}
 use Rattle.image_layout.specs.Sample.{early_timetable, early_names, early_words, repeated_names, repeated_words}

@@ -1,4 +1,4 @@
--- The names that words show spell their index, and their text, again.
+-- The names that words show spell the index and the text of these words.
 use Rattle.std.proofs.Common.{◌≡◌, ℕ, zero, suc, ◌+◌, ◌-◌, ◌<◌, ◌≤◌, Bool, cond, eqb, List, [], ◌∷◌, ◌++◌, length}
 use Rattle.std.proofs.Common.{get_or, take, drop, map, refl, sym, ap, ◌∙◌, arith, add-zero, inl, inr}
 use Rattle.std.specs.Prelude.{slice_range}

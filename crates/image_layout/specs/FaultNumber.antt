@@ -1,4 +1,4 @@
--- The numbers and names by which faults of bytes are told.
+-- The numbers and names of the faults of bytes.
 use Rattle.std.specs.Prelude.{ℕ, List, codes}
 use Rattle.image_layout.specs.declared.words.WordsFault.{WordsFault}
 use Rattle.image_layout.specs.declared.words.WordsFault.TheVariants.{OddLength, OutOfMemory}

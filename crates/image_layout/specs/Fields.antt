@@ -1,4 +1,4 @@
--- The word of each field, at its place. w are the words of an image; i, s and k are numbers from 0 on.
+-- The word of each field. w is the list of an image's words; i, s and k are numbers from 0 on.
 use Rattle.std.specs.Prelude.{ℕ, ◌+◌, ◌*◌, ◌==◌, List, slice_index, if◌then◌else◌}
 use Rattle.image_layout.specs.declared.layout.TheConstants.{LAYOUT}
 use Rattle.image_layout.specs.Places.{header_of, foot_index_place, footpath_place, name_index_place, day_place, repeat_place}
@@ -11,7 +11,7 @@ magic_of w = slice_index w 0
 abbrev pub layout_of : List ℕ → ℕ
 layout_of w = slice_index w 1
 
--- where the six words of a connection begin
+-- the offset of the first of the six words of connection i
 abbrev pub connection_place : ℕ → ℕ
 connection_place i = 9 + 6 * i
 
@@ -35,15 +35,15 @@ arr_of w i = slice_index w (connection_place i + 3)
 abbrev pub trip_of : List ℕ → ℕ → ℕ
 trip_of w i = slice_index w (connection_place i + 4)
 
--- its flags: bit 0 where passengers may board, bit 1 where they may alight
+-- its flags: bit 0 if passengers may board, bit 1 if they may alight
 abbrev pub flags_of : List ℕ → ℕ → ℕ
 flags_of w i = slice_index w (connection_place i + 5)
 
--- word s of the foot index: the place of the first footpath into stop s, behind the last into the stop before
+-- word s of the foot index: the index of the first footpath into stop s, which follows the last one into the stops before
 abbrev pub foot_index_of : List ℕ → ℕ → ℕ
 foot_index_of w s = slice_index w (foot_index_place (header_of w) + s)
 
--- the stop that the footpath at place k leaves
+-- the stop that the footpath at index k leaves
 abbrev pub foot_from_of : List ℕ → ℕ → ℕ
 foot_from_of w k = slice_index w (footpath_place (header_of w) + 2 * k)
 
@@ -59,6 +59,6 @@ name_index_of w i = slice_index w (name_index_place (header_of w) + i)
 abbrev pub day_of : List ℕ → ℕ → ℕ
 day_of w i = slice_index w (day_place (header_of w) + i)
 
--- which of its day's repeats trip i is. The first layout has no repeats: there each is 0
+-- which of its day's repeats trip i is: 0 in the first layout, which has no repeats
 abbrev pub repeat_of : List ℕ → ℕ → ℕ
 repeat_of w i = if layout_of w == LAYOUT then slice_index w (repeat_place (header_of w) + i) else 0

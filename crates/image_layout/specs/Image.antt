@@ -19,9 +19,9 @@ pub record NamesFit (t : TimetableValue) (n : NamesValue) : Type 0 where
   pub trip_names : length n.trips ≡ t.trips
   -- each is UTF-8
   pub utf8 : (i : ℕ) (name : List ℕ) → At (name_list n) i name → IsUtf8 name
-  -- they aren't too long together
+  -- together they are no longer than the limit
   pub bytes : length (text n) ≤ MAX_NAME_BYTES
-  -- a service day and a repeat are a word each, and the base two words
+  -- each service day and each repeat fits a word, and the base two words
   pub days : (i : ℕ) (trip : TripNameValue) → At n.trips i trip → trip.day < 2 ^ 32
   pub repeats : (i : ℕ) (trip : TripNameValue) → At n.trips i trip → trip.repeat < 2 ^ 32
   pub base : FitsSigned w64 n.base
@@ -32,7 +32,7 @@ pub record HasImage (t : TimetableValue) (n : NamesValue) : Type 0 where
   pub limits : IsWithinLimits t
   pub names : NamesFit t n
 
--- no trip is a repeat of another: what the first layout can hold
+-- no trip is a repeat, as the first layout requires
 abbrev pub AreFirst : NamesValue → Type 0
 AreFirst n = All (λ (trip : TripNameValue). trip.repeat ≡ 0) n.trips
 
@@ -43,7 +43,7 @@ pub record IsImage (w : List ℕ) (t : TimetableValue) (n : NamesValue) : Type 0
   pub first : layout_of w ≡ FIRST_LAYOUT → AreFirst n
   pub spelled : w ≡ image_in (layout_of w) t n
 
--- what an image holds, and the layout that its words name: these three have one spelling
+-- what an image holds, and the layout that its words name: together they have at most one spelling
 pub record ImageValue : Type 0 where
   pub layout : ℕ
   pub timetable : TimetableValue

@@ -1,4 +1,4 @@
--- Two small timetables with their names, and words of the second, in each layout.
+-- Two small timetables with their names, and the words of the second in each layout.
 use Rattle.std.specs.Prelude.{◌≡◌, ℕ, List, [], ◌∷◌, ◌++◌, true, false, pos, negsuc, codes}
 use Rattle.timetable.specs.TimetableValue.{TimetableValue}
 use Rattle.timetable.specs.declared.network.Connection.{Connection}
@@ -16,7 +16,7 @@ open_connection from to dep arr trip = record { from = from; to = to; dep = dep;
 abbrev free_change : ℕ → Footpath
 free_change stop = record { from = stop; to = stop; secs = 0 }
 
--- three stops, two trips of two connections and of one, and the loops
+-- three stops, a trip of two connections and a trip of one, and the loops
 abbrev pub sample_timetable : TimetableValue
 sample_timetable = record {
   stops = 3;
@@ -25,7 +25,7 @@ sample_timetable = record {
   footpaths = free_change 0 ∷ free_change 1 ∷ free_change 2 ∷ [];
 }
 
--- its times count from 2024-01-15T00:00:00Z
+-- its names; times count from 2024-01-15T00:00:00Z
 abbrev pub sample_names : NamesValue
 sample_names = record {
   base = pos 1705276800;
@@ -33,14 +33,14 @@ sample_names = record {
   trips = record { name = codes "T1"; day = 20240115; repeat = 0 } ∷ record { name = codes "T2"; day = 20240115; repeat = 0 } ∷ [];
 }
 
--- the words are their image in this layout, and show them
+-- the words are the image of the sample and its names in this layout, and show them
 pub record IsSampleIn (number : ℕ) (words : List ℕ) : Type 0 where
   pub image : IsImage words sample_timetable sample_names
   pub layout : layout_of words ≡ number
   pub timetable : timetable_of words ≡ sample_timetable
   pub names : names_of words ≡ sample_names
 
--- connections for boarding alone, for alighting alone and for both, and walks between the two stops
+-- a connection for boarding only, one for alighting only and one for both, and footpaths between the two stops
 abbrev pub early_timetable : TimetableValue
 early_timetable = record {
   stops = 2;
@@ -56,7 +56,7 @@ early_timetable = record {
       ∷ record { from = 1; to = 1; secs = 90 } ∷ [];
 }
 
--- its times count from 1969-12-31T00:00:00Z; a stop has no name; the first trip is a first or a repeat
+-- its names; times count from 1969-12-31T00:00:00Z, a stop has an empty name, and the first trip has this repeat
 abbrev names_with : ℕ → NamesValue
 names_with repeat = record {
   base = negsuc 86399;
@@ -67,11 +67,11 @@ names_with repeat = record {
 abbrev pub early_names : NamesValue
 early_names = names_with 0
 
--- the same trips as repeats of others
+-- the same names, but the first trip is repeat 5 of its day
 abbrev pub repeated_names : NamesValue
 repeated_names = names_with 5
 
--- worked out by hand, a section a line: in a layout, with what it has of repeats before the text
+-- the words of its image in a layout, worked out by hand, a line for each section; the repeats, if any, come before the text
 abbrev words_with : ℕ → List ℕ → List ℕ
 words_with layout repeats =
     1346458435 ∷ layout ∷ 2 ∷ 2 ∷ 3 ∷ 4 ∷ 9 ∷ 4294880896 ∷ 4294967295
@@ -86,6 +86,6 @@ words_with layout repeats =
 abbrev pub early_words : List ℕ
 early_words = words_with 1 []
 
--- in the one that is written
+-- in the layout that is written
 abbrev pub repeated_words : List ℕ
 repeated_words = words_with 2 (5 ∷ 0 ∷ [])

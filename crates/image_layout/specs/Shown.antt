@@ -11,7 +11,7 @@ use Rattle.image_layout.specs.Fields.{from_of, to_of, dep_of, arr_of, trip_of, f
 use Rattle.image_layout.specs.Fields.{foot_secs_of, name_index_of, day_of, repeat_of}
 use Rattle.image_layout.specs.Text.{padded_text_of}
 
--- connection i: of its flags 1 lets passengers board, and 2 alight
+-- connection i: flag 1 lets passengers board, and flag 2 lets them alight
 abbrev pub connection_of : List ℕ → ℕ → Connection
 connection_of w i = record {
   from = from_of w i;
@@ -26,7 +26,7 @@ connection_of w i = record {
 unfoldable pub connections_of : List ℕ → List Connection
 connections_of w = map (connection_of w) (range_with_len 0 (header_of w).connections)
 
--- the footpath at place k, which leads into stop s
+-- the footpath at index k, which leads into stop s
 abbrev pub footpath_of : List ℕ → ℕ → ℕ → Footpath
 footpath_of w s k = record { from = foot_from_of w k; to = s; secs = foot_secs_of w k }
 
@@ -49,7 +49,7 @@ name_count w = (header_of w).stops + (header_of w).trips
 abbrev pub name_of : List ℕ → ℕ → List ℕ
 name_of w i = slice_range (padded_text_of w) (name_index_of w i) (name_index_of w (i + 1))
 
--- trips' names stand after those of the stops
+-- the name of trip t; the names of trips come after those of the stops
 abbrev pub trip_name_of : List ℕ → ℕ → TripNameValue
 trip_name_of w t = record { name = name_of w ((header_of w).stops + t); day = day_of w t; repeat = repeat_of w t }
 

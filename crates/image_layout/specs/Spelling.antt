@@ -8,7 +8,7 @@ use Rattle.timetable.specs.TimetableValue.{TimetableValue}
 use Rattle.image_layout.specs.declared.layout.TheConstants.{MAGIC, LAYOUT}
 use Rattle.timetable.specs.NamesValue.{NamesValue, TripNameValue}
 
--- boarding counts one, alighting two
+-- the flags of a connection: 1 for boarding and 2 for alighting
 abbrev pub flags : Connection → ℕ
 flags c = (if c.board then 1 else 0) + (if c.alight then 2 else 0)
 
@@ -20,11 +20,11 @@ connection_words c = c.from ∷ c.to ∷ c.dep ∷ c.arr ∷ c.trip ∷ flags c 
 abbrev pub footpath_count_below : List Footpath → ℕ → ℕ
 footpath_count_below paths s = count_by (λ f. nat_lt f.to s) paths
 
--- a word for each stop, and one more: how many footpaths lead into the stops before it
+-- the foot index: for each stop how many footpaths lead into the stops before it, and then how many lead into all stops
 abbrev pub foot_index : TimetableValue → List ℕ
 foot_index p = map (footpath_count_below p.footpaths) (range_with_len 0 (p.stops + 1))
 
--- the two words of a footpath; the foot index tells the stop that it leads into
+-- the two words of a footpath; the foot index says which stop it leads into
 abbrev pub footpath_words : Footpath → List ℕ
 footpath_words f = f.from ∷ f.secs ∷ []
 
@@ -32,19 +32,19 @@ footpath_words f = f.from ∷ f.secs ∷ []
 abbrev pub name_list : NamesValue → List (List ℕ)
 name_list n = n.stops ++ map (λ (t : TripNameValue). t.name) n.trips
 
--- how many bytes stand before name i
+-- how many bytes come before name i
 abbrev pub byte_count_before : List (List ℕ) → ℕ → ℕ
 byte_count_before ns i = length (concat (take i ns))
 
--- a word for each name, and one more: how many bytes stand before it
+-- the name index: for each name how many bytes come before it, and then how many bytes there are
 abbrev pub name_index : NamesValue → List ℕ
 name_index n = map (byte_count_before (name_list n)) (range_with_len 0 (length (name_list n) + 1))
 
--- the bytes of all names, one behind another
+-- the bytes of all names, one after the other
 abbrev pub text : NamesValue → List ℕ
 text n = concat (name_list n)
 
--- four bytes a word, least first; the spare bytes of the last word are 0
+-- bytes as words, four to a word, the least significant first; the spare bytes of the last word are 0
 unfoldable pub text_words : List ℕ → List ℕ
 text_words [] = []
 text_words (a ∷ []) = from_le_bytes w32 (a ∷ 0 ∷ 0 ∷ 0 ∷ []) ∷ []

@@ -1,4 +1,4 @@
--- Words as bytes, each word in four bytes, least first.
+-- Words as bytes: each word is four bytes, the least significant first.
 use Rattle.std.specs.Prelude.{ℕ, List, drop}
 use Rattle.std.specs.List.{flat_map}
 use Rattle.std.specs.Int.{w32, to_le_bytes}

@@ -1,4 +1,4 @@
--- What the words of an image give to those who read its departures.
+-- What the words of an image say of its departures.
 use Rattle.std.proofs.Common.{◌≡◌, ℕ, ◌<◌, List, length, sym, ap, subst, ◌∙◌, arith}
 use Rattle.timetable.specs.declared.network.Connection.{Connection}
 use Rattle.timetable.specs.TimetableValue.{TimetableValue}

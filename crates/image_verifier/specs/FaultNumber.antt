@@ -1,4 +1,4 @@
--- The numbers and names by which faults are told.
+-- The numbers and names of faults.
 use Rattle.std.specs.Prelude.{ℕ, List, codes}
 use Rattle.image_verifier.specs.declared.fault.ImageFault.{ImageFault}
 use Rattle.image_verifier.specs.declared.fault.ImageFault.TheVariants.{BadMagic, BadLayout, BadLength, StopRange}

@@ -26,13 +26,13 @@ header_fault w =
     else (if is_too_large (header_of w) || not (length w == word_count (header_of w)) then Some BadLength
     else None)))
 
--- the first fault behind the header
+-- the first fault after the header
 unfoldable pub section_fault : List ℕ → Option ImageFault
 section_fault w = or_else (connections_fault w) (or_else (footpaths_fault w) (or_else (closure_fault w) (names_fault w)))
 
 unfoldable pub first_fault : List ℕ → Option ImageFault
 first_fault w = or_else (header_fault w) (section_fault w)
 
--- the fault is the first one; want of memory may be told where the header has none
+-- the fault is the first one, or OutOfMemory, which comes only if the header has no fault
 abbrev pub Tells : List ℕ → ImageFault → Type 0
 Tells w f = (first_fault w ≡ Some f) ⊎ ((f ≡ OutOfMemory) × (header_fault w ≡ None))

@@ -1,4 +1,4 @@
--- What can be wrong with the names, in the order in which it is told.
+-- What can be wrong with the names, in the order in which it is looked for.
 use Rattle.std.specs.Prelude.{ℕ, ◌+◌, Bool, not, ◌||◌, ◌&&◌, ◌==◌, nat_lt, List, drop, Option, Some, None, if◌then◌else◌}
 use Rattle.std.specs.List.{list_all}
 use Rattle.std.specs.Str.{is_utf8}
@@ -10,7 +10,7 @@ use Rattle.image_verifier.specs.declared.fault.ImageFault.{ImageFault}
 use Rattle.image_verifier.specs.declared.fault.ImageFault.TheVariants.{BadNames}
 use Rattle.timetable.specs.First.{or_else, first_below}
 
--- the bytes of name i are no range of bytes
+-- the name index has no range for name i, or doesn't begin with 0
 abbrev pub is_bad_name_range : List ℕ → ℕ → Bool
 is_bad_name_range w i = (i == 0 && not (name_index_of w 0 == 0)) || nat_lt (name_index_of w (i + 1))
     (name_index_of w i) || nat_lt (header_of w).name_bytes (name_index_of w (i + 1))
@@ -19,7 +19,8 @@ is_bad_name_range w i = (i == 0 && not (name_index_of w 0 == 0)) || nat_lt (name
 unfoldable pub name_fault : List ℕ → ℕ → Option ImageFault
 name_fault w i = if is_bad_name_range w i || not (is_utf8 (name_of w i)) then Some (BadNames i) else None
 
--- the names end with the text, begin with 0 also where there is no name, and the spare bytes are 0
+-- the fault of the whole: the name index must end with the number of bytes, and begin with 0 even if there are no names, and the spare bytes
+-- must be 0
 unfoldable pub names_end_fault : List ℕ → Option ImageFault
 names_end_fault w =
     if not (name_index_of w (name_count w) == (header_of w).name_bytes) || not (name_index_of w 0 == 0) || not

@@ -1,9 +1,9 @@
 //! Judges whether two footpaths end to end are ever shorter than the direct one.
 //!
-//! For each stop, the seconds of the footpaths into it are put into a table, each at the stop that
-//! the footpath leaves. Then each footpath into where one of these begins is compared with one
-//! entry. So the whole takes time in the number of pairs of footpaths end to end, and a word for
-//! each stop.
+//! For each stop, a table gets the seconds of the footpaths into it, each at the stop that the
+//! footpath leaves. Then, for each of these, every footpath into the stop that it leaves is compared
+//! with one entry. So the time is proportional to the number of pairs of footpaths end to end, and
+//! the table has a word for each stop.
 
 ghost use Rattle.std.specs.Prelude.{◌≡◌, ◌<◌, ◌+◌, replicate, IfNone};
 ghost use Rattle.image_layout.specs.Places.{IsWhole, header_of};
@@ -15,10 +15,10 @@ ghost use Rattle.image_verifier.specs.ClosureFaults.{way_fault, into_fault, clos
 use crate::fault::ImageFault;
 use image_layout::{Header, foot_from_at, foot_index_at, foot_secs_at};
 
-/// The entry of a stop from where no footpath leads: more seconds than any two footpaths take.
+/// The entry of a stop that no footpath leaves: more seconds than any two footpaths take together.
 pub const NEVER: u32 = 4_294_967_295;
 
-// Puts the seconds of the footpaths into a stop into a table without entries.
+// Enters the seconds of the footpaths into stop `into` in an empty table.
 fn enter_row(words: &[u32], into: usize, secs: &mut [u32])
     requires whole { IsWhole words.now }
     requires ranges { HasFootRanges words.now }
@@ -31,7 +31,7 @@ fn enter_row(words: &[u32], into: usize, secs: &mut [u32])
     }
 }
 
-// Takes them out again.
+// Empties the table again.
 fn clear_row(words: &[u32], into: usize, secs: &mut [u32])
     requires whole { IsWhole words.now }
     requires ranges { HasFootRanges words.now }
@@ -44,7 +44,7 @@ fn clear_row(words: &[u32], into: usize, secs: &mut [u32])
     }
 }
 
-// The first fault from any stop by way of where a second footpath begins, which leads into a stop.
+// The first fault of two footpaths end to end into stop `into`, of which the second is at index `second`.
 fn way_fault(words: &[u32], into: usize, second: usize, secs: &[u32]) -> Option<ImageFault>
     requires whole { IsWhole words.now }
     requires ranges { HasFootRanges words.now }
@@ -63,8 +63,8 @@ fn way_fault(words: &[u32], into: usize, second: usize, secs: &[u32]) -> Option<
     None
 }
 
-// The first fault from any stop by way of any stop into a stop. The table has no entries before,
-// and none behind where there is no fault.
+// The first fault of two footpaths end to end into stop `into`. The table is empty before and, if
+// there is no fault, afterwards.
 fn into_fault(words: &[u32], into: usize, secs: &mut [u32]) -> Option<ImageFault>
     requires whole { IsWhole words.now }
     requires ranges { HasFootRanges words.now }
@@ -83,7 +83,8 @@ fn into_fault(words: &[u32], into: usize, secs: &mut [u32]) -> Option<ImageFault
     None
 }
 
-/// The first two footpaths end to end that are shorter than the direct one, over a table without entries.
+/// The first fault of the closure: two footpaths end to end that are shorter than the direct one, or
+/// without a direct one. The table `secs` is empty.
 pub fn closure_fault(words: &[u32], secs: &mut [u32]) -> Option<ImageFault>
     requires whole { IsWhole words.now }
     requires ranges { HasFootRanges words.now }

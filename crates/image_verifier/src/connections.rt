@@ -9,7 +9,7 @@ use crate::fault::ImageFault;
 use image_layout::{Header, arr_at, dep_at, flags_at, from_at, to_at, trip_at};
 use timetable::limits::TIME_END;
 
-// The fault of connection i by itself.
+// The fault of connection `i` by itself, without a look at others.
 fn own_fault(words: &[u32], i: usize) -> Option<ImageFault>
     requires whole { IsWhole words.now }
     requires within { i < (header_of words.now).connections }
@@ -39,7 +39,7 @@ pub struct TripEnd {
 }
 
 impl TripEnd {
-    /// What stands where a trip has no connection yet: no connection arrives at 0.
+    /// The entry of a trip that has no connection yet. Its arrival is 0, and no connection arrives at 0.
     pub fn none() -> TripEnd
         ensures { result ≡ record { stop = 0; arr = 0 } }
     {
@@ -47,7 +47,8 @@ impl TripEnd {
     }
 }
 
-// Whether connection i doesn't go on from where and when the trip's connection before it ended.
+// Whether connection `i` leaves another stop than the one where its trip's connection before it ended, or
+// departs before that one arrived.
 fn is_break(words: &[u32], i: usize, end: TripEnd) -> bool
     requires whole { IsWhole words.now }
     requires within { i < (header_of words.now).connections }
@@ -56,7 +57,8 @@ fn is_break(words: &[u32], i: usize, end: TripEnd) -> bool
     end.arr != 0 && (end.stop != from_at(words, i) || dep_at(words, i) < end.arr)
 }
 
-// The fault of connection i beside the one before it, where it is known whether it breaks its trip.
+// The fault of connection `i` in its place: it departs before the connection before it, or breaks its
+// trip, as `broken` says.
 fn place_fault(words: &[u32], i: usize, broken: bool) -> Option<ImageFault>
     requires whole { IsWhole words.now }
     requires within { i < (header_of words.now).connections }
@@ -71,7 +73,7 @@ fn place_fault(words: &[u32], i: usize, broken: bool) -> Option<ImageFault>
     }
 }
 
-// The fault of connection i, over a table of where and when each trip's last connection before i ended.
+// The fault of connection `i`, given where and when each trip's last connection before it ended.
 fn connection_fault(words: &[u32], i: usize, ends: &[TripEnd]) -> Option<ImageFault>
     requires whole { IsWhole words.now }
     requires within { i < (header_of words.now).connections }
@@ -88,7 +90,7 @@ fn connection_fault(words: &[u32], i: usize, ends: &[TripEnd]) -> Option<ImageFa
     }
 }
 
-/// The first fault of the connections, over a table with no end for each trip.
+/// The first fault of the connections. The table has `TripEnd::none()` for each trip.
 pub fn connections_fault(words: &[u32], ends: &mut [TripEnd]) -> Option<ImageFault>
     requires whole { IsWhole words.now }
     requires table { ends.old ≡ replicate (header_of words.now).trips (record { stop = 0; arr = 0 }) }

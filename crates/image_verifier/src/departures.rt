@@ -9,7 +9,7 @@ use crate::verified::Verified;
 use image_layout::dep_at;
 use timetable::Trace;
 
-/// The departures of an image. No code but `read` gets at them, so that none is read unseen.
+/// The departures of an image. Only `read` returns one, so each that is read is noted.
 #[derive(Drop)]
 pub struct Departures<'a> {
     image: &'a Verified,
@@ -20,12 +20,12 @@ pub struct Departures<'a> {
 impl<'a> Departures<'a> {
     ghost use Rattle.image_verifier.specs.Departing.{image_of, reads_of};
 
-    /// Those of the image, of which none was read.
+    /// The departures of the image, before any was read.
     pub fn of(image: &'a Verified) -> Departures<'a>
         ensures image { image_of result ≡ image.now }
         ensures reads { reads_of result ≡ [] }
     {
-        // Says of the image what each one keeps: its timetable is legal.
+        // The contract of this call says that the timetable is legal.
         image.stops();
         Departures {
             image,
@@ -40,7 +40,7 @@ impl<'a> Departures<'a> {
         self.image.len()
     }
 
-    /// The departure of the connection at a place, from its one word.
+    /// The departure of the connection at index `place`, in seconds after the base. The read is noted.
     pub fn read(&mut self, place: usize) -> u32
         requires { place < length (image_of self.old).timetable.connections }
         ensures departure { result ≡ (connection_at (image_of self.old).timetable place).dep }

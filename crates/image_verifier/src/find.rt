@@ -1,4 +1,4 @@
-//! The names of an image, and the stop of a name.
+//! The lengths of an image's names, and the stop that has a name.
 
 ghost use Rattle.std.specs.Prelude.{◌≡◌, ◌≢◌, ◌<◌, ◌↔◌, ℕ, length, IsTrue, IfSome, IfNone};
 ghost use Rattle.image_layout.specs.Places.{header_of};
@@ -7,7 +7,7 @@ ghost use Rattle.image_verifier.specs.Accepted.{IsAccepted};
 
 use image_layout::{Header, name_byte_at, name_index_at};
 
-/// How many bytes a name has.
+/// The number of bytes of a name.
 pub fn name_len_at(words: &[u32], name: usize) -> usize
     requires accepted { IsAccepted words.now }
     requires within { name < name_count words.now }
@@ -16,7 +16,7 @@ pub fn name_len_at(words: &[u32], name: usize) -> usize
     (name_index_at(words, name + 1) - name_index_at(words, name)) as usize
 }
 
-// Whether a name is these bytes. Its length tells most names apart, and then its first byte.
+// Whether a name is these bytes. Most other names differ in their length or their first byte.
 fn is_name(words: &[u32], name: usize, bytes: &[u8]) -> bool
     requires accepted { IsAccepted words.now }
     requires within { name < name_count words.now }
@@ -33,7 +33,7 @@ fn is_name(words: &[u32], name: usize, bytes: &[u8]) -> bool
     true
 }
 
-/// The least stop whose name is these bytes.
+/// The lowest stop whose name is these bytes, if there is one.
 pub fn stop_named(words: &[u32], bytes: &[u8]) -> Option<u32>
     requires { IsAccepted words.now }
     ensures found { IfSome result (λ s. (s < (header_of words.now).stops) × (name_of words.now s ≡ bytes.now)) }

@@ -106,7 +106,7 @@ fn foot_fault(words: &[u32], stop: usize) -> Option<ImageFault>
     }
 }
 
-/// The first fault of the footpaths, closure aside.
+/// The first fault of the footpaths, apart from those of the closure.
 #[tactic(auto, using(timetable::proofs::FirstLemmas::searches))]
 pub fn footpaths_fault(words: &[u32]) -> Option<ImageFault>
     requires { IsWhole words.now }

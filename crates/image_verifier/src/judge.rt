@@ -48,8 +48,8 @@ fn header_fault(words: &[u32]) -> Option<ImageFault>
     None
 }
 
-// What is judged after all memory was taken: tables with no end for each trip and no
-// seconds for each stop, and the text of the names.
+// The first fault after the header. All memory has been taken: `ends` and `secs` are empty tables for
+// trips and stops, and `text` is the bytes of the names, with the spare ones.
 #[tactic(auto, unfolding(crate::specs::FirstFault::section_fault))]
 fn section_fault(
     words: &[u32],
@@ -75,7 +75,8 @@ fn section_fault(
     names_fault(words, text)
 }
 
-/// The first fault of the words.
+/// Judges the words. The error is their first fault, or `OutOfMemory`, which comes only if the header has
+/// no fault.
 #[tactic(auto, unfolding(crate::specs::FirstFault::first_fault))]
 pub fn judge(alloc: Global, words: &[u32]) -> Result<(), ImageFault>
     ensures judged { MatchResult result (λ _. IsAccepted words.now) (Tells words.now) }

@@ -69,7 +69,7 @@ fn names_end_fault(words: &[u32], text: &[u8]) -> Option<ImageFault>
     None
 }
 
-/// The first fault of the names, whose bytes with the spare ones are the text.
+/// The first fault of the names. The text is the bytes of all names, with the spare bytes of the last word.
 #[tactic(auto, using(timetable::proofs::FirstLemmas::searches))]
 pub fn names_fault(words: &[u32], text: &[u8]) -> Option<ImageFault>
     requires whole { IsWhole words.now }

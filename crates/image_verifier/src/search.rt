@@ -1,4 +1,4 @@
-//! The first departure at a time or later, by few reads.
+//! Finds the first departure at a time or later, with few reads.
 
 ghost use Rattle.std.specs.Prelude.{◌≡◌};
 ghost use Rattle.image_verifier.specs.Departing.{image_of, reads_of};
@@ -7,11 +7,12 @@ ghost use Rattle.image_verifier.specs.Searches.{FindsByFew};
 
 use crate::departures::Departures;
 
-/// The least place whose connection departs at the time or later, else the number of connections.
+/// The index of the first connection that departs at `time` or later, or the number of connections if
+/// none does.
 ///
-/// It is lent nothing but the departures, which note each one that it reads: at most as many as the
-/// number of connections has binary digits: of the 20,000,000 that an image may have, 25; of none,
-/// none. Each departure read halves the places that are left.
+/// Each departure that is read halves the range that is left. So at most as many are read as the
+/// number of connections has binary digits: 25 for the 20,000,000 that an image may have, and none
+/// for none. `departures` notes each of them.
 pub fn first_departure(departures: &mut Departures<'_>, time: u32) -> usize
     ensures same { image_of departures.new ≡ image_of departures.old }
     ensures first { IsFirstAt (image_of departures.old).timetable time result }

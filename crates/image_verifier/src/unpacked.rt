@@ -1,4 +1,4 @@
-//! The timetable and the names of an image as values of their own, for who writes it anew.
+//! Copies an image's timetable and names, so that the image can be written again.
 
 ghost use Rattle.std.specs.Prelude.{◌≡◌, ◌<◌, ◌++◌, map, string_bytes, IfOk, OnOk};
 ghost use Rattle.image_layout.specs.Places.{header_of};

@@ -56,8 +56,8 @@ impl Model for Verified {
     ghost invariant = { λ v. IsAccepted v.words.items };
 }
 
-/// The words as an image, or the words again with their first fault. Every image is accepted,
-/// unless memory runs out: all that is wanted is taken after the header was judged and before
+/// Returns the words as an image, or gives them back with their first fault. Every image is
+/// accepted, unless memory runs out. All memory is taken after the header is judged and before
 /// anything else is.
 pub fn verify(alloc: Global, words: Vec<u32>) -> Result<Verified, (Vec<u32>, ImageFault)>
     ensures shown { IfOk result (λ v. IsImage words.items v.timetable v.names) }
@@ -73,7 +73,7 @@ pub fn verify(alloc: Global, words: Vec<u32>) -> Result<Verified, (Vec<u32>, Ima
     }
 }
 
-// The stop whose footpaths have the place among them.
+// The stop that the footpath at index `place` leads into, found by a binary search.
 fn stop_of(words: &[u32], place: usize) -> usize
     requires whole { IsWhole words.now }
     requires start { foot_index_of words.now 0 ≤ place }
@@ -95,7 +95,7 @@ fn stop_of(words: &[u32], place: usize) -> usize
     low
 }
 
-// The footpath at a place among those into a stop.
+// The footpath at index `place`, which is one of those into `stop`.
 fn footpath_of_stop(words: &[u32], stop: usize, place: usize) -> Footpath
     requires accepted { IsAccepted words.now }
     requires stop { stop < (header_of words.now).stops }
@@ -110,7 +110,7 @@ fn footpath_of_stop(words: &[u32], stop: usize, place: usize) -> Footpath
     }
 }
 
-// The footpath at a place.
+// The footpath at index `place`.
 fn footpath_at(words: &[u32], place: usize) -> Footpath
     requires accepted { IsAccepted words.now }
     requires within { place < (header_of words.now).footpaths }
@@ -120,7 +120,8 @@ fn footpath_at(words: &[u32], place: usize) -> Footpath
 }
 
 impl Verified {
-    /// How many stops there are; and what each image keeps: a legal timetable and names, within the limits.
+    /// How many stops there are. The contract also says what holds of every image: its timetable is legal
+    /// and within the limits, and its names fit the timetable.
     pub fn stops(&self) -> u32
         ensures stops { result ≡ self.now.timetable.stops }
         ensures kept { HasImage self.now.timetable self.now.names }
@@ -142,7 +143,7 @@ impl Verified {
         Header::of(&self.words).connections as usize
     }
 
-    /// The connection with this number, from 0 on.
+    /// The connection at index `i`.
     pub fn connection(&self, i: usize) -> Connection
         requires { i < length self.now.timetable.connections }
         ensures { slice_get self.now.timetable.connections i ≡ Some result }
@@ -150,22 +151,22 @@ impl Verified {
         connection_at(&self.words, i)
     }
 
-    /// The words, which are the image of the timetable and the names in its layout: those that were
-    /// verified, and no others (`image_layout::laws::one_spelling`).
+    /// The words that were verified: the timetable and the names have no others in this layout
+    /// (`image_layout::laws::one_spelling`).
     pub fn words(&self) -> &[u32]
         ensures { Spells result.now self.now }
     {
         &self.words
     }
 
-    /// The instant from which times count, in seconds.
+    /// The instant from which times count, in seconds after 1970-01-01T00:00:00Z.
     pub fn base(&self) -> i64
         ensures { result ≡ self.now.names.base }
     {
         base_at(&self.words)
     }
 
-    /// The places of the footpaths into a stop: from the first up to before the second.
+    /// The range of indices of the footpaths into a stop: its first index, and the one after its last.
     pub fn walks_into(&self, stop: usize) -> (usize, usize)
         requires { stop < self.now.timetable.stops }
         ensures order { result.0 ≤ result.1 }
@@ -180,8 +181,8 @@ impl Verified {
         )
     }
 
-    /// The first place from which on connections depart at the time or later, else the number of
-    /// connections. Few departures are read: see `first_departure`.
+    /// The index of the first connection that departs at `time` or later, or the number of connections
+    /// if none does. Few departures are read: see `first_departure`.
     pub fn first_at(&self, time: u32) -> usize
         ensures within { result ≤ length self.now.timetable.connections }
         ensures before { (k : ℕ) (c : Connection) → k < result → At self.now.timetable.connections k c → c.dep < time }
@@ -197,8 +198,8 @@ impl Verified {
         Header::of(&self.words).footpaths as usize
     }
 
-    /// The footpath at a place among those into a stop, as `walks_into` tells them: two words are
-    /// read, nothing is searched.
+    /// The footpath at index `place`, which is in the range that `walks_into` returns for `stop`. Its
+    /// two words are read, and nothing is searched.
     pub fn footpath_into(&self, stop: usize, place: usize) -> Footpath
         requires stop { stop < self.now.timetable.stops }
         requires place { place < length self.now.timetable.footpaths }
@@ -208,7 +209,8 @@ impl Verified {
         footpath_of_stop(&self.words, stop, place)
     }
 
-    /// The footpath at a place. Its stop is searched for: see `footpath_into`.
+    /// The footpath at index `place`. The stop that it leads into is searched for; `footpath_into` is
+    /// faster if that is known.
     pub fn footpath(&self, place: usize) -> Footpath
         requires { place < length self.now.timetable.footpaths }
         ensures { slice_get self.now.timetable.footpaths place ≡ Some result }
@@ -216,7 +218,7 @@ impl Verified {
         footpath_at(&self.words, place)
     }
 
-    /// The least stop of a name.
+    /// The lowest stop that has this name, if any has it.
     pub fn find(&self, name: &[u8]) -> Option<u32>
         ensures found { IfSome result (λ s. At self.now.names.stops s name.now) }
         ensures least { IfSome result (λ s. (k : ℕ) → k < s → ¬ At self.now.names.stops k name.now) }
@@ -225,7 +227,7 @@ impl Verified {
         stop_named(&self.words, name)
     }
 
-    /// How many bytes a name has. Names are numbered: those of the stops, and then those of the trips.
+    /// The number of bytes of name `i`. The names of the stops come first, then those of the trips.
     pub fn name_len(&self, i: usize) -> usize
         requires { i < self.now.timetable.stops + self.now.timetable.trips }
         ensures { (name : List ℕ) → At (name_list self.now.names) i name → result ≡ length name }
@@ -233,7 +235,7 @@ impl Verified {
         name_len_at(&self.words, i)
     }
 
-    /// A byte of a name.
+    /// Byte `j` of name `i`.
     pub fn name_byte(&self, i: usize, j: usize) -> u8
         requires name { i < self.now.timetable.stops + self.now.timetable.trips }
         requires byte { (name : List ℕ) → At (name_list self.now.names) i name → j < length name }
@@ -258,8 +260,8 @@ impl Verified {
         repeat_at(&self.words, trip)
     }
 
-    /// The timetable and the names as values of their own. This is the one call that takes memory,
-    /// and running out of it is its one error; the image stays as it is.
+    /// Copies of the timetable and the names. No other call on an image takes memory. The only error
+    /// is that memory runs out.
     pub fn to_timetable(&self, alloc: Global) -> Result<(Timetable, Names), AllocError>
         ensures timetable { IfOk result (λ made. made.0 ≡ self.now.timetable) }
         ensures names { IfOk result (λ made. made.1 ≡ self.now.names) }

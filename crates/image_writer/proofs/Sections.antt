@@ -1,4 +1,4 @@
--- Eight sections, each behind those before it, are an image.
+-- Eight sections, one after the other, are an image.
 use Rattle.std.proofs.Common.{◌≡◌, ℕ, List, [], ◌++◌, map, refl, sym, ap, subst, ◌∙◌, arith}
 use Rattle.std.specs.List.{flat_map}
 use Rattle.std.proofs.lemmas.List.{append_assoc}

@@ -1,4 +1,4 @@
--- A text in pieces: what of it fills words, and what waits for more bytes.
+-- A text while it is written: the bytes that fill words, and those that wait for more.
 use Rattle.std.specs.Prelude.{ℕ, List, [], ◌∷◌}
 use Rattle.std.specs.Int.{w32, from_le_bytes}
 use Rattle.image_writer.specs.declared.text.Waiting.{Waiting}
@@ -12,7 +12,7 @@ full_words (a ∷ b ∷ []) = []
 full_words (a ∷ b ∷ c ∷ []) = []
 full_words (a ∷ b ∷ c ∷ d ∷ rest) = from_le_bytes w32 (a ∷ b ∷ c ∷ d ∷ []) ∷ full_words rest
 
--- the bytes behind them
+-- the bytes after them
 abbrev pub rest_of : List ℕ → List ℕ
 rest_of [] = []
 rest_of (a ∷ []) = a ∷ []

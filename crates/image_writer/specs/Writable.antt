@@ -7,8 +7,8 @@ use Rattle.timetable.specs.Legal.{IsLegal}
 use Rattle.timetable.specs.Limits.{IsWithinLimits}
 use Rattle.image_layout.specs.Spelling.{text}
 
--- a legal timetable within the limits, and a name for each stop and each trip that are not too long together;
--- that names are UTF-8, days and repeats words and the base two words is so by their types
+-- a legal timetable within the limits, and a name for each stop and each trip, together no longer than the limit;
+-- their types ensure that names are UTF-8, that each day and each repeat fits a word, and the base two words
 pub record IsWritable (t : TimetableValue) (n : NamesValue) : Type 0 where
   pub legal : IsLegal t
   pub limits : IsWithinLimits t

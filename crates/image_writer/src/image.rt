@@ -1,4 +1,4 @@
-//! An image, section by section.
+//! Writes an image, section by section.
 
 ghost use Rattle.std.specs.Prelude.{FitsSigned, ◌≡◌, ◌++◌, IfOk, OnOk};
 ghost use Rattle.std.specs.Int.{w64};
@@ -17,12 +17,11 @@ use image_layout::layout::{LAYOUT, MAGIC};
 use std::alloc::{AllocError, Global};
 use timetable::{Names, Timetable};
 
-/// The image of a timetable and its names in the layout that is written, of which there is exactly one.
+/// The image of a timetable and its names in the layout that is written. There is exactly one.
 ///
-/// The timetable is legal and within the limits, with its footpaths by the stop led into, then by
-/// the stop left; there is a name for each stop and each trip, and together they have at most
-/// `MAX_NAME_BYTES` bytes. All memory is taken at once, before the first word, and want of it is
-/// the one error.
+/// The timetable is legal and within the limits. There is a name for each stop and each trip, and
+/// together the names have at most `MAX_NAME_BYTES` bytes. All memory is taken before the first
+/// word is written. The only error is that memory runs out.
 pub fn write(alloc: Global, timetable: &Timetable, names: &Names) -> Result<Vec<u32>, AllocError>
     requires { IsWritable timetable.now names.now }
     ensures image { IfOk result (λ words. IsImage words.items timetable.now names.now) }
@@ -40,7 +39,7 @@ pub fn write(alloc: Global, timetable: &Timetable, names: &Names) -> Result<Vec<
     Ok(words)
 }
 
-/// The layout that is written, and how many there are of each.
+/// The header: the layout that is written, and the counts of the timetable and its names.
 fn counts(timetable: &Timetable, names: &Names) -> Header
     requires { IsWritable timetable.now names.now }
     ensures { result ≡ counts_of timetable.now names.now }
@@ -55,7 +54,7 @@ fn counts(timetable: &Timetable, names: &Names) -> Header
     }
 }
 
-/// What the image is, its counts, and the base as two words, the lower one first.
+/// Adds the header: the magic word, the layout, the counts, and the base as two words, the lower one first.
 fn write_header(words: &mut Vec<u32>, counts: Header, names: &Names) -> Result<(), AllocError>
     ensures fits { FitsSigned w64 names.now.base }
     ensures written { (t : TimetableValue) → counts ≡ counts_of t names.now

@@ -1,4 +1,4 @@
-//! Names, and where each begins.
+//! Writes the name index, and the service days and repeats of trips.
 
 ghost use Rattle.std.specs.Prelude.{◌≡◌, ◌<◌, ◌≤◌, ◌^◌, ◌++◌, ℕ, length, map, slice_index, OnOk};
 ghost use Rattle.std.specs.Str.{IsUtf8};
@@ -10,14 +10,14 @@ ghost use Rattle.image_layout.specs.Spelling.{name_list, name_index, text};
 use std::alloc::AllocError;
 use timetable::{Names, TripName};
 
-/// How many names there are, of stops and of trips.
+/// The number of names, of stops and of trips.
 pub fn name_count(names: &Names) -> usize
     ensures { result ≡ length (name_list names.now) }
 {
     names.stops.len() + names.trips.len()
 }
 
-/// The bytes of name `i`. Those of stops come first.
+/// The bytes of name `i`. The names of stops come first, then those of trips.
 pub fn name_at(names: &Names, i: usize) -> &[u8]
     requires { i < length (name_list names.now) }
     ensures name { At (name_list names.now) i result.now }
@@ -32,7 +32,7 @@ pub fn name_at(names: &Names, i: usize) -> &[u8]
     trip.name.as_bytes()
 }
 
-/// How many bytes all names have.
+/// The number of bytes of all names together.
 pub fn text_len(names: &Names) -> usize
     requires { length (text names.now) ≤ MAX_NAME_BYTES }
     ensures { result ≡ length (text names.now) }
@@ -44,7 +44,7 @@ pub fn text_len(names: &Names) -> usize
     bytes
 }
 
-/// How many bytes stand before each name, and how many there are.
+/// Adds the name index: for each name the number of bytes before it, and then the number of all bytes.
 pub fn write_name_index(words: &mut Vec<u32>, names: &Names) -> Result<(), AllocError>
     requires { length (text names.now) ≤ MAX_NAME_BYTES }
     ensures { OnOk result (words.new.items ≡ words.old.items ++ name_index names.now) }
@@ -58,8 +58,8 @@ pub fn write_name_index(words: &mut Vec<u32>, names: &Names) -> Result<(), Alloc
     Ok(())
 }
 
-/// The service day of each trip, and then the repeat of each. Each of the words fits 32 bits: so do
-/// the days and the repeats.
+/// Adds the service day of each trip, and then the repeat of each. The contract also says that all words
+/// fit 32 bits.
 pub fn write_days_and_repeats(words: &mut Vec<u32>, trips: &[TripName]) -> Result<(), AllocError>
     ensures written { OnOk result (words.new.items
         ≡ (words.old.items ++ map (λ (t : TripNameValue). t.day) trips.now)

@@ -1,4 +1,4 @@
-//! Connections and footpaths.
+//! Writes connections and footpaths.
 
 ghost use Rattle.std.specs.Prelude.{◌≡◌, ◌+◌, ◌≤◌, ◌<◌, ◌^◌, ◌++◌, length, map, OnOk};
 ghost use Rattle.std.specs.List.{flat_map, range_with_len};
@@ -8,7 +8,7 @@ ghost use Rattle.image_layout.specs.Spelling.{connection_words, footpath_count_b
 use std::alloc::AllocError;
 use timetable::{Connection, Footpath};
 
-/// Six words for each connection.
+/// Adds six words for each connection.
 pub fn write_connections(words: &mut Vec<u32>, connections: &[Connection]) -> Result<(), AllocError>
     ensures { OnOk result (words.new.items ≡ words.old.items ++ flat_map connection_words connections.now) }
 {
@@ -34,7 +34,7 @@ fn connection_words(connection: &Connection) -> [u32; 6]
     ]
 }
 
-/// How many footpaths lead into stops below each stop, and how many there are.
+/// Adds the foot index: for each stop, and then for `stops`, the number of footpaths into the stops below it.
 pub fn write_foot_index(
     words: &mut Vec<u32>,
     stops: u32,
@@ -54,7 +54,7 @@ pub fn write_foot_index(
     Ok(())
 }
 
-/// How many footpaths lead into stops below `stop`, of which `place` are known.
+/// The number of footpaths into stops below `stop`. It is at least `place`, from where counting goes on.
 fn first_into(footpaths: &[Footpath], place: usize, stop: u32) -> usize
     requires ordered { AreInOrder footpaths.now }
     requires known { place ≤ footpath_count_below footpaths.now stop }
@@ -67,7 +67,7 @@ fn first_into(footpaths: &[Footpath], place: usize, stop: u32) -> usize
     place
 }
 
-/// Two words for each footpath.
+/// Adds two words for each footpath.
 pub fn write_footpaths(words: &mut Vec<u32>, footpaths: &[Footpath]) -> Result<(), AllocError>
     ensures { OnOk result (words.new.items ≡ words.old.items ++ flat_map footpath_words footpaths.now) }
 {

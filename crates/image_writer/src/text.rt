@@ -1,4 +1,4 @@
-//! The text of the names, four bytes a word.
+//! Writes the text of the names, four bytes to a word.
 
 ghost use Rattle.std.specs.Prelude.{◌≡◌, ◌++◌, ◌∷◌, [], ℕ, List, IfOk, OnOk};
 ghost use Rattle.std.specs.Str.{IsUtf8};
@@ -20,7 +20,7 @@ enum Waiting {
 }
 
 impl Waiting {
-    /// One byte more. The fourth fills a word.
+    /// Takes one more byte and returns the bytes that wait then. The fourth fills a word, which is added.
     fn push(self, words: &mut Vec<u32>, byte: u8) -> Result<Waiting, AllocError>
         ensures written { OnOk result (words.new.items ≡ words.old.items
             ++ full_words (waiting_bytes self ++ byte ∷ [])) }
@@ -37,7 +37,8 @@ impl Waiting {
         }
     }
 
-    /// Those that wait at the end of the text fill a word with bytes of 0.
+    /// Adds the bytes that wait at the end of the text as a word, filled up with bytes of 0. If none wait, it
+    /// adds nothing.
     fn finish(self, words: &mut Vec<u32>) -> Result<(), AllocError>
         ensures { OnOk result (words.new.items ≡ words.old.items ++ text_words (waiting_bytes self)) }
     {
@@ -52,7 +53,7 @@ impl Waiting {
     }
 }
 
-/// The bytes of a name, behind those that wait.
+/// Adds the bytes of a name after those that wait, and returns the bytes that wait then.
 fn write_name(words: &mut Vec<u32>, waiting: Waiting, name: &[u8]) -> Result<Waiting, AllocError>
     ensures written { OnOk result (words.new.items ≡ words.old.items
         ++ full_words (waiting_bytes waiting ++ name.now)) }
@@ -65,7 +66,7 @@ fn write_name(words: &mut Vec<u32>, waiting: Waiting, name: &[u8]) -> Result<Wai
     Ok(waiting)
 }
 
-/// The bytes of all names, one after the other.
+/// Adds the bytes of all names, one name after the other.
 pub fn write_text(words: &mut Vec<u32>, names: &Names) -> Result<(), AllocError>
     ensures written { OnOk result (words.new.items ≡ words.old.items ++ text_words (text names.now)) }
     ensures utf8 { OnOk result ((i : ℕ) (name : List ℕ) → At (name_list names.now) i name → IsUtf8 name) }

@@ -1,4 +1,4 @@
--- The legs of a journey, as a reply tells them: each ride and each walk by the names of its stops.
+-- The legs of a journey, as a reply has them: each ride and each walk with the names of its stops.
 use Rattle.std.specs.Prelude.{ℕ, List, Option, Some, None, codes, if◌then◌else◌, nat_lt, string_bytes}
 use Rattle.serde_json.specs.Data.{Data, number, unsigned, string, object, Members, member, no_members}
 use Rattle.timetable.specs.Clocks.{clock_bytes}
@@ -34,7 +34,7 @@ ride_value r = ridden (string_bytes r.trip) r.day r.repeat (string_bytes r.from)
 abbrev pub walk_value : WalkTold → WalkValue
 walk_value w = walked (string_bytes w.from) (string_bytes w.to) w.secs
 
--- a repeat is told where it isn't the first
+-- the repeat, unless it is 0, the first
 abbrev pub later_repeat : ℕ → Option ℕ
 later_repeat repeat = if nat_lt 0 repeat then Some repeat else None
 

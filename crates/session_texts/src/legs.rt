@@ -23,7 +23,7 @@ pub struct RideTold {
     pub arr: u32,
 }
 
-/// A walk from a stop to a stop.
+/// A walk from a stop to a stop, and its seconds.
 #[derive(Drop)]
 pub struct WalkTold {
     pub from: String,
@@ -50,7 +50,7 @@ impl JourneyLegs {
         }
     }
 
-    /// Adds a ride at the end. A refusal changes nothing.
+    /// Adds a ride at the end. If memory runs out, nothing changes.
     pub fn add_ride(&mut self, alloc: Global, ride: RideTold) -> Result<(), AllocError>
         ensures added { OnOk result (legs_of self.new ≡ legs_of self.old ++ ride_data (ride_value ride) ∷ []) }
         ensures refused { OnErr result (legs_of self.new ≡ legs_of self.old) }
@@ -60,7 +60,7 @@ impl JourneyLegs {
         Ok(())
     }
 
-    /// Adds a walk at the end. A refusal changes nothing.
+    /// Adds a walk at the end. If memory runs out, nothing changes.
     pub fn add_walk(&mut self, alloc: Global, walk: WalkTold) -> Result<(), AllocError>
         ensures added { OnOk result (legs_of self.new ≡ legs_of self.old ++ walk_data (walk_value walk) ∷ []) }
         ensures refused { OnErr result (legs_of self.new ≡ legs_of self.old) }
@@ -87,7 +87,7 @@ fn ride_told(alloc: Global, ride: RideTold) -> Result<Value, AllocError>
     Ok(Value::Object(members))
 }
 
-// A repeat, unless it is the first.
+// The repeat, unless it is 0, the first.
 fn later_repeat(repeat: u32) -> Option<u32>
     ensures { result ≡ later_repeat repeat }
 {

@@ -1,4 +1,4 @@
-//! Members of an object that are there or aren't.
+//! Optional members of an object.
 
 ghost use Rattle.std.specs.Prelude.{◌≡◌, OnOk};
 ghost use Rattle.serde_json.specs.View.{members_view};
@@ -7,7 +7,7 @@ ghost use Rattle.session_texts.specs.Replies.{with_number};
 use serde_json::{Map, Value, put};
 use std::alloc::{AllocError, Global};
 
-/// Puts a number under a name, if there is one.
+/// Adds a member with this name and number, if there is a number.
 pub(crate) fn add_number(
     alloc: Global,
     members: &mut Map<String, Value>,

@@ -1,4 +1,4 @@
--- Where the footpaths into each stop start, in the one order that a legal timetable has them in.
+-- Where the footpaths into each stop start, in the order that a legal timetable requires.
 use Rattle.std.specs.Prelude.{◌≡◌, ◌↔◌, ℕ, ◌+◌, ◌<◌, ◌≤◌, List, length, take, slice_index}
 use Rattle.timetable.specs.declared.network.Connection.{Connection}
 use Rattle.timetable.specs.declared.network.Footpath.{Footpath}
@@ -9,12 +9,12 @@ use Rattle.timetable.specs.Legal.{At}
 abbrev pub of_lists : ℕ → ℕ → List Connection → List Footpath → TimetableValue
 of_lists stops trips connections footpaths = record { stops = stops; trips = trips; connections = connections; footpaths = footpaths }
 
--- the footpaths into stops below a stop are those before the place
+-- the footpaths into stops below a stop are those at indices below `place`
 pub record IsStartPlace (t : TimetableValue) (stop place : ℕ) : Type 0 where
   pub within : place ≤ length t.footpaths
   pub exact : (k : ℕ) (f : Footpath) → At t.footpaths k f → (f.to < stop) ↔ (k < place)
 
--- a place for each stop, and one past them all
+-- a starting index for each stop, and one for the end of the list
 pub record AreStarts (t : TimetableValue) (places : List ℕ) : Type 0 where
   pub each : length places ≡ t.stops + 1
   pub start : (stop : ℕ) → stop ≤ t.stops → IsStartPlace t stop (slice_index places stop)

@@ -1,4 +1,4 @@
-//! An image as a source, decoded into lists: for tests, and to compare with.
+//! An image as a source, decoded into lists: for tests and comparisons.
 
 ghost use Rattle.std.specs.Prelude.{◌≡◌, ◌≤◌, ◌<◌, ◌+◌, ℕ, [], length, slice_index_or, IfOk, OnOk};
 ghost use Rattle.std.specs.List.Sorted.{IsNonDecreasingBy};
@@ -14,8 +14,8 @@ use image_verifier::Verified;
 use std::alloc::{AllocError, Global};
 use timetable::{Connection, Footpath, Trace};
 
-/// The connections and the footpaths of an image in lists of their own, with the place at which
-/// those into each stop start.
+/// Copies of the connections and the footpaths of an image, with the index at which the footpaths
+/// into each stop start.
 #[derive(Drop)]
 pub struct Decoded {
     stops: u32,
@@ -78,7 +78,7 @@ fn decode_footpaths(
     Ok((footpaths, starts))
 }
 
-/// The first place from which on connections depart at the time or later.
+/// The index of the first connection that departs at `time` or later, or the number of connections if none does.
 fn first_departure(connections: &[Connection], time: u32) -> usize
     requires { IsNonDecreasingBy (λ (c : Connection). c.dep) connections.now }
     ensures within { result ≤ length connections.now }
@@ -90,7 +90,7 @@ fn first_departure(connections: &[Connection], time: u32) -> usize
 }
 
 impl Decoded {
-    /// The lists of an image, of which no connection was asked for. The memory of each list is taken at once.
+    /// Decodes an image. The log is empty. The memory of each list is taken at once.
     pub fn of(alloc: Global, image: &Verified) -> Result<Decoded, AllocError>
         ensures timetable { IfOk result (λ source. ⟦<Decoded as ConnSource>⟧.timetable source ≡ image.now.timetable) }
         ensures log { IfOk result (λ source. ⟦<Decoded as ConnSource>⟧.log source ≡ []) }

@@ -20,12 +20,12 @@ pub struct InPlace<'a> {
 }
 
 impl<'a> InPlace<'a> {
-    /// The image, of which no connection was asked for.
+    /// The image as a source, with an empty log.
     pub fn new(image: &'a Verified) -> InPlace<'a>
         ensures timetable { ⟦<InPlace<'a> as ConnSource>⟧.timetable result ≡ image.now.timetable }
         ensures log { ⟦<InPlace<'a> as ConnSource>⟧.log result ≡ [] }
     {
-        // Says of the image what each one keeps: its timetable is legal and within the limits.
+        // The contract of this call says that the timetable is legal and within the limits.
         image.stops();
         InPlace {
             image,

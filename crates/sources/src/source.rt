@@ -13,12 +13,12 @@ use timetable::{Connection, Footpath};
 /// Where a scan gets its connections and footpaths from.
 ///
 /// It stands for a legal timetable within the limits, and keeps a log of the connections asked for,
-/// which contracts alone see. None of its calls takes memory.
+/// which only contracts see. None of its calls takes memory.
 pub trait ConnSource {
     // the timetable that it stands for
     ghost timetable: { Self → TimetableValue };
 
-    // the places that were asked of `connection`, the oldest first
+    // the indices for which `connection` was called, the oldest first
     ghost log: { Self → List ℕ };
 
     /// How many stops there are.
@@ -33,7 +33,7 @@ pub trait ConnSource {
     fn len(&self) -> usize
         ensures { result ≡ length (timetable self.now).connections };
 
-    /// The connection at a place. The log grows by the place.
+    /// The connection at index `i`. The index is added to the log.
     fn connection(&mut self, i: usize) -> Connection
         requires { i < length (timetable self.old).connections }
         ensures there { At (timetable self.old).connections i result }
@@ -41,11 +41,12 @@ pub trait ConnSource {
         ensures log { log self.new ≡ log self.old ++ i ∷ [] }
         ensures same { timetable self.new ≡ timetable self.old };
 
-    /// The least place whose connection departs at the time or later, else the number of connections.
+    /// The index of the first connection that departs at `time` or later, or the number of connections if
+    /// none does.
     fn first_at(&self, time: u32) -> usize
         ensures { IsFirstAt (timetable self.now) time result };
 
-    /// The places of the footpaths into a stop: from the first up to before the second.
+    /// The range of indices of the footpaths into a stop: its first index, and the one after its last.
     fn walks_into(&self, stop: usize) -> (usize, usize)
         requires { stop < (timetable self.now).stops }
         ensures order { result.0 ≤ result.1 }
@@ -53,12 +54,14 @@ pub trait ConnSource {
         ensures exact { (k : ℕ) (f : Footpath) → At (timetable self.now).footpaths k f → (f.to ≡ stop)
             ↔ ((result.0 ≤ k) × (k < result.1)) };
 
-    /// The footpath at a place. Its stop may be searched for: see `footpath_into`.
+    /// The footpath at index `place`. The stop that it leads into may be searched for; `footpath_into` is
+    /// faster if that is known.
     fn footpath(&self, place: usize) -> Footpath
         requires { place < length (timetable self.now).footpaths }
         ensures { At (timetable self.now).footpaths place result };
 
-    /// The footpath at a place among those into a stop, as `walks_into` tells them: nothing is searched.
+    /// The footpath at index `place`, which is in the range that `walks_into` returns for `stop`. Nothing is
+    /// searched.
     fn footpath_into(&self, stop: usize, place: usize) -> Footpath
         requires stop { stop < (timetable self.now).stops }
         requires place { place < length (timetable self.now).footpaths }
