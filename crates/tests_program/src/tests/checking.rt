@@ -272,7 +272,7 @@ it is damaged, or wasn't made by `csa build`
 answers refused 70 BadFlags 2
 sample
 set 27 1
-tells csa: standard input: footpaths into stop 0: a wrong index, or one from a stop that there isn't or of more than \
+tells csa: standard input: footpaths into stop 0: their index is wrong, or one is from an unknown stop or longer than \
 1000000 seconds; it is damaged, or wasn't made by `csa build`
 answers refused 71 FootRange 0
 sample
@@ -282,7 +282,7 @@ it is damaged, or wasn't made by `csa build`
 answers refused 73 NoLoop 2
 sample
 set 46 4294967295
-tells csa: standard input: name 3 isn't UTF-8, or doesn't begin where the one before it ends \
+tells csa: standard input: name 3 isn't UTF-8, or its place in the text is wrong \
 (stop_ids come first, then trip_ids); it is damaged, or wasn't made by `csa build`
 answers refused 75 BadNames 3
 image 1346458435 1 2 0 0 4 0 0 0 0 2 4 1 5 0 0 0 5 1 0 0 0 0
