@@ -11,7 +11,7 @@ abbrev pub RefusedOrFailed : (TableFault → Type 0) → (Table → Type 0) → 
 RefusedOrFailed Refused Failed (faults.Table fault) = Refused fault
 RefusedOrFailed Refused Failed (faults.FileFailed table) = Failed table
 
--- the names of the files whose reads failed: those from before, and that of the file that is told
+-- the names of the files whose reads failed: those from before, and that of the file that the fault names
 abbrev pub failed_by : {T : Type 0} → List (List ℕ) → Result T ReadFault → List (List ℕ)
 failed_by before (Ok t) = before
 failed_by before (Err (faults.Table fault)) = before
