@@ -3,7 +3,7 @@ use Rattle.std.specs.Prelude.{◌≡◌, ◌<◌, ℕ, List, length, slice_index
 use Rattle.gtfs_tables.specs.declared.tables.Frequency.{Frequency}
 use Rattle.connections.specs.Repeats.{leaves_at}
 
--- there is a mark for each second, and it is set exactly if the second passes the test
+-- each mark is set exactly if its second passes the test
 abbrev pub AreMarks : (ℕ → Bool) → List Bool → Type 0
 AreMarks test marks = (s : ℕ) (d : Bool) → s < length marks → slice_index_or marks s d ≡ test s
 

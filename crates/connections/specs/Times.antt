@@ -52,7 +52,7 @@ pub record AreTimes (rows : List StopTimeRow) (times : TripTimes) : Type 0 where
   pub times_are : AreTimesBefore rows times.rows.items (length rows)
   pub lifted : times.lifted ≡ is_lifted rows
 
--- these are the times of a trip; they are only stated if it makes connections
+-- the times of a trip: nothing is stated about its rows unless it makes connections, and otherwise it isn't lifted
 pub record AreTripTimes (stop_times : List StopTimeRow) (trip : Trip) (times : TripTimes) : Type 0 where
   pub made : makes_connections trip ≡ true → AreTimes (rows_of stop_times trip) times
   pub lifted : times.lifted ≡ (makes_connections trip && is_lifted (rows_of stop_times trip))

@@ -57,8 +57,8 @@ impl RunClock {
         Some(after as u32)
     }
 
-    // Returns whether the times of the row at a position are no earlier than the base and before `TIME_END`. The arrival
-    // at a repeat's first row doesn't count.
+    // Returns whether the times of the row at a position are no earlier than the base and before `TIME_END`. The
+    // arrival at a repeat's first row doesn't count.
     fn is_inside(&self, position: usize, times: RowTimes) -> bool
         ensures { MatchBool result (IsInside self.now.day.base (zero_of self.now) self.now.start position times)
             (LiesOutside self.now.day.base (zero_of self.now) self.now.start position times) }
