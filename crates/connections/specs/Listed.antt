@@ -46,7 +46,7 @@ pub record HasRunOutside (feed : Feed) (zone : Zone) (base : ℤ) (runs : List R
   pub run_at : IsRunAt feed zone runs number start rows
   pub outside : HasOutside base start run_at.run.start rows
 
--- connection c at position p comes no later in the order than d at position q
+-- connection c at position p comes before d at position q
 pub record IsBefore (c d : Connection) (p q : ℕ) : Type 0 where
   pub by_departure : c.dep ≤ d.dep
   pub by_arrival : c.dep ≡ d.dep → c.arr ≤ d.arr

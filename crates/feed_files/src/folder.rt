@@ -27,8 +27,8 @@ pub trait Disk {
     ///
     /// # Errors
     ///
-    /// `Failed` if the file is longer than [`LONGEST_FILE`], can't be read, or is a link that leads nowhere; `OutOfMemory`
-    /// if memory ran out.
+    /// `Failed` if the file is longer than [`LONGEST_FILE`], can't be read, or is a link that leads nowhere;
+    /// `OutOfMemory` if memory ran out.
     fn feed_file(
         &self,
         alloc: Global,

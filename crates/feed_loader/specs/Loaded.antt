@@ -1,4 +1,4 @@
--- What is made of a joined feed.
+-- The timetable, the names and the counts of a joined feed.
 use Rattle.std.specs.Prelude.{◌≡◌, ◌↔◌, ◌+◌, ◌*◌, ℕ, List, [], length, map, Option, Some}
 use Rattle.std.specs.List.{slice_get}
 use Rattle.std.specs.Option.{option_map_or}

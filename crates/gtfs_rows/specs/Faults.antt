@@ -28,7 +28,7 @@ pub record IsFirstFault (judge : Judge) (records : List Record) (k : ℕ) (kind 
   pub here : fault_at judge records k ≡ Some kind
   pub first : (j : ℕ) → j < k → fault_at judge records j ≡ None
 
--- a record's length is judged before its values
+-- what is wrong with a record: first, that it doesn't have as many fields as the header
 abbrev pub length_first : ℕ → Judge → Judge
 length_first width judge before r = if length r == width then judge before r else Some kinds.RowLength
 

@@ -36,7 +36,7 @@ use Rattle.gtfs_rows.specs.declared.stop_times.StopTimes.{StopTimes}
 abbrev pub value : Places → ℕ → Record → List ℕ
 value places k r = cell (slice_index_or places k None) r
 
--- a table whose values are always fine
+-- nothing is wrong with any values
 abbrev pub no_fault : Places → Record → Option FaultKind
 no_fault places r = None
 
@@ -77,7 +77,7 @@ location_of (Some n) = if n == 1 then locations.Station else
     (if n == 2 then locations.Entrance else (if n == 3 then locations.Node else
     (if n == 4 then locations.BoardingArea else locations.Stop)))
 
--- the row has the id of the record, what it stands for, and its parent_station, blank where there is none
+-- the row has the record's id, the kind of place, and the parent_station, blank if there is none
 pub record SpellsStop (places : Places) (r : Record) (row : StopRow) : Type 0 where
   pub id : string_bytes row.id ≡ value places 0 r
   pub location : row.location ≡ location_of (number_of (value places 1 r))

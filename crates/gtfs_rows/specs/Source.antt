@@ -23,7 +23,7 @@ table_records bytes = records_in (strip_bom bytes)
 abbrev pub left_of : Records → List Record
 left_of r = records_in r.rest.now
 
--- the records of a text from a state on
+-- the records of a text that is read from this state on
 abbrev pub records_at : State → List ℕ → List Record
 records_at s text = records_from default_config (length text + 1) s text
 

@@ -8,7 +8,7 @@ use reasoning::variant_name;
 use std::error::Error;
 use std::fmt;
 
-/// The files of a feed that are read, in the order of reading.
+/// The files of a feed that are read, in the order in which they are read.
 #[derive(Clone, Copy, Debug, PartialEq, Eq)]
 pub enum Table {
     Agency,

@@ -109,7 +109,7 @@ pub record IsFeed (named : List ℕ → Option Named) (placed : List ℕ → Opt
   pub calendar : feed.calendar ≡ t.calendar
   pub calendar_dates : feed.calendar_dates ≡ t.calendar_dates
 
--- the tables have no fault, and the feed is theirs; an id stands for the first row that has it
+-- the tables have no fault, and are joined to this feed; an id stands for the first row that has it
 pub record IsJoined (strict : Bool) (t : Tables) (feed : Feed) : Type 0 where
   pub turns : List Turn
   pub in_order : IsInOrder (trips_by (trip_named t.trips.items) t) t.stop_times.rows.items turns

@@ -1,4 +1,4 @@
--- What holds of each feed: where the rows of its trips are, and what its transfers name.
+-- What holds for each feed: where the rows of its trips are, and what its transfers name.
 use Rattle.std.specs.Prelude.{◌≡◌, ◌-◌, ◌<◌, ◌≤◌, ◌&&◌, not, nat_le, ℕ, List, length, Bool, true, IsSome, IsSomeAnd, All}
 use Rattle.std.specs.List.{slice_range}
 use Rattle.gtfs_rows.specs.declared.rows.StopTimeRow.{StopTimeRow}

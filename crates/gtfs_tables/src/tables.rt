@@ -95,7 +95,7 @@ pub struct Feed {
     pub skipped: usize,
     pub calendar: Vec<CalendarRow>,
     pub calendar_dates: Vec<CalendarDateRow>,
-    /// The hash by which ids are looked up. Nothing that is found depends on it.
+    /// The hash by which ids are looked up. No result depends on it.
     pub hash: IdHash,
     // each trip's rows are among the stop times; if it makes connections, the first and the last have a time and all
     // have stops

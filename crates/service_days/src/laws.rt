@@ -14,7 +14,7 @@ pub fn one_start()
         → start ≡ other }
 {}
 
-/// A day that has a start isn't without one.
+/// No day both has a start and has none.
 pub fn started_or_not()
     ensures { (zone : Zone) (day : Day) (start : ℤ) → IsDayStart zone day start → ¬ (HasNoStart zone day) }
 {}

@@ -1,4 +1,4 @@
-//! The services that trips name, each once, so that only once for each is it determined whether it runs on a day.
+//! The services that trips name, each once, so that each is looked up only once for a day.
 
 ghost use Rattle.std.specs.Prelude.{◌≡◌, [], List, map, IfOk, OnOk};
 ghost use Rattle.gtfs_rows.specs.Ids.{seen_also};

@@ -15,7 +15,7 @@ use std::alloc::Global;
 /// A time zone.
 #[derive(Drop)]
 pub enum Zone {
-    /// One rule for all time.
+    /// A fixed offset or a POSIX rule, for all time.
     Rule(TimeZone<'static>),
     /// The table of a time zone file, owned by the zone.
     Table(Tzif),

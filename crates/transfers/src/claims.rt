@@ -16,7 +16,7 @@ use std::alloc::AllocError;
 /// The time of a transfer that gives none, in seconds.
 pub const USUAL_SECS: u32 = 120;
 
-/// The longest time that a transfer is taken to need, in seconds.
+/// The longest time of a transfer, in seconds. A longer one counts as this.
 pub const MOST_SECS: u32 = 86_400;
 
 /// What in the feed makes a claim. If several sources make claims about an ordered pair of stops, the first of them
