@@ -1,5 +1,5 @@
-//! The calendar day that a zone's clocks show at an instant, and the day before it: what a plan begins with whose first
-//! day moves on with the clock.
+//! The calendar day that a zone's clocks show at an instant, and the day before it: the first day of a plan that
+//! begins today or yesterday.
 #![tactic(auto)]
 
 ghost use Rattle.std.specs.Prelude.{◌≡◌, ◌≤ℤ◌, IfOk, IfErr, pos, ℤ};
@@ -15,16 +15,16 @@ use jiff::tz::TimeZone;
 use service_days::{DayFault, Zone};
 use std::time::{Clock, SystemTime};
 
-/// The instant that a clock shows, in seconds after 1970-01-01T00:00:00Z, without the part of a
-/// second. None if it can't be read, or shows an earlier one.
+/// Returns the instant that a clock shows, in whole seconds after 1970-01-01T00:00:00Z. None if the clock can't be
+/// read or shows an earlier instant.
 pub fn instant<C: Clock>(clock: &C) -> Option<i64> {
     let now = SystemTime::now(clock).ok()?;
     let since = now.duration_since(SystemTime::UNIX_EPOCH).ok()?;
     i64::try_from(since.as_secs()).ok()
 }
 
-/// The day that the zone's clocks show at an instant, in seconds after 1970-01-01T00:00:00Z. `DayOutOfRange` if the
-/// instant lies beyond the clocks' calendar, or the day before the year 1.
+/// Returns the day that the zone's clocks show at an instant, given in seconds after 1970-01-01T00:00:00Z.
+/// `DayOutOfRange` if the instant is outside the calendar, or the day is before the year 1.
 pub fn today(zone: &Zone, instant: i64) -> Result<Day, DayFault>
     ensures ok { IfOk result (IsDayAt zone.now instant) }
     ensures err { IfErr result (λ fault. (fault ≡ DayFault.DayOutOfRange) × HasNoDay zone.now instant) }
@@ -33,7 +33,8 @@ pub fn today(zone: &Zone, instant: i64) -> Result<Day, DayFault>
     day_of(shown.date())
 }
 
-/// The day before the one that the zone's clocks show at an instant. `DayOutOfRange` if there is none.
+/// Returns the day before the one that the zone's clocks show at an instant, given in seconds after
+/// 1970-01-01T00:00:00Z. `DayOutOfRange` if the instant is outside the calendar, or that day is before the year 1.
 pub fn yesterday(zone: &Zone, instant: i64) -> Result<Day, DayFault>
     ensures ok { IfOk result (IsDayBefore zone.now instant) }
     ensures err { IfErr result (λ fault. (fault ≡ DayFault.DayOutOfRange) × HasNoDayBefore zone.now instant) }
@@ -45,7 +46,7 @@ pub fn yesterday(zone: &Zone, instant: i64) -> Result<Day, DayFault>
     }
 }
 
-// What the zone's clocks show.
+// Returns what the zone's clocks show at an instant: `DayOutOfRange` if the instant is outside the calendar.
 fn shown_at(zone: &Zone, instant: i64) -> Result<DateTime, DayFault>
     ensures ok { IfOk result (IsShownAt zone.now instant) }
     ensures err { IfErr result (λ fault. (fault ≡ DayFault.DayOutOfRange) × IsOutside instant) }
@@ -56,7 +57,7 @@ fn shown_at(zone: &Zone, instant: i64) -> Result<DateTime, DayFault>
     }
 }
 
-// The zone as jiff has it.
+// Returns the zone as a time zone of jiff.
 fn time_zone(zone: &Zone) -> TimeZone<'_>
     ensures { (at : ℤ) → offset_at (plain_zone result) at ≡ offset_in zone.entry.now at }
 {
@@ -66,7 +67,7 @@ fn time_zone(zone: &Zone) -> TimeZone<'_>
     }
 }
 
-// The date as feeds have it; none before the year 1.
+// Returns the date as feeds have it: `DayOutOfRange` if it is before the year 1.
 fn day_of(date: Date) -> Result<Day, DayFault>
     ensures ok { IfOk result (λ day. IsDayOf day date) }
     ensures err { IfErr result (λ fault. (fault ≡ DayFault.DayOutOfRange) × (date.year ≤ℤ pos 0)) }

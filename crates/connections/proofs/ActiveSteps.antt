@@ -1,4 +1,4 @@
--- The services of trips: a trip more, and what they do on a day.
+-- The services of trips, one trip at a time, and whether they run on a day.
 use Rattle.std.proofs.Common.{◌≡◌, ◌∙◌, ℕ, zero, suc, ◌+◌, ◌<◌, ◌≤◌, List, [], ◌∷◌, ◌++◌, ◌&&◌, Bool, false, length, get_or, map, take, sym, ap, arith}
 use Rattle.std.proofs.Common.{option_map, string_bytes}
 use Rattle.std.specs.Global.{Vec}

@@ -1,4 +1,4 @@
--- The marked starts of a trip's rows, a row and a second on.
+-- The marked starts of a trip's rows, one row and one second at a time.
 use Rattle.std.proofs.Common.{◌≡◌, ℕ, zero, suc, ◌+◌, ◌-◌, ◌*◌, ◌/◌, ◌%◌, ◌<◌, ◌≤◌, inl, inr, max, min, set, replicate}
 use Rattle.std.proofs.Common.{List, [], ◌∷◌, ◌++◌, length, get_or, take, All, Bool, true, false, ◌||◌, ◌&&◌, ◌==◌}
 use Rattle.std.proofs.Common.{refl, sym, ap, ◌∙◌, arith}

@@ -1,4 +1,4 @@
--- Connections that were sorted by the number of their departure, arrival and run.
+-- Connections that are sorted by the number made of departure, arrival and run.
 use Rattle.std.proofs.Common.{◌≡◌, ℕ, zero, suc, ◌+◌, ◌*◌, ◌<◌, ◌≤◌, inl, inr, List, length, get_or, false, sym, ap, ◌∙◌, subst, arith, Bor, All}
 use Rattle.std.specs.Prelude.{IsPermutation}
 use Rattle.std.specs.Fn.{Called, ComputesKey}

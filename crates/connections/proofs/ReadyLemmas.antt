@@ -1,4 +1,4 @@
--- A run whose rows and times are at hand.
+-- A run whose rows and times are known.
 use Rattle.std.proofs.Common.{◌≡◌, ℕ, ℤ, ◌+◌, ◌-◌, ◌<◌, ◌≤◌, min, List, length, get_or, take, Option, Some, None, IsSome, IsSomeAnd, All, true, refl, sym, ap}
 use Rattle.std.proofs.Common.{◌∙◌, subst, arith}
 use Rattle.std.specs.Prelude.{◌+ℤ◌}

@@ -1,4 +1,4 @@
--- The starts of a trip that repeats, one on.
+-- The starts of a trip that repeats, one at a time.
 use Rattle.std.proofs.Common.{◌≡◌, ℕ, zero, suc, ◌+◌, ◌-◌, ◌*◌, ◌/◌, ◌%◌, ◌<◌, ◌≤◌, inl, inr, min, max, List, [], ◌∷◌, ◌++◌, length, get_or, take, Option, Some}
 use Rattle.std.proofs.Common.{None, Bool, true, false, ◌||◌, ◌&&◌, ◌==◌, refl, sym, ap, ◌∙◌, arith, append_assoc, suc-mul}
 use Rattle.std.specs.Prelude.{MatchOption, IfSome, nat_le, nat_lt, if◌then◌else◌}

@@ -1,4 +1,4 @@
--- The days that are asked for, and their starts.
+-- The days of a plan, and their starts.
 use Rattle.std.specs.Prelude.{◌≡◌, ℕ, zero, suc, ℤ, List, [], ◌∷◌, map, All, Any}
 use Rattle.gtfs_rows.specs.declared.values.Day.{Day}
 use Rattle.service_days.specs.Days.{day_after}
@@ -6,7 +6,7 @@ use Rattle.service_days.specs.Zones.{HasNoStart, IsDayStart}
 use Rattle.service_days.specs.declared.zone.Zone.{Zone}
 use Rattle.connections.specs.declared.days.ServiceDay.{ServiceDay}
 
--- so many days in a row
+-- n consecutive days
 unfoldable pub days_from : Day → ℕ → List Day
 days_from day zero = []
 days_from day (suc n) = day ∷ days_from (day_after day) n
@@ -15,7 +15,7 @@ days_from day (suc n) = day ∷ days_from (day_after day) n
 abbrev pub HaveStarts : Zone → List Day → Type 0
 HaveStarts zone days = All (λ day. (start : ℤ) × IsDayStart zone day start) days
 
--- one of them has none
+-- one of the days has no start
 abbrev pub HasNoStartAmong : Zone → List Day → Type 0
 HasNoStartAmong zone days = Any (HasNoStart zone) days
 

@@ -1,4 +1,4 @@
--- The refusals of runs.
+-- Why runs are refused.
 use Rattle.std.specs.Prelude.{◌≡◌}
 use Rattle.gtfs_rows.specs.declared.fault.FaultKind.TheVariants.{OutOfMemory as TableMemory, TooMany}
 use Rattle.gtfs_rows.specs.declared.fault.Table.{Table}
@@ -6,7 +6,7 @@ use Rattle.service_days.specs.declared.fault.DayFault.TheVariants.{DayOutOfRange
 use Rattle.connections.specs.declared.fault.RunsFault.{RunsFault}
 use Rattle.connections.specs.declared.fault.RunsFault.TheVariants as faults
 
--- there are too many of what a table gives
+-- there are too many runs (trips.txt) or connections (stop_times.txt)
 abbrev pub too_many_of : Table → RunsFault
 too_many_of table = faults.Table (record { table = table; row = 0; kind = TooMany })
 
@@ -14,7 +14,7 @@ too_many_of table = faults.Table (record { table = table; row = 0; kind = TooMan
 abbrev pub range_fault : RunsFault
 range_fault = faults.Day DayOutOfRange
 
--- memory was wanting
+-- memory ran out
 abbrev pub IsWantOfMemory : RunsFault → Type 0
 IsWantOfMemory (faults.Table fault) = fault.kind ≡ TableMemory
 IsWantOfMemory (faults.Day fault) = fault ≡ DayMemory

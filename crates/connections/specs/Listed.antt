@@ -1,4 +1,4 @@
--- The listed connections: one for each run and each two neighbouring rows, by departure, arrival, run and position.
+-- The listed connections: one from each row of each run to the next, by departure, arrival, run and position.
 use Rattle.std.specs.Prelude.{◌≡◌, ◌<◌, ◌≤◌, ℕ, ℤ, ◌+ℤ◌, List, Contains}
 use Rattle.gtfs_rows.specs.declared.rows.StopTimeRow.{StopTimeRow}
 use Rattle.gtfs_tables.specs.Joined.{rows_of}
@@ -11,13 +11,13 @@ use Rattle.timetable.specs.declared.network.Connection.{Connection}
 use Rattle.connections.specs.Hops.{AreInside, HasOutside, IsHop, shift_of}
 use Rattle.connections.specs.declared.runs.Run.{Run}
 
--- the times of a run's rows are counted from an instant: the start of its day, moved by as much as a repeat is later
+-- the instant from which the times of a run's rows count: the start of its day, plus the shift of a repeat
 pub record IsRunStart (zone : Zone) (run : Run) (rows : List StopTimeRow) (start : ℤ) : Type 0 where
   pub day : ℤ
   pub is_day : IsDayStart zone run.day day
   pub is : start ≡ (day +ℤ shift_of run.start rows)
 
--- the run of a number has these rows, whose times are counted from that instant
+-- the run of a number has these rows, whose times count from this instant
 pub record IsRunAt (feed : Feed) (zone : Zone) (runs : List Run) (number : ℕ) (start : ℤ) (rows : List StopTimeRow) : Type 0 where
   pub run : Run
   pub trip : Trip
@@ -33,12 +33,12 @@ pub record IsRunHop (feed : Feed) (zone : Zone) (base : ℤ) (runs : List Run) (
   pub run_at : IsRunAt feed zone runs number start rows
   pub hop : IsHop base start rows number position c
 
--- all times of all runs that count have their clocks
+-- all times of all runs that count are in range
 abbrev pub AreRunsInside : Feed → Zone → ℤ → List Run → Type 0
 AreRunsInside feed zone base runs = (number : ℕ) (start : ℤ) (rows : List StopTimeRow) → (at : IsRunAt feed zone runs number start rows)
     → AreInside base start at.run.start rows
 
--- a time of a run that counts lies outside
+-- a time of a run that counts is out of range
 pub record HasRunOutside (feed : Feed) (zone : Zone) (base : ℤ) (runs : List Run) : Type 0 where
   pub number : ℕ
   pub start : ℤ
@@ -46,7 +46,7 @@ pub record HasRunOutside (feed : Feed) (zone : Zone) (base : ℤ) (runs : List R
   pub run_at : IsRunAt feed zone runs number start rows
   pub outside : HasOutside base start run_at.run.start rows
 
--- a connection at one position stands before one at another
+-- connection c at position p comes before d at position q
 pub record IsBefore (c d : Connection) (p q : ℕ) : Type 0 where
   pub by_departure : c.dep ≤ d.dep
   pub by_arrival : c.dep ≡ d.dep → c.arr ≤ d.arr

@@ -3,10 +3,10 @@ use Rattle.std.specs.Prelude.{◌≡◌, ◌<◌, ℕ, List, length, slice_index
 use Rattle.gtfs_tables.specs.declared.tables.Frequency.{Frequency}
 use Rattle.connections.specs.Repeats.{leaves_at}
 
--- each second, of as many as there are marks, is marked where it meets a test
+-- each mark is set exactly if its second passes the test
 abbrev pub AreMarks : (ℕ → Bool) → List Bool → Type 0
 AreMarks test marks = (s : ℕ) (d : Bool) → s < length marks → slice_index_or marks s d ≡ test s
 
--- each start of a row before another's end time is a start of the other
+-- each start of a row before the end time of another row is also a start of that other row
 abbrev pub Covers : Frequency → Frequency → Type 0
 Covers other row = (s : ℕ) → s < other.end → leaves_at s row ≡ true → leaves_at s other ≡ true

@@ -1,4 +1,4 @@
--- What comes of a feed, some days and a zone: runs and connections, or the first refusal.
+-- The outcome for a feed, some days and a zone: runs and connections, or the first refusal.
 use Rattle.std.specs.Prelude.{◌≡◌, ◌&&◌, ◌<◌, ◌≤◌, ◌⊎◌, ℕ, ℤ, List, length, Bool}
 use Rattle.std.specs.List.{count_by}
 use Rattle.gtfs_rows.specs.declared.fault.Table.TheVariants as tables
@@ -19,7 +19,7 @@ use Rattle.connections.specs.declared.fault.RunsFault.{RunsFault}
 use Rattle.connections.specs.declared.report.Report.{Report}
 use Rattle.connections.specs.declared.runs.Run.{Run}
 
--- the runs and the connections of a feed on so many days from the first one on
+-- these are the runs and the connections of a feed on this many days from the first one on
 pub record IsListing (feed : Feed) (zone : Zone) (first : Day) (days : ℕ) (connections : List Connection) (runs : List Run) : Type 0 where
   pub started : HaveStarts zone (days_from first days)
   pub runs_are : runs ≡ runs_of_days feed (days_from first days)
@@ -29,11 +29,11 @@ pub record IsListing (feed : Feed) (zone : Zone) (first : Day) (days : ℕ) (con
   pub inside : (base : ℤ) → IsDayStart zone first base → AreRunsInside feed zone base runs
   pub listed : (base : ℤ) → IsDayStart zone first base → AreListed feed zone base runs connections
 
--- lifting changed a trip that makes connections
+-- the trip makes connections, and lifting changed it
 abbrev pub is_lifted_trip : Feed → Trip → Bool
 is_lifted_trip feed trip = makes_connections trip && is_lifted (rows_of feed.stop_times.items trip)
 
--- the counts of a feed with so many runs and connections
+-- these are the counts of a feed with this many runs and connections
 pub record IsReport (feed : Feed) (run_count connection_count : ℕ) (report : Report) : Type 0 where
   pub stops : report.stops ≡ length feed.stops.items
   pub runs : report.runs ≡ run_count

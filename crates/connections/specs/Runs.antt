@@ -16,7 +16,7 @@ use Rattle.connections.specs.declared.runs.Run.{Run}
 abbrev pub runs_on : Feed → Day → Trip → Bool
 runs_on feed day trip = makes_connections trip && is_active feed.calendar.items feed.calendar_dates.items (string_bytes trip.service) day
 
--- the run of a trip as its stop times stand
+-- the run of a trip at the times of its stop times
 abbrev pub run_as_it_stands : Day → ℕ → Run
 run_as_it_stands day t = record { day = day; trip = t; repeat = 0; start = None }
 
@@ -25,15 +25,15 @@ unfoldable pub repeats_from : Day → ℕ → ℕ → List ℕ → List Run
 repeats_from day t r [] = []
 repeats_from day t r (s ∷ starts) = record { day = day; trip = t; repeat = r; start = Some s } ∷ repeats_from day t (r + 1) starts
 
--- the runs of a trip on a day: where it repeats one for each start of its rows, else one as it stands
+-- the runs of a trip on a day: one for each start if it repeats, else one at the times of its stop times
 abbrev pub runs_of_trip : List Frequency → Day → ℕ → Trip → List Run
 runs_of_trip rows day t trip = if trip.repeats then repeats_from day t 0 (starts_of rows) else run_as_it_stands day t ∷ []
 
--- those of the trip at a place, which may not run that day
+-- the runs on a day of the trip of an index; none if it doesn't run on that day
 abbrev pub runs_at : Feed → Day → ℕ → Trip → List Run
 runs_at feed day t trip = if runs_on feed day trip then runs_of_trip (rows_for feed.frequencies.items t) day t trip else []
 
--- the runs on a day, of the trips from a place on
+-- the runs on a day of the trips from an index on
 abbrev pub runs_from : Feed → Day → ℕ → List Trip → List Run
 runs_from feed day t [] = []
 runs_from feed day t (trip ∷ trips) = runs_at feed day t trip ++ runs_from feed day (t + 1) trips
@@ -42,7 +42,7 @@ runs_from feed day t (trip ∷ trips) = runs_at feed day t trip ++ runs_from fee
 abbrev pub runs_of_days : Feed → List Day → List Run
 runs_of_days feed days = flat_map (λ day. runs_from feed day 0 feed.trips.items) days
 
--- the run is one of a trip that makes connections
+-- the run is that of a trip that makes connections
 pub record IsTripRun (trips : List Trip) (run : Run) : Type 0 where
   pub trip : Trip
   pub is_trip : slice_get trips run.trip ≡ Some trip

@@ -1,17 +1,17 @@
--- The next time from a time on at which a test is met, as that of a start.
+-- The first time at or after a given time that passes a test.
 use Rattle.std.specs.Prelude.{◌≡◌, ◌<◌, ◌≤◌, min, ℕ, Option, Bool, None, Some, true, false}
 
--- it is met at no time from then on
+-- no time at or after `from` passes the test
 abbrev pub IsNever : (ℕ → Bool) → ℕ → Type 0
 IsNever test from = (s : ℕ) → from ≤ s → test s ≡ false
 
--- it is met first at this time
+-- this is the first time at or after `from` that passes the test
 pub record IsNext (test : ℕ → Bool) (from time : ℕ) : Type 0 where
   pub after : from ≤ time
   pub is : test time ≡ true
   pub first : (s : ℕ) → from ≤ s → s < time → test s ≡ false
 
--- the earlier of two times, where there are two
+-- the earlier of two times, or the only one if one is missing
 abbrev pub earlier_of : Option ℕ → Option ℕ → Option ℕ
 earlier_of None other = other
 earlier_of (Some a) None = Some a

@@ -1,5 +1,5 @@
--- When the rows of a trip arrive and depart: their times are spread over the blank rows, and then lifted, so that no vehicle
--- arrives before a second has passed. (Lifting is our own.)
+-- When the rows of a trip arrive and depart: their times are spread over the blank rows, and then lifted, so that each
+-- arrival is at least a second after the departure before it. (Lifting is our own.)
 use Rattle.std.specs.Prelude.{◌≡◌, ◌==◌, ◌&&◌, ◌||◌, ◌+◌, ◌<◌, not, max, ℕ, zero, suc, List, length, Bool, true, false, Option, Some, None, slice_get}
 use Rattle.std.specs.Prelude.{slice_index_or}
 use Rattle.gtfs_rows.specs.declared.rows.StopTimeRow.{StopTimeRow}
@@ -13,7 +13,7 @@ use Rattle.connections.specs.declared.times.TripTimes.{TripTimes}
 abbrev pub lifted_arrival : List StopTimeRow → ℕ → ℕ → ℕ
 lifted_arrival rows k left = max (arrives_spread rows k) (left + 1)
 
--- a row departs at its departure or at its arrival as lifted, whichever is later; the first row's times stay
+-- a row departs at its departure or at its lifted arrival, whichever is later; the first row's times stay
 unfoldable pub departs : List StopTimeRow → ℕ → ℕ
 departs rows zero = departs_spread rows 0
 departs rows (suc k) = max (departs_spread rows (suc k)) (lifted_arrival rows (suc k) (departs rows k))
@@ -22,7 +22,7 @@ unfoldable pub arrives : List StopTimeRow → ℕ → ℕ
 arrives rows zero = arrives_spread rows 0
 arrives rows (suc k) = lifted_arrival rows (suc k) (departs rows k)
 
--- lifting changed the times of a row, of one of the first so many
+-- lifting changed the times of this row, or of one of the rows before it
 abbrev pub is_moved : List StopTimeRow → ℕ → Bool
 is_moved rows k = not ((arrives rows k == arrives_spread rows k) && (departs rows k == departs_spread rows k))
 
@@ -37,27 +37,27 @@ is_lifted rows = is_moved_before rows (length rows)
 abbrev pub row_times : List StopTimeRow → ℕ → RowTimes
 row_times rows k = record { arrival = arrives rows k; departure = departs rows k }
 
--- the times of one row by the departure before it, if there is one
+-- the lifted times of one row, given the lifted departure before it, if there is one
 abbrev pub lifted_by : Option ℕ → ℕ → ℕ → RowTimes
 lifted_by None arrival departure = record { arrival = arrival; departure = departure }
 lifted_by (Some left) arrival departure = record { arrival = max arrival (left + 1); departure = max departure (max arrival (left + 1)) }
 
--- the times of the first so many rows
+-- these are the times of the first n rows
 abbrev pub AreTimesBefore : List StopTimeRow → List RowTimes → ℕ → Type 0
 AreTimesBefore rows times n = (k : ℕ) (d : RowTimes) → k < n → slice_index_or times k d ≡ row_times rows k
 
--- the times of a trip with these rows
+-- these are the times of a trip with these rows
 pub record AreTimes (rows : List StopTimeRow) (times : TripTimes) : Type 0 where
   pub same_length : length times.rows.items ≡ length rows
   pub times_are : AreTimesBefore rows times.rows.items (length rows)
   pub lifted : times.lifted ≡ is_lifted rows
 
--- the times of a trip, which has none where it makes no connections
+-- the times of a trip: nothing is stated about its rows unless it makes connections, and otherwise it isn't lifted
 pub record AreTripTimes (stop_times : List StopTimeRow) (trip : Trip) (times : TripTimes) : Type 0 where
   pub made : makes_connections trip ≡ true → AreTimes (rows_of stop_times trip) times
   pub lifted : times.lifted ≡ (makes_connections trip && is_lifted (rows_of stop_times trip))
 
--- the times of each of the trips
+-- these are the times of each of the trips
 pub record AreTimesOf (stop_times : List StopTimeRow) (trips : List Trip) (times : List TripTimes) : Type 0 where
   pub same_length : length times ≡ length trips
   pub each : (k : ℕ) (trip : Trip) (d : TripTimes) → slice_get trips k ≡ Some trip → AreTripTimes stop_times trip (slice_index_or times k d)

@@ -1,4 +1,4 @@
-//! The service days that are asked for, each with the instant at which it starts, or the first that has no start.
+//! The service days of a plan, each with the instant at which it starts.
 
 ghost use Rattle.std.specs.Prelude.{◌≡◌, ◌≤◌, IfOk, IfErr, ◌⊎◌};
 ghost use Rattle.connections.specs.Days.{AreStarted, HasNoStartAmong, days_from};
@@ -7,7 +7,7 @@ use gtfs_tables::Day;
 use service_days::{DayFault, Zone, day_after, day_start};
 use std::alloc::Global;
 
-/// Service days of a timetable, at most.
+/// The greatest number of service days of a timetable.
 pub const MAX_DAYS: u32 = 14;
 
 /// A service day and its start, in seconds after 1970-01-01T00:00:00Z.
@@ -17,7 +17,8 @@ pub(crate) struct ServiceDay {
     pub start: i64,
 }
 
-// So many days, from the first one on, with their starts.
+// Returns `days` consecutive days from the first one on, with their starts. `DayOutOfRange` if one of them has no
+// start; memory may run out.
 pub(crate) fn service_days(
     alloc: Global,
     first: Day,

@@ -1,4 +1,5 @@
-//! Why a feed gives no connections: a day without a start, times out of range, too many runs or connections, no memory.
+//! Why a feed gives no connections: a day without a start, times out of range, too many runs or connections, or
+//! memory that ran out.
 
 ghost use Rattle.std.specs.Prelude.{◌≡◌};
 ghost use Rattle.connections.specs.Faults.{IsWantOfMemory, range_fault, too_many_of};
@@ -10,15 +11,15 @@ use thiserror::Error;
 /// Why a feed's runs and connections are refused.
 #[derive(Clone, Copy, Debug, PartialEq, Eq, Error)]
 pub enum RunsFault {
-    /// There are too many runs (`trips.txt`) or connections (`stop_times.txt`), or memory is wanting.
+    /// There are too many runs (`trips.txt`) or connections (`stop_times.txt`), or memory ran out.
     #[error("{0}")]
     Table(TableFault),
-    /// A day has no start, a run's times lie before the base or too late after it, or memory is wanting.
+    /// A day has no start, a run has times before the base or too late after it, or memory ran out.
     #[error("{0}")]
     Day(DayFault),
 }
 
-// There are too many of what the table gives.
+// Returns the fault that there are too many runs (`trips.txt`) or connections (`stop_times.txt`).
 pub(crate) fn too_many(table: Table) -> RunsFault
     ensures { result ≡ too_many_of table }
 {
@@ -29,7 +30,7 @@ pub(crate) fn too_many(table: Table) -> RunsFault
     })
 }
 
-// Memory is wanting.
+// Returns the fault that memory ran out.
 pub(crate) fn out_of_memory() -> RunsFault
     ensures { IsWantOfMemory result }
 {
@@ -40,7 +41,7 @@ pub(crate) fn out_of_memory() -> RunsFault
     })
 }
 
-// A day or a time lies out of range.
+// Returns the fault that a day or a time is out of range.
 pub(crate) fn out_of_range() -> RunsFault
     ensures { result ≡ range_fault }
 {

@@ -1,4 +1,4 @@
-//! The connections of one run: a row to the next at which it stops, in seconds from the zero of the timetable.
+//! The connections of one run: one from each row to the next, with times in seconds after the base.
 
 ghost use Rattle.std.specs.Prelude.{◌≡◌, ◌≤◌, ◌<◌, ◌+◌, ◌-◌, ◌^◌, pos, ◌+ℤ◌, ◌≤ℤ◌, length, OnOk, MatchOption};
 ghost use Rattle.std.specs.Prelude.{MatchBool, All, IsSome};
@@ -12,15 +12,16 @@ use std::alloc::AllocError;
 use timetable::Connection;
 use timetable::limits::TIME_END;
 
-// A day's clock: seconds after its start are told as seconds after the base.
+// Converts seconds after the start of a day to seconds after the base. Both instants are in seconds after
+// 1970-01-01T00:00:00Z.
 #[derive(Clone, Copy, Debug)]
 pub(crate) struct DayClock {
     pub base: i64,
     pub start: i64,
 }
 
-// A run's clock. A repeat departs from its first stop so many seconds after the day's start, in
-// place of its first row's own departure; another run keeps the times of its rows.
+// Converts the times of a run's rows to seconds after the base. A repeat departs from its first stop `start` seconds
+// after the day's start, instead of at `own`, its first row's departure; any other run keeps the times of its rows.
 #[derive(Clone, Copy, Debug)]
 pub(crate) struct RunClock {
     pub day: DayClock,
@@ -29,7 +30,7 @@ pub(crate) struct RunClock {
 }
 
 impl RunClock {
-    // The instant from which the times of the rows are counted.
+    // Returns the instant from which the times of the rows count, in seconds after 1970-01-01T00:00:00Z.
     fn zero(&self) -> i128
         ensures is { result ≡ zero_of self.now }
         ensures range { (pos 0 ≤ℤ (result +ℤ pos (2 ^ 66))) × (result ≤ℤ pos (2 ^ 66)) }
@@ -41,7 +42,7 @@ impl RunClock {
         }
     }
 
-    // The seconds after the base of a time of the rows; none before the base and from the end of time on.
+    // Returns a time of the rows in seconds after the base; none if it is before the base, or at `TIME_END` or later.
     fn at(&self, time: u64) -> Option<u32>
         ensures { MatchOption result (IsOutside self.now.day.base (zero_of self.now) time)
             (IsClock self.now.day.base (zero_of self.now) time) }
@@ -56,7 +57,7 @@ impl RunClock {
         Some(after as u32)
     }
 
-    // Whether the times of the row at a position lie from the base to before the end of time. The
+    // Returns whether the times of the row at a position are no earlier than the base and before `TIME_END`. The
     // arrival at a repeat's first row doesn't count.
     fn is_inside(&self, position: usize, times: RowTimes) -> bool
         ensures { MatchBool result (IsInside self.now.day.base (zero_of self.now) self.now.start position times)
@@ -70,7 +71,7 @@ impl RunClock {
     }
 }
 
-// Whether all times lie from the base to before the end of time.
+// Returns whether all times that count are no earlier than the base and before `TIME_END`.
 pub(crate) fn are_inside(clock: RunClock, times: &[RowTimes]) -> bool
     ensures { MatchBool result (HaveClocks clock.day.base (zero_of clock) clock.start times.now)
         (LackClocks clock.day.base (zero_of clock) clock.start times.now) }
@@ -83,7 +84,7 @@ pub(crate) fn are_inside(clock: RunClock, times: &[RowTimes]) -> bool
     true
 }
 
-// The connection from the row at a position of a run to the next.
+// Returns the connection from the row at a position of a run to the next.
 fn connection(
     clock: RunClock,
     rows: &[StopTimeRow],
@@ -125,7 +126,7 @@ fn connection(
     }
 }
 
-// Adds the connections of a run, whose times lie inside.
+// Adds the connections of a run whose times are in range. Memory may run out.
 pub(crate) fn add_hops(
     connections: &mut Vec<Connection>,
     clock: RunClock,

@@ -21,13 +21,13 @@ ghost use Rattle.connections.specs.declared.runs.Run.{Run};
 
 use crate::days::MAX_DAYS;
 
-/// The limit of days, in numbers: definitions and code cite the constant.
+/// The greatest number of service days of a timetable.
 pub fn limits()
     ensures { MAX_DAYS ≡ 14 }
 {}
 
-/// The starts of a trip are those of its rows, each once, rising: a row with a headway starts the
-/// trip at its start time and a whole number of headways later, before its end time.
+/// The starts of a trip are those of its rows, each once, in rising order. A row whose headway isn't 0 starts the
+/// trip at its start time, and any whole number of headways later, before its end time.
 pub fn starts_are_theirs()
     ensures only { (rows : List Frequency) (s : ℕ) → Contains (starts_of rows) s
         → (row : Frequency) × Contains rows row × (0 < row.headway) × (n : ℕ) × (s ≡ row.start + n * row.headway)
@@ -39,8 +39,8 @@ pub fn starts_are_theirs()
         → slice_index_or (starts_of rows) i d < slice_index_or (starts_of rows) j d }
 {}
 
-/// Where no trip repeats, each trip that runs on a day runs once, as its stop times stand: its
-/// times count from the day's start.
+/// A trip that doesn't repeat runs once on each day on which it runs, at the times of its stop times, which count
+/// from the day's start.
 pub fn without_frequencies()
     ensures once { (feed : Feed) (day : Day) (t : ℕ) (trip : Trip) → trip.repeats ≡ false
         → runs_at feed day t trip ≡ (if runs_on feed day trip then run_as_it_stands day t ∷ [] else []) }
@@ -48,7 +48,7 @@ pub fn without_frequencies()
         → IsDayStart zone run.day start ↔ IsRunStart zone run rows start }
 {}
 
-/// A feed makes one list of runs and one list of connections on some days.
+/// A feed has only one list of runs and one list of connections for given days.
 pub fn one_listing()
     ensures { (feed : Feed) (zone : Zone) (first : Day) (days : ℕ) (connections others : List Connection)
         (runs rest : List Run) → 1 ≤ days
@@ -56,8 +56,8 @@ pub fn one_listing()
         → IsListing feed zone first days others rest → (connections ≡ others) × (runs ≡ rest) }
 {}
 
-/// The connections of a feed are those that a legal timetable may have, over the feed's stops and
-/// the runs as its trips.
+/// A legal timetable may have the connections of a feed, with the feed's stops as its stops and the runs as its
+/// trips.
 pub fn listing_is_legal()
     ensures { (feed : Feed) (zone : Zone) (first : Day) (days : ℕ) (connections : List Connection) (runs : List Run)
         → 1 ≤ days
@@ -65,7 +65,7 @@ pub fn listing_is_legal()
         → HasLegalConnections (length feed.stops.items) (length runs) connections }
 {}
 
-/// They are within the limits of an image.
+/// The runs and the connections of a feed are within the limits of an image.
 pub fn listing_is_within_limits()
     ensures { (feed : Feed) (zone : Zone) (first : Day) (days : ℕ) (connections : List Connection) (runs : List Run)
         → 1 ≤ days
@@ -73,8 +73,8 @@ pub fn listing_is_within_limits()
         → AreWithinLimits (length runs) connections }
 {}
 
-/// What is asked of connections is what a legal timetable asks: a legal timetable has such
-/// connections, and with others of that kind it is legal too.
+/// `HasLegalConnections` is what a legal timetable requires of its connections: each legal timetable has such
+/// connections, and stays legal if others of this kind take their place.
 pub fn legal_connections()
     ensures has { (t : TimetableValue) → IsLegal t → HasLegalConnections t.stops t.trips t.connections }
     ensures takes { (t : TimetableValue) (trips : ℕ) (connections : List Connection) → IsLegal t

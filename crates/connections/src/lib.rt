@@ -1,7 +1,7 @@
 //! The runs of a feed's trips on some days, and the connections that they make.
 //!
-//! Times are those of the GTFS Schedule Reference; that a trip's times are lifted, so that each
-//! connection takes time, is our own.
+//! Times are those of the GTFS Schedule Reference. It is our own addition that a trip's times are lifted, so that
+//! each connection takes time.
 #![tactic(auto)]
 
 mod days;

@@ -1,4 +1,4 @@
-//! The connections of all runs in the order of a timetable: by departure, then by arrival, then by run.
+//! Lists the connections of all runs in the order of a timetable: by departure, then by arrival, then by run.
 
 ghost use Rattle.std.specs.Prelude.{◌≡◌, ◌≤◌, ◌<◌, ◌-◌, ◌^◌, ◌⊎◌, ℤ, min, length, map, IfOk, IfErr, OnOk, OnErr};
 ghost use Rattle.std.specs.Prelude.{All, Contains, IsPermutation, true};
@@ -26,10 +26,10 @@ use std::alloc::{AllocError, Global};
 use timetable::Connection;
 use timetable::limits::MAX_CONNECTIONS;
 
-// One more than the greatest digit of an order number.
+// The base of the digits of an order number.
 const DIGIT: u128 = 1 << 32;
 
-// The rows of a trip.
+// Returns the rows of a trip.
 fn rows_of<'a>(stop_times: &'a [StopTimeRow], trip: &Trip) -> &'a [StopTimeRow]
     requires rising { trip.now.first ≤ trip.now.end }
     requires within { trip.now.end ≤ length stop_times.now }
@@ -39,7 +39,7 @@ fn rows_of<'a>(stop_times: &'a [StopTimeRow], trip: &Trip) -> &'a [StopTimeRow]
     &stop_times[trip.first..trip.end]
 }
 
-// The times of a trip, none where it makes no connections.
+// Returns the times of a trip, none if it makes no connections. Memory may run out.
 fn times_of(alloc: Global, stop_times: &[StopTimeRow], trip: &Trip) -> Result<TripTimes, AllocError>
     requires rising { trip.now.first ≤ trip.now.end }
     requires within { trip.now.end ≤ length stop_times.now }
@@ -56,7 +56,7 @@ fn times_of(alloc: Global, stop_times: &[StopTimeRow], trip: &Trip) -> Result<Tr
     })
 }
 
-// The times of each trip.
+// Returns the times of each trip. Memory may run out.
 fn times_of_trips(alloc: Global, feed: &Feed) -> Result<Vec<TripTimes>, AllocError>
     ensures { IfOk result (λ times. AreTimesOf feed.now.stop_times.items feed.now.trips.items times.items) }
 {
@@ -68,7 +68,7 @@ fn times_of_trips(alloc: Global, feed: &Feed) -> Result<Vec<TripTimes>, AllocErr
     Ok(times)
 }
 
-// How many connections runs make, the greatest number where they are more.
+// Returns how many connections the runs make, or the greatest number if there are more.
 fn count_connections(trips: &[Trip], runs: &[Run]) -> usize
     requires { All (IsTripRun trips.now) runs.now }
     ensures { result ≡ min (count_hops trips.now runs.now) usize.MAX }
@@ -81,7 +81,7 @@ fn count_connections(trips: &[Trip], runs: &[Run]) -> usize
     count
 }
 
-// The start of a day, which is one of these.
+// Returns the start of a day, which is one of these, in seconds after 1970-01-01T00:00:00Z.
 fn start_of(days: &[ServiceDay], day: Day) -> i64
     requires { Contains (map (λ d. d.day) days.now) day }
     ensures { (zone : DayZone) → All (λ d. IsDayStart zone d.day d.start) days.now → IsDayStart zone day result }
@@ -94,7 +94,7 @@ fn start_of(days: &[ServiceDay], day: Day) -> i64
     unreachable!();
 }
 
-// Adds the connections of a run.
+// Adds the connections of a run: `DayOutOfRange` if one of its times is out of range.
 fn list_run(
     connections: &mut Vec<Connection>,
     feed: &Feed,
@@ -129,7 +129,8 @@ fn list_run(
     }
 }
 
-// The connections of the runs, by run, for so many of which room is made.
+// Returns the connections of the runs, by run; room is made for `count` of them. `DayOutOfRange` if a time of a run
+// is out of range.
 fn connections_by_run(
     alloc: Global,
     feed: &Feed,
@@ -169,15 +170,15 @@ fn connections_by_run(
     Ok(connections)
 }
 
-// The number by which a connection stands in the order: departure, arrival and run, each a digit of
-// 32 bits. One number is compared faster than three.
+// Returns the number by which connections are sorted: departure, arrival and run, each a digit of 32 bits. One
+// number is compared faster than three.
 fn order_number(connection: &Connection) -> u128
     ensures { result ≡ order_of connection.now }
 {
     (connection.dep as u128 * DIGIT + connection.arr as u128) * DIGIT + connection.trip as u128
 }
 
-// Puts connections in order: by departure, arrival and run.
+// Sorts connections by departure, arrival and run.
 fn put_in_order(connections: &mut Vec<Connection>)
     requires { All HasDigits connections.old.items }
     ensures permutation { IsPermutation connections.old.items connections.new.items }
@@ -186,23 +187,23 @@ fn put_in_order(connections: &mut Vec<Connection>)
     connections.sort_unstable_by_key(|connection| order_number(connection));
 }
 
-/// The connections and the runs of a feed on so many days, 1 to [`MAX_DAYS`], from the first one
-/// on, and what was counted.
+/// Returns the connections and the runs of a feed on `days` days, 1 to [`MAX_DAYS`], from the first one on, and the
+/// counts.
 ///
-/// A run is a day and a trip whose service is active then; a trip that `frequencies.txt` names has
-/// one for each of its starts, its repeats ([`starts_are_theirs`](crate::laws::starts_are_theirs)),
-/// and none as it stands. A flex trip, and one with fewer than two rows, never runs. Runs are
-/// numbered by day, then by the order of the trips, then by repeat, from the earliest start on.
-/// Each two neighbouring rows of a run give a connection. Its times are those of [`trip_times`]
-/// after the day's start, in a repeat moved so that it departs from its first row at its start, and
-/// are told in seconds after the base, the start of the first day. Connections stand by departure,
-/// arrival, run and position in the trip. Passengers may board where they may at the row that the
-/// connection leaves, and alight where they may at the row that it reaches.
+/// A run is a day and a trip whose service is active on it. A trip that `frequencies.txt` names has one run for each
+/// of its starts, its repeats ([`starts_are_theirs`](crate::laws::starts_are_theirs)), and none at the times of its
+/// stop times. A flex trip, and one with fewer than two rows, never runs. Runs are numbered by day, then by the order
+/// of the trips, then by repeat, from the earliest start on.
 ///
-/// Refusals are told in this order: a day without a start (`DayOutOfRange`), too many runs
-/// (`TooMany`, `trips.txt`), too many connections (`TooMany`, `stop_times.txt`), a run of which a
-/// time lies before the base, or at `TIME_END` or later (`DayOutOfRange`); a repeat's arrival at
-/// its first row isn't judged. Want of memory may be told before any of them.
+/// Each row of a run but the last gives a connection to the next row. Its times are those of [`trip_times`], which
+/// count from the day's start; those of a repeat are moved so that it departs from its first row at its start. They
+/// are given in seconds after the base, the start of the first day. Connections are in order of departure, arrival,
+/// run and position in the trip. Passengers may board if they may at the row that the connection leaves, and alight
+/// if they may at the row that it reaches.
+///
+/// Refusals come in this order: a day without a start (`DayOutOfRange`), too many runs (`TooMany`, `trips.txt`), too
+/// many connections (`TooMany`, `stop_times.txt`), a run with a time before the base, or at `TIME_END` or later
+/// (`DayOutOfRange`); a repeat's arrival at its first row isn't judged. Memory may run out before any of them.
 pub fn runs_of(
     alloc: Global,
     feed: &Feed,

@@ -1,5 +1,5 @@
-//! The starts of a trip with many rows, marked second by second: rows that overlap cost no more
-//! than the starts that they give.
+//! The starts of a trip with many rows, marked second by second, so that rows that overlap cost no more than the
+//! starts that they give.
 
 ghost use Rattle.std.specs.Prelude.{◌≡◌, ◌≤◌, ◌<◌, ◌||◌, ◌⊎◌, ℕ, Bool, true, length, All, IfOk, IsPermutation};
 ghost use Rattle.connections.specs.Marks.{AreMarks, Covers};
@@ -9,10 +9,10 @@ use crate::repeats::next_of_row;
 use gtfs_tables::Frequency;
 use std::alloc::{AllocError, Global};
 
-// Seconds that are marked, at most: a feed's times are below 360,000.
+// The greatest number of seconds that are marked. The times of a feed are below 360,000.
 const MOST_SECONDS: u32 = 400_000;
 
-// The greatest end time of the rows.
+// Returns the greatest end time of the rows, in seconds after the start of the service day.
 fn end_of(rows: &[Frequency]) -> u32
     ensures { result ≡ last_end rows.now }
 {
@@ -23,14 +23,14 @@ fn end_of(rows: &[Frequency]) -> u32
     end
 }
 
-// How many starts a row gives, or one more.
+// Returns an upper bound of the number of starts that a row gives.
 fn starts_at_most(row: Frequency) -> u64 {
     let seconds = row.end.saturating_sub(row.start);
     let headway = row.headway.max(1);
     (seconds / headway) as u64 + 1
 }
 
-// Whether it takes longer to look at each of the rows for each start than to mark the starts among all seconds.
+// Returns whether it is faster to mark the starts among all seconds than to search all rows for each start.
 pub(crate) fn are_many(rows: &[Frequency]) -> bool {
     if rows.len() < 5 {
         return false;
@@ -43,13 +43,13 @@ pub(crate) fn are_many(rows: &[Frequency]) -> bool {
     seconds <= MOST_SECONDS && starts.saturating_mul(rows.len() as u64) > seconds as u64
 }
 
-// What rows with the same starts have in common, and then their start times.
+// Returns a sort key: headway and remainder, which rows with common starts share, then the start time.
 fn class_of(row: &Frequency) -> (u32, u32, u32) {
     let headway = row.headway.max(1);
     (row.headway, row.start % headway, row.start)
 }
 
-// The rows, those of the same headway and the same remainder one after the other.
+// Returns the rows sorted by headway, remainder and start time.
 fn by_class(alloc: Global, rows: &[Frequency]) -> Result<Vec<Frequency>, AllocError>
     ensures { IfOk result (λ sorted. IsPermutation rows.now sorted.items) }
 {
@@ -58,7 +58,7 @@ fn by_class(alloc: Global, rows: &[Frequency]) -> Result<Vec<Frequency>, AllocEr
     Ok(sorted)
 }
 
-// Whether a row gives no start, before another's end time, but those that the other gives.
+// Returns true only if each start of `row` before the end time of `other` is also a start of `other`.
 fn covers(other: Frequency, row: Frequency) -> bool
     ensures { result ≡ true → Covers other row }
 {
@@ -71,7 +71,7 @@ fn covers(other: Frequency, row: Frequency) -> bool
     (row.start - other.start) % row.headway == 0
 }
 
-// Marks the starts of a row from a time on.
+// Marks the starts of a row at or after a time.
 fn mark_row(marks: &mut Vec<bool>, row: Frequency, from: u32)
     requires { row.end ≤ length marks.old.items }
     ensures len { length marks.new.items ≡ length marks.old.items }
@@ -89,7 +89,7 @@ fn mark_row(marks: &mut Vec<bool>, row: Frequency, from: u32)
     }
 }
 
-// Whether one of the rows lets a trip start, at each second before the end time.
+// Returns for each second before `end` whether one of the rows gives a start then.
 fn marks_of(alloc: Global, rows: &[Frequency], end: u32) -> Result<Vec<bool>, AllocError>
     requires { All (λ row. row.end ≤ end) rows.now }
     ensures len { IfOk result (λ marks. length marks.items ≡ end) }
@@ -114,14 +114,14 @@ fn marks_of(alloc: Global, rows: &[Frequency], end: u32) -> Result<Vec<bool>, Al
     Ok(marks)
 }
 
-// That of two rows which ends later.
+// Returns the row of two that ends later.
 fn later(one: Frequency, other: Frequency) -> Frequency
     ensures { (result ≡ one) ⊎ (result ≡ other) }
 {
     if other.end > one.end { other } else { one }
 }
 
-// The starts that the rows give, rising, each once.
+// Returns the starts that the rows give, rising, each once. Memory may run out.
 pub(crate) fn marked_starts(alloc: Global, rows: &[Frequency]) -> Result<Vec<u32>, AllocError>
     ensures { IfOk result (λ starts. starts.items ≡ starts_of rows.now) }
 {

@@ -1,4 +1,4 @@
-//! The starts of the trips that repeat: each second at which a row of frequencies.txt has its trip leave.
+//! The starts of the trips that repeat: each second at which a row of frequencies.txt starts its trip.
 
 ghost use Rattle.std.specs.Prelude.{◌≡◌, ◌<◌, IfOk, IfSome, MatchOption};
 ghost use Rattle.connections.specs.Repeats.{is_start, leaves_at, starts_of};
@@ -8,7 +8,7 @@ use crate::marks::{are_many, marked_starts};
 use gtfs_tables::Frequency;
 use std::alloc::{AllocError, Global};
 
-// The first start, from a time on, that a row gives.
+// Returns the first start at or after a time that a row gives, if there is one.
 pub(crate) fn next_of_row(row: Frequency, from: u32) -> Option<u32>
     ensures next { MatchOption result (IsNever (λ s. leaves_at s row) from) (IsNext (λ s. leaves_at s row) from) }
     ensures room { IfSome result (λ start. start < u32.MAX) }
@@ -22,7 +22,7 @@ pub(crate) fn next_of_row(row: Frequency, from: u32) -> Option<u32>
     if start < row.end { Some(start) } else { None }
 }
 
-// The first start, from a time on, that one of the rows gives.
+// Returns the first start at or after a time that one of the rows gives, if there is one.
 fn next_start(rows: &[Frequency], from: u32) -> Option<u32>
     ensures next { MatchOption result (IsNever (is_start rows.now) from) (IsNext (is_start rows.now) from) }
     ensures room { IfSome result (λ start. start < u32.MAX) }
@@ -34,7 +34,7 @@ fn next_start(rows: &[Frequency], from: u32) -> Option<u32>
     next
 }
 
-// The earlier of two times, where there are two.
+// Returns the earlier of two times, or the only one if one is missing.
 fn earlier(one: Option<u32>, other: Option<u32>) -> Option<u32>
     ensures { result ≡ earlier_of one other }
 {
@@ -45,7 +45,7 @@ fn earlier(one: Option<u32>, other: Option<u32>) -> Option<u32>
     }
 }
 
-// The starts that the rows give, rising, each once: found one after the other.
+// Returns the starts that the rows give, rising, each once, found one after the other. Memory may run out.
 fn starts_in_turn(alloc: Global, rows: &[Frequency]) -> Result<Vec<u32>, AllocError>
     ensures { IfOk result (λ starts. starts.items ≡ starts_of rows.now) }
 {
@@ -58,7 +58,7 @@ fn starts_in_turn(alloc: Global, rows: &[Frequency]) -> Result<Vec<u32>, AllocEr
     Ok(starts)
 }
 
-// The starts that the rows give, rising, each once.
+// Returns the starts that the rows give, rising, each once. Memory may run out.
 pub(crate) fn starts_given(alloc: Global, rows: &[Frequency]) -> Result<Vec<u32>, AllocError>
     ensures { IfOk result (λ starts. starts.items ≡ starts_of rows.now) }
 {

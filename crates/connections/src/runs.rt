@@ -1,4 +1,4 @@
-//! Runs: which trips leave on which service days, how often, and with which repeats.
+//! Runs: which trips run on which service days, and with which repeats.
 
 ghost use Rattle.std.specs.Prelude.{◌≡◌, ◌≤◌, ◌<◌, ◌^◌, ◌-◌, ◌+◌, ◌++◌, ◌&&◌, min, length, map, get_or, false};
 ghost use Rattle.std.specs.Prelude.{IfOk, IfErr, OnOk, All};
@@ -28,16 +28,16 @@ use timetable::limits::MAX_TRIPS;
 #[derive(Clone, Copy, Debug, PartialEq, Eq)]
 pub struct Run {
     pub day: Day,
-    /// The trip's place among the feed's trips.
+    /// The index of the trip in the feed's trips.
     pub trip: u32,
-    /// The number of the run among those of its trip on the day, from 0.
+    /// The number of the run among the runs of its trip on the day, from 0.
     pub repeat: u32,
-    /// Where `frequencies.txt` names the trip, when the run departs from its first stop, in seconds
-    /// after the start of the day. None where it runs as its stop times stand.
+    /// When the run departs from its first stop, in seconds after the start of the day, if `frequencies.txt` names the
+    /// trip. None if the run keeps the times of its stop times.
     pub start: Option<u32>,
 }
 
-// Whether a trip gives connections: it isn't a flex trip, and has two rows or more.
+// Returns whether a trip makes connections: it isn't a flex trip, and has at least two rows.
 pub(crate) fn makes_connections(trip: &Trip) -> bool
     requires { trip.now.first ≤ trip.now.end }
     ensures { result ≡ makes trip.now }
@@ -45,7 +45,7 @@ pub(crate) fn makes_connections(trip: &Trip) -> bool
     !trip.flex && trip.end - trip.first >= 2
 }
 
-// Whether a trip gives connections on a day, by whether each service runs on it.
+// Returns whether a trip runs on a day: it makes connections, and its service (by index) is active on the day.
 fn is_running(active: &[bool], service: usize, trip: &Trip) -> bool
     requires { trip.now.first ≤ trip.now.end }
     ensures { result ≡ (makes trip.now && get_or active.now service false) }
@@ -53,7 +53,7 @@ fn is_running(active: &[bool], service: usize, trip: &Trip) -> bool
     makes_connections(trip) && active.get(service).copied().unwrap_or(false)
 }
 
-// Whether each of the trips gives connections on a day, by whether each service runs on it.
+// Returns for each trip whether it runs on a day, given which services are active on the day. Memory may run out.
 fn running_on(
     alloc: Global,
     active: &[bool],
@@ -74,7 +74,7 @@ fn running_on(
     Ok(running)
 }
 
-// How many runs a trip has on a day, on which it runs or doesn't.
+// Returns how many runs a trip has on a day, given whether it runs on it. Memory may run out.
 fn count_trip(
     alloc: Global,
     running: bool,
@@ -95,7 +95,7 @@ fn count_trip(
     Ok(1)
 }
 
-// How many runs there are with those of a trip on a day. Where there are too many already, no more are counted.
+// Returns `before` plus the number of a trip's runs on a day. If `before` is already too many, no more are counted.
 fn count_with_trip(
     alloc: Global,
     before: usize,
@@ -116,7 +116,7 @@ fn count_with_trip(
     Ok(before.saturating_add(more))
 }
 
-// How many runs there are with those of the trips on a day, counted no further than to more than there may be.
+// Returns `before` plus the number of the trips' runs on a day. Counting stops once there are too many.
 fn count_with_trips(
     alloc: Global,
     before: usize,
@@ -139,7 +139,7 @@ fn count_with_trips(
     Ok(count)
 }
 
-// How many runs there are with those of a day. Where there are too many already, no more are counted.
+// Returns `before` plus the number of runs on a day. Counting stops once there are too many.
 fn count_with_day(
     alloc: Global,
     before: usize,
@@ -165,7 +165,7 @@ fn count_with_day(
     count_with_trips(alloc, before, &running, trips, starts)
 }
 
-// How many runs the days have on which the services run, counted no further than to more than there may be.
+// Returns how many runs there are on all days. Counting stops once there are too many.
 fn count_runs(
     alloc: Global,
     services: &TripServices,
@@ -188,7 +188,7 @@ fn count_runs(
     Ok(count)
 }
 
-// Adds the repeats of a trip on a day: one for each of its starts.
+// Adds the repeats of a trip on a day, one for each of its starts, which are listed if they weren't yet.
 fn add_repeats(
     alloc: Global,
     runs: &mut Vec<Run>,
@@ -204,7 +204,7 @@ fn add_repeats(
     add_starts(runs, day, trip, starts.listed())
 }
 
-// Adds the repeats of a trip on a day: one for each of the starts.
+// Adds the repeats of a trip on a day, one for each of these starts.
 fn add_starts(runs: &mut Vec<Run>, day: Day, trip: u32, starts: &[u32]) -> Result<(), AllocError>
     ensures { OnOk result (runs.new.items ≡ runs.old.items ++ repeats_from day trip 0 starts.now) }
 {
@@ -254,7 +254,7 @@ fn add_run(
     Ok(())
 }
 
-// Adds the runs of a day, of the trips that run on it.
+// Adds the runs of a day: those of the trips that run on it.
 fn add_runs_on(
     alloc: Global,
     runs: &mut Vec<Run>,
@@ -284,7 +284,7 @@ fn add_runs_on(
     Ok(())
 }
 
-// The runs of the days, for so many of which room is made.
+// Returns the runs of the days; room is made for `count` of them.
 fn list_runs(
     alloc: Global,
     services: &TripServices,
@@ -310,8 +310,8 @@ fn list_runs(
     Ok(runs)
 }
 
-// The runs of the days: by day, then by the order of the trips, then by repeat. Those that a `u32`
-// can't number count as want of memory.
+// Returns the runs of the days, by day, then by the order of the trips, then by repeat: `TooMany` if there are more
+// than `MAX_TRIPS`. A trip or a repeat whose number doesn't fit in 32 bits counts as memory that ran out.
 pub(crate) fn runs_on(
     alloc: Global,
     feed: &Feed,
@@ -336,8 +336,8 @@ pub(crate) fn runs_on(
     runs_by(alloc, feed, &services, &mut starts, days)
 }
 
-// The runs of the days, by the services of its trips and by their starts: those of a trip are listed when its runs are
-// first counted, so starts are never kept of many more runs than there may be.
+// Returns the runs of the days, given the services of the trips and their starts. The starts of a trip are listed
+// when its runs are first counted, so memory never holds the starts of many more runs than are allowed.
 fn runs_by(
     alloc: Global,
     feed: &Feed,

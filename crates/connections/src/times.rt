@@ -1,5 +1,5 @@
-//! The times of a trip's rows: spread over the blank ones, then lifted, so that each arrival is
-//! after the departure before it.
+//! The times of a trip's rows: spread over the blank rows, then lifted, so that each arrival is after the departure
+//! before it.
 
 ghost use Rattle.std.specs.Prelude.{◌≡◌, ◌≤◌, ◌<◌, ◌+◌, ◌-◌, ◌^◌, max, not, ◌&&◌, ◌==◌, length, IfOk, IfSome};
 ghost use Rattle.std.specs.Prelude.{MatchOption, IsSome};
@@ -11,7 +11,7 @@ use gtfs_tables::laws::spread_times;
 use gtfs_tables::spread::spread;
 use std::alloc::{AllocError, Global};
 
-/// When a vehicle arrives at a row's stop and departs from it, in seconds after the start of the service day.
+/// When a trip arrives at a row's stop and departs from it, in seconds after the start of the service day.
 #[derive(Clone, Copy, Debug, PartialEq, Eq)]
 pub struct RowTimes {
     pub arrival: u64,
@@ -22,16 +22,15 @@ pub struct RowTimes {
 #[derive(Debug, Drop)]
 pub struct TripTimes {
     pub rows: Vec<RowTimes>,
-    /// Whether lifting changed one of them.
+    /// Whether lifting changed any of the times.
     pub lifted: bool,
 }
 
-/// The times of a trip's rows, which are by rising stop_sequence: spread over the blank rows, and
-/// then lifted, so that each arrival is after the departure before it. An arrival becomes the
-/// greater of itself and one second after the departure before it as lifted, a departure the
-/// greater of itself and its arrival as lifted; the first row's times stay.
+/// Returns the times of a trip's rows, which are in order: spread over the blank rows, and then lifted, so that each
+/// arrival is after the departure before it. Row by row, an arrival becomes at least one second later than the lifted
+/// departure before it, and a departure no earlier than the lifted arrival; the first row's times stay.
 ///
-/// The only error is want of memory.
+/// The only error is that memory ran out.
 pub fn trip_times(alloc: Global, rows: &[StopTimeRow]) -> Result<TripTimes, AllocError>
     requires first { IsSome (arrival_at rows.now 0) }
     requires last { IsSome (arrival_at rows.now (length rows.now - 1)) }
@@ -54,7 +53,7 @@ pub fn trip_times(alloc: Global, rows: &[StopTimeRow]) -> Result<TripTimes, Allo
     })
 }
 
-// A row's times as lifted, behind the departure before it.
+// Returns a row's times as lifted, given the lifted departure before it.
 fn lift(left: Option<u64>, arrival: u32, departure: u32) -> RowTimes
     requires { IfSome left (λ time. time + 1 < 2 ^ 64) }
     ensures value { result ≡ lifted_by left arrival departure }
@@ -75,7 +74,7 @@ fn lift(left: Option<u64>, arrival: u32, departure: u32) -> RowTimes
     }
 }
 
-// Whether lifting changed a row's times.
+// Returns whether lifting changed a row's times.
 fn is_lifted(time: RowTimes, arrival: u32, departure: u32) -> bool
     ensures { result ≡ not ((time.arrival == arrival) && (time.departure == departure)) }
 {

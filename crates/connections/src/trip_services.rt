@@ -1,4 +1,4 @@
-//! The services of a feed's trips, and which of them run on each day of a plan: worked out once for a plan.
+//! The services of a feed's trips, and which of them run on each day of a plan, determined once for the plan.
 
 ghost use Rattle.std.specs.Prelude.{◌≡◌, length, map, IfOk};
 ghost use Rattle.gtfs_tables.specs.declared.tables.Feed.{Feed as JoinedFeed};
@@ -21,7 +21,7 @@ pub(crate) struct TripServices {
 }
 
 impl TripServices {
-    // The services of the trips, each judged once for each of the days.
+    // Returns the services of the trips; each is looked up once for each day. Memory may run out.
     pub(crate) fn new(
         alloc: Global,
         services: &Services,
@@ -40,7 +40,7 @@ impl TripServices {
     }
 }
 
-// The index of each trip's service among those that are named.
+// Returns the index of each trip's service among the named ones, to which it is added. Memory may run out.
 fn indices_of(
     alloc: Global,
     named: &mut NamedServices,
@@ -57,7 +57,7 @@ fn indices_of(
     Ok(indices)
 }
 
-// For each day whether each of the named services runs on it.
+// Returns for each day whether each of the named services runs on it. Memory may run out.
 fn active_on_days(
     alloc: Global,
     services: &Services,

@@ -1,4 +1,4 @@
-//! The starts of each trip, by the rows of frequencies.txt that name it: listed once, when they are first asked for.
+//! The starts of each trip by the rows of frequencies.txt that name it, listed when they are first asked for.
 
 ghost use Rattle.std.specs.Prelude.{◌≡◌, ◌++◌, ◌∷◌, List, [], length, IfOk, OnOk};
 ghost use Rattle.gtfs_tables.specs.declared.tables.Frequency.{Frequency as Row};
@@ -10,16 +10,16 @@ use crate::repeats::starts_given;
 use gtfs_tables::Frequency;
 use std::alloc::{AllocError, Global};
 
-/// The starts of a trip, or the rows that give them where nobody asked for the starts yet.
+/// The starts of a trip, or the rows that give them, if the starts weren't asked for yet.
 #[derive(Drop)]
 pub(crate) enum TripStarts {
     Rows(Vec<Frequency>),
-    /// Rising, each once.
+    /// The starts, rising, each once, in seconds after the start of the service day.
     Times(Vec<u32>),
 }
 
 impl TripStarts {
-    // Adds a row, where no starts are listed yet.
+    // Adds a row, unless the starts are already listed. Memory may run out.
     fn add(&mut self, row: Frequency) -> Result<(), AllocError>
         ensures { (rows : List Row) → HasRows rows self.old → OnOk result (HasRows (rows ++ row ∷ []) self.new) }
     {
@@ -29,7 +29,7 @@ impl TripStarts {
         Ok(())
     }
 
-    // Lists the starts, if they aren't listed yet.
+    // Lists the starts, if they aren't listed yet. Memory may run out.
     pub(crate) fn list(&mut self, alloc: Global) -> Result<(), AllocError>
         ensures kept { OnOk result (IsKept self.old self.new) }
         ensures listed { (rows : List Row) → AreStartsOf rows self.old
@@ -42,7 +42,7 @@ impl TripStarts {
         Ok(())
     }
 
-    // The starts that are listed: none if they aren't yet.
+    // Returns the starts, or none if they aren't listed yet.
     pub(crate) fn listed(&self) -> &[u32]
         ensures { result.now ≡ listed_times self.now }
     {
@@ -52,7 +52,7 @@ impl TripStarts {
         }
     }
 
-    // How many starts there are.
+    // Returns how many starts there are; they are listed if they weren't yet. Memory may run out.
     pub(crate) fn count(&mut self, alloc: Global) -> Result<usize, AllocError>
         ensures kept { OnOk result (IsKept self.old self.new) }
         ensures count { (rows : List Row) → AreStartsOf rows self.old
@@ -63,7 +63,7 @@ impl TripStarts {
     }
 }
 
-// So many trips that no row names.
+// Returns an empty list of rows for each of `trips` trips.
 fn no_rows(alloc: Global, trips: usize) -> Result<Vec<TripStarts>, AllocError>
     ensures { IfOk result (λ groups. AreGrouped [] trips groups.items) }
 {
@@ -74,7 +74,7 @@ fn no_rows(alloc: Global, trips: usize) -> Result<Vec<TripStarts>, AllocError>
     Ok(groups)
 }
 
-// Adds a row to those of its trip, if the trip is there.
+// Adds a row to those of its trip, if there is such a trip. Memory may run out.
 fn add_row(groups: &mut Vec<TripStarts>, row: Frequency) -> Result<(), AllocError>
     ensures { OnOk result (AddsRow groups.old.items row groups.new.items) }
 {
@@ -85,7 +85,8 @@ fn add_row(groups: &mut Vec<TripStarts>, row: Frequency) -> Result<(), AllocErro
     Ok(())
 }
 
-// The starts of each of so many trips, by its rows of frequencies.txt. None are listed yet.
+// Returns the starts of each of `trips` trips, by its rows of frequencies.txt. None are listed yet. Memory may run
+// out.
 pub(crate) fn starts_by_trip(
     alloc: Global,
     rows: &[Frequency],

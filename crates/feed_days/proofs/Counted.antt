@@ -1,4 +1,4 @@
--- A trip more, which runs or doesn't.
+-- The count with one more trip, which runs or doesn't.
 use Rattle.std.proofs.Common.{◌≡◌, ◌∙◌, ◌+◌, ◌<◌, ℕ, List, Bool, ap, arith, get_or, if◌then◌else◌, inl, inr, length, sym, take}
 use Rattle.std.specs.List.{count_by}
 use Rattle.std.proofs.lemmas.Bool.{cases_Bool}

@@ -1,4 +1,4 @@
--- Civil days in order, and their places in the calendar.
+-- The order of civil days, and their numbers in the calendar.
 use Rattle.std.proofs.Common.{◌≡◌, ◌≤◌, ◌<◌, ◌+◌, ◌⊎◌, inl, inr, ◌==◌, ◌&&◌, if◌then◌else◌, ℕ, pos, ◌+ℤ◌, true, false, refl, sym, ap, ◌∙◌, arith}
 use Rattle.std.proofs.lemmas.Bool.{cases_Bool, cases_order, false≢true}
 use Rattle.std.proofs.lemmas.Bool.Decides.{nat_tests}

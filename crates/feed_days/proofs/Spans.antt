@@ -1,4 +1,4 @@
--- The days of which a test holds, and the first and the last of them.
+-- The days for which a test holds, and the first and the last of them.
 use Rattle.std.proofs.Common.{◌≡◌, ◌≤◌, ◌+◌, ◌⊎◌, ◌||◌, inl, inr, Bool, true, false, refl, sym, ap, ◌∙◌, arith}
 use Rattle.std.specs.Prelude.{IfNone, Option, Some, None}
 use Rattle.std.proofs.lemmas.Bool.{cases_Bool, cases_order, false≢true}

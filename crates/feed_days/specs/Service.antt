@@ -1,4 +1,4 @@
--- On which days a feed's rows give service, and how many of its trips run on a day.
+-- The days on which a feed's rows give service, and how many of its trips run on a day.
 use Rattle.std.specs.Prelude.{◌≡◌, ◌&&◌, ◌||◌, ℕ, List, Bool, true, false, pos, Option, MatchOption}
 use Rattle.std.specs.List.{count_by, list_any}
 use Rattle.jiff_core.specs.Calendar.{day_count}
@@ -11,15 +11,15 @@ use Rattle.service_days.specs.Services.{adds, exception_of, is_not_after, runs_i
 use Rattle.connections.specs.Runs.{runs_on}
 use Rattle.feed_days.specs.declared.span.Span.{Span}
 
--- a row of calendar.txt gives service on a civil day: one of its weekdays, from its first day to its last
+-- the row of calendar.txt gives service on the day: a civil day on one of its weekdays, from its start to its end
 abbrev pub gives_weekly : CalendarRow → Day → Bool
 gives_weekly row day = is_civil day && runs_in (weekday_on day) day (week_of row)
 
--- a row of calendar_dates.txt gives service on the civil day that it adds
+-- the row of calendar_dates.txt gives service on the day: a civil day that it adds
 abbrev pub gives_once : CalendarDateRow → Day → Bool
 gives_once row day = is_civil day && adds day (exception_of row)
 
--- some of the rows gives service on a day
+-- one of the rows gives service on the day
 abbrev pub give_weekly : List CalendarRow → Day → Bool
 give_weekly rows day = list_any (λ row. gives_weekly row day) rows
 
@@ -29,26 +29,26 @@ give_once rows day = list_any (λ row. gives_once row day) rows
 abbrev pub has_service : Feed → Day → Bool
 has_service feed day = give_weekly feed.calendar.items day || give_once feed.calendar_dates.items day
 
--- the test holds of no day
+-- the test holds for no day
 abbrev pub HoldsOfNone : (Day → Bool) → Type 0
 HoldsOfNone test = (day : Day) → test day ≡ false
 
--- the test holds of the day, and of none before it
+-- the test holds for the day, and for none before it
 pub record IsFirst (test : Day → Bool) (first : Day) : Type 0 where
   pub holds : test first ≡ true
   pub least : (day : Day) → test day ≡ true → is_not_after first day ≡ true
 
--- the test holds of the day, and of none after it
+-- the test holds for the day, and for none after it
 pub record IsLast (test : Day → Bool) (last : Day) : Type 0 where
   pub holds : test last ≡ true
   pub most : (day : Day) → test day ≡ true → is_not_after day last ≡ true
 
--- the first and the last day of which the test holds
+-- the first and the last day for which the test holds
 pub record IsSpan (test : Day → Bool) (span : Span) : Type 0 where
   pub first : IsFirst test span.first
   pub last : IsLast test span.last
 
--- they, or none if it holds of no day
+-- the first and the last day for which the test holds, or none if it holds for no day
 abbrev pub SpansDays : (Day → Bool) → Option Span → Type 0
 SpansDays test found = MatchOption found (HoldsOfNone test) (IsSpan test)
 
@@ -56,6 +56,6 @@ SpansDays test found = MatchOption found (HoldsOfNone test) (IsSpan test)
 abbrev pub trips_on : Feed → Day → ℕ
 trips_on feed day = count_by (runs_on feed day) feed.trips.items
 
--- the place of a day in the calendar: the day after has the next
+-- the number of a day in the calendar; the day after has the next number
 abbrev pub day_place : Day → ℕ
 day_place d = day_count (pos d.year) d.month d.day

@@ -12,9 +12,9 @@ use gtfs_tables::{Day, Feed, Trip};
 use service_days::{DayServices, Services};
 use std::alloc::{AllocError, Global};
 
-/// How many of a feed's trips run on a day, by the feed's services: the trip's service is active,
-/// the trip isn't a flex trip, and it has two rows or more. A trip that `frequencies.txt` repeats
-/// counts once.
+/// Returns how many of a feed's trips run on a day, given the feed's services: a trip runs if its service is active,
+/// it isn't a flex trip, and it has at least two rows. A trip that `frequencies.txt` repeats counts once. Memory may
+/// run out.
 pub fn trips_on(
     alloc: Global,
     feed: &Feed,
@@ -32,7 +32,7 @@ pub fn trips_on(
     Ok(count)
 }
 
-// One if a trip runs on the day, else none.
+// Returns 1 if a trip runs on the day, or else 0.
 fn running(
     asked: &mut DayServices,
     services: &Services,
@@ -53,7 +53,7 @@ fn running(
     Ok(0)
 }
 
-// Whether a trip makes connections: it isn't a flex trip, and has two rows or more.
+// Returns whether a trip makes connections: it isn't a flex trip, and has at least two rows.
 fn makes_connections(trip: &Trip) -> bool
     ensures { result ≡ makes trip.now }
 {

@@ -1,4 +1,4 @@
-//! Civil days in turn, and their order.
+//! The day before and the day after a civil day, and the order of days.
 
 ghost use Rattle.std.specs.Prelude.{◌≡◌, ◌≤◌, ◌+◌, true, false, pos, IfSome, IfNone};
 ghost use Rattle.std.specs.Int.{IsInRange};
@@ -27,7 +27,7 @@ pub const LAST: Day = Day {
     day: 31,
 };
 
-// The date of a civil day.
+// Returns the day as a date of jiff, if it is a civil day.
 pub fn civil_date(day: Day) -> Option<Date>
     ensures some { IfSome result (λ date. (is_civil day ≡ true)
         × IsYmd (pos day.year) (pos day.month) (pos day.day) date) }
@@ -39,7 +39,7 @@ pub fn civil_date(day: Day) -> Option<Date>
     Date::new(day.year as i16, day.month as i8, day.day as i8).ok()
 }
 
-// The day after a civil day, if it isn't the calendar's last.
+// Returns the day after a civil day, unless it is the calendar's last.
 pub fn next_day(day: Day) -> Option<Day>
     requires { is_civil day ≡ true }
     ensures some { IfSome result (λ next. (is_civil next ≡ true) × (day_place next ≡ day_place day + 1)) }
@@ -51,7 +51,7 @@ pub fn next_day(day: Day) -> Option<Day>
     Some(day_after(day))
 }
 
-// The day before a civil day, if it isn't the calendar's first.
+// Returns the day before a civil day, unless it is the calendar's first.
 pub fn day_before(day: Day) -> Option<Day>
     requires { is_civil day ≡ true }
     ensures some { IfSome result (λ before. (is_civil before ≡ true) × (day_place before + 1 ≡ day_place day)) }
@@ -73,7 +73,7 @@ pub fn day_before(day: Day) -> Option<Day>
     None
 }
 
-// The last day of a month.
+// Returns the last day of a month.
 fn month_end(year: u16, month: u8) -> Day
     requires year { IsInRange 1 9999 year }
     requires month { IsInRange 1 12 month }
@@ -88,7 +88,7 @@ fn month_end(year: u16, month: u8) -> Day
     }
 }
 
-// Whether a day is another or comes before it.
+// Returns whether the first day is no later than the second.
 pub fn not_after(a: Day, b: Day) -> bool
     ensures { result ≡ is_not_after a b }
 {

@@ -1,6 +1,6 @@
-//! Which service days a feed has, and how many of its trips run on each of them, as text.
+//! The service days of a feed, and how many of its trips run on each of them, as text.
 //!
-//! A feed may have service on every day of 9999 years, so at most [`MOST_DAYS`] of them have a line.
+//! A feed may have service on every day of 9999 years, so at most [`MOST_DAYS`] days have a line.
 #![tactic(auto)]
 
 mod counting;

@@ -14,12 +14,12 @@ use service_days::{Services, day_after};
 use std::alloc::{AllocError, Global};
 use text_pieces::{put_number, put_text};
 
-/// The days that have a line, at most.
+/// How many days have a line at most.
 pub const MOST_DAYS: u32 = 366;
 
-/// The lines of a feed's service days: the first and the last, or `none`; how many trips run on each
-/// day from the first on, for `MOST_DAYS` at most; and if there are more up to the last, the first of
-/// them.
+/// Returns the lines of a feed's service days: the first and the last day, or `none` for both; then how many trips
+/// run on each day from the first on, for at most `MOST_DAYS` days; and if there are more days up to the last, the
+/// first of these. Memory may run out.
 pub fn days_text(alloc: Global, feed: &Feed) -> Result<String, AllocError>
     ensures { IfOk result (λ lines. AreDayLines feed.now (string_bytes lines)) }
 {
@@ -31,7 +31,7 @@ pub fn days_text(alloc: Global, feed: &Feed) -> Result<String, AllocError>
     Ok(lines)
 }
 
-// Adds the lines of a feed that has service from the one day to the other.
+// Adds the lines of a feed whose first and last service days are those of the span.
 fn append_span(lines: &mut String, alloc: Global, feed: &Feed, span: Span) -> Result<(), AllocError>
     requires first { is_civil span.first ≡ true }
     requires last { is_civil span.last ≡ true }
@@ -46,7 +46,7 @@ fn append_span(lines: &mut String, alloc: Global, feed: &Feed, span: Span) -> Re
     Ok(())
 }
 
-// Adds a line for each day that has one: the first day that has none.
+// Adds a line for each day that gets one, and returns the first day that doesn't, if there is one.
 fn append_days(
     lines: &mut String,
     alloc: Global,
@@ -94,7 +94,7 @@ fn append_day(
     Ok(())
 }
 
-// Adds the line of the first day that has none of its own.
+// Adds the line that names the first day without a line of its own, if there is one.
 fn append_unlisted(lines: &mut String, day: Option<Day>) -> Result<(), AllocError>
     ensures { OnOk result (string_bytes lines.new ≡ string_bytes lines.old ++ unlisted_line day) }
 {

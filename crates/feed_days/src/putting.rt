@@ -1,4 +1,4 @@
-//! Texts, numbers and days, added to lines.
+//! Adds days to lines.
 
 ghost use Rattle.std.specs.Prelude.{◌≡◌, ◌++◌, OnOk, string_bytes};
 ghost use Rattle.feed_days.specs.Days.{date_line, date_text};
@@ -7,7 +7,7 @@ use gtfs_tables::Day;
 use std::alloc::AllocError;
 use text_pieces::{put_text, put_two};
 
-// Adds a day, YYYYMMDD.
+// Adds a day as YYYYMMDD.
 pub fn put_date(lines: &mut String, day: Day) -> Result<(), AllocError>
     ensures { OnOk result (string_bytes lines.new ≡ string_bytes lines.old ++ date_text day) }
 {
@@ -18,7 +18,7 @@ pub fn put_date(lines: &mut String, day: Day) -> Result<(), AllocError>
     Ok(())
 }
 
-// Adds the line of a word and a day.
+// Adds a line with a word, which ends in a space, and a day.
 pub fn put_date_line(lines: &mut String, word: &str, day: Day) -> Result<(), AllocError>
     ensures { OnOk result (string_bytes lines.new ≡ string_bytes lines.old ++ date_line word.now day) }
 {

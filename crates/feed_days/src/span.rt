@@ -18,9 +18,9 @@ pub struct Span {
     pub last: Day,
 }
 
-/// The first and the last day on which a row of the feed gives service: one of `calendar.txt` on
-/// its weekdays from its start to its end, one of `calendar_dates.txt` on the day that it adds. None
-/// if no row does. That a day is removed from a service makes no difference.
+/// Returns the first and the last day on which a row of the feed gives service, or none if no row does. A row of
+/// `calendar.txt` gives service on its weekdays from its start to its end, a row of `calendar_dates.txt` on the day
+/// that it adds. Days that are removed from a service make no difference.
 pub fn span_of(feed: &Feed) -> Option<Span>
     ensures { SpansDays (has_service feed.now) result }
 {
@@ -30,7 +30,7 @@ pub fn span_of(feed: &Feed) -> Option<Span>
     )
 }
 
-// The first and the last day on which some of the rows gives service.
+// Returns the first and the last day on which any of the rows gives service.
 fn weekly_span(rows: &[CalendarRow]) -> Option<Span>
     ensures { SpansDays (give_weekly rows.now) result }
 {
@@ -41,7 +41,7 @@ fn weekly_span(rows: &[CalendarRow]) -> Option<Span>
     span
 }
 
-// The first and the last day that some of the rows adds.
+// Returns the first and the last day that any of the rows adds.
 fn added_span(rows: &[CalendarDateRow]) -> Option<Span>
     ensures { SpansDays (give_once rows.now) result }
 {
@@ -52,7 +52,7 @@ fn added_span(rows: &[CalendarDateRow]) -> Option<Span>
     span
 }
 
-// The span of the days of two spans.
+// Returns the span from the first to the last day of two spans.
 fn joined(one: Option<Span>, other: Option<Span>) -> Option<Span>
     ensures { (p q : CivilDay → Bool) → SpansDays p one → SpansDays q other → SpansDays (λ d. p d || q d) result }
 {
@@ -66,7 +66,7 @@ fn joined(one: Option<Span>, other: Option<Span>) -> Option<Span>
     }
 }
 
-// The day that a row adds, as a span.
+// Returns the day that a row adds, as a span, if it adds a civil day.
 fn added_day(row: &CalendarDateRow) -> Option<Span>
     ensures { SpansDays (gives_once row.now) result }
 {
@@ -79,14 +79,14 @@ fn added_day(row: &CalendarDateRow) -> Option<Span>
     })
 }
 
-// Whether a row adds a civil day.
+// Returns whether a row adds a civil day.
 fn adds_day(row: &CalendarDateRow) -> bool
     ensures { result ≡ (is_civil row.now.day && is_added row.now.exception) }
 {
     civil_date(row.day).is_some() && matches!(row.exception, Exception::Added)
 }
 
-// The first and the last day on which a row gives service.
+// Returns the first and the last day on which a row gives service.
 fn row_span(row: &CalendarRow) -> Option<Span>
     ensures { SpansDays (gives_weekly row.now) result }
 {
@@ -98,8 +98,8 @@ fn row_span(row: &CalendarRow) -> Option<Span>
     Some(Span { first, last })
 }
 
-// The first day on which a row gives service: for a row that has a weekday it is one of the first
-// seven of its days.
+// Returns the first day on which a row gives service. If the row has a weekday, that is one of its first seven
+// days.
 fn first_of(row: &CalendarRow) -> Option<Day>
     ensures some { IfSome result (IsFirst (gives_weekly row.now)) }
     ensures none { IfNone result (HoldsOfNone (gives_weekly row.now)) }
@@ -114,8 +114,7 @@ fn first_of(row: &CalendarRow) -> Option<Day>
     None
 }
 
-// The last day on which a row gives service: for a row that has a weekday it is one of the last
-// seven of its days.
+// Returns the last day on which a row gives service. If the row has a weekday, that is one of its last seven days.
 fn last_of(row: &CalendarRow) -> Option<Day>
     ensures some { IfSome result (IsLast (gives_weekly row.now)) }
     ensures none { IfNone result (HoldsOfNone (gives_weekly row.now)) }
@@ -130,7 +129,7 @@ fn last_of(row: &CalendarRow) -> Option<Day>
     None
 }
 
-// A day if it is civil, which that of a table is, else another.
+// Returns the day if it is civil, as days of tables are, or else the other day.
 fn civil_or(day: Day, other: Day) -> Day
     ensures civil { is_civil day ≡ true → result ≡ day }
     ensures other { is_civil day ≡ false → result ≡ other }
@@ -141,14 +140,14 @@ fn civil_or(day: Day, other: Day) -> Day
     other
 }
 
-// Whether a row has a weekday.
+// Returns whether a row has a weekday.
 fn has_weekday(row: &CalendarRow) -> bool
     ensures { result ≡ list_any (λ flag. flag) row.now.weekdays }
 {
     row.weekdays.iter().any(|flag| *flag)
 }
 
-// Whether a row gives service on a day.
+// Returns whether a row gives service on a day.
 fn gives(row: &CalendarRow, day: Day) -> bool
     ensures { result ≡ gives_weekly row.now day }
 {

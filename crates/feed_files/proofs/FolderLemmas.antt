@@ -1,4 +1,4 @@
--- What was read of an open file.
+-- The bytes that were read of an open file.
 use Rattle.std.proofs.Common.{◌≡◌, ◌∙◌, ◌+◌, ◌≤◌, ◌++◌, ℕ, List, [], Option, None, Some, ap, arith, length, subst, take}
 use Rattle.std.specs.Prelude.{IfSome, option_map}
 use Rattle.std.proofs.lemmas.List.{length-take, take_all}

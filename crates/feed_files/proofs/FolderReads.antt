@@ -1,4 +1,4 @@
--- What was read of a folder is of that folder.
+-- The reads of a folder are all of that folder.
 use Rattle.std.proofs.Common.{◌≡◌, ◌++◌, ◌∷◌, [], ℕ, List, Option, Vec, Ok, Err, ap, map, refl, subst, sym}
 use Rattle.std.proofs.Math.Logic.{∥∥₁_map}
 use Rattle.std.specs.declared.alloc.Global.{Global}

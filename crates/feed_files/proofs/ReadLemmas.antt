@@ -1,4 +1,4 @@
--- What was read of a feed's files, put together and taken apart.
+-- Lists of reads of a feed's files, joined and split.
 use Rattle.std.proofs.Common.{◌≡◌, ◌∙◌, ◌++◌, ◌∷◌, [], ℕ, zero, suc, ◌+◌, List, Option, Result, None, Some, Ok, Err, Vec}
 use Rattle.std.proofs.Common.{map, take, length, refl, subst, sym, ap, arith}
 use Rattle.std.specs.declared.alloc.Global.{Global}

@@ -1,4 +1,4 @@
--- Facts on why a feed's tables can't be had.
+-- Facts on why a feed's tables can't be read.
 use Rattle.std.proofs.Common.{◌≡◌, ◌≢◌, ◌∷◌, ◌++◌, [], ℕ, List, Option, None, Some, Vec, ap, refl, subst, sym}
 use Rattle.std.specs.declared.alloc.Global.{Global}
 use Rattle.std.specs.Prelude.{⊤}

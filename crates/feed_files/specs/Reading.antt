@@ -22,11 +22,11 @@ use Rattle.gtfs_rows.specs.declared.rows.TripRow.{TripRow}
 use Rattle.gtfs_tables.specs.declared.tables.Tables.{Tables}
 use Rattle.gtfs_rows.specs.declared.read.TheConstants.{MAX_STOPS, MAX_TRIPS}
 
--- what the file of each table holds, none where there is no such file
+-- what the file of each table holds, none if there is no such file
 abbrev pub Content : Type 0
 Content = Table → Option (List ℕ)
 
--- a feed's files that are known to hold this
+-- a feed's files are known to hold this
 abbrev pub Tells : (List ℕ → Option (Option (List ℕ))) → Content → Type 0
 Tells holds content = (table : Table) → holds (file_name table) ≡ Some (content table)
 
@@ -41,7 +41,7 @@ earlier tables.CalendarDates = tables.Agency ∷ tables.Stops ∷ tables.Trips �
 earlier tables.Transfers = tables.Agency ∷ tables.Stops ∷ tables.Trips ∷ tables.StopTimes ∷ tables.Calendar ∷ tables.CalendarDates ∷ []
 earlier tables.Frequencies = tables.Agency ∷ tables.Stops ∷ tables.Trips ∷ tables.StopTimes ∷ tables.Calendar ∷ tables.CalendarDates ∷ tables.Transfers ∷ []
 
--- a file that must be there, and one that may be missing
+-- this holds of the bytes of a required file, and of those of a file that may be missing
 abbrev pub Required : (List ℕ → Type 0) → Option (List ℕ) → Type 0
 Required Is None = ⊥
 Required Is (Some bytes) = Is bytes
@@ -50,14 +50,14 @@ abbrev pub Optional : Type 0 → (List ℕ → Type 0) → Option (List ℕ) →
 Optional missing Is None = missing
 Optional missing Is (Some bytes) = Is bytes
 
--- the rows of the files that must be there
+-- the rows of the required files
 pub record HoldsRequired (content : Content) (agencies : List AgencyRow) (stops : List StopRow) (trips : List TripRow) (stop_times : StopTimes) : Type 0 where
   pub agency_txt : Required (λ bytes. HoldsAgencies bytes agencies) (content tables.Agency)
   pub stops_txt : Required (λ bytes. HoldsStopsWithin MAX_STOPS bytes stops) (content tables.Stops)
   pub trips_txt : Required (λ bytes. HoldsTripsWithin MAX_TRIPS bytes trips) (content tables.Trips)
   pub stop_times_txt : Required (λ bytes. HoldsStopTimes bytes stop_times) (content tables.StopTimes)
 
--- the rows of the two calendars, of which one is there
+-- the rows of the two calendars, at least one of which is there
 pub record HoldsCalendars (content : Content) (calendar : List CalendarRow) (dates : List CalendarDateRow) : Type 0 where
   pub calendar_txt : Optional (calendar ≡ []) (λ bytes. HoldsCalendar bytes calendar) (content tables.Calendar)
   pub calendar_dates_txt : Optional (dates ≡ []) (λ bytes. HoldsCalendarDates bytes dates) (content tables.CalendarDates)
@@ -70,11 +70,11 @@ pub record HoldsTables (content : Content) (t : Tables) : Type 0 where
   pub transfers : Optional (t.transfers.items ≡ []) (λ bytes. HoldsTransfers bytes t.transfers.items) (content tables.Transfers)
   pub frequencies : Optional (t.frequencies.items ≡ []) (λ bytes. HoldsFrequencies bytes t.frequencies.items) (content tables.Frequencies)
 
--- a file that is missing
+-- the fault that a file is missing
 abbrev pub IsMissing : ℕ → FaultKind → Type 0
 IsMissing row kind = (row ≡ 0) × (kind ≡ kinds.MissingFile)
 
--- the fault of a file that must be there, and of one that may be missing
+-- the fault of a required file, and of a file that may be missing
 abbrev pub RequiredFault : (List ℕ → ℕ → FaultKind → Type 0) → Option (List ℕ) → ℕ → FaultKind → Type 0
 RequiredFault IsFault None row kind = IsMissing row kind
 RequiredFault IsFault (Some bytes) row kind = IsFault bytes row kind
@@ -83,12 +83,12 @@ abbrev pub OptionalFault : (List ℕ → ℕ → FaultKind → Type 0) → Optio
 OptionalFault IsFault None row kind = ⊥
 OptionalFault IsFault (Some bytes) row kind = IsFault bytes row kind
 
--- the fault of calendar.txt, which may be missing alone: where calendar_dates.txt is missing too, calendar.txt is told, once both were asked for
+-- the fault of calendar.txt, which may be missing unless calendar_dates.txt is missing too; both were asked for then
 abbrev pub CalendarFault : Option (List ℕ) → Option (List ℕ) → ℕ → FaultKind → Type 0
 CalendarFault None dates row kind = (dates ≡ None) × IsMissing row kind
 CalendarFault (Some bytes) dates row kind = IsFaultOf calendar_shape bytes row kind
 
--- what is wrong with a table's file, at which record
+-- the table's file has this fault at the record of this number
 abbrev pub FaultIn : Content → Table → ℕ → FaultKind → Type 0
 FaultIn content tables.Agency = RequiredFault (IsFaultOf agency_shape) (content tables.Agency)
 FaultIn content tables.Stops = RequiredFault (IsStopsFault MAX_STOPS) (content tables.Stops)
@@ -99,11 +99,11 @@ FaultIn content tables.CalendarDates = OptionalFault (IsFaultOf calendar_dates_s
 FaultIn content tables.Transfers = OptionalFault (IsFaultOf transfers_shape) (content tables.Transfers)
 FaultIn content tables.Frequencies = OptionalFault (IsFaultOf frequencies_shape) (content tables.Frequencies)
 
--- the rows of a file can be had
+-- the bytes of a file hold rows
 abbrev pub HasRows : {R : Type 0} → (List ℕ → R → Type 0) → List ℕ → Type 0
 HasRows {R} Holds bytes = (rows : R) × Holds bytes rows
 
--- nothing is wrong with a table's file; with calendar_dates.txt nothing is where one of the two calendars is there
+-- nothing is wrong with a table's file; calendar_dates.txt may be missing if calendar.txt is there
 abbrev pub IsFine : Content → Table → Type 0
 IsFine content tables.Agency = Required (HasRows HoldsAgencies) (content tables.Agency)
 IsFine content tables.Stops = Required (HasRows (HoldsStopsWithin MAX_STOPS)) (content tables.Stops)
@@ -127,18 +127,18 @@ pub record IsFirstFault (content : Content) (fault : TableFault) : Type 0 where
   pub stands : FaultIn content fault.table fault.row fault.kind
   pub first : FineBefore content fault.table
 
--- the rows that were read are those of the file, and there are none where there is no file
+-- the rows that were read are those of the file; there are none if there is no file
 abbrev pub IsHeld : {R : Type 0} → (List ℕ → R → Type 0) → Option (List ℕ) → Option R → Type 0
 IsHeld Holds None None = ⊤
 IsHeld Holds None (Some rows) = ⊥
 IsHeld Holds (Some bytes) None = ⊥
 IsHeld Holds (Some bytes) (Some rows) = Holds bytes rows
 
--- why one file's rows can't be had: want of memory, its fault, or a read of it that failed
+-- why one file's rows can't be read: memory ran out, the file has this fault, or its read failed
 abbrev pub NoRows : Table → (ℕ → FaultKind → Type 0) → ReadFault → Type 0
 NoRows table IsFault = RefusedOrFailed (λ fault. (fault.table ≡ table)
     × (fault.kind ≢ kinds.OutOfMemory → IsFault fault.row fault.kind)) (λ failed. failed ≡ table)
 
--- why a feed's tables can't be had: its first fault, or a read that failed, where nothing was wrong with the files before
+-- why a feed's tables can't be read: memory ran out, this is the first fault, or a read failed and nothing is wrong with the files before
 abbrev pub NoTables : Content → ReadFault → Type 0
 NoTables content = RefusedOrFailed (λ fault. fault.kind ≢ kinds.OutOfMemory → IsFirstFault content fault) (FineBefore content)

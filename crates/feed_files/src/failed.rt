@@ -6,7 +6,7 @@ use std::collections::LinkedList;
 use std::marker::Model;
 use timetable::Kept;
 
-/// The names of the files whose reads failed, in order. Contracts alone see them: they take no bytes.
+/// The names of the files whose reads failed, in order. Only contracts see them: they take no memory.
 #[derive(Drop)]
 pub struct FailedNames {
     names: Kept<LinkedList<LinkedList<u8>>>,
@@ -19,7 +19,7 @@ impl Model for FailedNames {
 }
 
 impl FailedNames {
-    /// None yet.
+    /// Returns an empty list.
     pub fn none() -> FailedNames
         ensures { result ≡ [] }
     {

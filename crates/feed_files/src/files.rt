@@ -8,10 +8,10 @@ use gtfs_tables::IdHash;
 use std::alloc::Global;
 use thiserror::Error;
 
-/// The longest file that is read from a folder, in bytes. A longer one counts as one that can't be read.
+/// The longest file that is read from a folder, in bytes. A longer one counts as a file that can't be read.
 pub const LONGEST_FILE: u32 = 2_000_000_000;
 
-/// Why the bytes of a file can't be had.
+/// Why the bytes of a file couldn't be read.
 #[derive(Clone, Copy, Debug, PartialEq, Eq, Error)]
 pub enum FileFault {
     #[error("the file can't be read")]
@@ -22,26 +22,26 @@ pub enum FileFault {
 
 /// The files of a feed.
 pub trait FeedFiles {
-    // How many reads failed; it stays at its greatest value.
+    // How many reads failed; the count stays at its greatest value.
     ghost failures: { Self → ℕ };
 
     // The names of the files whose reads failed, in order.
     ghost failed: { Self → List (List ℕ) };
 
-    // What its reads gave, in order: of each the name of the file, and its bytes, or none where there is no such file.
-    // A read that ended with a fault gave nothing. Ahead of the first one may stand what the files are of.
+    // The reads so far, in order: the name of each file, and its bytes, or none if there is no such file. Reads that
+    // ended with a fault aren't in the list. An entry before the first read may say where the files are.
     ghost reads: { Self → List FileRead };
 
-    // What a file of a name holds, where that is told: none where there is no such file.
+    // What the file with a name holds, if that is known; the inner value is none if there is no such file.
     ghost holds: { Self → List ℕ → Option (Option (List ℕ)) };
 
-    // What may come of reading the file of a name.
+    // The possible results of reading the file with a name.
     ghost may_give: { Self → List ℕ → FileAnswer → Type 0 } = { λ _ _ _. Unit {0} };
 
-    // The hash by which ids that the files have are looked up, where that is told.
+    // The hash by which ids in the files are looked up, if that is known.
     ghost hash: { Self → Option Hash };
 
-    /// The bytes of a file, none where there is no such file. Want of memory is no failure.
+    /// Returns the bytes of a file, or none if there is no such file. `OutOfMemory` doesn't count as a failure.
     fn read(&mut self, alloc: Global, name: &str) -> Result<Option<Vec<u8>>, FileFault>
         ensures told { IfOk result (λ file. IfSome (holds self.old name.now)
             (λ bytes. option_map (λ read. read.items) file ≡ bytes)) }
@@ -54,8 +54,8 @@ pub trait FeedFiles {
         ensures failures { failures self.new ≡ counted (failures self.old) result }
         ensures failed { failed self.new ≡ failed_also (failed self.old) name.now result };
 
-    /// The hash by which ids that the files have are looked up: of a random key where strangers may
-    /// have made them. No answer depends on it.
+    /// Returns the hash by which ids in the files are looked up, with a random key if strangers may have made the ids.
+    /// No result depends on it.
     fn id_hash(&self) -> IdHash
         ensures { (told : Hash) → hash self.now ≡ Some told → result ≡ told };
 }

@@ -18,17 +18,17 @@ use std::path::Path;
 use std::random::RandomSource;
 use std::rt::Files;
 
-/// A disk with feeds' folders. It asks of a machine no more than that, so that its files can be read from any thread.
+/// A disk with the folders of feeds. It needs nothing else of a machine, so that files can be read from any thread.
 pub trait Disk {
-    // What may come of asking it for the file of a name in a folder: first the folder, then the name.
+    // The possible results of asking for a file: first the path of the folder, then the name of the file.
     ghost gives: { Self → List ℕ → List ℕ → FileAnswer → Type 0 } = { λ _ _ _ _. Unit {0} };
 
-    /// The bytes of a file of a folder, at most [`LONGEST_FILE`], none where there is no such file.
+    /// Returns the bytes of a file in a folder, or none if there is no such file.
     ///
     /// # Errors
     ///
-    /// `Failed` where the file is longer, can't be read, or is a link that leads nowhere; `OutOfMemory` where memory
-    /// was wanting.
+    /// `Failed` if the file is longer than [`LONGEST_FILE`], can't be read, or is a link that leads nowhere;
+    /// `OutOfMemory` if memory ran out.
     fn feed_file(
         &self,
         alloc: Global,
@@ -38,12 +38,12 @@ pub trait Disk {
         ensures gives { gives self.now folder.now name.now result }
         ensures short { IfOk result (λ file. IfSome file (λ bytes. length bytes.items ≤ LONGEST_FILE)) };
 
-    /// A hash of a new random key, by which ids of a feed's files are looked up.
+    /// Returns a hash with a new random key, by which ids in a feed's files are looked up.
     fn id_hash(&self) -> IdHash;
 }
 
 impl<H: Files + RandomSource> Disk for H {
-    // no more is known of a machine's files
+    // nothing more is known of a machine's files
     ghost gives = { λ _ _ _ answer. IfOk answer (λ file. IfSome file (λ bytes. length bytes.items ≤ LONGEST_FILE)) };
 
     fn feed_file(
@@ -60,7 +60,7 @@ impl<H: Files + RandomSource> Disk for H {
     }
 }
 
-/// The files of a folder. No contract says what a disk holds: of their bytes those are known that were read.
+/// The files of a folder. No contract says what a disk holds, so contracts only know the bytes that were read.
 #[derive(Drop)]
 pub struct FolderFiles<'a, H: Disk> {
     disk: &'a H,
@@ -69,14 +69,14 @@ pub struct FolderFiles<'a, H: Disk> {
     failures: u64,
     failed: FailedNames,
     reads: FileReads,
-    // Asked for that file of this folder, the disk may give what is noted of each read, and fail where a failure is.
+    // Each read, and each failure, that was noted is a possible result of the disk for that file of this folder.
     ghost given: { ∥ All (MayBeRead (H.gives disk.now folder.now)) reads ∥₁ },
     ghost unread: { ∥ All (MayFail (H.gives disk.now folder.now)) failed ∥₁ },
 }
 
 impl<'a, H: Disk> FolderFiles<'a, H> {
-    /// The files of the folder at a path, which need not be there: then no file is. Their ids get a
-    /// hash of a random key.
+    /// Returns the files of the folder at a path; if there is no such folder, it has no files. Their ids are looked up
+    /// with a random key.
     pub fn new(disk: &'a H, folder: &'a str) -> FolderFiles<'a, H>
         ensures disk { result.disk.now ≡ disk.now }
         ensures folder { result.folder.now ≡ folder.now }
@@ -95,14 +95,14 @@ impl<'a, H: Disk> FolderFiles<'a, H> {
     }
 }
 
-// Whether an error of opening a file means that there is no such file.
+// Returns whether an error of opening a file means that there is no such file.
 fn is_no_file(kind: ErrorKind) -> bool
     ensures { IsTrue result ↔ ((kind ≡ NotFound) ⊎ (kind ≡ NotADirectory)) }
 {
     kind == ErrorKind::NotFound || kind == ErrorKind::NotADirectory
 }
 
-// Why a file can't be opened or read, by the kind of the error.
+// Returns why a file can't be opened or read, by the kind of the error.
 fn fault_of(kind: ErrorKind) -> FileFault
     ensures memory { result ≡ WasOutOfMemory ↔ (kind ≡ OutOfMemory) }
 {
@@ -112,8 +112,8 @@ fn fault_of(kind: ErrorKind) -> FileFault
     FileFault::Failed
 }
 
-// The bytes of an open file, all of them, but at most so many. Room is made for them at once, as far as its length is told; a file of
-// which less is told than it has, as those of `/proc`, is read all the same.
+// Returns all bytes of an open file, or `Failed` if there are more than `limit`. Room is made at once for the length
+// that the file reports; a file that reports less than it has, such as those of `/proc`, is read all the same.
 fn bytes_up_to<F: OpenFile + Read + Drop>(
     limit: u32,
     alloc: Global,
@@ -139,7 +139,7 @@ fn bytes_up_to<F: OpenFile + Read + Drop>(
     }
 }
 
-// What an error of opening a file means: that there is no such file, or that it can't be read.
+// Returns none if an error of opening a file means that there is no such file, or else why it can't be read.
 fn none_or_fault(kind: ErrorKind) -> Result<Option<Vec<u8>>, FileFault>
     ensures none { IsOk result ↔ ((kind ≡ NotFound) ⊎ (kind ≡ NotADirectory)) }
     ensures empty { IfOk result (λ file. IsNone file) }
@@ -151,13 +151,13 @@ fn none_or_fault(kind: ErrorKind) -> Result<Option<Vec<u8>>, FileFault>
     Err(fault_of(kind))
 }
 
-/// The bytes of a file of a folder, at most so many. There is no such file where the folder isn't
-/// there, or is no folder.
+/// Returns the bytes of a file in a folder, or none if there is no such file: also if there is no such folder, or
+/// if its path isn't that of a folder.
 ///
 /// # Errors
 ///
-/// `Failed` where the file is longer, can't be read, or is a link that leads nowhere; `OutOfMemory` where memory
-/// was wanting.
+/// `Failed` if the file is longer than `limit`, can't be read, or is a link that leads nowhere; `OutOfMemory` if
+/// memory ran out.
 pub fn file_up_to<H: Files>(
     limit: u32,
     rt: &H,
@@ -175,7 +175,7 @@ pub fn file_up_to<H: Files>(
             Ok(bytes) => Ok(Some(bytes)),
             Err(fault) => Err(fault),
         },
-        // there is a link of this name, which leads nowhere
+        // a link with this name leads nowhere
         Err(error) if is_no_file(error.kind()) && path.is_symlink(rt) => Err(FileFault::Failed),
         Err(error) => none_or_fault(error.kind()),
     }
@@ -186,12 +186,12 @@ impl<'a, H: Disk> FeedFiles for FolderFiles<'a, H> {
 
     ghost failed = { λ files. files.failed };
 
-    // behind the path of the folder, so that no two folders' reads agree
+    // the path of the folder comes first, so that the reads of two folders are never the same
     ghost reads = { λ files. opened files.folder.now ∷ files.reads };
 
     ghost holds = { λ files name. None };
 
-    // exactly what its disk may, asked for that file of its folder
+    // the possible results of the disk for that file of the folder
     ghost may_give = { λ files. H.gives files.disk.now files.folder.now };
 
     ghost hash = { λ files. Some files.hash };

@@ -10,8 +10,8 @@ ghost use Rattle.feed_files.specs.declared.files.TheConstants.{LONGEST_FILE};
 use crate::files::FeedFiles;
 use crate::folder::{Disk, FolderFiles};
 
-/// What was read of a folder between two moments is what its disk may give for files of that folder, and each read
-/// that failed may fail there.
+/// All reads between two moments are of the same folder: the disk may give what was read for files of that folder,
+/// and may fail to read each file whose read failed.
 pub fn reads_are_of_one_folder<'a, H: Disk>(before: &FolderFiles<'a, H>, then: &FolderFiles<'a, H>)
     ensures folder { (content : Content) (ts : List Table)
         → AreRead content ts (⟦<FolderFiles<'a, H> as FeedFiles>⟧.reads before.now)
@@ -23,7 +23,7 @@ pub fn reads_are_of_one_folder<'a, H: Disk>(before: &FolderFiles<'a, H>, then: &
     ensures failed { ∥ All (MayFail (H.gives then.now.disk.now then.now.folder.now)) then.now.failed ∥₁ }
 {}
 
-/// The longest file that is read, in bytes: two thousand million.
+/// The longest file that is read: 2,000,000,000 bytes.
 pub fn limits()
     ensures { LONGEST_FILE ≡ 2000000000 }
 {}

@@ -9,7 +9,7 @@ use crate::reads::FileReads;
 use gtfs_tables::IdHash;
 use std::alloc::Global;
 
-/// Files in memory, by their names; of two with one name the first counts. A read of them never fails.
+/// Files in memory, by name; if two have the same name, the first counts. A read of them never fails.
 #[derive(Drop)]
 pub struct MemoryFiles<'a> {
     files: &'a [(&'a str, &'a [u8])],
@@ -17,7 +17,7 @@ pub struct MemoryFiles<'a> {
 }
 
 impl<'a> MemoryFiles<'a> {
-    /// These files.
+    /// Returns these files, none of them read.
     pub fn of(files: &'a [(&'a str, &'a [u8])]) -> MemoryFiles<'a>
         ensures files { result.files.now ≡ files.now }
         ensures reads { result.reads ≡ [] }
@@ -29,14 +29,14 @@ impl<'a> MemoryFiles<'a> {
     }
 }
 
-// The bytes of the first file of a name.
+// Returns the bytes of the first file with a name, if there is one.
 fn find<'a>(files: &'a [(&'a str, &'a [u8])], name: &str) -> Option<&'a [u8]>
     ensures { option_map (λ bytes. bytes.now) result ≡ held files.now name.now }
 {
     files.iter().find(|file| file.0 == name).map(|file| file.1)
 }
 
-// A copy of these bytes, if there are any.
+// Copies the bytes, if there are any.
 fn copied(alloc: Global, bytes: Option<&[u8]>) -> Result<Option<Vec<u8>>, FileFault>
     ensures copy { IfOk result (λ file. option_map (λ copy. copy.items) file
         ≡ option_map (λ held. held.now) bytes.entry) }
@@ -60,7 +60,7 @@ impl<'a> FeedFiles for MemoryFiles<'a> {
 
     ghost holds = { λ files name. Some (held files.files.now name) };
 
-    // nobody made their ids to collide, so it doesn't matter
+    // the hash isn't stated: no ids in these files were made to collide
     ghost hash = { λ files. None };
 
     fn read(&mut self, alloc: Global, name: &str) -> Result<Option<Vec<u8>>, FileFault> {
@@ -69,7 +69,7 @@ impl<'a> FeedFiles for MemoryFiles<'a> {
         Ok(file)
     }
 
-    // whoever has the bytes in memory made them, or judged their ids
+    // the key may be known: the caller made the bytes, or checked their ids
     fn id_hash(&self) -> IdHash {
         IdHash::of_key(0)
     }

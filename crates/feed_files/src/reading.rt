@@ -1,4 +1,4 @@
-//! The tables of a feed's files, read one after another.
+//! Reads the tables of a feed's files, one after another.
 
 ghost use Rattle.std.specs.Prelude.{◌≡◌, ◌≢◌, ◌+◌, ◌-◌, ◌^◌, ◌<◌, List, [], Option, None, Some, IfOk, IfErr};
 ghost use Rattle.std.specs.Prelude.{◌∷◌, option_map, IfSome, OnOk};
@@ -22,7 +22,7 @@ use gtfs_tables::{
 use std::alloc::Global;
 use thiserror::Error;
 
-/// Why a feed's tables can't be had.
+/// Why a feed's tables can't be read.
 #[derive(Clone, Copy, Debug, PartialEq, Eq, Error)]
 pub enum ReadFault {
     /// A file is refused.
@@ -33,7 +33,7 @@ pub enum ReadFault {
     FileFailed(Table),
 }
 
-// The bytes of the file of these rows, if there is such a file.
+// Returns the bytes of the file of a table, if there is such a file.
 fn bytes_of<F: FeedFiles, T: TableFile>(
     alloc: Global,
     files: &mut F,
@@ -59,7 +59,7 @@ fn bytes_of<F: FeedFiles, T: TableFile>(
     }
 }
 
-// The rows of bytes, as a part of reading the feed.
+// Returns the rows of a file's bytes, or the first fault of the file.
 fn rows_of<T: TableFile>(alloc: Global, hash: IdHash, bytes: &[u8]) -> Result<Option<T>, ReadFault>
     ensures ok { IfOk result (λ rows. IsHeld T.holds (Some bytes.now) rows) }
     ensures hashed { IfOk result (λ rows. IfSome rows (T.is_hashed hash)) }
@@ -72,7 +72,7 @@ fn rows_of<T: TableFile>(alloc: Global, hash: IdHash, bytes: &[u8]) -> Result<Op
     }
 }
 
-// The rows of a file that may be missing.
+// Returns the rows of a file, none if the file is missing.
 fn optional<F: FeedFiles, T: TableFile>(
     alloc: Global,
     files: &mut F,
@@ -97,7 +97,7 @@ fn optional<F: FeedFiles, T: TableFile>(
     }
 }
 
-// The rows of a file that must be there.
+// Returns the rows of a required file: `MissingFile` if it is missing.
 fn required<F: FeedFiles, T: TableFile>(alloc: Global, files: &mut F) -> Result<T, ReadFault>
     ensures same { F.holds files.new ≡ F.holds files.old }
     ensures hash { F.hash files.new ≡ F.hash files.old }
@@ -118,7 +118,7 @@ fn required<F: FeedFiles, T: TableFile>(alloc: Global, files: &mut F) -> Result<
     }
 }
 
-// The rows of a file that may be missing, none where it is.
+// Returns the rows of a file, an empty list if the file is missing.
 fn rows_or_none<F: FeedFiles, R: Drop>(alloc: Global, files: &mut F) -> Result<Vec<R>, ReadFault>
 where
     Vec<R>: TableFile,
@@ -143,7 +143,7 @@ where
     }
 }
 
-// The rows of the two calendars, of which one must be there.
+// Returns the rows of the two calendars: `MissingFile` of calendar.txt if both are missing.
 fn calendars<F: FeedFiles>(
     alloc: Global,
     files: &mut F,
@@ -170,7 +170,7 @@ fn calendars<F: FeedFiles>(
     }
 }
 
-// The rows of the files that must be there.
+// The rows of the required files.
 #[derive(Drop)]
 struct RequiredTables {
     agencies: Vec<AgencyRow>,
@@ -206,7 +206,7 @@ fn required_tables<F: FeedFiles>(alloc: Global, files: &mut F) -> Result<Require
     })
 }
 
-// The tables of a feed's files, as `read_tables` returns them.
+// Returns the tables of a feed's files, as `read_tables` does.
 fn tables_of<F: FeedFiles>(alloc: Global, files: &mut F) -> Result<Tables, ReadFault>
     ensures same { F.holds files.new ≡ F.holds files.old }
     ensures hash { F.hash files.new ≡ F.hash files.old }
@@ -236,13 +236,12 @@ fn tables_of<F: FeedFiles>(alloc: Global, files: &mut F) -> Result<Tables, ReadF
     })
 }
 
-/// The tables of a feed's files (GTFS Schedule Reference). Each file is read and judged before the
-/// next is read, in the order of [`Table`]; `transfers.txt` and `frequencies.txt` may be missing,
-/// and one of the two calendars. The fault is the first. A file that can't be read is told where
-/// nothing was wrong with those before it: then its read is the only one that failed; else none
-/// did.
+/// Returns the tables of a feed's files (GTFS Schedule Reference), or the first thing that is wrong with them. Each
+/// file is read and judged before the next is read, in the order of [`Table`]. `transfers.txt`, `frequencies.txt`
+/// and one of the two calendars may be missing. `FileFailed` means that nothing is wrong with the files before
+/// that one, and that no other read failed; with any other result, no read failed.
 ///
-/// The tables are those of the bytes that were read in this call, whatever the files hold later; so is the fault.
+/// The result is that of the bytes that were read in this call, whatever the files hold later.
 pub fn read_tables<F: FeedFiles>(alloc: Global, files: &mut F) -> Result<Tables, ReadFault>
     requires { F.failures files.old < 2 ^ 64 - 1 }
     ensures same { F.holds files.new ≡ F.holds files.old }

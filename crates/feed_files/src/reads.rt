@@ -1,4 +1,4 @@
-//! What the reads of files gave.
+//! The results of reading files.
 
 ghost use Rattle.std.specs.Prelude.{◌≡◌, ◌++◌, ◌∷◌, [], List};
 ghost use Rattle.feed_files.specs.Files.{given};
@@ -7,8 +7,8 @@ use std::collections::LinkedList;
 use std::marker::Model;
 use timetable::Kept;
 
-/// What the reads of files gave, in order: of each the name of the file, and its bytes, or none if
-/// there is no such file. Contracts alone see them: they take no bytes.
+/// The results of reading files, in order: the name of each file, and its bytes, or none if there is no such file.
+/// Only contracts see them: they take no memory.
 #[derive(Drop)]
 pub struct FileReads {
     reads: Kept<LinkedList<(LinkedList<u8>, Option<LinkedList<u8>>)>>,
@@ -24,7 +24,7 @@ impl Model for FileReads {
 }
 
 impl FileReads {
-    /// None yet.
+    /// Returns an empty list.
     pub fn none() -> FileReads
         ensures { result ≡ [] }
     {
@@ -33,7 +33,7 @@ impl FileReads {
         }
     }
 
-    /// Adds what a read of the file of a name gave.
+    /// Adds the result of reading the file with a name.
     pub fn note(&mut self, name: &str, file: &Option<Vec<u8>>)
         ensures { self.new ≡ self.old ++ given name.now file.now ∷ [] }
     {

@@ -1,4 +1,4 @@
--- What is loaded from files.
+-- The outcome of loading files.
 use Rattle.std.proofs.Common.{◌⊎◌, inl, inr}
 use Rattle.gtfs_tables.specs.declared.tables.Feed.{Feed}
 use Rattle.feed_files.specs.Reading.{Content}

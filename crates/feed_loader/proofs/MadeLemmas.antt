@@ -1,4 +1,4 @@
--- What is made of a feed, and why nothing is.
+-- The image of a feed, and why none is made.
 use Rattle.std.proofs.Common.{◌≡◌, ◌⊎◌, ℕ, zero, suc, ◌≤◌, List, length, refl, sym, ap, ◌∙◌, subst, inl, inr, arith}
 use Rattle.std.proofs.lemmas.List.{length-map}
 use Rattle.timetable.specs.Legal.{At}

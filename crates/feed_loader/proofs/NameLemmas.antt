@@ -1,4 +1,4 @@
--- How long the names of a feed's stops and runs are.
+-- The length of the names of a feed's stops and runs.
 use Rattle.std.proofs.Common.{◌≡◌, ℕ, ℤ, subst, ◌+◌, ◌<◌, List, [], ◌∷◌, ◌++◌, length, map, refl, sym, ap, ◌∙◌, length-append, arith}
 use Rattle.std.specs.List.{concat}
 use Rattle.std.specs.String.{string_bytes}

@@ -1,4 +1,4 @@
--- How the faults of the steps are told.
+-- The faults of the steps as faults of the load.
 use Rattle.std.specs.Prelude.{ℕ, ◌++◌, ◌∷◌, List, [], Result, Ok, Err, codes}
 use Rattle.gtfs_rows.specs.Told.{fault_told as kind_told, file_name}
 use Rattle.service_days.specs.Faults.{fault_told as day_told}
@@ -21,11 +21,11 @@ abbrev pub load_fault_of_runs : RunsFault → LoadFault
 load_fault_of_runs (runs.Table fault) = faults.Table fault
 load_fault_of_runs (runs.Day fault) = faults.Day fault
 
--- there is too much of what a table gives
+-- the fault TooMany of a table
 abbrev pub too_many : Table → LoadFault
 too_many table = faults.Table (record { table = table; row = 0; kind = kinds.TooMany })
 
--- memory ran out for what a table gives
+-- the fault OutOfMemory of a table
 abbrev pub out_of_memory : Table → LoadFault
 out_of_memory table = faults.Table (record { table = table; row = 0; kind = kinds.OutOfMemory })
 
@@ -38,7 +38,7 @@ failed_in (Err (faults.Footpaths fault)) = 0
 failed_in (Err (faults.Image fault)) = 0
 failed_in (Err (faults.FileFailed table)) = 1
 
--- the names of the files whose reads failed: those from before, and that of the file that is told
+-- the names of the files whose reads failed: those from before, and that of the file that the fault names
 abbrev pub failed_by : {T : Type 0} → List (List ℕ) → Result T LoadFault → List (List ℕ)
 failed_by before (Ok t) = before
 failed_by before (Err (faults.Table fault)) = before
@@ -47,7 +47,7 @@ failed_by before (Err (faults.Footpaths fault)) = before
 failed_by before (Err (faults.Image fault)) = before
 failed_by before (Err (faults.FileFailed table)) = before ++ file_name table ∷ []
 
--- the number and the name by which a fault is told
+-- the number and the name of a fault
 abbrev pub fault_number : LoadFault → ℕ
 fault_number (faults.Table fault) = (kind_told fault.kind).0
 fault_number (faults.Day fault) = (day_told fault).0

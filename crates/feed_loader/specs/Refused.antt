@@ -1,4 +1,4 @@
--- Why nothing is made of a feed.
+-- Why no image is made of a feed.
 use Rattle.std.specs.Prelude.{◌≡◌, ◌<◌, ◌≤◌, ◌⊎◌, List, length, Bool}
 use Rattle.timetable.specs.NamesValue.{NamesValue}
 use Rattle.timetable.specs.TimetableValue.{TimetableValue}
@@ -29,7 +29,7 @@ use Rattle.feed_loader.specs.declared.fault.LoadFault.{LoadFault}
 use Rattle.feed_loader.specs.declared.fault.LoadFault.TheVariants as faults
 use Rattle.feed_loader.specs.declared.plan.Plan.{Plan}
 
--- memory was wanting
+-- memory ran out
 abbrev pub IsWantOfMemory : LoadFault → Type 0
 IsWantOfMemory (faults.Table fault) = fault.kind ≡ kinds.OutOfMemory
 IsWantOfMemory (faults.Day fault) = fault ≡ days.OutOfMemory
@@ -49,7 +49,7 @@ pub record AreRunsRefused (feed : Feed) (plan : Plan) (fault : LoadFault) : Type
   pub few_stops : length feed.stops.items ≤ MAX_STOPS
   pub first : IsFirstRefusal feed plan.zone plan.first_day plan.days refusal
 
--- runs and connections, with the names that they give
+-- the runs and connections aren't refused, and these are the names
 pub record IsNamed (feed : Feed) (plan : Plan) (names : NamesValue) : Type 0 where
   pub connections : List Connection
   pub runs : List Run
@@ -57,14 +57,14 @@ pub record IsNamed (feed : Feed) (plan : Plan) (names : NamesValue) : Type 0 whe
   pub listing : IsListing feed plan.zone plan.first_day plan.days connections runs
   pub names_are : AreNames feed plan runs names
 
--- their names are too long together
+-- the names are too long together
 pub record AreNamesTooLong (feed : Feed) (plan : Plan) (fault : LoadFault) : Type 0 where
   pub is : fault ≡ too_many tables.Trips
   pub names : NamesValue
   pub named : IsNamed feed plan names
   pub long : MAX_NAME_BYTES < length (text names)
 
--- the closure of the footpaths is too large
+-- the closure has too many footpaths, or one that takes too long
 pub record AreFootpathsRefused (feed : Feed) (plan : Plan) (fault : LoadFault) : Type 0 where
   pub refusal : FootFault
   pub is : fault ≡ faults.Footpaths refusal
@@ -75,7 +75,7 @@ pub record AreFootpathsRefused (feed : Feed) (plan : Plan) (fault : LoadFault) :
   pub listed_are : AreFeedPaths feed listed
   pub too_large : IsFault listed MAX_FOOTPATHS MAX_WALK_SECS refusal
 
--- why runs aren't named: the first day has no start, or the names are too long
+-- why there are no names: memory ran out, the first day has no start, or the names are too long together
 abbrev pub AreNamesRefused : Feed → Plan → List Run → LoadFault → Type 0
 AreNamesRefused feed plan runs fault =
     IsWantOfMemory fault
@@ -107,17 +107,17 @@ pub record IsRead (content : Content) (strict : Bool) (feed : Feed) : Type 0 whe
   pub held : HoldsTables content t
   pub joined : IsJoined strict t feed
 
--- nothing is made of that feed
+-- a feed is joined from the files, but no image is made of it
 pub record IsFeedRefused (content : Content) (plan : Plan) (fault : LoadFault) : Type 0 where
   pub feed : Feed
   pub read : IsRead content plan.strict feed
   pub first : IsFeedRefusal feed plan fault
 
--- the first thing that is wrong with a feed's files: as they are read, as their tables are joined, or with what is made of them
+-- the first thing that is wrong: when files are read, when their tables are joined, or when the image is made
 abbrev pub IsLoadRefusal : Content → Plan → LoadFault → Type 0
 IsLoadRefusal content plan fault = AreFilesRefused content fault ⊎ (AreTablesRefused content plan.strict fault ⊎ IsFeedRefused content plan fault)
 
--- the image's timetable and names, and the counts, are made of a feed that is joined from the files
+-- these are the timetable, the names and the counts of a feed that is joined from the files
 pub record IsLoaded (content : Content) (plan : Plan) (t : TimetableValue) (names : NamesValue) (report : Report) : Type 0 where
   pub feed : Feed
   pub read : IsRead content plan.strict feed

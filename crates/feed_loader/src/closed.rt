@@ -12,8 +12,9 @@ use timetable::Footpath;
 use timetable::limits::MAX_FOOTPATHS;
 use transfers::{ListingFault, listed_within};
 
-/// The closure of the footpaths that a feed lists. Each of these joins a pair of stops in the
-/// closure too, so where there are too many of them no more are listed, and nothing is closed.
+/// Returns the closure of the footpaths that a feed lists. The closure joins each pair of stops that a listed footpath
+/// joins, so if too many are listed, listing stops and nothing is closed. `TooManyFootpaths` or `WalkTooLong` if the
+/// closure is too large; memory may run out.
 pub fn closed_footpaths(alloc: Global, feed: &Feed, stops: u32) -> Result<Vec<Footpath>, FootFault>
     requires { stops ≡ length feed.now.stops.items }
     ensures closure { IfOk result (λ v. IsFeedClosure feed.now v.items) }

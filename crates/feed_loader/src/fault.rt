@@ -12,23 +12,24 @@ use service_days::DayFault;
 use std::error::Error;
 use std::fmt;
 
-/// Why a feed isn't loaded: the first thing that is wrong, or want of memory.
+/// Why a feed isn't loaded: the first thing that is wrong, or memory that ran out.
 #[derive(Clone, Copy, Debug, PartialEq, Eq)]
 pub enum LoadFault {
-    /// A file is refused, or there is too much of what it gives.
+    /// A file is refused, or there are too many stops, runs or connections, or too long names.
     Table(TableFault),
-    /// A day has no start, or a run lies out of range.
+    /// A day has no start, or a run has a time out of range.
     Day(DayFault),
-    /// The footpaths' closure is too large.
+    /// The closure has too many footpaths, or one that takes too long.
     Footpaths(FootFault),
-    /// There was no memory to judge the image.
+    /// Memory ran out while the image was verified.
     Image(ImageFault),
     /// A file can't be read.
     FileFailed(Table),
 }
 
-/// The number, the name and the places, each after a space, as in `8 IdTwice stops.txt 3` or `101
-/// FileFailed trips.txt`: a table's places are its file and the record, 0 for the whole file.
+/// Writes the number and the name of the fault, and for a table's fault the file and the number of the record (0 for
+/// the whole file), with spaces between them: `8 IdTwice stops.txt 3`. A file that can't be read has no record:
+/// `101 FileFailed trips.txt`.
 impl fmt::Display for LoadFault {
     fn fmt<W: fmt::Write>(&self, f: &mut fmt::Formatter<W>) -> fmt::Result {
         write!(f, "{} {}", self.number(), self.name())?;
@@ -47,7 +48,7 @@ impl LoadFault {
     ghost use Rattle.feed_loader.specs.Faults.{fault_name, fault_number};
     ghost use Rattle.feed_loader.specs.Refused.{IsWantOfMemory};
 
-    /// The number by which the fault is told: that of the fault within, 101 for a file that can't be read.
+    /// Returns the number of the fault: that of the fault within, or 101 for a file that can't be read.
     pub fn number(self) -> u8
         ensures { result ≡ fault_number self }
     {
@@ -60,7 +61,7 @@ impl LoadFault {
         }
     }
 
-    /// The name by which the fault is told, as `FileFailed`.
+    /// Returns the name of the fault, such as `FileFailed`.
     pub fn name(self) -> &'static str
         ensures { result.now ≡ fault_name self }
     {
@@ -73,7 +74,7 @@ impl LoadFault {
         }
     }
 
-    /// Whether memory was wanting.
+    /// Returns whether memory ran out.
     pub fn is_want_of_memory(self) -> bool
         ensures { MatchBool result (IsWantOfMemory self) (¬ (IsWantOfMemory self)) }
     {
@@ -148,7 +149,7 @@ impl From<FootFault> for LoadFault {
     }
 }
 
-// There is too much of what a table gives.
+// Returns the fault `TooMany` of a table.
 pub(crate) fn too_many(table: Table) -> LoadFault
     ensures { result ≡ too_many_of table }
 {
@@ -159,7 +160,7 @@ pub(crate) fn too_many(table: Table) -> LoadFault
     })
 }
 
-// Memory ran out for what a table gives.
+// Returns the fault `OutOfMemory` of a table.
 pub(crate) fn out_of_memory(table: Table) -> LoadFault
     ensures { result ≡ out_of_memory_of table }
 {

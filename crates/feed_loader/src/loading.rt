@@ -1,4 +1,4 @@
-//! From files to tables, from tables to a feed, from a feed to its image.
+//! Loads a feed: from files to tables, from tables to a feed, from a feed to its image.
 
 ghost use Rattle.std.specs.Prelude.{◌≡◌, ◌≤◌, ◌<◌, ◌+◌, ◌-◌, ◌^◌, List, IfOk, IfErr, OnOk};
 ghost use Rattle.image_layout.specs.declared.layout.TheConstants.{LAYOUT};
@@ -18,15 +18,14 @@ use gtfs_tables::join;
 use image_verifier::Verified;
 use std::alloc::Global;
 
-/// The image of a feed's files (GTFS Schedule Reference), in the layout that is written, and what
-/// was counted. Each file is read and judged before the next is read; then the tables are joined,
-/// and the image is made of the feed: of the bytes that were read in this call, whatever the files hold later.
+/// Returns the image of a feed's files (GTFS Schedule Reference), in the layout that is written, and the counts. Each
+/// file is read and judged before the next is read; then the tables are joined, and the image is made of the feed. The
+/// result is that of the bytes that were read in this call, whatever the files hold later.
 ///
 /// # Errors
 ///
-/// The first thing that is wrong, in that order. A file is told as one that can't be read exactly
-/// where its read failed in this call, and then it was the only one that did. Want of memory may be
-/// told at any time.
+/// The first thing that is wrong, in that order. `FileFailed` comes exactly if the read of that file failed in this
+/// call, and then no other read failed. Memory may run out at any time.
 pub fn load<F: FeedFiles>(
     alloc: Global,
     files: &mut F,

@@ -1,4 +1,4 @@
-//! What is made of a joined feed: connections, footpaths and names, and of them a timetable.
+//! Makes connections, footpaths and names of a joined feed, and of these an image.
 
 ghost use Rattle.std.specs.Prelude.{◌≡◌, ◌≤◌, ◌<◌, ◌+◌, ◌⊎◌, length, IfOk, IfErr};
 ghost use Rattle.timetable.specs.declared.limits.TheConstants.{MAX_NAME_BYTES};
@@ -22,7 +22,8 @@ use std::alloc::Global;
 use timetable::limits::{MAX_NAME_BYTES, MAX_STOPS};
 use timetable::{Names, Timetable};
 
-// The names of a feed's stops and runs, if they aren't too long together. Times count from the start of the first day.
+// Returns the names of a feed's stops and runs, and the base, which is the start of the first day: `TooMany` of
+// `trips.txt` if the names are too long together.
 fn short_names(alloc: Global, feed: &Feed, plan: &Plan, runs: &[Run]) -> Result<Names, LoadFault>
     ensures ok { IfOk result (AreNames feed.now plan.now runs.now) }
     ensures short { IfOk result (λ names. length (text names) ≤ MAX_NAME_BYTES) }
@@ -41,17 +42,16 @@ fn short_names(alloc: Global, feed: &Feed, plan: &Plan, runs: &[Run]) -> Result<
     Ok(Names { base, stops, trips })
 }
 
-/// The image of a joined feed, in the layout that is written: its stops with their stop_ids as
-/// names; each run on the days of the plan as a trip, with its trip_id as name, its day, and its
-/// number among the trip's runs on that day; the runs' connections; and the closure of the
-/// footpaths that the feed lists. Times count from the start of the first day. The report counts
-/// what was made.
+/// Returns the image of a joined feed, in the layout that is written, and the counts. The image has the feed's stops,
+/// with their stop_ids as names; each run on the days of the plan as a trip, with its trip_id as name, its day, and
+/// its number among the runs of its trip on that day; the connections of the runs; and the closure of the footpaths
+/// that the feed lists. Times count from the start of the first day.
 ///
 /// # Errors
 ///
-/// The first thing that is wrong: too many stops (`TooMany` of `stops.txt`), then what `runs_of`
-/// refuses, then names that are too long together (`TooMany` of `trips.txt`), then a closure that
-/// is too large. Want of memory may be told at any time.
+/// The first thing that is wrong: too many stops (`TooMany` of `stops.txt`), then what `runs_of` refuses, then names
+/// that are too long together (`TooMany` of `trips.txt`), then a closure with too many footpaths or one that takes too
+/// long. Memory may run out at any time.
 pub fn image_of(alloc: Global, feed: &Feed, plan: &Plan) -> Result<(Verified, Report), LoadFault>
     requires some { 1 ≤ plan.now.days }
     requires few { plan.now.days ≤ MAX_DAYS }

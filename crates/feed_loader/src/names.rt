@@ -1,4 +1,4 @@
-//! The names of a feed's stops and runs: a stop's own name, and a run's id with its day and its repeat.
+//! The names of a feed's stops and runs: a stop's stop_id, and a run's trip_id with its day and its repeat.
 
 ghost use Rattle.std.specs.Prelude.{◌≡◌, ◌+◌, min, map, IfOk};
 ghost use Rattle.std.specs.String.{string_bytes};
@@ -10,14 +10,14 @@ use gtfs_tables::{Day, Feed, Stop, Trip};
 use std::alloc::{AllocError, Global};
 use timetable::TripName;
 
-// A day as the number YYYYMMDD.
+// Returns a day as the number YYYYMMDD.
 fn day_number(day: Day) -> u32
     ensures { result ≡ day_number day }
 {
     10_000 * day.year as u32 + 100 * day.month as u32 + day.day as u32
 }
 
-// How many bytes the names of stops have together, the greatest number where they have more.
+// Returns how many bytes the names of stops have together, or the greatest number if they have more.
 fn count_stop_bytes(stops: &[Stop]) -> usize
     ensures { result ≡ min (stop_bytes stops.now) usize.MAX }
 {
@@ -28,7 +28,7 @@ fn count_stop_bytes(stops: &[Stop]) -> usize
     count
 }
 
-// The trip_id of a run's trip.
+// Returns the trip_id of a run's trip.
 fn run_id<'a>(trips: &'a [Trip], run: &Run) -> &'a str
     ensures { result.now ≡ (run_name trips.now run.now).name }
 {
@@ -38,7 +38,7 @@ fn run_id<'a>(trips: &'a [Trip], run: &Run) -> &'a str
     }
 }
 
-// The same of runs.
+// Returns how many bytes the names of runs have together, or the greatest number if they have more.
 fn count_run_bytes(trips: &[Trip], runs: &[Run]) -> usize
     ensures { result ≡ min (run_bytes trips.now runs.now) usize.MAX }
 {
@@ -49,14 +49,14 @@ fn count_run_bytes(trips: &[Trip], runs: &[Run]) -> usize
     count
 }
 
-/// How many bytes the names of stops and runs have together, the greatest number where they have more.
+/// Returns how many bytes the names of stops and runs have together, or the greatest number if they have more.
 pub fn count_name_bytes(feed: &Feed, runs: &[Run]) -> usize
     ensures { result ≡ min (stop_bytes feed.now.stops.items + run_bytes feed.now.trips.items runs.now) usize.MAX }
 {
     count_stop_bytes(&feed.stops).saturating_add(count_run_bytes(&feed.trips, runs))
 }
 
-/// The names of stops.
+/// Returns the names of stops, which are their stop_ids. Memory may run out.
 pub fn stop_names(alloc: Global, stops: &[Stop]) -> Result<Vec<String>, AllocError>
     ensures { IfOk result (λ names. map string_bytes names.items ≡ map (λ stop. string_bytes stop.id) stops.now) }
 {
@@ -67,7 +67,8 @@ pub fn stop_names(alloc: Global, stops: &[Stop]) -> Result<Vec<String>, AllocErr
     Ok(names)
 }
 
-/// The names of runs: each has its trip's, its day, and its number among those of the trip on that day.
+/// Returns the names of runs: each has the trip_id of its trip, its day, and its number among the runs of the trip on
+/// that day. Memory may run out.
 pub fn run_names(alloc: Global, trips: &[Trip], runs: &[Run]) -> Result<Vec<TripName>, AllocError>
     ensures { IfOk result (λ names. names.items ≡ map (run_name trips.now) runs.now) }
 {

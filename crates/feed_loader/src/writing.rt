@@ -1,4 +1,4 @@
-//! A timetable and its names written as an image, and the image verified.
+//! Writes a timetable and its names as an image, and verifies the image.
 
 ghost use Rattle.std.specs.Prelude.{◌≡◌, IfOk, IfErr};
 ghost use Rattle.image_layout.specs.declared.layout.TheConstants.{LAYOUT};
@@ -13,8 +13,8 @@ use image_writer::write;
 use std::alloc::Global;
 use timetable::{Names, Timetable};
 
-/// Writes the image, in the layout that is written, and judges it. It has no fault, so want of
-/// memory is the only error.
+/// Writes a timetable and its names as an image, in the layout that is written, and verifies it. The image has no
+/// fault, so the only error is that memory ran out.
 pub fn written(alloc: Global, timetable: &Timetable, names: &Names) -> Result<Verified, LoadFault>
     requires { IsWritable timetable.now names.now }
     ensures layout { IfOk result (λ image. image.layout ≡ LAYOUT) }

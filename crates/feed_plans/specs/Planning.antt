@@ -1,4 +1,4 @@
--- What is made of feeds, as the command line asks it.
+-- The plan that a command line asks for.
 use Rattle.std.specs.Prelude.{◌≡◌, ◌⊎◌, ℕ, ℤ, List, Option, None, Some, IsSome, true, false}
 use Rattle.std.specs.Result.{is_ok}
 use Rattle.clock_days.specs.Shown.{HasNoDay, HasNoDayBefore, IsDayAt, IsDayBefore}
@@ -17,29 +17,29 @@ use Rattle.service_days.specs.declared.fault.DayFault.TheVariants.{BadZone, OutO
 use Rattle.service_days.specs.declared.zone.Zone.{Zone}
 use Rattle.service_days.specs.Zones.{IsBadFile, IsFixedZone, IsRuleOf, IsTableOf}
 
--- the zone is the one that the text names; that of a file is the table of these bytes. No clause says which bytes a file has
+-- the text names this zone; that of a file is the table of these bytes, and no clause says which bytes a file has
 abbrev pub IsZoneOf : ZoneText → List ℕ → Zone → Type 0
 IsZoneOf (Fixed ahead) bytes zone = IsFixedZone ahead.seconds zone
 IsZoneOf (Posix rule) bytes zone = IsRuleOf rule.now zone
 IsZoneOf (File path) bytes zone = IsTableOf bytes zone
 
--- why there is no zone of the text: a rule that can't be read, a file that is no table of a zone, or memory that runs out
--- while a table is read. A fixed zone is there always
+-- why the text gives no zone: the rule can't be read, the file isn't the table of a zone, or memory ran out while a table
+-- was read; a fixed offset always gives a zone
 abbrev pub IsZoneFault : ZoneText → List ℕ → DayFault → Type 0
 IsZoneFault (Fixed ahead) bytes fault = ⊥
 IsZoneFault (Posix rule) bytes fault = (fault ≡ BadZone) × (¬ (IsSome (read_whole rule.now)))
 IsZoneFault (File path) bytes fault =
     ((fault ≡ BadZone) × IsBadFile bytes) ⊎ ((fault ≡ OutOfMemory) × (is_ok (read_tzif bytes) ≡ true))
 
--- the day that the zone's clocks show at an instant; if they show none, one that the calendar doesn't have, for which no feed is loaded
+-- the day that the zone's clocks show at an instant; if there is none, a day that the calendar doesn't have, for which no feed is loaded
 abbrev pub IsToday : Zone → ℤ → Day → Type 0
 IsToday zone instant day = IsDayAt zone instant day ⊎ (HasNoDay zone instant × (is_civil day ≡ false))
 
--- the day before, alike
+-- the day before the one that the clocks show; if there is none, a day that the calendar doesn't have
 abbrev pub IsYesterday : Zone → ℤ → Day → Type 0
 IsYesterday zone instant day = IsDayBefore zone instant day ⊎ (HasNoDayBefore zone instant × (is_civil day ≡ false))
 
--- the first day of a plan that is made at an instant; without a clock, one that the calendar doesn't have
+-- the first day of a plan that is made at an instant; if it depends on the clock and no instant is given, a day that the calendar doesn't have
 abbrev pub IsFirstDay : FirstDay → Zone → Option ℤ → Day → Type 0
 IsFirstDay (On given) zone instant day = day ≡ given
 IsFirstDay Today zone (Some instant) day = IsToday zone instant day
@@ -54,6 +54,6 @@ pub record IsPlan (asked : PlanText) (bytes : List ℕ) (instant : Option ℤ) (
   pub zone : IsZoneOf asked.zone bytes plan.zone
   pub strict : plan.strict ≡ asked.strict
 
--- the plan that is asked for, made at the instant that the clock showed: which one that was, no clause says
+-- the plan that is asked for, made at the instant that the clock showed; no clause says which instant that was
 abbrev pub IsPlanNow : PlanText → List ℕ → Plan → Type 0
 IsPlanNow asked bytes plan = ∥ ((instant : Option ℤ) × IsPlan asked bytes instant plan) ∥₁

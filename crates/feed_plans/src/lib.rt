@@ -1,4 +1,4 @@
-//! The plan of a load: what a command line asks for, at an instant.
+//! The plan of a load, made at an instant from what a command line asks for.
 #![tactic(auto)]
 
 ghost use Rattle.std.specs.Prelude.{◌≡◌, ◌≤◌, IfErr, IfOk};
@@ -12,17 +12,17 @@ use gtfs_rows::Day;
 use service_days::{DayFault, Zone};
 use std::alloc::Global;
 
-/// The first day if the clock gives none: no feed is loaded for it (`DayOutOfRange`), since the
-/// calendar doesn't have it.
+/// The first day of a plan if the clock gives none. The calendar doesn't have this day, so a load for it is refused
+/// (`DayOutOfRange`).
 const NO_DAY: Day = Day {
     year: 0,
     month: 0,
     day: 0,
 };
 
-/// The plan of a feed that is loaded at an instant, in seconds after 1970-01-01T00:00:00Z, over the bytes of the zone's
-/// file. `BadZone` if the rule or the file is none of a zone, `OutOfMemory` only while a file is read. If the first
-/// day is the instant's and the clocks show none, the plan's is one that no feed is loaded for.
+/// Returns the plan of a load at an instant, given in seconds after 1970-01-01T00:00:00Z, with the bytes of the zone's
+/// file. `BadZone` if the rule or the file isn't that of a zone; `OutOfMemory` only if the zone is that of a file. If
+/// the first day depends on the clock and there is no such day, loads by this plan are refused.
 pub fn plan_at(
     alloc: Global,
     asked: &PlanText<'_>,

@@ -1,4 +1,4 @@
--- A service_id and a date are told from their key.
+-- The service_id and the date can be read off their key.
 use Rattle.std.proofs.Common.{◌≡◌, ◌++◌, ◌∷◌, [], ℕ, List, length, Some, refl, sym, ap, ◌∙◌, length-append, arith}
 use Rattle.gtfs_rows.specs.Values.{day_of}
 use Rattle.gtfs_rows.specs.declared.values.Day.{Day}

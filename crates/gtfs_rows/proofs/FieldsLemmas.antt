@@ -1,4 +1,4 @@
--- The fields of a record, as they are kept.
+-- The fields of a record as they are stored.
 use Rattle.std.proofs.Common.{◌≡◌, ◌<◌, ◌≤◌, ℕ, zero, suc, List, [], ◌∷◌, length, Some, None, map, get_or, refl, ap, arith}
 use Rattle.csv.specs.Records.{field_at}
 

@@ -1,4 +1,4 @@
--- Keys, and one record more.
+-- How keys change with one more record.
 use Rattle.std.proofs.Common.{◌≡◌, ◌∷◌, ◌++◌, ◌∙◌, ℕ, List, [], map, not, Option, Some, None, Bool, Result, Ok, Err}
 use Rattle.std.proofs.Common.{OnOk, true, false, refl, sym, ap, append_assoc, String, Global, string_bytes, option_map}
 use Rattle.std.specs.List.{find, list_any, slice_get}

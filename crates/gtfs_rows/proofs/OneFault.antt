@@ -1,4 +1,4 @@
--- A file has one fault, and none where its rows are held.
+-- A file has at most one fault, and none if its rows are held.
 use Rattle.std.proofs.Common.{◌≡◌, ◌∙◌, ℕ, ◌+◌, ◌<◌, ◌⊎◌, inl, inr, List, [], ◌∷◌, Bool, true, false, sym, ap, arith}
 use Rattle.std.specs.Bool.{MatchBool}
 use Rattle.std.specs.Str.{IsUtf8, is_utf8}

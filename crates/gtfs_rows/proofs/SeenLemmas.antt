@@ -1,4 +1,4 @@
--- Ids in first-seen order, and one text more.
+-- How ids in first-seen order change with one more text.
 use Rattle.std.proofs.Common.{◌≡◌, ◌∷◌, ◌++◌, ◌∙◌, ℕ, zero, suc, List, [], map, not, filter, Option, Some, None, Bool}
 use Rattle.std.proofs.Common.{true, false, refl, sym, ap, subst, append-nil, String, Global, string_bytes}
 use Rattle.std.specs.List.{AllZip, list_any}

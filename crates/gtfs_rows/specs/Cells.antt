@@ -1,44 +1,44 @@
--- The columns of a table and what a record has in them.
+-- The columns of a table, and the values that a record has in them.
 use Rattle.std.specs.Prelude.{◌==◌, ◌&&◌, ◌+◌, if◌then◌else◌, ℕ, List, [], ◌∷◌, take, map, Option, Some, None, Bool, unwrap_or, is_some}
 use Rattle.std.specs.List.{list_all, position_from}
 use Rattle.std.specs.Str.{bytes_eq}
 use Rattle.csv.specs.Records.{field_at}
 use Rattle.gtfs_rows.specs.Source.{Record}
 
--- a text with no space (32) at its start
+-- the text without the spaces (32) at its start
 abbrev pub trim_front : List ℕ → List ℕ
 trim_front [] = []
 trim_front (b ∷ rest) = if b == 32 then trim_front rest else b ∷ rest
 
--- how many bytes of a text come before the spaces at its end
+-- how many bytes come before the spaces at the end of a text
 abbrev pub kept_len : List ℕ → ℕ
 kept_len [] = 0
 kept_len (b ∷ rest) = if (kept_len rest == 0) && (b == 32) then 0 else kept_len rest + 1
 
--- a text with no space at either end
+-- the text without the spaces at both ends
 abbrev pub trim_spaces : List ℕ → List ℕ
 trim_spaces bs = take (kept_len (trim_front bs)) (trim_front bs)
 
--- the first column of a name from a place on
+-- the index of the first column with this name, at or after an index
 abbrev pub column_from : List ℕ → ℕ → Record → Option ℕ
 column_from name i header = position_from (λ field. bytes_eq name (trim_spaces field)) i header
 
--- the first column of a name, if there is one
+-- the index of the first column with this name, if there is one
 abbrev pub column : List ℕ → Record → Option ℕ
 column name header = column_from name 0 header
 
--- where the header has each of a table's columns
+-- the index in the header of each of a table's columns
 abbrev pub Places : Type 0
 Places = List (Option ℕ)
 
 abbrev pub places_of : List (List ℕ) → Record → Places
 places_of names header = map (λ name. column name header) names
 
--- the required columns, which are the first ones, are all there
+-- all required columns, which come first, are there
 abbrev pub has_required : ℕ → Places → Bool
 has_required required places = list_all is_some (take required places)
 
--- what a record has in a column, blank where the column is absent
+-- a record's value in a column, without spaces around it; blank if the column is absent
 abbrev pub cell : Option ℕ → Record → List ℕ
 cell None fields = []
 cell (Some i) fields = trim_spaces (unwrap_or (field_at fields i) [])

@@ -10,11 +10,11 @@ use Rattle.gtfs_rows.specs.Cells.{Places, has_required, places_of}
 use Rattle.gtfs_rows.specs.declared.fault.FaultKind.{FaultKind}
 use Rattle.gtfs_rows.specs.declared.fault.FaultKind.TheVariants as kinds
 
--- what is wrong with a record beside those before it
+-- what is wrong with a record, given the records before it
 abbrev pub Judge : Type 0
 Judge = List Record → Record → Option FaultKind
 
--- what is wrong with the record at a place
+-- what is wrong with the record at an index
 abbrev pub fault_at : Judge → List Record → ℕ → Option FaultKind
 fault_at judge records k = judge (take k records) (slice_index_or records k [])
 
@@ -22,18 +22,18 @@ fault_at judge records k = judge (take k records) (slice_index_or records k [])
 abbrev pub IsFaultless : Judge → List Record → Type 0
 IsFaultless judge records = (k : ℕ) → k < length records → fault_at judge records k ≡ None
 
--- the record at a place has the fault, and no record before it has one
+-- the record at the index has the fault, and no record before it has one
 pub record IsFirstFault (judge : Judge) (records : List Record) (k : ℕ) (kind : FaultKind) : Type 0 where
   pub within : k < length records
   pub here : fault_at judge records k ≡ Some kind
   pub first : (j : ℕ) → j < k → fault_at judge records j ≡ None
 
--- a record's length is judged before its values
+-- what is wrong with a record: first, that it doesn't have as many fields as the header
 abbrev pub length_first : ℕ → Judge → Judge
 length_first width judge before r = if length r == width then judge before r else Some kinds.RowLength
 
--- how a table is read: the names of its columns, how many of them (the first ones) are required, and what the
--- values of a record tell, given the places of the columns
+-- how a table is read: the names of its columns, how many of them (the first ones) are required, and what is wrong
+-- with a record, given the indices of the columns in the header
 pub record Shape : Type 0 where
   pub names : List (List ℕ)
   pub required : ℕ
@@ -42,7 +42,7 @@ pub record Shape : Type 0 where
 abbrev pub judge_under : Shape → Record → Judge
 judge_under s header = length_first (length header) (s.judge (places_of s.names header))
 
--- the first fault of a table with this header, with the number of the record, which is 0 for the file
+-- the first fault of a table with this header, and the number of the record; 0 stands for the file
 abbrev pub IsFaultUnder : Shape → Record → List Record → ℕ → FaultKind → Type 0
 IsFaultUnder s header records n kind =
     MatchBool (has_required s.required (places_of s.names header))
@@ -59,7 +59,7 @@ abbrev pub IsFaultOf : Shape → List ℕ → ℕ → FaultKind → Type 0
 IsFaultOf s bytes n kind =
     (IsUtf8 bytes → IsFaultOfRecords s (table_records bytes) n kind) × (¬ (IsUtf8 bytes) → (n ≡ 0) × (kind ≡ kinds.BadUtf8))
 
--- a table without a fault, whose records are held
+-- the header has the required columns, the records have no fault, and the table holds them
 abbrev pub HoldsUnder : {T : Type 0} → Shape → (Places → List Record → T → Type 0) → Record → List Record → T → Type 0
 HoldsUnder s holds header records table =
     (has_required s.required (places_of s.names header) ≡ true) × IsFaultless (judge_under s header) records
@@ -72,31 +72,31 @@ HoldsRecords s holds (header ∷ records) table = HoldsUnder s holds header reco
 abbrev pub HoldsFile : {T : Type 0} → Shape → (Places → List Record → T → Type 0) → List ℕ → T → Type 0
 HoldsFile s holds bytes table = IsUtf8 bytes × HoldsRecords s holds (table_records bytes) table
 
--- each record spells the row at its place
+-- the bytes have no fault, and each record spells the row of the same index
 abbrev pub HoldsRows : {R : Type 0} → Shape → (Places → Record → R → Type 0) → List ℕ → List R → Type 0
 HoldsRows s spells bytes rows = HoldsFile s (λ places records table. AllZip (spells places) records table) bytes rows
 
--- the first of two faults that stands
+-- the first of two faults, if either is there
 abbrev pub or_fault : Option FaultKind → Option FaultKind → Option FaultKind
 or_fault (Some kind) later = Some kind
 or_fault None later = later
 
--- a fault where the condition holds
+-- a fault if the condition holds
 abbrev pub fault_if : Bool → FaultKind → Option FaultKind
 fault_if true kind = Some kind
 fault_if false kind = None
 
--- a fault where there is no value
+-- a fault if there is no value
 abbrev pub fault_unless : {X : Type 0} → Option X → FaultKind → Option FaultKind
 fault_unless (Some x) kind = None
 fault_unless None kind = Some kind
 
--- the text, where there is one, is among the texts
+-- there is a text, and it is among the texts
 abbrev pub is_among : Option (List ℕ) → List (List ℕ) → Bool
 is_among None texts = false
 is_among (Some text) texts = list_any (bytes_eq text) texts
 
--- the keys of the records that have one, in their order
+-- the keys of the records that have a key, in order
 abbrev pub keys_of : (Record → Option (List ℕ)) → List Record → List (List ℕ)
 keys_of key [] = []
 keys_of key (r ∷ rest) = option_to_list (key r) ++ keys_of key rest

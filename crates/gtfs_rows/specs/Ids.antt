@@ -3,12 +3,12 @@ use Rattle.std.specs.Prelude.{◌∷◌, ◌++◌, [], if◌then◌else◌, List
 use Rattle.std.specs.List.{list_any}
 use Rattle.std.specs.Str.{bytes_eq}
 
--- the different texts, in the order in which each is first seen
+-- the distinct texts, in the order in which they are first seen
 abbrev pub first_seen : List (List ℕ) → List (List ℕ)
 first_seen [] = []
 first_seen (text ∷ rest) = text ∷ filter (λ other. not (bytes_eq text other)) (first_seen rest)
 
--- the texts and one text more, which goes last unless it is among them
+-- the texts, with one more at the end unless it is already among them
 abbrev pub seen_also : List (List ℕ) → List ℕ → List (List ℕ)
 seen_also texts text = if list_any (bytes_eq text) texts then texts else texts ++ text ∷ []
 
@@ -17,7 +17,7 @@ abbrev pub is_given : List ℕ → Bool
 is_given [] = false
 is_given (b ∷ rest) = true
 
--- the texts and one text more unless it is blank
+-- the same unless the text is blank, which isn't added
 abbrev pub given_also : List (List ℕ) → List ℕ → List (List ℕ)
 given_also texts [] = texts
 given_also texts (b ∷ rest) = seen_also texts (b ∷ rest)

@@ -1,4 +1,4 @@
--- What the records of each file spell, and what can be wrong with their values.
+-- The values that the records of each file spell, and what can be wrong with them.
 use Rattle.std.specs.Prelude.{◌≡◌, ◌≢◌, ◌==◌, ◌&&◌, not, if◌then◌else◌, ℕ, List, [], ◌∷◌, ◌++◌, filter, length, map}
 use Rattle.std.specs.Prelude.{slice_index_or, option_map, Option, Some, None, Bool, String, true, false}
 use Rattle.std.specs.List.{AllZip, slice_get}
@@ -32,33 +32,33 @@ use Rattle.gtfs_rows.specs.declared.rows.TransferRow.{TransferRow}
 use Rattle.gtfs_rows.specs.declared.rows.TripRow.{TripRow}
 use Rattle.gtfs_rows.specs.declared.stop_times.StopTimes.{StopTimes}
 
--- what a record has in the k-th of a table's columns
+-- a record's value in the k-th of a table's columns, counted from 0
 abbrev pub value : Places → ℕ → Record → List ℕ
 value places k r = cell (slice_index_or places k None) r
 
--- a table whose values are always fine
+-- nothing is wrong with any values
 abbrev pub no_fault : Places → Record → Option FaultKind
 no_fault places r = None
 
--- the key of the columns that tell the records of a table apart, where there are such: the text of one, or those of two behind one another
+-- a record's key, if the table has one: the text of its key column, or the texts of both joined
 abbrev pub key_by : Key → Places → Record → Option (List ℕ)
 key_by (keys.Column k) places = λ r. Some (value places k r)
 key_by (keys.Columns j k) places = λ r. Some (value places j r ++ value places k r)
 key_by _ places = λ r. None
 
--- a record's key, which no earlier record may have, or the text that it shares with the first
+-- what is wrong with a record's key: an earlier record has it, or the text that all share differs from the first record's
 abbrev pub key_fault : Key → Places → Judge
 key_fault (keys.Shared k) places [] r = None
 key_fault (keys.Shared k) places (first ∷ rest) r = fault_if (not (bytes_eq (value places k first) (value places k r))) kinds.ZonesDiffer
 key_fault key places before r = fault_if (is_among (key_by key places r) (keys_of (key_by key places) before)) kinds.IdTwice
 
--- the keys of the records, or the text that they share
+-- the keys of the records, or the text that they all share
 abbrev pub texts_kept : Key → Places → List Record → List (List ℕ)
 texts_kept (keys.Shared k) places [] = []
 texts_kept (keys.Shared k) places (first ∷ rest) = value places k first ∷ []
 texts_kept key places records = keys_of (key_by key places) records
 
--- a set holds them
+-- the set holds them, in this order
 abbrev pub AreKept : Key → Places → List Record → List (String Global) → Type 0
 AreKept key places records keys = map string_bytes keys ≡ texts_kept key places records
 
@@ -70,14 +70,14 @@ pub record SpellsAgency (places : Places) (r : Record) (row : AgencyRow) : Type 
 
 -- ---- stops.txt: id, location_type, parent_station
 
--- a blank location_type, and one that isn't allowed, is that of a stop
+-- the kind of place that a location_type stands for: a stop unless it is a number from 1 to 4
 abbrev pub location_of : Option ℕ → Location
 location_of None = locations.Stop
 location_of (Some n) = if n == 1 then locations.Station else
     (if n == 2 then locations.Entrance else (if n == 3 then locations.Node else
     (if n == 4 then locations.BoardingArea else locations.Stop)))
 
--- the row has the id of the record, what it stands for, and its parent_station, blank where there is none
+-- the row has the record's id, the kind of place, and the parent_station, blank if there is none
 pub record SpellsStop (places : Places) (r : Record) (row : StopRow) : Type 0 where
   pub id : string_bytes row.id ≡ value places 0 r
   pub location : row.location ≡ location_of (number_of (value places 1 r))
@@ -92,12 +92,12 @@ pub record SpellsTrip (places : Places) (r : Record) (row : TripRow) : Type 0 wh
 
 -- ---- stop_times.txt: trip_id, arrival_time, departure_time, stop_id, stop_sequence, pickup_type, drop_off_type
 
--- a time that may be blank
+-- the time of a text; none if it is blank or isn't a time
 abbrev pub given_time : List ℕ → Option ℕ
 given_time [] = None
 given_time (b ∷ rest) = time_of (b ∷ rest)
 
--- a text that is not blank is no time
+-- the text is neither blank nor a time
 abbrev pub time_fault : List ℕ → Option FaultKind
 time_fault [] = None
 time_fault (b ∷ rest) = fault_unless (time_of (b ∷ rest)) kinds.BadTime
@@ -107,21 +107,21 @@ abbrev pub stop_time_fault : Places → Record → Option FaultKind
 stop_time_fault places r =
     or_fault (time_fault (value places 1 r)) (or_fault (time_fault (value places 2 r)) (fault_unless (number_of (value places 4 r)) kinds.BadNumber))
 
--- boarding, or alighting, isn't available where the type is 1
+-- passengers may board, or alight, unless the type is 1
 abbrev pub is_available : Option ℕ → Bool
 is_available None = true
 is_available (Some n) = not (n == 1)
 
--- the text stands at the place
+-- the text is at the index
 abbrev pub StandsAt : List (List ℕ) → ℕ → List ℕ → Type 0
 StandsAt texts k text = slice_get texts k ≡ Some text
 
--- a stop_id, which is none where it is blank
+-- the index is that of the stop_id; none if the stop_id is blank
 abbrev pub IsStopId : List (List ℕ) → Option ℕ → List ℕ → Type 0
 IsStopId stops None text = text ≡ []
 IsStopId stops (Some k) text = (text ≢ []) × StandsAt stops k text
 
--- a row names its trip and its stop by their places among the ids
+-- the row has the values of the record; its trip and its stop are indices of the ids
 pub record SpellsStopTime (trips stops : List (List ℕ)) (places : Places) (r : Record) (row : StopTimeRow) : Type 0 where
   pub trip : StandsAt trips row.trip (value places 0 r)
   pub arrival : row.arrival ≡ given_time (value places 1 r)
@@ -138,7 +138,7 @@ trip_ids places records = map (value places 0) records
 abbrev pub stop_ids : Places → List Record → List (List ℕ)
 stop_ids places records = filter is_given (map (value places 3) records)
 
--- the rows spell the records, and the ids are those that the records name: each once, in the order in which they are
+-- the records spell the rows, and the ids are those that the records name: each once, in the order in which they are
 -- first seen
 pub record AreStopTimes (places : Places) (records : List Record) (t : StopTimes) : Type 0 where
   pub trips : map string_bytes t.trips.keys ≡ first_seen (trip_ids places records)
@@ -147,22 +147,22 @@ pub record AreStopTimes (places : Places) (records : List Record) (t : StopTimes
 
 -- ---- calendar.txt: service_id, monday to sunday, start_date, end_date
 
--- whether a service runs, by a number that is 0 or 1; none for any other
+-- whether a service runs: not if the number is 0, it does if it is 1; none for any other
 abbrev pub flag_of : Option ℕ → Option Bool
 flag_of None = None
 flag_of (Some n) = if n == 0 then Some false else (if n == 1 then Some true else None)
 
--- all the values, where each is there
+-- all the values, if none is missing
 abbrev pub all_some : {X : Type 0} → List (Option X) → Option (List X)
 all_some [] = Some []
 all_some (None ∷ rest) = None
 all_some (Some x ∷ rest) = option_map (λ xs. x ∷ xs) (all_some rest)
 
--- the weekdays from the k-th column on
+-- whether a service runs on the weekday of the k-th column
 abbrev pub weekday : Places → Record → ℕ → Option Bool
 weekday places r k = flag_of (number_of (value places k r))
 
--- whether it runs on each weekday, Monday first, where all seven columns tell it
+-- whether a service runs on each weekday, Monday first; none if one of the seven columns is neither 0 nor 1
 abbrev pub weekdays_of : Places → Record → Option (List Bool)
 weekdays_of places r = all_some (map (weekday places r) (1 ∷ 2 ∷ 3 ∷ 4 ∷ 5 ∷ 6 ∷ 7 ∷ []))
 
@@ -181,7 +181,7 @@ pub record SpellsCalendar (places : Places) (r : Record) (row : CalendarRow) : T
 
 -- ---- calendar_dates.txt: service_id, date, exception_type
 
--- what an exception_type says: 1 that a day is added, 2 that one is removed; none for any other
+-- what an exception_type means: 1 adds the day, 2 removes it; none for any other
 abbrev pub exception_of : Option ℕ → Option Exception
 exception_of None = None
 exception_of (Some n) = if n == 1 then Some exceptions.Added else (if n == 2 then Some exceptions.Removed else None)
@@ -191,7 +191,7 @@ abbrev pub calendar_date_fault : Places → Record → Option FaultKind
 calendar_date_fault places r =
     or_fault (fault_unless (day_of (value places 1 r)) kinds.BadDate) (fault_unless (exception_of (number_of (value places 2 r))) kinds.BadNumber)
 
--- the row has the id of the service, the date, and whether that is added or removed
+-- the row has the id of the service, the date, and whether the date is added or removed
 pub record SpellsCalendarDate (places : Places) (r : Record) (row : CalendarDateRow) : Type 0 where
   pub service : string_bytes row.service ≡ value places 0 r
   pub day : day_of (value places 1 r) ≡ Some row.day
@@ -199,28 +199,28 @@ pub record SpellsCalendarDate (places : Places) (r : Record) (row : CalendarDate
 
 -- ---- transfers.txt: from_stop_id, to_stop_id, transfer_type, min_transfer_time, and the routes and trips
 
--- a text has no bytes
+-- the text has no bytes
 abbrev pub is_blank : List ℕ → Bool
 is_blank text = length text == 0
 
--- what a transfer_type of this number says; one that isn't 0 to 3, or is no number, is skipped
+-- the kind of transfer of this transfer_type: skipped if it isn't a number from 0 to 3
 abbrev pub transfer_by : Option ℕ → TransferKind
 transfer_by None = transfers.Skipped
 transfer_by (Some n) = if n == 0 then transfers.Recommended else
     (if n == 1 then transfers.Timed else (if n == 2 then transfers.Minimum else
     (if n == 3 then transfers.Impossible else transfers.Skipped)))
 
--- what a transfer_type says; a blank one counts as 0
+-- the kind of transfer of a transfer_type; blank counts as 0
 abbrev pub typed_transfer : List ℕ → TransferKind
 typed_transfer text = if is_blank text then transfers.Recommended else transfer_by (number_of text)
 
--- a transfer between routes or trips is skipped
+-- the kind of transfer of a record: skipped if it names a route or a trip
 abbrev pub transfer_of : Places → Record → TransferKind
 transfer_of places r =
     if is_blank (value places 4 r) && is_blank (value places 5 r) && is_blank (value places 6 r) && is_blank (value places 7 r)
     then typed_transfer (value places 2 r) else transfers.Skipped
 
--- the row has the ids of both ends, what the record says, and its min_transfer_time, where that is a number
+-- the row has the ids of both ends, the kind of transfer, and the min_transfer_time, if it is a number
 pub record SpellsTransfer (places : Places) (r : Record) (row : TransferRow) : Type 0 where
   pub from : string_bytes row.from ≡ value places 0 r
   pub to : string_bytes row.to ≡ value places 1 r
@@ -229,7 +229,7 @@ pub record SpellsTransfer (places : Places) (r : Record) (row : TransferRow) : T
 
 -- ---- frequencies.txt: trip_id, start_time, end_time, headway_secs
 
--- a headway is a number, and not 0
+-- what is wrong with a headway: it isn't a number, or it is 0
 abbrev pub headway_fault : Option ℕ → Option FaultKind
 headway_fault None = Some kinds.BadNumber
 headway_fault (Some n) = fault_if (n == 0) kinds.BadHeadway
@@ -240,7 +240,7 @@ frequency_row_fault places r =
     or_fault (fault_unless (time_of (value places 1 r)) kinds.BadTime)
     (or_fault (fault_unless (time_of (value places 2 r)) kinds.BadTime) (headway_fault (number_of (value places 3 r))))
 
--- the row has the id of the trip, the start and the end in seconds, and the seconds from a start to the next
+-- the row has the id of the trip, the start and the end in seconds, and the seconds from one start to the next
 pub record SpellsFrequency (places : Places) (r : Record) (row : FrequencyRow) : Type 0 where
   pub trip : string_bytes row.trip ≡ value places 0 r
   pub start : time_of (value places 1 r) ≡ Some row.start
@@ -249,7 +249,7 @@ pub record SpellsFrequency (places : Places) (r : Record) (row : FrequencyRow) :
 
 -- ---- any table
 
--- what is wrong with the values of a table's record, if anything
+-- what is wrong with the values of a record of this table, if anything
 abbrev pub values_of : Table → Places → Record → Option FaultKind
 values_of tables.StopTimes = stop_time_fault
 values_of tables.Calendar = calendar_fault

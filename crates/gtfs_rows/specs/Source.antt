@@ -1,4 +1,4 @@
--- The records of a file's bytes, and those that are left of them.
+-- The records of a file's bytes, and those that are still to be read.
 use Rattle.std.specs.Prelude.{◌+◌, if◌then◌else◌, ℕ, List, [], ◌∷◌, length, Bool, ⊤}
 use Rattle.csv.specs.Machine.{ends_with, next_record}
 use Rattle.csv.specs.Reading.{default_config, records, records_from, records_next, strip_bom}
@@ -19,15 +19,15 @@ records_in text = records default_config text
 abbrev pub table_records : List ℕ → List Record
 table_records bytes = records_in (strip_bom bytes)
 
--- the records that are still to be taken
+-- the records that are still to be read
 abbrev pub left_of : Records → List Record
 left_of r = records_in r.rest.now
 
--- the records of a text from a state on
+-- the records of a text that is read from this state on
 abbrev pub records_at : State → List ℕ → List Record
 records_at s text = records_from default_config (length text + 1) s text
 
--- the records from the midst of one on, of which these fields are read, and these bytes of the field at hand
+-- the records from the middle of a record on: these fields of it are read, and these bytes of the current field
 abbrev pub rows_in : State → Record → List ℕ → List ℕ → List Record
 rows_in s fields field text = records_next records_at (next_record default_config s fields field text)
 
@@ -35,12 +35,12 @@ rows_in s fields field text = records_next records_at (next_record default_confi
 abbrev pub ends_line : ℕ → Bool
 ends_line byte = ends_with term.CRLF byte
 
--- a text from its first byte on that ends no line
+-- the text without the ends of lines at its start
 abbrev pub at_record : List ℕ → List ℕ
 at_record [] = []
 at_record (b ∷ rest) = if ends_line b then at_record rest else b ∷ rest
 
--- each field of each record is text
+-- each field of each record is UTF-8
 abbrev pub AllRecordsText : List Record → Type 0
 AllRecordsText [] = ⊤
 AllRecordsText (r ∷ rest) = AllText r × AllRecordsText rest

@@ -1,4 +1,4 @@
--- The eight files of a feed, each with its columns, and what their bytes hold.
+-- The eight files of a feed, each with its columns, and the rows that their bytes hold.
 use Rattle.std.specs.Prelude.{◌≡◌, ◌<◌, ◌≤◌, ◌⊎◌, List, [], ◌∷◌, ℕ, Bool, true, false, codes, length, count_by}
 use Rattle.gtfs_rows.specs.Cells.{Places}
 use Rattle.gtfs_rows.specs.Faults.{HoldsFile, HoldsRows, IsFaultOf, Judge, Shape, or_fault}
@@ -36,7 +36,7 @@ columns_of tables.Transfers = codes "from_stop_id" ∷ codes "to_stop_id" ∷ co
     ∷ codes "to_trip_id" ∷ []
 columns_of tables.Frequencies = codes "trip_id" ∷ codes "start_time" ∷ codes "end_time" ∷ codes "headway_secs" ∷ []
 
--- how many of them, the first ones, are required
+-- how many of the columns are required; they come first
 abbrev pub required_of : Table → ℕ
 required_of tables.Agency = 1
 required_of tables.Stops = 1
@@ -47,7 +47,7 @@ required_of tables.CalendarDates = 3
 required_of tables.Transfers = 2
 required_of tables.Frequencies = 4
 
--- what the records have one beside another
+-- which columns must be different in each record, or the same in all
 abbrev pub key_of : Table → Key
 key_of tables.Agency = keys.Shared 0
 key_of tables.Stops = keys.Column 0
@@ -56,7 +56,7 @@ key_of tables.Calendar = keys.Column 0
 key_of tables.CalendarDates = keys.Columns 0 1
 key_of _ = keys.Nothing
 
--- a record's values are judged before its key
+-- what is wrong with a record: its values are judged before its key
 abbrev pub judge_of : Table → Places → Judge
 judge_of table places before r = or_fault (values_of table places r) (key_fault (key_of table) places before r)
 
@@ -128,37 +128,37 @@ frequencies_shape = shape_of tables.Frequencies
 abbrev pub HoldsFrequencies : List ℕ → List FrequencyRow → Type 0
 HoldsFrequencies = HoldsRows frequencies_shape SpellsFrequency
 
--- what a row stands for is a stop
+-- the kind of place is a stop
 abbrev pub is_stop_at : Location → Bool
 is_stop_at locations.Stop = true
 is_stop_at _ = false
 
--- a row of stops.txt that stands for a stop
+-- the row of stops.txt stands for a stop
 abbrev pub is_stop : StopRow → Bool
 is_stop row = is_stop_at row.location
 
--- the rows of a table, no more of them than there may be
+-- the bytes hold the rows, and no more of them count than the limit allows
 abbrev pub HoldsWithin : {R : Type 0} → (List ℕ → List R → Type 0) → (List R → ℕ) → ℕ → List ℕ → List R → Type 0
 HoldsWithin Holds count limit bytes rows = Holds bytes rows × (count rows ≤ limit)
 
--- too many rows are told of the file once its records are without fault
+-- the first fault of the bytes; or, if they have none but more rows count than the limit allows, TooMany at record 0, the file
 abbrev pub IsFaultWithin : {R : Type 0} → Shape → (List ℕ → List R → Type 0) → (List R → ℕ) → ℕ → List ℕ → ℕ → FaultKind → Type 0
 IsFaultWithin {R} s Holds count limit bytes n kind =
     IsFaultOf s bytes n kind
     ⊎ ((n ≡ 0) × (kind ≡ kinds.TooMany) × ((rows : List R) × Holds bytes rows × (limit < count rows)))
 
--- of the rows of stops.txt those are counted that stand for stops
+-- of the rows of stops.txt, those that stand for stops count
 abbrev pub HoldsStopsWithin : ℕ → List ℕ → List StopRow → Type 0
 HoldsStopsWithin = HoldsWithin HoldsStops (count_by is_stop)
 
--- all rows of trips.txt are counted
+-- all rows of trips.txt count
 abbrev pub HoldsTripsWithin : ℕ → List ℕ → List TripRow → Type 0
 HoldsTripsWithin = HoldsWithin HoldsTrips length
 
--- the first fault of stops.txt, or more stops than there may be
+-- the first fault of stops.txt, or TooMany if there are more stops than the limit
 abbrev pub IsStopsFault : ℕ → List ℕ → ℕ → FaultKind → Type 0
 IsStopsFault = IsFaultWithin stops_shape HoldsStops (count_by is_stop)
 
--- the first fault of trips.txt, or more trips than there may be
+-- the first fault of trips.txt, or TooMany if there are more trips than the limit
 abbrev pub IsTripsFault : ℕ → List ℕ → ℕ → FaultKind → Type 0
 IsTripsFault = IsFaultWithin trips_shape HoldsTrips length

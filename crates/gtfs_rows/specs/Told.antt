@@ -1,11 +1,11 @@
--- How a fault is told: the number and the name of its kind, and the name of the file.
+-- How a fault is reported: the number and the name of its kind, and the name of the file.
 use Rattle.std.specs.Prelude.{ℕ, List, codes}
 use Rattle.gtfs_rows.specs.declared.fault.FaultKind.{FaultKind}
 use Rattle.gtfs_rows.specs.declared.fault.FaultKind.TheVariants as kinds
 use Rattle.gtfs_rows.specs.declared.fault.Table.{Table}
 use Rattle.gtfs_rows.specs.declared.fault.Table.TheVariants as tables
 
--- the number and the name by which a kind is told
+-- the number and the name of a kind
 abbrev pub fault_told : FaultKind → ℕ × List ℕ
 fault_told kinds.MissingFile = (1, codes "MissingFile")
 fault_told kinds.MissingColumn = (2, codes "MissingColumn")

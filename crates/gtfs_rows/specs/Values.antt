@@ -1,4 +1,4 @@
--- Times, dates and numbers as tables write them.
+-- The times, dates and numbers of tables.
 use Rattle.std.specs.Prelude.{◌+◌, ◌-◌, ◌*◌, ◌==◌, ◌&&◌, if◌then◌else◌, ℕ, List, [], ◌∷◌, length, drop, take, fold}
 use Rattle.std.specs.Prelude.{Option, Some, None, Bool, true, nat_le, nat_lt, pos}
 use Rattle.std.specs.Char.{is_ascii_digit}
@@ -6,21 +6,21 @@ use Rattle.std.specs.List.{list_all, prefix_len}
 use Rattle.jiff.specs.Words.{days_in_month}
 use Rattle.gtfs_rows.specs.declared.values.Day.{Day}
 
--- the number of a decimal digit
+-- the value of a decimal digit
 abbrev pub digit_of : ℕ → Option ℕ
 digit_of b = if is_ascii_digit b then Some (b - 48) else None
 
--- a number of tens and a number of units
+-- the value of tens and units
 abbrev pub tens_and_units : Option ℕ → Option ℕ → Option ℕ
 tens_and_units None units = None
 tens_and_units (Some t) None = None
 tens_and_units (Some t) (Some u) = Some (t * 10 + u)
 
--- the number of two decimal digits
+-- the value of two decimal digits
 abbrev pub two_digits_of : ℕ → ℕ → Option ℕ
 two_digits_of a b = tens_and_units (digit_of a) (digit_of b)
 
--- the seconds of hours, minutes and seconds, between which two colons (58) stand
+-- hours, minutes and seconds as seconds; none if either separator isn't a colon (58), or minutes or seconds exceed 59
 abbrev pub clock_of : Option ℕ → ℕ → Option ℕ → ℕ → Option ℕ → Option ℕ
 clock_of None c m d s = None
 clock_of (Some h) c None d s = None
@@ -34,7 +34,7 @@ time_of (h ∷ c ∷ m ∷ n ∷ d ∷ s ∷ t ∷ []) = clock_of (digit_of h) c
 time_of (g ∷ h ∷ c ∷ m ∷ n ∷ d ∷ s ∷ t ∷ []) = clock_of (two_digits_of g h) c (two_digits_of m n) d (two_digits_of s t)
 time_of _ = None
 
--- a civil date of the years 1 to 9999
+-- the date is a civil date of the years 1 to 9999
 abbrev pub is_civil : Day → Bool
 is_civil d = nat_le 1 d.year && nat_le d.year 9999 && nat_le 1 d.month && nat_le d.month 12
     && nat_le 1 d.day && nat_le d.day (days_in_month (pos d.year) d.month)
@@ -42,7 +42,7 @@ is_civil d = nat_le 1 d.year && nat_le d.year 9999 && nat_le 1 d.month && nat_le
 abbrev pub checked_day : Day → Option Day
 checked_day d = if is_civil d then Some d else None
 
--- the date of a century, a year in it, a month and a day
+-- the date of a century, a year of the century, a month and a day
 abbrev pub day_of_parts : Option ℕ → Option ℕ → Option ℕ → Option ℕ → Option Day
 day_of_parts (Some c) (Some y) (Some m) (Some d) = checked_day (record { year = c * 100 + y; month = m; day = d })
 day_of_parts _ _ _ _ = None

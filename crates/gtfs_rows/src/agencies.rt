@@ -1,4 +1,4 @@
-//! agency.txt, whose records share one time zone.
+//! agency.txt: all records have the same time zone.
 
 ghost use Rattle.gtfs_rows.specs.Rows.{SpellsAgency};
 ghost use Rattle.gtfs_rows.specs.declared.fault.Table.TheVariants as files;

@@ -1,4 +1,4 @@
-//! The columns of a table and what a record has in them.
+//! The columns of a table, and the values that a record has in them.
 
 ghost use Rattle.std.specs.Prelude.{◌≡◌, ◌≤◌, length, map, IfErr, IfOk, IsUtf8, None, Some, true, false};
 ghost use Rattle.std.specs.String.{string_bytes};
@@ -15,10 +15,10 @@ use crate::fields::Fields;
 use crate::values::Time;
 use std::alloc::{AllocError, Global};
 
-/// Where a header has a column, if it has it.
+/// The index of a column in the header, if the header has it.
 pub type Place = Option<usize>;
 
-// The text without the spaces at its ends.
+// Returns the text without the spaces at both ends.
 fn trim(text: &[u8]) -> &[u8]
     ensures { result.now ≡ trim_spaces text.entry.now }
 {
@@ -30,7 +30,7 @@ fn trim(text: &[u8]) -> &[u8]
     &front[..kept]
 }
 
-// The text without the spaces at its start.
+// Returns the text without the spaces at its start.
 fn trim_start(text: &[u8]) -> &[u8]
     ensures { result.now ≡ trim_front text.entry.now }
 {
@@ -41,7 +41,7 @@ fn trim_start(text: &[u8]) -> &[u8]
     rest
 }
 
-// What a record has in a column, blank where the column is absent.
+// Returns a record's value in a column, without spaces around it; blank if the column is absent.
 fn cell<'a>(fields: &'a Fields<'_>, place: Place) -> &'a [u8]
     ensures { result.now ≡ cell_of place (fields_of fields.entry.now) }
 {
@@ -54,7 +54,7 @@ fn cell<'a>(fields: &'a Fields<'_>, place: Place) -> &'a [u8]
     }
 }
 
-// The first column of a name.
+// Returns the index of the first column with this name.
 fn column(header: &Fields<'_>, name: &[u8]) -> Place
     ensures { result ≡ column_of name.now (fields_of header.now) }
 {
@@ -66,7 +66,7 @@ fn column(header: &Fields<'_>, name: &[u8]) -> Place
     None
 }
 
-// Where the header has each column.
+// Returns the index of each named column in the header.
 pub(crate) fn places(
     alloc: Global,
     header: &Fields<'_>,
@@ -81,7 +81,7 @@ pub(crate) fn places(
     Ok(places)
 }
 
-// Whether the required columns, which are the first ones, are all there.
+// Returns whether all required columns, which come first, are there.
 pub(crate) fn has_required(places: &[Place], required: usize) -> bool
     requires { required ≤ length places.now }
     ensures { result ≡ are_there required places.now }
@@ -89,7 +89,7 @@ pub(crate) fn has_required(places: &[Place], required: usize) -> bool
     places[..required].iter().all(|place| place.is_some())
 }
 
-// Whether the bytes are UTF-8.
+// Returns whether the bytes are UTF-8.
 pub(crate) fn is_text(bytes: &[u8]) -> bool
     ensures yes { result ≡ true → IsUtf8 bytes.now }
     ensures no { result ≡ false → ¬ (IsUtf8 bytes.now) }
@@ -100,17 +100,17 @@ pub(crate) fn is_text(bytes: &[u8]) -> bool
     }
 }
 
-// A text that is known to be UTF-8.
+// Copies bytes that are known to be UTF-8 into a string.
 fn text_of(alloc: Global, bytes: &[u8]) -> Result<String, AllocError>
     requires { IsUtf8 bytes.now }
     ensures { IfOk result (λ s. string_bytes s ≡ bytes.now) }
 {
-    // the whole file was found to be UTF-8, so no cell is judged again
+    // the whole file was found to be UTF-8, so a cell isn't checked again
     let text = unsafe { str::from_utf8_unchecked(bytes) };
     String::from_str(alloc, text)
 }
 
-/// The fields of a record, and where its header has each of the table's columns.
+/// The fields of a record, and the index in the header of each of the table's columns.
 #[derive(Clone, Copy)]
 pub struct Cells<'a, 'f> {
     pub(crate) places: &'a [Place],
@@ -118,7 +118,7 @@ pub struct Cells<'a, 'f> {
 }
 
 impl<'a, 'f> Cells<'a, 'f> {
-    // What the record has in a column, blank where the column is absent.
+    // Returns the record's value in the table's column of this index; blank if the column is absent.
     pub(crate) fn get(&self, column: usize) -> &'a [u8]
         ensures { result.now ≡ value self.entry.now.places.now column (fields_of self.entry.now.fields.now) }
     {
@@ -130,7 +130,7 @@ impl<'a, 'f> Cells<'a, 'f> {
         cell(self.fields, place)
     }
 
-    // The same as a text of its own.
+    // Returns the same value as a string.
     pub(crate) fn text(&self, alloc: Global, column: usize) -> Result<String, FaultKind>
         requires { AllText (fields_of self.now.fields.now) }
         ensures ok { IfOk result (λ s. string_bytes s
@@ -140,7 +140,7 @@ impl<'a, 'f> Cells<'a, 'f> {
         text_of(alloc, self.get(column)).map_err(|_| FaultKind::OutOfMemory)
     }
 
-    // The time in a column, which isn't blank.
+    // Returns the time in a column, in seconds after the start of the service day. Blank is `BadTime` too.
     pub(crate) fn time(&self, column: usize) -> Result<u32, FaultKind>
         ensures ok { IfOk result (λ t. time_of (value self.now.places.now column (fields_of self.now.fields.now))
             ≡ Some t) }

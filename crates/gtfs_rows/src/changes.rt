@@ -1,4 +1,4 @@
-//! transfers.txt and frequencies.txt: where one changes, and when trips repeat.
+//! transfers.txt and frequencies.txt: where passengers change, and when trips repeat.
 
 ghost use Rattle.std.specs.Prelude.{◌≡◌, None, Some, IfOk, IfErr};
 ghost use Rattle.gtfs_rows.specs.Fields.{fields_of};
@@ -13,7 +13,7 @@ use crate::rows::{FrequencyRow, TransferKind, TransferRow};
 use crate::values::number;
 use std::alloc::Global;
 
-// What a transfer_type says.
+// Returns the kind of transfer that a transfer_type stands for.
 fn typed(text: &[u8]) -> TransferKind
     ensures { result ≡ typed_transfer text.now }
 {
@@ -29,7 +29,7 @@ fn typed(text: &[u8]) -> TransferKind
     }
 }
 
-// What a record says, which is skipped where it names routes or trips.
+// Returns the kind of transfer of a record: `Skipped` if it names a route or a trip.
 fn transfer_kind(cells: &Cells) -> TransferKind
     ensures { result ≡ transfer_of cells.now.places.now (fields_of cells.now.fields.now) }
 {
@@ -65,7 +65,7 @@ impl Row for TransferRow {
 
 impl UnlimitedRow for TransferRow {}
 
-// The headway that a text tells.
+// Parses a headway in seconds: `BadNumber` if the text isn't a number, `BadHeadway` if it is 0.
 fn headway(text: &[u8]) -> Result<u32, FaultKind>
     ensures fine { IfOk result (λ n. headway_fault (number_of text.now) ≡ None) }
     ensures ok { IfOk result (λ n. number_of text.now ≡ Some n) }

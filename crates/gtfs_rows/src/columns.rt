@@ -1,25 +1,25 @@
-//! The columns of each table, and which of them must differ, or agree, from record to record.
+//! The columns of each table, and which of them must be different in each record, or the same in all.
 
 ghost use Rattle.std.specs.Prelude.{◌≡◌, ◌≤◌, length, map};
 ghost use Rattle.gtfs_rows.specs.Tables.{columns_of, key_of, required_of};
 
 use crate::fault::Table;
 
-/// Which columns, by their indices, must differ between any two records of a table, or agree in all of them.
+/// The columns, by index, that must be different in any two records of a table, or the same in all of them.
 #[derive(Clone, Copy)]
 pub enum Key {
-    // records are free to repeat each other
+    // records may repeat each other
     Nothing,
-    // no two records have the same text here
+    // no two records have the same text in this column
     Column(usize),
-    // no two records have the same pair of texts here
+    // no two records have the same pair of texts in these columns
     Columns(usize, usize),
-    // all records have the same text here
+    // all records have the same text in this column
     Shared(usize),
 }
 
 impl Table {
-    // The names of the columns that are read.
+    // Returns the names of the columns that are read.
     pub(crate) fn columns(self) -> &'static [&'static str]
         ensures { map (λ name. name.now) result.now ≡ columns_of self }
     {
@@ -63,7 +63,7 @@ impl Table {
         }
     }
 
-    // How many of the columns, the first ones, are required.
+    // Returns how many of the columns are required; they come first.
     pub(crate) fn required(self) -> usize
         ensures number { result ≡ required_of self }
         ensures within { result ≤ length (columns_of self) }
@@ -78,7 +78,7 @@ impl Table {
         }
     }
 
-    // What the records have one beside another.
+    // Returns which columns must be different in each record, or the same in all.
     pub(crate) fn key(self) -> Key
         ensures { result ≡ key_of self }
     {

@@ -1,4 +1,4 @@
-//! A field of a text, cut off where a comma, an end of line or the end of the text ends it.
+//! Cuts the first field off a text: up to a comma, an end of line or the end of the text.
 
 ghost use Rattle.std.specs.Prelude.{◌≡◌, ◌<◌, ◌≤◌, ◌+◌, [], true, false, length, IfOk};
 ghost use Rattle.std.specs.List.{prefix_len};
@@ -10,7 +10,7 @@ ghost use Rattle.gtfs_rows.specs.Fields.{bytes_of};
 use crate::fields::Field;
 use std::alloc::{AllocError, Global};
 
-/// A field, what is behind the comma or the end of line at its end, and whether it is the last of its record.
+/// A field, the text after the comma or line-end byte that ends it, and whether it is the last of its record.
 #[derive(Drop)]
 pub struct Cut<'a> {
     pub(crate) field: Field<'a>,
@@ -18,35 +18,35 @@ pub struct Cut<'a> {
     pub(crate) is_last: bool,
 }
 
-// Whether a byte ends a line.
+// Returns whether a byte is CR or LF.
 pub(crate) fn ends_line(byte: u8) -> bool
     ensures { result ≡ line_end byte }
 {
     byte == b'\r' || byte == b'\n'
 }
 
-// Whether a byte ends a field that isn't in quotes.
+// Returns whether a byte ends a field that isn't in quotes.
 fn is_separator(byte: u8) -> bool
     ensures { result ≡ separator byte }
 {
     byte == b',' || ends_line(byte)
 }
 
-// Whether it doesn't.
+// Returns whether a byte belongs to a field that isn't in quotes.
 fn is_inner(byte: u8) -> bool
     ensures { result ≡ inner byte }
 {
     !is_separator(byte)
 }
 
-// Whether a field in quotes may go on behind a byte.
+// Returns whether a byte of a field in quotes is anything but a double quote.
 fn is_quoted(byte: u8) -> bool
     ensures { result ≡ quoted byte }
 {
     byte != b'"'
 }
 
-// How many bytes of a text come before the first that ends a field, all if none does.
+// Returns how many bytes come before the first that ends a field, or all if none does.
 fn field_len(text: &[u8]) -> usize
     ensures count { result ≡ prefix_len inner text.now }
     ensures within { result ≤ length text.now }
@@ -59,7 +59,7 @@ fn field_len(text: &[u8]) -> usize
     text.len()
 }
 
-// How many bytes of a text come before the first double quote, all if there is none.
+// Returns how many bytes come before the first double quote, or all if there is none.
 fn quoted_len(text: &[u8]) -> usize
     ensures count { result ≡ prefix_len quoted text.now }
     ensures within { result ≤ length text.now }
@@ -72,7 +72,7 @@ fn quoted_len(text: &[u8]) -> usize
     text.len()
 }
 
-// Whether a field that isn't in quotes has ended.
+// Returns whether a field that isn't in quotes ends before this text.
 fn has_ended(text: &[u8]) -> bool
     ensures { result ≡ ends_before text.now }
 {
@@ -82,7 +82,7 @@ fn has_ended(text: &[u8]) -> bool
     }
 }
 
-// Whether a text begins with a double quote.
+// Returns whether a text begins with a double quote.
 fn begins_quoted(text: &[u8]) -> bool
     ensures { result ≡ quote_first text.now }
 {
@@ -92,7 +92,7 @@ fn begins_quoted(text: &[u8]) -> bool
     }
 }
 
-// A field behind which a text begins with what ends it.
+// Cuts after a complete field: the text is empty, or begins with the byte that ends the field.
 fn cut_behind<'a>(field: Field<'a>, text: &'a [u8]) -> Cut<'a>
     requires { ends_before text.now ≡ true }
     ensures cut { IsCut st.InField (bytes_of field.entry) text.entry.now result }
@@ -113,7 +113,7 @@ fn cut_behind<'a>(field: Field<'a>, text: &'a [u8]) -> Cut<'a>
     }
 }
 
-// A field that isn't in quotes.
+// Cuts off a field that isn't in quotes.
 fn cut_plain<'a>(text: &'a [u8]) -> Cut<'a>
     ensures cut { IsCut st.InField [] text.entry.now result }
     ensures within { length result.rest.now ≤ length text.entry.now }
@@ -123,7 +123,7 @@ fn cut_plain<'a>(text: &'a [u8]) -> Cut<'a>
     cut_behind(Field::InFile(&text[..end]), &text[end..])
 }
 
-// A field in quotes, from behind the first quote on.
+// Cuts off a field in quotes; the text begins after the opening quote.
 fn cut_quoted<'a>(alloc: Global, text: &'a [u8]) -> Result<Cut<'a>, AllocError>
     ensures cut { IfOk result (λ cut. IsCut st.InQuoted [] text.entry.now cut) }
     ensures less { IfOk result (λ cut. length cut.rest.now ≤ length text.entry.now) }
@@ -146,7 +146,8 @@ fn cut_quoted<'a>(alloc: Global, text: &'a [u8]) -> Result<Cut<'a>, AllocError>
     }
 }
 
-// A field in quotes, of which two stand for one, or behind whose last quote it goes on.
+// Cuts off a field in quotes whose bytes must be copied: two quotes in it stand for one, or bytes follow the
+// closing quote. The text begins after the opening quote.
 #[cold]
 #[inline(never)]
 fn cut_joined<'a>(alloc: Global, text: &'a [u8]) -> Result<Cut<'a>, AllocError>
@@ -175,7 +176,7 @@ fn cut_joined<'a>(alloc: Global, text: &'a [u8]) -> Result<Cut<'a>, AllocError>
     }
 }
 
-// A field of which some bytes are read, and the others aren't in quotes.
+// Cuts off the rest of a field, which isn't in quotes, and adds it to the bytes read so far.
 fn cut_unquoted<'a>(mut joined: Vec<u8>, text: &'a [u8]) -> Result<Cut<'a>, AllocError>
     ensures cut { IfOk result (λ cut. IsCut st.InField joined.items text.entry.now cut) }
     ensures less { IfOk result (λ cut. length cut.rest.now ≤ length text.entry.now) }
@@ -185,7 +186,7 @@ fn cut_unquoted<'a>(mut joined: Vec<u8>, text: &'a [u8]) -> Result<Cut<'a>, Allo
     Ok(cut_behind(Field::Joined(joined), &text[end..]))
 }
 
-/// The first field of a text.
+/// Cuts off the first field of a text.
 pub(crate) fn cut_field<'a>(alloc: Global, text: &'a [u8]) -> Result<Cut<'a>, AllocError>
     ensures cut { IfOk result (λ cut. IsCut st.StartField [] text.entry.now cut) }
     ensures less { IfOk result (λ cut. cut.is_last ≡ false → length cut.rest.now < length text.entry.now) }

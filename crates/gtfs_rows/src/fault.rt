@@ -1,5 +1,5 @@
-//! What can be wrong with a feed: the kinds of faults, their numbers and names, and in which file
-//! and record one was found.
+//! What can be wrong with a feed: the kinds of faults, their numbers and names, and the file and record in which
+//! a fault was found.
 
 ghost use Rattle.std.specs.Prelude.{◌≡◌};
 ghost use Rattle.gtfs_rows.specs.Told.{fault_told, file_name as name_of_file};
@@ -8,7 +8,7 @@ use reasoning::variant_name;
 use std::error::Error;
 use std::fmt;
 
-/// The files of a feed that are read, in the order of reading.
+/// The files of a feed that are read, in the order in which they are read.
 #[derive(Clone, Copy, Debug, PartialEq, Eq)]
 pub enum Table {
     Agency,
@@ -24,24 +24,25 @@ pub enum Table {
 /// What is wrong with a table. Columns are named as in the GTFS Schedule Reference.
 #[derive(Clone, Copy, Debug, PartialEq, Eq)]
 pub enum FaultKind {
-    /// A file that a feed must have is missing; of `calendar.txt` and `calendar_dates.txt` both are.
+    /// A required file is missing, or both `calendar.txt` and `calendar_dates.txt` are.
     MissingFile = 1,
     /// The file lacks a required column, or has no header at all.
     MissingColumn = 2,
     /// The file isn't UTF-8.
     BadUtf8 = 3,
-    /// The record has another number of fields than the header.
+    /// The record has more or fewer fields than the header.
     RowLength = 4,
-    /// A field is no time: `H:MM:SS` or `HH:MM:SS`, minutes and seconds below 60. In `stop_times.txt` it may be blank.
+    /// A field isn't a time: `H:MM:SS` or `HH:MM:SS`, minutes and seconds below 60. In `stop_times.txt` it may
+    /// be blank.
     BadTime = 5,
-    /// A field is no date: `YYYYMMDD`, of the years 1 to 9999.
+    /// A field isn't a date: `YYYYMMDD`, of the years 1 to 9999.
     BadDate = 6,
-    /// A `stop_sequence`, a weekday, an `exception_type` or a `headway_secs` is no number of nine
-    /// digits at most, or none that is allowed there.
+    /// A `stop_sequence`, a weekday, an `exception_type` or a `headway_secs` isn't a number of at most nine digits,
+    /// or is one that isn't allowed there.
     BadNumber = 7,
-    /// An earlier record has the id; of `calendar_dates.txt` the same service on the same date.
+    /// An earlier record has the same id, or in `calendar_dates.txt` the same service and date.
     IdTwice = 8,
-    /// No trip or place has the id that the record names, or the place that a `parent_station` names is no station.
+    /// No trip or place has the id that the record names, or a `parent_station` names a place that isn't a station.
     UnknownId = 9,
     /// The `agency_timezone` differs from that of the first agency.
     ZonesDiffer = 10,
@@ -49,22 +50,23 @@ pub enum FaultKind {
     SequenceTwice = 11,
     /// The first or the last row of a trip has no time.
     EndWithoutTime = 12,
-    /// A trip arrives at a stop before its last departure ahead of it, or departs before it arrives there.
+    /// A trip arrives at a stop before the last departure given earlier in the trip, or after it departs from there.
     TimeGoesBack = 13,
-    /// A trip arrives no later than it departed from the stop before, its blank rows having their
-    /// times too. It is a fault only where tables are joined strictly.
+    /// A trip, once its blank rows have times, arrives at a stop no later than it departed from the previous one.
+    /// This is a fault only if tables are joined strictly.
     HopWithoutDuration = 14,
-    /// The place that the record names is no stop; an end of a transfer may be a station too.
+    /// The record names a place that isn't a stop; in `transfers.txt`, one that is neither a stop nor a station.
     NotAStop = 15,
-    /// There are more of something than there may be, as stops in `stops.txt` or trips in `trips.txt`.
+    /// There are more of something than are allowed, such as stops in `stops.txt` or trips in `trips.txt`.
     TooMany = 16,
-    /// There was no memory.
+    /// Memory ran out.
     OutOfMemory = 17,
     /// The `headway_secs` is 0.
     BadHeadway = 18,
 }
 
-/// A fault of a feed: the file, the record's number (from 1 after the header; 0 is the file) and what is wrong.
+/// A fault of a feed: the file, the record's number and what is wrong. The first record after the header is 1; 0 is
+/// the file as a whole.
 #[derive(Clone, Copy, Debug, PartialEq, Eq)]
 pub struct TableFault {
     pub table: Table,
@@ -73,14 +75,14 @@ pub struct TableFault {
 }
 
 impl FaultKind {
-    /// The number by which the kind is told, from 1 to 18 in the order of the enum.
+    /// Returns the number of the kind, from 1 to 18 in the order of the enum.
     pub fn number(self) -> u8
         ensures { result ≡ (fault_told self).0 }
     {
         self as u8
     }
 
-    /// The name by which the kind is told, as `MissingFile`.
+    /// Returns the name of the kind, such as `MissingFile`.
     pub fn name(self) -> &'static str
         ensures { result.now ≡ (fault_told self).1 }
     {
@@ -92,7 +94,7 @@ impl FaultKind {
         )
     }
 
-    // What is wrong, in words.
+    // Returns what is wrong, in words.
     fn message(self) -> &'static str {
         match self {
             FaultKind::MissingFile => "the file is missing",
@@ -126,7 +128,7 @@ impl fmt::Display for FaultKind {
 impl Error for FaultKind {}
 
 impl Table {
-    /// The name of the table's file, as `agency.txt`.
+    /// Returns the name of the table's file, such as `agency.txt`.
     pub fn file_name(self) -> &'static str
         ensures { result.now ≡ name_of_file self }
     {
@@ -142,7 +144,7 @@ impl Table {
         }
     }
 
-    // The fault of a record of this table.
+    // Returns a fault of a record of this table, or of the file if `row` is 0.
     pub(crate) fn fault(self, row: u64, kind: FaultKind) -> TableFault
         ensures table { result.table ≡ self }
         ensures row { result.row ≡ row }
@@ -155,7 +157,7 @@ impl Table {
         }
     }
 
-    /// The fault of a file that is missing.
+    /// Returns the fault that this table's file is missing.
     pub fn missing(self) -> TableFault
         ensures table { result.table ≡ self }
         ensures row { result.row ≡ 0 }
@@ -164,7 +166,7 @@ impl Table {
         self.fault(0, FaultKind::MissingFile)
     }
 
-    // The want of memory at this table.
+    // Returns the fault that memory ran out at this table.
     pub(crate) fn out_of_memory(self) -> TableFault
         ensures table { result.table ≡ self }
         ensures kind { result.kind ≡ FaultKind.OutOfMemory }

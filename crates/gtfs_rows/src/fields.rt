@@ -9,9 +9,9 @@ use std::alloc::{AllocError, Global};
 /// The bytes of a field.
 #[derive(Drop)]
 pub enum Field<'a> {
-    /// They stand in the file one behind another.
+    /// The bytes are a slice of the file.
     InFile(&'a [u8]),
-    /// They don't, as where two quotes stand for one.
+    /// The bytes aren't a slice of the file and were copied: two quotes stand for one, for example.
     Joined(Vec<u8>),
 }
 
@@ -21,7 +21,7 @@ pub struct Fields<'a> {
     pub(crate) list: Vec<Field<'a>>,
 }
 
-// The bytes of a field.
+// Returns the bytes of a field.
 fn bytes<'a>(field: &'a Field<'_>) -> &'a [u8]
     ensures { result.now ≡ bytes_of field.entry.now }
 {
@@ -32,7 +32,7 @@ fn bytes<'a>(field: &'a Field<'_>) -> &'a [u8]
 }
 
 impl<'a> Fields<'a> {
-    // No fields.
+    // Returns an empty list of fields.
     pub(crate) fn new(alloc: Global) -> Fields<'a>
         ensures { fields_of result ≡ [] }
     {
@@ -41,14 +41,14 @@ impl<'a> Fields<'a> {
         }
     }
 
-    // Takes all fields away.
+    // Removes all fields.
     pub(crate) fn clear(&mut self)
         ensures { fields_of self.new ≡ [] }
     {
         self.list.clear();
     }
 
-    // Adds a field behind the others.
+    // Adds a field at the end.
     pub(crate) fn push(&mut self, field: Field<'a>) -> Result<(), AllocError>
         ensures { OnOk result (fields_of self.new ≡ fields_of self.old ++ bytes_of field.entry ∷ []) }
     {
@@ -58,14 +58,14 @@ impl<'a> Fields<'a> {
         }
     }
 
-    // How many fields there are.
+    // Returns how many fields there are.
     pub(crate) fn len(&self) -> usize
         ensures { result ≡ length (fields_of self.now) }
     {
         self.list.len()
     }
 
-    // The field at a place, if there is one.
+    // Returns the bytes of the field at an index, if there is one.
     pub(crate) fn get(&self, place: usize) -> Option<&[u8]>
         ensures { option_map (λ s. s.now) result ≡ field_at (fields_of self.entry.now) place }
     {

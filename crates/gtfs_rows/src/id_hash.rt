@@ -3,18 +3,18 @@
 use std::hash::{BuildHasher, DefaultHasher, Hasher, RandomState};
 use std::random::RandomSource;
 
-/// The hash by which ids are looked up: SipHash-1-3 over a key. Who doesn't know the key can't make
-/// ids that collide, so that looking up many takes time by their number and not by its square. What
+/// The hash by which ids are looked up: SipHash-1-3 with a key. A stranger who doesn't know the key can't make
+/// ids that collide, so the time to look up many ids is proportional to their number, not to its square. What
 /// is read never depends on the key.
 #[derive(Clone, Copy)]
 pub struct IdHash {
-    // what each hash begins with
+    // the state in which each hash begins
     initial: DefaultHasher,
 }
 
 impl IdHash {
-    /// The hash of a key that nobody else knows, for ids that a stranger may have made. Where the
-    /// system gives no random bytes, the key is 0.
+    /// Returns the hash with a random key, for ids that a stranger may have made. If the system gives no random
+    /// bytes, the key is 0.
     pub fn random(source: &impl RandomSource) -> IdHash {
         match RandomState::new(source) {
             Ok(keys) => IdHash {
@@ -24,7 +24,7 @@ impl IdHash {
         }
     }
 
-    /// The hash of a key that others may know, for ids that nobody made to collide.
+    /// Returns the hash with a given key, which others may know, for ids that weren't made to collide.
     pub fn of_key(key: u64) -> IdHash {
         let mut initial = DefaultHasher::new();
         initial.write_u64(key);

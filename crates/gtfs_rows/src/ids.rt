@@ -13,10 +13,10 @@ use crate::id_hash::IdHash;
 use indexmap::IndexSet;
 use std::alloc::Global;
 
-// Texts, each once, in the order in which they were added.
+// Distinct texts, in the order in which they were added.
 pub(crate) type Ids = IndexSet<String, IdHash>;
 
-// Adds a key that isn't there yet.
+// Adds a key at the end: `IdTwice` if it is already there.
 pub(crate) fn add_key(keys: &mut Ids, key: String) -> Result<(), FaultKind>
     ensures new { OnOk result (list_any (bytes_eq (string_bytes key)) (map string_bytes keys.old.keys) ≡ false) }
     ensures last { OnOk result (map string_bytes keys.new.keys ≡ map string_bytes keys.old.keys ++ string_bytes key
@@ -36,7 +36,8 @@ pub(crate) fn add_key(keys: &mut Ids, key: String) -> Result<(), FaultKind>
     }
 }
 
-// The place of an id, which goes last where it isn't there yet. It is first sought at a place where it is likely.
+// Returns the index of an id, which is added at the end if it isn't there yet. The likely index is tried first.
+// Memory may run out.
 pub(crate) fn place_of(
     alloc: Global,
     ids: &mut Ids,
@@ -52,7 +53,7 @@ pub(crate) fn place_of(
     if let Some(place) = id_at(ids, likely, id) {
         return Ok(place);
     }
-    // the whole file was found to be UTF-8, so no cell is judged again
+    // the whole file was found to be UTF-8, so a cell isn't checked again
     let text = unsafe { str::from_utf8_unchecked(id) };
     if let Some(place) = find_id(ids, text) {
         return as_place(place);
@@ -64,7 +65,7 @@ pub(crate) fn place_of(
     as_place(place)
 }
 
-// The place, if the id is there.
+// Returns the given index if the id is there.
 fn id_at(ids: &Ids, place: Option<u32>, id: &[u8]) -> Option<u32>
     ensures { IfSome result (λ place. StandsAt (map string_bytes ids.now.keys) place id.now) }
 {
@@ -77,7 +78,7 @@ fn id_at(ids: &Ids, place: Option<u32>, id: &[u8]) -> Option<u32>
     }
 }
 
-// The place of an id, if it is there.
+// Returns the index of an id, if the set has it.
 fn find_id(ids: &Ids, id: &str) -> Option<usize>
     ensures { IfSome result (λ place. StandsAt (map string_bytes ids.now.keys) place id.now) }
 {
@@ -85,7 +86,7 @@ fn find_id(ids: &Ids, id: &str) -> Option<usize>
     Some(place)
 }
 
-// The place of an id, which goes last where it isn't there yet.
+// Returns the index of an id, which is added at the end if it isn't there yet. Memory may run out.
 fn add_id(ids: &mut Ids, id: String) -> Result<usize, FaultKind>
     ensures more { OnOk result (map string_bytes ids.new.keys
         ≡ seen_also (map string_bytes ids.old.keys) (string_bytes id)) }
@@ -99,7 +100,7 @@ fn add_id(ids: &mut Ids, id: String) -> Result<usize, FaultKind>
     Ok(place)
 }
 
-// A place as a row keeps it: more ids than 32 bits can tell are as good as want of memory.
+// Returns an index as rows keep it: `OutOfMemory` if it has more than 32 bits.
 fn as_place(place: usize) -> Result<u32, FaultKind>
     ensures ok { IfOk result (λ n. n ≡ place) }
     ensures err { IfErr result (λ kind. kind ≡ FaultKind.OutOfMemory) }

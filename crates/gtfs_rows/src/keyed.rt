@@ -1,4 +1,4 @@
-//! Rows that each stand for one record, in tables some of which have keys.
+//! Tables with one row for each record; some of them have keys.
 
 ghost use Rattle.std.specs.Prelude.{◌≡◌, ◌≢◌, ◌++◌, ◌∷◌, ℕ, List, [], None, Some, IfOk, IfErr, OnOk, ⊤};
 ghost use Rattle.std.specs.List.{AllZip};
@@ -25,15 +25,15 @@ use std::alloc::Global;
 
 /// A row of a table.
 pub trait Row: Sized + Drop {
-    // Whose row it is.
+    // The table to which the row belongs.
     ghost TABLE: { File };
-    // The row is what the record spells.
+    // The row has the values that the record spells.
     ghost spells: { Places → Record → Self → Type 0 };
 
-    // Whose row it is.
+    // The table to which the row belongs.
     const TABLE: Table;
 
-    // The row of a record of text, or what is wrong with its values.
+    // Returns the row of a record, or what is wrong with the record's values.
     fn read(alloc: Global, cells: &Cells) -> Result<Self, FaultKind>
         requires { AllText (fields_of cells.now.fields.now) }
         ensures ok { IfOk result (λ row. (values_of TABLE cells.now.places.now (fields_of cells.now.fields.now)
@@ -42,7 +42,8 @@ pub trait Row: Sized + Drop {
             → values_of TABLE cells.now.places.now (fields_of cells.now.fields.now) ≡ Some kind) };
 }
 
-// Keeps what a record has of the columns of the key, or tells what is wrong with it beside the records before it.
+// Keeps a record's key, or the text that all records share. Fails if an earlier record has the key, or if the
+// shared text isn't the same as the first record's.
 fn keep(alloc: Global, kept: &mut Ids, key: Key, cells: &Cells) -> Result<(), FaultKind>
     requires { AllText (fields_of cells.now.fields.now) }
     ensures ok { (before : List Record) → AreKept key cells.now.places.now before kept.old.keys → OnOk result
@@ -71,7 +72,7 @@ fn keep(alloc: Global, kept: &mut Ids, key: Key, cells: &Cells) -> Result<(), Fa
     }
 }
 
-// Keeps the first record's text in a column, which the others share.
+// Keeps the first record's text in a column: `ZonesDiffer` if a later record has another text there.
 fn share(alloc: Global, kept: &mut Ids, column: usize, cells: &Cells) -> Result<(), FaultKind>
     requires { AllText (fields_of cells.now.fields.now) }
     ensures ok { (before : List Record) → AreKept (keys.Shared column) cells.now.places.now before kept.old.keys
@@ -95,7 +96,7 @@ fn share(alloc: Global, kept: &mut Ids, column: usize, cells: &Cells) -> Result<
     }
 }
 
-// Rows, and what is kept of the columns of their key.
+// Rows with their keys, or with the text that they share.
 #[derive(Drop)]
 pub(crate) struct Keyed<R> {
     pub(crate) rows: Vec<R>,
@@ -132,7 +133,7 @@ impl<R: Row> TableRows for Keyed<R> {
     }
 }
 
-// The rows of the bytes of a file, however many there are.
+// Returns the rows of a file, without a limit on their number, or the first fault of its bytes.
 pub(crate) fn every_row<R: Row>(
     alloc: Global,
     hash: IdHash,
@@ -150,7 +151,7 @@ pub(crate) fn every_row<R: Row>(
     }
 }
 
-/// A row of a table of which there may be any number.
+/// A row of a table without a limit on the number of its rows.
 pub trait UnlimitedRow: Row {}
 
 impl<R: UnlimitedRow> TableFile for Vec<R> {

@@ -23,19 +23,19 @@ ghost use Rattle.gtfs_rows.specs.declared.rows.TripRow.{TripRow};
 ghost use Rattle.gtfs_rows.specs.declared.stop_times.StopTimes.{StopTimes};
 ghost use Rattle.gtfs_rows.specs.declared.read.TheConstants.{MAX_STOPS, MAX_TRIPS};
 
-/// The limits of a feed in numbers: a million stops, twenty million trips.
+/// The limits of a feed: a million stops and twenty million trips.
 pub fn limits()
     ensures stops { MAX_STOPS ≡ 1000000 }
     ensures trips { MAX_TRIPS ≡ 20000000 }
 {}
 
-/// A file has one fault at most.
+/// A file has at most one fault.
 pub fn one_fault()
     ensures { (s : Shape) (bytes : List ℕ) (n m : ℕ) (a b : Kind) → IsFaultOf s bytes n a → IsFaultOf s bytes m b
         → (n ≡ m) × (a ≡ b) }
 {}
 
-/// A file whose rows are held has no fault.
+/// A file whose rows can be read has no fault.
 #[tactic(auto, using(crate::proofs::OneFault::no_fault))]
 pub fn held_without_fault()
     ensures agency { (bytes : List ℕ) (held : List AgencyRow) (n : ℕ) (kind : Kind) → HoldsAgencies bytes held
@@ -56,7 +56,7 @@ pub fn held_without_fault()
         → HoldsFrequencies bytes held → ¬ (IsFaultOf frequencies_shape bytes n kind) }
 {}
 
-/// Two records of calendar_dates.txt with one key have one service_id and one date.
+/// Two records of calendar_dates.txt with the same key have the same service_id and the same date.
 pub fn service_day_keys()
     ensures { (places : Places) (r s : Record) (d e : Date) → day_of (value places 1 r) ≡ Some d
         → day_of (value places 1 s) ≡ Some e → key_by (key_of files.CalendarDates) places r

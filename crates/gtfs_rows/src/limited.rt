@@ -1,4 +1,4 @@
-//! Tables that may have only so many rows.
+//! Tables with a limit on the number of their rows.
 
 ghost use Rattle.std.specs.Prelude.{◌≡◌, ◌≢◌, ℕ, List, IfOk, IfErr, ⊤};
 ghost use Rattle.gtfs_rows.specs.Faults.{HoldsRows};
@@ -10,33 +10,33 @@ use crate::keyed::{Row, every_row};
 use crate::table_file::TableFile;
 use std::alloc::Global;
 
-/// A row of a table of which there may be only so many.
+/// A row of a table with a limit on the number of its rows.
 pub trait LimitedRow: Row {
-    // How many there may be.
+    // How many rows may count at most.
     ghost LIMIT: { ℕ };
-    // How many of the rows are counted.
+    // How many of the rows count towards the limit.
     ghost count: { List Self → ℕ };
 
-    /// How many there may be.
+    /// How many rows may count at most.
     const LIMIT: usize;
 
-    /// How many of the rows are counted.
+    /// Returns how many of the rows count towards the limit.
     fn count(rows: &[Self]) -> usize
         ensures { result ≡ count rows.now };
 }
 
-/// The rows of a file, no more of them than there may be.
+/// The rows of a file, within the limit of its table.
 #[derive(Drop)]
 pub struct Limited<R> {
     pub rows: Vec<R>,
 }
 
-/// The rows of the bytes of a file, at most so many of those that are counted: of `stops.txt` the
-/// stops, of `trips.txt` all. Ids are looked up by the hash.
+/// Returns the rows of a file, of which at most `limit` may count: in `stops.txt` the stops, in `trips.txt` all rows.
+/// Ids are looked up by the hash.
 ///
 /// # Errors
 ///
-/// The first fault of the file, else `TooMany`, told of the file, where it has more rows.
+/// The first fault of the file. If it has none but more rows count: `TooMany`, with 0 as the record's number.
 pub fn rows_up_to<R: LimitedRow>(
     limit: usize,
     alloc: Global,

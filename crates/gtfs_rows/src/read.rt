@@ -1,4 +1,4 @@
-//! The reading of each of the eight files, by a key that others may know.
+//! A function to read each of the eight files, with a hash whose key others may know.
 
 ghost use Rattle.std.specs.Prelude.{◌≡◌, ◌≢◌, ◌≤◌, IfOk, IfErr, length, count_by};
 ghost use Rattle.gtfs_rows.specs.Faults.{IsFaultOf};
@@ -23,12 +23,12 @@ pub const MAX_STOPS: usize = 1_000_000;
 /// The greatest number of trips of a feed.
 pub const MAX_TRIPS: usize = 20_000_000;
 
-// The hash of ids that nobody made to collide, or that aren't looked up.
+// Returns the hash for ids that weren't made to collide, or that aren't looked up.
 fn known_key() -> IdHash {
     IdHash::of_key(0)
 }
 
-/// The agencies of the bytes of `agency.txt`.
+/// Returns the agencies in the bytes of `agency.txt`, or the first fault of the file.
 pub fn read_agency(alloc: Global, bytes: &[u8]) -> Result<Vec<AgencyRow>, TableFault>
     ensures ok { IfOk result (λ rows. HoldsAgencies bytes.now rows.items) }
     ensures file { IfErr result (λ fault. fault.table ≡ Table.Agency) }
@@ -38,7 +38,7 @@ pub fn read_agency(alloc: Global, bytes: &[u8]) -> Result<Vec<AgencyRow>, TableF
     TableFile::read(alloc, known_key(), bytes)
 }
 
-/// The stop times of the bytes of `stop_times.txt`.
+/// Returns the stop times in the bytes of `stop_times.txt`, or the first fault of the file.
 pub fn read_stop_times(alloc: Global, bytes: &[u8]) -> Result<StopTimes, TableFault>
     ensures ok { IfOk result (λ t. HoldsStopTimes bytes.now t) }
     ensures file { IfErr result (λ fault. fault.table ≡ Table.StopTimes) }
@@ -48,7 +48,7 @@ pub fn read_stop_times(alloc: Global, bytes: &[u8]) -> Result<StopTimes, TableFa
     TableFile::read(alloc, known_key(), bytes)
 }
 
-/// The services by weekdays of the bytes of `calendar.txt`.
+/// Returns the weekly services in the bytes of `calendar.txt`, or the first fault of the file.
 pub fn read_calendar(alloc: Global, bytes: &[u8]) -> Result<Vec<CalendarRow>, TableFault>
     ensures ok { IfOk result (λ rows. HoldsCalendar bytes.now rows.items) }
     ensures file { IfErr result (λ fault. fault.table ≡ Table.Calendar) }
@@ -58,7 +58,7 @@ pub fn read_calendar(alloc: Global, bytes: &[u8]) -> Result<Vec<CalendarRow>, Ta
     TableFile::read(alloc, known_key(), bytes)
 }
 
-/// The services' added and removed days of the bytes of `calendar_dates.txt`.
+/// Returns the added and removed days in the bytes of `calendar_dates.txt`, or the first fault of the file.
 pub fn read_calendar_dates(alloc: Global, bytes: &[u8]) -> Result<Vec<CalendarDateRow>, TableFault>
     ensures ok { IfOk result (λ rows. HoldsCalendarDates bytes.now rows.items) }
     ensures file { IfErr result (λ fault. fault.table ≡ Table.CalendarDates) }
@@ -68,7 +68,7 @@ pub fn read_calendar_dates(alloc: Global, bytes: &[u8]) -> Result<Vec<CalendarDa
     TableFile::read(alloc, known_key(), bytes)
 }
 
-/// The transfers of the bytes of `transfers.txt`.
+/// Returns the rows in the bytes of `transfers.txt`, or the first fault of the file.
 pub fn read_transfers(alloc: Global, bytes: &[u8]) -> Result<Vec<TransferRow>, TableFault>
     ensures ok { IfOk result (λ rows. HoldsTransfers bytes.now rows.items) }
     ensures file { IfErr result (λ fault. fault.table ≡ Table.Transfers) }
@@ -78,7 +78,7 @@ pub fn read_transfers(alloc: Global, bytes: &[u8]) -> Result<Vec<TransferRow>, T
     TableFile::read(alloc, known_key(), bytes)
 }
 
-/// The rows of the bytes of `frequencies.txt`.
+/// Returns the rows in the bytes of `frequencies.txt`, or the first fault of the file.
 pub fn read_frequencies(alloc: Global, bytes: &[u8]) -> Result<Vec<FrequencyRow>, TableFault>
     ensures ok { IfOk result (λ rows. HoldsFrequencies bytes.now rows.items) }
     ensures file { IfErr result (λ fault. fault.table ≡ Table.Frequencies) }
@@ -88,7 +88,8 @@ pub fn read_frequencies(alloc: Global, bytes: &[u8]) -> Result<Vec<FrequencyRow>
     TableFile::read(alloc, known_key(), bytes)
 }
 
-/// The stops and other places of the bytes of `stops.txt`, of which at most [`MAX_STOPS`] are stops.
+/// Returns the stops and other places in the bytes of `stops.txt`, or the first fault of the file; `TooMany` if more
+/// than [`MAX_STOPS`] are stops.
 pub fn read_stops(alloc: Global, bytes: &[u8]) -> Result<Vec<StopRow>, TableFault>
     ensures ok { IfOk result (λ rows. HoldsStops bytes.now rows.items) }
     ensures few { IfOk result (λ rows. count_by is_stop rows.items ≤ MAX_STOPS) }
@@ -99,7 +100,8 @@ pub fn read_stops(alloc: Global, bytes: &[u8]) -> Result<Vec<StopRow>, TableFaul
     rows_up_to(MAX_STOPS, alloc, known_key(), bytes)
 }
 
-/// The trips of the bytes of `trips.txt`, at most [`MAX_TRIPS`].
+/// Returns the trips in the bytes of `trips.txt`, or the first fault of the file; `TooMany` if there are more than
+/// [`MAX_TRIPS`].
 pub fn read_trips(alloc: Global, bytes: &[u8]) -> Result<Vec<TripRow>, TableFault>
     ensures ok { IfOk result (λ rows. HoldsTrips bytes.now rows.items) }
     ensures few { IfOk result (λ rows. length rows.items ≤ MAX_TRIPS) }

@@ -1,4 +1,4 @@
-//! The reading of any table: its header, then record by record until the first fault.
+//! Reads any table: its header, then record by record until the first fault.
 
 ghost use Rattle.std.specs.Prelude.{◌≡◌, ◌≢◌, ◌+◌, ◌++◌, ◌∷◌, [], ℕ, List, Some, None, IfOk, IfErr, OnOk};
 ghost use Rattle.csv.specs.Records.{AllText};
@@ -17,19 +17,19 @@ use crate::fields::Fields;
 use crate::source::{Records, open_table, take_record};
 use std::alloc::Global;
 
-// What a table holds of its records.
+// The rows of a table that were read so far.
 pub(crate) trait TableRows: Sized + Drop {
     // Which table it is.
     ghost TABLE: { File };
     // The rows are those of the records.
     ghost holds: { Places → List Record → Self → Type 0 };
-    // The hashes by which its ids are looked up.
+    // The hashes by which the table's ids are looked up.
     ghost hashes: { Self → List Hash };
 
     // Which table it is.
     const TABLE: Table;
 
-    // Takes one record more, or tells what is wrong with it.
+    // Adds one record, or returns what is wrong with it.
     fn add(&mut self, alloc: Global, cells: &Cells) -> Result<(), FaultKind>
         requires { AllText (fields_of cells.now.fields.now) }
         ensures ok { (before : List Record) → holds cells.now.places.now before self.old → OnOk result
@@ -41,7 +41,7 @@ pub(crate) trait TableRows: Sized + Drop {
         ensures hashes { OnOk result (hashes self.new ≡ hashes self.old) };
 }
 
-// Adds a row behind the others.
+// Adds a row at the end. Memory may run out.
 pub(crate) fn add_row<R: Drop>(rows: &mut Vec<R>, row: R) -> Result<(), FaultKind>
     ensures ok { OnOk result (rows.new.items ≡ rows.old.items ++ row ∷ []) }
     ensures err { IfErr result (λ kind. kind ≡ FaultKind.OutOfMemory) }
@@ -52,7 +52,7 @@ pub(crate) fn add_row<R: Drop>(rows: &mut Vec<R>, row: R) -> Result<(), FaultKin
     }
 }
 
-// Takes one record more, whose length is judged first.
+// Adds one record, or returns what is wrong with it: first `RowLength` if it hasn't as many fields as the header.
 fn add_record<T: TableRows>(
     rows: &mut T,
     alloc: Global,
@@ -75,7 +75,7 @@ fn add_record<T: TableRows>(
     rows.add(alloc, cells)
 }
 
-// Takes the records that a reader has left.
+// Adds the records that the reader has left, or returns their first fault.
 fn add_records<T: TableRows>(
     mut rows: T,
     alloc: Global,
@@ -111,8 +111,8 @@ fn add_records<T: TableRows>(
     Err(T::TABLE.out_of_memory())
 }
 
-// The rows of a file: the whole file must be UTF-8, then the required columns must be there, then the records
-// are taken in order.
+// Returns the rows of a file, or its first fault: the whole file must be UTF-8, then the required columns must be
+// there, then the records are added in order.
 pub(crate) fn read_table<T: TableRows>(
     rows: T,
     alloc: Global,
@@ -137,7 +137,8 @@ pub(crate) fn read_table<T: TableRows>(
     }
 }
 
-// The rows of the records that a reader has left under a header, which must have the required columns.
+// Returns the rows of the records that the reader has left after the header, or their first fault: `MissingColumn`
+// if the header lacks a required column.
 fn read_under<T: TableRows>(
     rows: T,
     alloc: Global,

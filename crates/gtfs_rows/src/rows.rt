@@ -29,7 +29,7 @@ pub enum Location {
 pub struct StopRow {
     pub id: String,
     pub location: Location,
-    /// The parent_station, blank where there is none.
+    /// The parent_station, blank if there is none.
     pub parent: String,
 }
 
@@ -40,7 +40,7 @@ pub struct TripRow {
     pub id: String,
 }
 
-/// A row of `stop_times.txt`. Its trip and its stop are named by their places among the ids of the table.
+/// A row of `stop_times.txt`. Its trip and its stop are indices of the table's trip_ids and stop_ids.
 #[derive(Clone, Copy, Debug, PartialEq, Eq)]
 pub struct StopTimeRow {
     pub trip: u32,
@@ -48,7 +48,7 @@ pub struct StopTimeRow {
     pub arrival: Option<u32>,
     /// Seconds after the start of the service day.
     pub departure: Option<u32>,
-    /// None where the stop_id is blank.
+    /// None if the stop_id is blank.
     pub stop: Option<u32>,
     pub sequence: u32,
     /// Whether passengers may board here.
@@ -57,7 +57,7 @@ pub struct StopTimeRow {
     pub alight: bool,
 }
 
-/// What a service of `calendar.txt` runs on: the weekdays, Monday first, from the start to the end day, both included.
+/// A service of `calendar.txt`: it runs on these weekdays, Monday first, from the start to the end day, both included.
 #[derive(Debug, Drop)]
 pub struct CalendarRow {
     pub service: String,
@@ -81,7 +81,7 @@ pub struct CalendarDateRow {
     pub exception: Exception,
 }
 
-/// What a row of `transfers.txt` says.
+/// What kind of transfer a row of `transfers.txt` describes.
 #[derive(Clone, Copy, Debug, PartialEq, Eq)]
 pub enum TransferKind {
     /// Type blank or 0.
@@ -102,12 +102,12 @@ pub struct TransferRow {
     pub from: String,
     pub to: String,
     pub kind: TransferKind,
-    /// The min_transfer_time, where it is a number.
+    /// The min_transfer_time in seconds, if it is a number.
     pub seconds: Option<u32>,
 }
 
-/// A row of `frequencies.txt`: the trip starts at the start time, and again after each headway,
-/// before the end time. That the starts are exact, or aren't, makes no difference.
+/// A row of `frequencies.txt`: the trip starts at the start time, and again after each headway, before the end
+/// time. Whether the starts are exact makes no difference.
 #[derive(Debug, Drop)]
 pub struct FrequencyRow {
     pub trip: String,
@@ -115,6 +115,6 @@ pub struct FrequencyRow {
     pub start: u32,
     /// Seconds after the start of the service day.
     pub end: u32,
-    /// Seconds from a start to the next.
+    /// Seconds from one start to the next.
     pub headway: u32,
 }

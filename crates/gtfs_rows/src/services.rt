@@ -1,4 +1,4 @@
-//! calendar.txt and calendar_dates.txt: on which days services run.
+//! calendar.txt and calendar_dates.txt: the days on which services run.
 
 ghost use Rattle.std.specs.Prelude.{◌≡◌, ◌+◌, None, Some, IfOk, IfErr};
 ghost use Rattle.gtfs_rows.specs.Fields.{fields_of};
@@ -15,7 +15,7 @@ use crate::rows::{CalendarDateRow, CalendarRow, Exception};
 use crate::values::{Day, number};
 use std::alloc::Global;
 
-// The date in a column.
+// Returns the date in a column: `BadDate` if it isn't one.
 fn day_in(cells: &Cells, column: usize) -> Result<Day, FaultKind>
     ensures ok { IfOk result (λ d. day_of (value cells.now.places.now column (fields_of cells.now.fields.now))
         ≡ Some d) }
@@ -26,7 +26,7 @@ fn day_in(cells: &Cells, column: usize) -> Result<Day, FaultKind>
     Day::parse(cells.get(column)).map_err(|_| FaultKind::BadDate)
 }
 
-// Whether a service runs on the weekday of a column.
+// Returns whether a service runs on the weekday of a column; none if the value is neither 0 nor 1.
 fn weekday(cells: &Cells, column: usize) -> Option<bool>
     ensures { result ≡ weekday_of cells.now.places.now (fields_of cells.now.fields.now) column }
 {
@@ -37,7 +37,7 @@ fn weekday(cells: &Cells, column: usize) -> Option<bool>
     }
 }
 
-// The weekdays, Monday first.
+// Returns on which weekdays a service runs, Monday first; none if a value is neither 0 nor 1.
 fn weekdays(cells: &Cells) -> Option<[bool; 7]>
     ensures { result ≡ weekdays_of cells.now.places.now (fields_of cells.now.fields.now) }
 {
@@ -52,7 +52,7 @@ fn weekdays(cells: &Cells) -> Option<[bool; 7]>
     ])
 }
 
-// What an exception_type says.
+// Returns what an exception_type means; none if it is neither 1 nor 2.
 fn exception(text: &[u8]) -> Option<Exception>
     ensures { result ≡ exception_of (number_of text.now) }
 {

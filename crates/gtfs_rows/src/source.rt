@@ -1,4 +1,4 @@
-//! The records of a file's bytes, one at a time.
+//! Reads the records of a file's bytes, one at a time.
 
 ghost use Rattle.std.specs.Prelude.{◌≡◌, ◌∷◌, [], IfOk};
 ghost use Rattle.std.specs.Bool.{MatchBool};
@@ -12,13 +12,13 @@ use crate::cut::cut_field;
 use crate::fields::Fields;
 use std::alloc::{AllocError, Global};
 
-/// The bytes of a file from which records are still to be taken.
+/// The bytes of a file that haven't been read yet.
 #[derive(Clone, Copy)]
 pub struct Records<'a> {
     pub(crate) rest: &'a [u8],
 }
 
-// The records of a file's bytes.
+// Returns a reader at the first record, the header.
 pub(crate) fn open_table(bytes: &[u8]) -> Records<'_>
     ensures { left_of result ≡ table_records bytes.entry.now }
 {
@@ -27,14 +27,14 @@ pub(crate) fn open_table(bytes: &[u8]) -> Records<'_>
     }
 }
 
-// Whether three bytes are a byte order mark, U+FEFF in UTF-8.
+// Returns whether three bytes are a byte order mark, U+FEFF in UTF-8.
 fn is_mark(first: u8, second: u8, third: u8) -> bool
     ensures { result ≡ is_bom first second third }
 {
     first == 0xEF && second == 0xBB && third == 0xBF
 }
 
-// The bytes without a byte order mark at their start.
+// Returns the bytes without the byte order mark at their start, if there is one.
 fn without_mark(bytes: &[u8]) -> &[u8]
     ensures { result.now ≡ strip_bom bytes.entry.now }
 {
@@ -50,7 +50,7 @@ fn without_mark(bytes: &[u8]) -> &[u8]
     }
 }
 
-// The text from its first byte on that ends no line.
+// Returns the text without the ends of lines at its start.
 fn at_record(text: &[u8]) -> &[u8]
     ensures { result.now ≡ text_at_record text.entry.now }
 {
@@ -61,7 +61,7 @@ fn at_record(text: &[u8]) -> &[u8]
     rest
 }
 
-// Takes the next record, if there is one.
+// Reads the next record into `fields` and returns true, or returns false if no record is left.
 pub(crate) fn take_record<'a>(
     alloc: Global,
     reader: &mut Records<'a>,
@@ -79,8 +79,8 @@ pub(crate) fn take_record<'a>(
     Ok(true)
 }
 
-// Takes the fields of the record at which a text begins, behind those that were taken of it, and returns what is
-// behind the record.
+// Adds the fields of the record with which a text begins, and returns the text after it. `fields` already has the
+// fields of that record before the text.
 fn take_fields<'a>(
     alloc: Global,
     text: &'a [u8],

@@ -1,4 +1,4 @@
-//! stop_times.txt, the longest table: its rows keep numbers, and each id is kept once.
+//! stop_times.txt, the longest table: rows have numbers in place of ids, and each id is kept once.
 
 ghost use Rattle.std.specs.Prelude.{◌≡◌, ◌≢◌, ◌<◌, ◌++◌, ◌∷◌, [], List, length, map, IfOk, IfErr, OnOk, IsUtf8};
 ghost use Rattle.std.specs.Prelude.{None, Some};
@@ -26,8 +26,8 @@ use crate::values::{Time, number};
 use indexmap::IndexSet;
 use std::alloc::Global;
 
-/// The rows of `stop_times.txt`, and the ids that they name by place: of trips, and of stops. Each id is there once, in
-/// the order in which they are first seen.
+/// The rows of `stop_times.txt`, and the trip_ids and stop_ids that rows name by index. Each id occurs once, in the
+/// order in which they are first seen.
 #[derive(Drop)]
 pub struct StopTimes {
     pub trips: IndexSet<String, IdHash>,
@@ -35,7 +35,7 @@ pub struct StopTimes {
     pub rows: Vec<StopTimeRow>,
 }
 
-// The time in a column, which may be blank.
+// Returns the time in a column, in seconds after the start of the service day; none if it is blank.
 fn time_in(cells: &Cells, column: usize) -> Result<Option<u32>, FaultKind>
     ensures fine { IfOk result (λ t. time_fault (value cells.now.places.now column (fields_of cells.now.fields.now))
         ≡ None) }
@@ -54,7 +54,7 @@ fn time_in(cells: &Cells, column: usize) -> Result<Option<u32>, FaultKind>
     }
 }
 
-// The number in a column.
+// Returns the number in a column: `BadNumber` if it isn't one.
 fn number_in(cells: &Cells, column: usize) -> Result<u32, FaultKind>
     ensures ok { IfOk result (λ n. number_of (value cells.now.places.now column (fields_of cells.now.fields.now))
         ≡ Some n) }
@@ -65,7 +65,7 @@ fn number_in(cells: &Cells, column: usize) -> Result<u32, FaultKind>
     number(cells.get(column)).ok_or(FaultKind::BadNumber)
 }
 
-// Whether a pickup_type or a drop_off_type lets passengers board or alight.
+// Returns whether a pickup_type or a drop_off_type lets passengers board or alight: any but 1 does.
 fn available(text: &[u8]) -> bool
     ensures { result ≡ is_available (number_of text.now) }
 {
@@ -75,7 +75,8 @@ fn available(text: &[u8]) -> bool
     }
 }
 
-// The place of a stop_id among the ids, unless it is blank. It is first sought at a place where it is likely.
+// Returns the index of a stop_id, which is added if it isn't there yet; none if it is blank. The likely index is
+// tried first. Memory may run out.
 fn stop_place(
     alloc: Global,
     stops: &mut Ids,
@@ -95,8 +96,8 @@ fn stop_place(
     Ok(Some(place))
 }
 
-// Takes the row of one record more, or tells what is wrong with the record. The stop is first sought at a place where
-// it is likely.
+// Adds the row of one record and returns the index of its stop_id, or returns what is wrong with the record. The
+// likely index of the stop_id is tried first.
 fn add_stop_time(
     times: &mut StopTimes,
     alloc: Global,
@@ -131,23 +132,23 @@ fn add_stop_time(
     Ok(stop)
 }
 
-// The stop times read so far, with a guess at each row's stop: trips of a line stand together, so a stop is likely
-// followed by the one that followed it last.
+// The stop times read so far, and what is needed to guess the next row's stop: trips of a line are usually listed
+// together, so the stop after a stop is probably the same as the last time.
 #[derive(Drop)]
 struct StopTimesRead {
     times: StopTimes,
-    // the place of the last row's stop_id
+    // the index of the last stop_id that wasn't blank, 0 at first
     last: u32,
-    // for the place of each stop_id the place of the one that followed it last
+    // for the index of each stop_id, the index of the stop_id that followed it last
     followers: Vec<u32>,
 }
 
-// What followed a place last, if anything.
+// Returns the index that followed this one last, if any did.
 fn follower(followers: &[u32], place: u32) -> Option<u32> {
     followers.get(place as usize).copied()
 }
 
-// Notes what followed a place. Each place has an entry once it was followed or came later than one that was.
+// Notes which index followed this one. Each index but the newest has an entry, so a missing one is added at the end.
 fn note_follower(followers: &mut Vec<u32>, place: u32, next: u32) -> Result<(), FaultKind>
     ensures { IfErr result (λ kind. kind ≡ FaultKind.OutOfMemory) }
 {

@@ -1,4 +1,4 @@
-//! stops.txt and trips.txt, whose records have ids.
+//! stops.txt and trips.txt: each record has an id.
 
 ghost use Rattle.std.specs.Prelude.{◌≡◌, count_by, length};
 ghost use Rattle.gtfs_rows.specs.Rows.{SpellsStop, SpellsTrip, location_of};
@@ -16,7 +16,7 @@ use crate::rows::{Location, StopRow, TripRow};
 use crate::values::number;
 use std::alloc::Global;
 
-// The place that a location_type says.
+// Returns the kind of place that a location_type stands for.
 fn location(text: &[u8]) -> Location
     ensures { result ≡ location_of (number_of text.now) }
 {

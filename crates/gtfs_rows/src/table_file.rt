@@ -1,4 +1,4 @@
-//! What the eight files of a feed have in common: rows that are read from a file's bytes.
+//! What the eight files of a feed have in common: rows are read from a file's bytes.
 
 ghost use Rattle.std.specs.Prelude.{◌≡◌, ◌≢◌, ℕ, List, IfOk, IfErr};
 ghost use Rattle.gtfs_rows.specs.declared.fault.FaultKind.{FaultKind as Kind};
@@ -15,7 +15,7 @@ pub trait TableFile: Sized + Drop {
     ghost TABLE: { File };
     // The rows are those of the bytes.
     ghost holds: { List ℕ → Self → Type 0 };
-    // What is wrong with the bytes, at which record.
+    // The bytes have this fault at the record of this number.
     ghost tells: { List ℕ → ℕ → Kind → Type 0 };
     // The ids that the rows keep are looked up by the hash.
     ghost is_hashed: { Hash → Self → Type 0 };
@@ -23,7 +23,7 @@ pub trait TableFile: Sized + Drop {
     /// Which file it is.
     const TABLE: Table;
 
-    /// The rows of the file's bytes, or their first fault. Ids are looked up by the hash.
+    /// Returns the rows of the file's bytes, or their first fault. Ids are looked up by the hash.
     fn read(alloc: Global, hash: IdHash, bytes: &[u8]) -> Result<Self, TableFault>
         ensures ok { IfOk result (λ rows. holds bytes.now rows) }
         ensures hashed { IfOk result (λ rows. is_hashed hash rows) }

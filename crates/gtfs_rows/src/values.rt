@@ -1,4 +1,4 @@
-//! Times, dates and numbers as tables write them, and how they are read.
+//! Parses the times, dates and numbers of tables.
 
 ghost use Rattle.std.specs.Prelude.{◌≡◌, ◌==◌, ◌+◌, ◌*◌, ◌<◌, ◌≤◌, ℕ, true, length, drop, IfSome};
 ghost use Rattle.std.specs.Result.{result_ok};
@@ -9,15 +9,15 @@ ghost use Rattle.gtfs_rows.specs.Values.{time_of, two_digits_of, checked_day};
 
 use jiff::civil::Date;
 
-/// The times of a table, in seconds after the start of the service day.
+/// Parses times, in seconds after the start of the service day.
 pub struct Time;
 
-/// The text is no time.
+/// The text isn't a time.
 #[derive(Clone, Copy, Debug, PartialEq, Eq)]
 pub struct TimeFault;
 
 impl Time {
-    /// The seconds of a text `H:MM:SS` or `HH:MM:SS`, which may pass 24:00:00.
+    /// Returns the seconds of a text `H:MM:SS` or `HH:MM:SS`, which may be later than 24:00:00.
     pub fn parse(text: &[u8]) -> Result<u32, TimeFault>
         ensures { result_ok result ≡ time_of text.now }
     {
@@ -42,7 +42,8 @@ impl Time {
     }
 }
 
-// The seconds of hours, minutes and seconds with a colon after the hours and one after the minutes.
+// Returns hours, minutes and seconds as seconds; none if either separator isn't a colon, or minutes or seconds
+// exceed 59.
 fn clock(
     hours: Option<u32>,
     colon: u8,
@@ -63,7 +64,7 @@ fn clock(
     }
 }
 
-// The number of a decimal digit.
+// Returns the value of a decimal digit.
 fn digit(byte: u8) -> Option<u32>
     ensures value { result ≡ digit_of byte }
     ensures small { IfSome result (λ d. d < 10) }
@@ -75,7 +76,7 @@ fn digit(byte: u8) -> Option<u32>
     }
 }
 
-// The number of two decimal digits.
+// Returns the value of two decimal digits.
 fn two_digits(tens: u8, units: u8) -> Option<u32>
     ensures value { result ≡ two_digits_of tens units }
     ensures small { IfSome result (λ d. d < 100) }
@@ -93,12 +94,12 @@ pub struct Day {
     pub day: u8,
 }
 
-/// The text is no date.
+/// The text isn't a date.
 #[derive(Clone, Copy, Debug, PartialEq, Eq)]
 pub struct DateFault;
 
 impl Day {
-    /// The date of a text `YYYYMMDD`, a civil date of the years 1 to 9999.
+    /// Returns the date of a text `YYYYMMDD`, a civil date of the years 1 to 9999.
     pub fn parse(text: &[u8]) -> Result<Day, DateFault>
         ensures { result_ok result ≡ day_of text.now }
     {
@@ -123,7 +124,7 @@ fn spelled_day(text: &[u8]) -> Option<Day>
     })
 }
 
-// The date, if the calendar has it.
+// Returns the date, if it is a civil date of the years 1 to 9999.
 fn civil(day: Day) -> Option<Day>
     requires { (day.year < 10000) × (day.month < 100) × (day.day < 100) }
     ensures { result ≡ checked_day day }
@@ -135,7 +136,7 @@ fn civil(day: Day) -> Option<Day>
     }
 }
 
-/// The number of a text: one to nine decimal digits, after which a point and one or more zeros may follow.
+/// Returns the number of a text: one to nine decimal digits, after which a point and one or more zeros may follow.
 pub fn number(text: &[u8]) -> Option<u32>
     ensures { result ≡ number_of text.now }
 {
@@ -147,7 +148,7 @@ pub fn number(text: &[u8]) -> Option<u32>
     }
 }
 
-// How many decimal digits a text begins with.
+// Returns how many decimal digits a text begins with.
 fn leading_digits(text: &[u8]) -> usize
     ensures count { result ≡ prefix_len is_ascii_digit text.now }
     ensures within { result ≤ length text.now }
@@ -160,7 +161,7 @@ fn leading_digits(text: &[u8]) -> usize
     text.len()
 }
 
-// Whether a text is empty, or a point and one or more zeros.
+// Returns whether a text is empty, or a point and one or more zeros.
 fn zero_fraction(text: &[u8]) -> bool
     ensures { result ≡ is_zero_fraction text.now }
 {
@@ -176,7 +177,7 @@ fn all_zeros(text: &[u8]) -> bool
     text.iter().all(|b| *b == b'0')
 }
 
-// The number that up to nine decimal digits spell.
+// Returns the number that up to nine decimal digits spell.
 fn decimal(digits: &[u8]) -> u32
     requires few { length digits.now ≤ 9 }
     requires digits { AllPass is_ascii_digit digits.now }

@@ -1,4 +1,4 @@
--- The first fault of several steps, and what is linked by maps that hold what the ids name.
+-- The first fault of several steps, and the links made with maps of what the ids name.
 use Rattle.std.proofs.Common.{◌≡◌, ℕ, ◌+◌, ◌<◌, List, [], ◌∷◌, length, Bool, false, Option, Some, None, refl, ap, ◌∙◌, arith, subst, slice_index_or}
 use Rattle.std.specs.Prelude.{Result, Ok, Err, IfOk, IfErr, ◌≢◌}
 use Rattle.std.specs.Global.{Vec}

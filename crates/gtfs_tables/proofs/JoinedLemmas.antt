@@ -1,4 +1,4 @@
--- What holds of a joined feed.
+-- What holds for a joined feed.
 use Rattle.std.proofs.Common.{◌≡◌, ℕ, zero, suc, ◌+◌, ◌-◌, ◌<◌, ◌≤◌, inl, inr, ◌∙◌, sym, ap, refl, subst, arith, Bool}
 use Rattle.std.proofs.Common.{true, false, not, ◌||◌, List, [], ◌∷◌, length, map, take, drop, get_or, Option, Some}
 use Rattle.std.proofs.Common.{None, IsSomeAnd}

@@ -1,4 +1,4 @@
--- What an id names, a row on.
+-- What an id names, one row at a time.
 use Rattle.std.proofs.Common.{◌≡◌, [], ◌∷◌, ◌++◌, map, ℕ, ◌+◌, ◌<◌, List, length, get_or, take, true, false, Option}
 use Rattle.std.proofs.Common.{Some, None, refl, sym, ap, ◌∙◌, cond, inl, inr, ◌⊎◌}
 use Rattle.std.specs.Prelude.{count_by, if◌then◌else◌}

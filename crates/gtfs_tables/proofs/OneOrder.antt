@@ -1,4 +1,4 @@
--- Turns have one order.
+-- Turns have only one order.
 use Rattle.std.proofs.Common.{◌≡◌, ◌∙◌, ℕ, suc, ◌+◌, ◌<◌, ◌≤◌, ◌⊎◌, inl, inr, List, [], ◌∷◌, get_or, true, false, eqb}
 use Rattle.std.proofs.Common.{ltb, if◌then◌else◌, Option, refl, sym, ap, subst, arith}
 use Rattle.std.specs.Prelude.{IsSortedBy}

@@ -1,4 +1,4 @@
--- Tables have one feed, or one first fault, and never both.
+-- Tables have at most one feed, at most one first fault, and never both.
 use Rattle.std.proofs.Common.{◌≡◌, ◌∙◌, ℕ, List, [], ◌∷◌, Option, Some, None, Bool, refl, sym, ap}
 use Rattle.std.specs.Prelude.{filter}
 use Rattle.std.specs.List.{AllZip}

@@ -1,4 +1,4 @@
--- The turns of rows, a row on, and where those of a trip begin.
+-- The turns of rows, one row at a time, and where those of a trip begin.
 use Rattle.std.proofs.Common.{◌≡◌, ℕ, zero, suc, ◌+◌, ◌<◌, ◌≤◌, ◌⊎◌, inl, inr, List, [], ◌∷◌, ◌++◌, length, get_or}
 use Rattle.std.proofs.Common.{take, Bool, true, false, eqb, ltb, Option, refl, ap, ◌∙◌, sym, arith}
 use Rattle.std.specs.Prelude.{count_by, filter, IsSortedBy}

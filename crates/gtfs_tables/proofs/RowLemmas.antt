@@ -1,4 +1,4 @@
--- The rows of the tables, a row on.
+-- The rows of the tables, one row at a time.
 use Rattle.std.proofs.Common.{◌≡◌, ℕ, ap, subst, ◌+◌, ◌-◌, ◌<◌, List, [], ◌∷◌, ◌++◌, length, get_or, get_or-set_other}
 use Rattle.std.proofs.Common.{map, set, take, Bool, true, false, eqb, ◌||◌, Option, Some, None, refl, ◌∙◌, sym, arith, inl, inr, ◌⊎◌}
 use Rattle.std.specs.Prelude.{filter, is_some, option_to_list, IfSome}

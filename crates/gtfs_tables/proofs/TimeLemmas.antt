@@ -1,4 +1,4 @@
--- The times of a trip, a row on, and the times that spreading gives.
+-- The times of a trip, one row at a time, and the times that spreading gives.
 use Rattle.std.proofs.Common.{◌≡◌, ◌+◌, ◌-◌, ◌<◌, ◌≤◌, ◌∙◌, ◌⊎◌, inl, inr, ℕ, zero, suc, List, length, Bool, true}
 use Rattle.std.proofs.Common.{false, ◌&&◌, Option, Some, None, IsSome, refl, sym, ap, arith, slice_index_or}
 use Rattle.std.specs.Prelude.{if◌then◌else◌, is_none, is_some, nat_le, nat_lt, unwrap_or}

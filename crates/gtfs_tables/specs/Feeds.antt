@@ -27,9 +27,9 @@ use Rattle.gtfs_tables.specs.declared.tables.Stop.{Stop}
 use Rattle.gtfs_tables.specs.declared.tables.Tables.{Tables}
 use Rattle.gtfs_tables.specs.declared.tables.Trip.{Trip}
 
--- In what follows `named` and `placed` tell what an id of stops.txt and one of trips.txt name.
+-- In this file `named` gives what an id of stops.txt names, and `placed` the index of the trip that an id of trips.txt names.
 
--- what the ids of stop_times.txt name
+-- what the trip_ids and the stop_ids of stop_times.txt name
 abbrev pub trips_by : (List ℕ → Option ℕ) → Tables → List (Option ℕ)
 trips_by placed t = map (λ id. placed (string_bytes id)) t.stop_times.trips.keys
 
@@ -43,7 +43,7 @@ link_by named placed t row = linked_row (trips_by placed t) (stops_by named t) (
 abbrev pub rows_by : (List ℕ → Option Named) → (List ℕ → Option ℕ) → Tables → List Turn → List StopTimeRow
 rows_by named placed t turns = map (λ turn. link_by named placed t (row_of t.stop_times.rows.items turn.number)) turns
 
--- the same of lists of what the ids name, in an order
+-- the same rows, given lists of what the ids name and an order
 abbrev pub linked_by : List (Option ℕ) → List (Option Named) → RowOrder → List StopTimeRow → List StopTimeRow
 linked_by trips stops order rows =
     map (λ turn. linked_row trips stops (is_flex_id rows (row_of rows turn.number).trip) (row_of rows turn.number)) (turns_in trips order rows)
@@ -54,22 +54,22 @@ linked_by trips stops order rows =
 abbrev pub stop_time_fault : (List ℕ → Option Named) → (List ℕ → Option ℕ) → Tables → StopTimeRow → Option FaultKind
 stop_time_fault named placed t row = linked_fault (trips_by placed t) (stops_by named t) (is_flex_id t.stop_times.rows.items row.trip) row
 
--- parents of stops, then stop times, then frequencies
+-- the first fault of an id: of the parents of stops, then of stop times, then of frequencies
 abbrev pub naming_fault : (List ℕ → Option Named) → (List ℕ → Option ℕ) → Tables → Option TableFault
 naming_fault named placed t =
     option_or (first_fault_of tables.Stops (parent_fault named) t.stops.items)
     (option_or (first_fault_of tables.StopTimes (stop_time_fault named placed t) t.stop_times.rows.items)
     (first_fault_of tables.Frequencies (frequency_fault placed) t.frequencies.items))
 
--- the fault of a trip's row, told of its record
+-- the fault of a trip's row, with the number of its record
 abbrev pub told_of : List Turn → ℕ × FaultKind → TableFault
 told_of turns wrong = record { table = tables.StopTimes; row = slice_index_or (map (λ turn. turn.number) turns) wrong.0 0; kind = wrong.1 }
 
--- the first fault of the rows of the trip at a place
+-- the first fault in the rows of the trip of an index
 abbrev pub trip_fault : Bool → List Turn → List StopTimeRow → ℕ → Option TableFault
 trip_fault strict turns rows t = option_map (told_of (of_trip turns t turns)) (first_wrong strict (of_trip turns t rows))
 
--- those of what names nothing, then trips, then transfers
+-- the first fault: of an id, then of the times of trips, then of transfers
 abbrev pub first_fault : (List ℕ → Option Named) → (List ℕ → Option ℕ) → Bool → Tables → List Turn → Option TableFault
 first_fault named placed strict t turns =
     option_or (naming_fault named placed t)
@@ -78,11 +78,11 @@ first_fault named placed strict t turns =
 
 -- ---- the feed
 
--- a stop, with its station where it has one
+-- a stop, with its station if it has one
 abbrev pub feed_stop : (List ℕ → Option Named) → StopRow → Stop
 feed_stop named row = record { id = row.id; station = station_of named row }
 
--- the trip at a place, and the trips from a place on
+-- the trip of an index, and the trips from an index on
 abbrev pub feed_trip : List Turn → List StopTimeRow → (ℕ → Bool) → ℕ → TripRow → Trip
 feed_trip turns rows repeats t row = record {
   id = row.id;
@@ -97,8 +97,8 @@ abbrev pub feed_trips : List Turn → List StopTimeRow → (ℕ → Bool) → �
 feed_trips turns rows repeats t [] = []
 feed_trips turns rows repeats t (row ∷ rest) = feed_trip turns rows repeats t row ∷ feed_trips turns rows repeats (t + 1) rest
 
--- the feed of tables whose ids name these: its stops, trips, rows in order, frequencies and transfers, how many of these were skipped,
--- and the two calendars as they are
+-- the feed of tables whose ids name these: its stops, trips, rows in order, frequencies and transfers, how many transfers were skipped,
+-- and the two calendars unchanged
 pub record IsFeed (named : List ℕ → Option Named) (placed : List ℕ → Option ℕ) (t : Tables) (turns : List Turn) (feed : Feed) : Type 0 where
   pub stops : feed.stops.items ≡ map (feed_stop named) (filter is_stop t.stops.items)
   pub trips : feed.trips.items ≡ feed_trips turns (rows_by named placed t turns) (is_repeated placed t.frequencies.items) 0 t.trips.items
@@ -109,7 +109,7 @@ pub record IsFeed (named : List ℕ → Option Named) (placed : List ℕ → Opt
   pub calendar : feed.calendar ≡ t.calendar
   pub calendar_dates : feed.calendar_dates ≡ t.calendar_dates
 
--- the tables have no fault, and the feed is theirs; an id stands for the first row that has it
+-- the tables have no fault, and are joined to this feed; an id stands for the first row that has it
 pub record IsJoined (strict : Bool) (t : Tables) (feed : Feed) : Type 0 where
   pub turns : List Turn
   pub in_order : IsInOrder (trips_by (trip_named t.trips.items) t) t.stop_times.rows.items turns
@@ -124,7 +124,7 @@ pub record IsFirstFault (strict : Bool) (t : Tables) (fault : TableFault) : Type
 
 -- ---- the tables once their ids are replaced
 
--- what is made before the trips are judged; the transfers wait
+-- the ids are looked up without a fault, except that a fault of the transfers is kept until the trips are judged
 pub record IsLinked (named : List ℕ → Option Named) (placed : List ℕ → Option ℕ) (t : Tables) (links : Links) : Type 0 where
   pub in_order : IsInOrder (trips_by placed t) t.stop_times.rows.items (turns_in (trips_by placed t) links.order t.stop_times.rows.items)
   pub fine : naming_fault named placed t ≡ None
@@ -139,7 +139,7 @@ pub record IsLinked (named : List ℕ → Option Named) (placed : List ℕ → O
   pub transfers_wrong : IfErr links.transfers (λ fault. fault.kind ≢ kinds.OutOfMemory
       → first_fault_of tables.Transfers (transfer_fault named) t.transfers.items ≡ Some fault)
 
--- a fault of what names nothing
+-- the first fault of an id
 pub record IsNamingFault (named : List ℕ → Option Named) (placed : List ℕ → Option ℕ) (t : Tables) (fault : TableFault) : Type 0 where
   pub turns : List Turn
   pub in_order : IsInOrder (trips_by placed t) t.stop_times.rows.items turns

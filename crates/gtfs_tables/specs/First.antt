@@ -6,21 +6,21 @@ use Rattle.gtfs_rows.specs.declared.fault.FaultKind.{FaultKind}
 use Rattle.gtfs_rows.specs.declared.fault.Table.{Table}
 use Rattle.gtfs_rows.specs.declared.fault.TableFault.{TableFault}
 
--- the least place below n that passes
+-- the least index below n that passes
 abbrev pub place_if : (ℕ → Bool) → ℕ → Option ℕ
 place_if p k = if p k then Some k else None
 
 abbrev pub first_place : (ℕ → Bool) → ℕ → Option ℕ
 first_place p n = first_below (place_if p) n
 
--- the fault of the row at a place: records are numbered from 1
+-- the fault of the row at an index; records are numbered from 1
 abbrev pub fault_at : Table → ℕ → FaultKind → TableFault
 fault_at table place kind = record { table = table; row = place + 1; kind = kind }
 
--- what is wrong with the row at a place, by a judgement of rows
+-- the fault of the row at an index, given how rows are judged
 abbrev pub row_fault : {R : Type 0} → Table → (R → Option FaultKind) → List R → ℕ → Option TableFault
 row_fault table judge rows k = option_map (fault_at table k) (option_and_then judge (slice_get rows k))
 
--- the first row that is at fault
+-- the fault of the first row that has one
 abbrev pub first_fault_of : {R : Type 0} → Table → (R → Option FaultKind) → List R → Option TableFault
 first_fault_of table judge rows = first_below (row_fault table judge rows) (length rows)

@@ -1,4 +1,4 @@
--- What holds of each feed: where the rows of its trips are, and what its transfers name.
+-- What holds for each feed: where the rows of its trips are, and what its transfers name.
 use Rattle.std.specs.Prelude.{◌≡◌, ◌-◌, ◌<◌, ◌≤◌, ◌&&◌, not, nat_le, ℕ, List, length, Bool, true, IsSome, IsSomeAnd, All}
 use Rattle.std.specs.List.{slice_range}
 use Rattle.gtfs_rows.specs.declared.rows.StopTimeRow.{StopTimeRow}
@@ -12,7 +12,7 @@ use Rattle.gtfs_tables.specs.declared.tables.Trip.{Trip}
 abbrev pub rows_of : List StopTimeRow → Trip → List StopTimeRow
 rows_of stop_times trip = slice_range stop_times trip.first trip.end
 
--- a trip makes connections: it isn't a flex trip, and has two rows or more
+-- a trip makes connections: it isn't a flex trip, and has at least two rows
 abbrev pub makes_connections : Trip → Bool
 makes_connections trip = not trip.flex && nat_le 2 (trip.end - trip.first)
 
@@ -20,26 +20,26 @@ makes_connections trip = not trip.flex && nat_le 2 (trip.end - trip.first)
 abbrev pub HasTimedEnds : List StopTimeRow → Type 0
 HasTimedEnds rows = IsSome (arrival_at rows 0) × IsSome (arrival_at rows (length rows - 1))
 
--- each row has one of so many stops
+-- each row has a stop, with a number below this
 abbrev pub HasStopsBelow : ℕ → List StopTimeRow → Type 0
 HasStopsBelow stops rows = All (λ row. IsSomeAnd row.stop (λ stop. stop < stops)) rows
 
--- a trip's rows are among the stop times; where it makes connections, they have times at both ends and stops
+-- a trip's rows are among the stop times; if it makes connections, the first and the last have a time and all have stops
 pub record IsRunnableTrip (stops : ℕ) (stop_times : List StopTimeRow) (trip : Trip) : Type 0 where
   pub rising : trip.first ≤ trip.end
   pub within : trip.end ≤ length stop_times
   pub timed : makes_connections trip ≡ true → HasTimedEnds (rows_of stop_times trip)
   pub stops_below : makes_connections trip ≡ true → HasStopsBelow stops (rows_of stop_times trip)
 
--- each trip is so
+-- this holds for each trip
 abbrev pub AreRunnable : ℕ → List StopTimeRow → List Trip → Type 0
 AreRunnable stops stop_times trips = All (IsRunnableTrip stops stop_times) trips
 
--- a stop that the place names is one of so many
+-- if the place is a stop, its number is below this
 abbrev pub NamesBelow : ℕ → Place → Type 0
 NamesBelow stops (places.Stop stop) = stop < stops
 NamesBelow stops (places.Station station) = Unit {0}
 
--- each stop that a transfer names is one of so many
+-- each stop that a transfer names has a number below this
 abbrev pub NameStopsBelow : ℕ → List Transfer → Type 0
 NameStopsBelow stops transfers = All (λ row. NamesBelow stops row.from × NamesBelow stops row.to) transfers

@@ -1,4 +1,4 @@
--- What holds of each feed holds in one way at most, so that a ghost field can keep it as it is.
+-- The facts that hold for each feed have at most one proof, so that a ghost field can keep them.
 use Rattle.std.specs.Prelude.{◌<◌, ℕ, List, Option, Some, None, IsSomeAnd}
 use Rattle.std.specs.Coded.{Unit-prop, le_prop}
 use Rattle.std.proofs.Props.{props}

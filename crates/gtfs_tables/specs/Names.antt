@@ -1,4 +1,4 @@
--- What an id names: it stands for the first row that has it.
+-- What an id names: an id stands for the first row that has it.
 use Rattle.std.specs.Prelude.{ℕ, List, length, take, count_by, option_and_then, Option, Some, None, if◌then◌else◌}
 use Rattle.std.specs.List.{slice_get, slice_index_or}
 use Rattle.std.specs.Str.{bytes_eq}
@@ -14,7 +14,7 @@ use Rattle.gtfs_tables.specs.First.{first_below}
 use Rattle.gtfs_tables.specs.declared.names.Named.{Named}
 use Rattle.gtfs_tables.specs.declared.names.Named.TheVariants as names
 
--- what a row of stops.txt stands for: a stop by how many stops are before it, a station by its place
+-- what a row of stops.txt stands for: a stop, by how many stops come before it, or a station, by its index
 abbrev pub named_as : Location → ℕ → ℕ → Named
 named_as locations.Stop number place = names.Stop number
 named_as locations.Station number place = names.Station place
@@ -22,7 +22,7 @@ named_as locations.Entrance number place = names.Elsewhere
 named_as locations.Node number place = names.Elsewhere
 named_as locations.BoardingArea number place = names.Elsewhere
 
--- what the row at a place stands for, if it has the id
+-- what the row at an index stands for, if it has the id
 abbrev pub stop_with : List StopRow → List ℕ → ℕ → Option Named
 stop_with stops id k =
     option_and_then (λ row. if bytes_eq id (string_bytes row.id) then Some
@@ -32,18 +32,18 @@ stop_with stops id k =
 abbrev pub stop_named : List StopRow → List ℕ → Option Named
 stop_named stops id = first_below (stop_with stops id) (length stops)
 
--- the place, if the row there has the id
+-- the index, if the row there has the id
 abbrev pub trip_with : List TripRow → List ℕ → ℕ → Option ℕ
 trip_with trips id k = option_and_then (λ row. if bytes_eq id (string_bytes row.id) then Some k else None) (slice_get trips k)
 
--- the place of the row of an id of trips.txt
+-- the index of the row with an id of trips.txt
 abbrev pub trip_named : List TripRow → List ℕ → Option ℕ
 trip_named trips id = first_below (trip_with trips id) (length trips)
 
--- what a map has at an id
+-- the value that a map has for an id
 abbrev pub held_at : {X S : Type 0} → IndexMap (Bor (List ℕ)) X S → List ℕ → Option X
 held_at names id = get_by (λ k. bytes_eq id k.now) names
 
--- what stands at a place of what ids name, if anything does
+-- what the id of an index names, if anything
 abbrev pub named_at : {X : Type 0} → List (Option X) → ℕ → Option X
 named_at named k = slice_index_or named k None

@@ -8,16 +8,16 @@ use Rattle.gtfs_tables.specs.declared.order.RowOrder.{RowOrder}
 use Rattle.gtfs_tables.specs.declared.order.RowOrder.TheVariants as orders
 use Rattle.gtfs_tables.specs.declared.order.Turn.{Turn}
 
--- where a row goes: its trip, its stop_sequence and its record's number
+-- the sort key of a row: its trip, its stop_sequence and the number of its record
 abbrev pub turn_of : List (Option ℕ) → ℕ → StopTimeRow → Turn
 turn_of trips number row = record { trip = unwrap_or (named_at trips row.trip) 0; sequence = row.sequence; number = number }
 
--- the turns of the rows, of which the first has a record's number
+-- the turns of the rows, given the number of the first row's record
 abbrev pub turns_from : List (Option ℕ) → ℕ → List StopTimeRow → List Turn
 turns_from trips number [] = []
 turns_from trips number (row ∷ rest) = turn_of trips number row ∷ turns_from trips (number + 1) rest
 
--- by trip, then by stop_sequence, then by record
+-- turns are ordered by trip, then by stop_sequence, then by record
 abbrev pub comes_before : Turn → Turn → Bool
 comes_before a b =
     if a.trip == b.trip then (if a.sequence == b.sequence then nat_lt a.number b.number else nat_lt a.sequence b.sequence) else nat_lt a.trip b.trip
@@ -27,12 +27,12 @@ pub record IsInOrder (trips : List (Option ℕ)) (rows : List StopTimeRow) (turn
   pub same : IsPermutation (turns_from trips 1 rows) turns
   pub rising : IsSortedBy comes_before turns
 
--- the same of rows that have their trips' places already
+-- the turns of rows that already have the indices of their trips
 abbrev pub filed_turns : ℕ → List StopTimeRow → List Turn
 filed_turns number [] = []
 filed_turns number (row ∷ rest) = record { trip = row.trip; sequence = row.sequence; number = number } ∷ filed_turns (number + 1) rest
 
--- the turns that an order gives rows: as they are read, and once they have their trips' places and stand in that order
+-- the turns that an order gives rows: as the rows are read, and once they are in that order with the indices of their trips
 abbrev pub turns_in : List (Option ℕ) → RowOrder → List StopTimeRow → List Turn
 turns_in trips orders.Filed rows = turns_from trips 1 rows
 turns_in trips (orders.ByTurns turns) rows = turns.items
@@ -41,23 +41,23 @@ abbrev pub turns_by : RowOrder → List StopTimeRow → List Turn
 turns_by orders.Filed rows = filed_turns 1 rows
 turns_by (orders.ByTurns turns) rows = turns.items
 
--- where the rows of a trip begin: behind those of the trips before it
+-- where the rows of a trip begin: after those of the trips before it
 abbrev pub first_turn : List Turn → ℕ → ℕ
 first_turn turns t = count_by (λ turn. nat_lt turn.trip t) turns
 
--- the turns of a trip, and its rows, in order
+-- of a list in the order of the turns, the part that belongs to a trip
 abbrev pub of_trip : {X : Type 0} → List Turn → ℕ → List X → List X
 of_trip turns t xs = slice_range xs (first_turn turns t) (first_turn turns (t + 1))
 
--- a row without stop and times, in place of one past the end
+-- a row without stop and times, for an index past the end
 abbrev pub no_row : StopTimeRow
 no_row = record { trip = 0; arrival = None; departure = None; stop = None; sequence = 0; board = false; alight = false }
 
--- the row of a record's number
+-- the row of the record of a number
 abbrev pub row_of : List StopTimeRow → ℕ → StopTimeRow
 row_of rows number = slice_index_or rows (number - 1) no_row
 
--- so many numbers, one after the other
+-- n consecutive numbers
 abbrev pub numbers_from : ℕ → ℕ → List ℕ
 numbers_from first zero = []
 numbers_from first (suc n) = first ∷ numbers_from (first + 1) n

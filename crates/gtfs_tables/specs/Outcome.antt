@@ -1,4 +1,4 @@
--- What is the same of two feeds of one set of tables.
+-- What two feeds of the same tables have in common.
 use Rattle.std.specs.Prelude.{◌≡◌}
 use Rattle.gtfs_tables.specs.declared.tables.Feed.{Feed}
 

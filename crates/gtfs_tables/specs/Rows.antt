@@ -1,4 +1,4 @@
--- The rows of the tables, each id replaced by what it names, and what is wrong with those that name nothing.
+-- The rows of the tables with each id replaced by what it names, and what is wrong with rows whose ids are wrong.
 use Rattle.std.specs.Prelude.{◌≡◌, ◌==◌, ◌&&◌, ◌||◌, not, ℕ, List, option_and_then, Option, Some, None, Bool, true, false, if◌then◌else◌, is_none, unwrap_or}
 use Rattle.std.specs.List.{list_any}
 use Rattle.std.specs.String.{string_bytes}
@@ -22,32 +22,32 @@ use Rattle.gtfs_tables.specs.declared.tables.Place.{Place}
 use Rattle.gtfs_tables.specs.declared.tables.Place.TheVariants as places
 use Rattle.gtfs_tables.specs.declared.tables.Transfer.{Transfer}
 
--- In what follows `named` tells what an id names.
+-- In this file `named` gives what an id names.
 
--- ---- stops.txt: the parent of a stop, where it has one, is a station
+-- ---- stops.txt: the parent of a stop, if it has one, is a station
 
 -- the row stands for a stop and names a parent
 abbrev pub has_parent : StopRow → Bool
 has_parent row = is_stop row && not (is_blank (string_bytes row.parent))
 
--- the place of the station, where an id names one
+-- the index of the station, if an id names one
 abbrev pub station_place : Option Named → Option ℕ
 station_place (Some (names.Station place)) = Some place
 station_place (Some (names.Stop number)) = None
 station_place (Some names.Elsewhere) = None
 station_place None = None
 
--- the place of a stop's station, where it has one
+-- the index of a stop's station, if it has one
 abbrev pub station_of : (List ℕ → Option Named) → StopRow → Option ℕ
 station_of named row = if has_parent row then station_place (named (string_bytes row.parent)) else None
 
--- the parent of a stop is named, and is no station
+-- the fault of a stop that names a parent that isn't a station
 abbrev pub parent_fault : (List ℕ → Option Named) → StopRow → Option FaultKind
 parent_fault named row = if has_parent row then fault_unless (station_place (named (string_bytes row.parent))) kinds.UnknownId else None
 
 -- ---- stop_times.txt: the trip is known, and so is the stop, unless the trip is a flex trip
 
--- a row with the trip_id has a blank stop_id
+-- some row with the trip_id has a blank stop_id
 abbrev pub is_flex_id : List StopTimeRow → ℕ → Bool
 is_flex_id rows id = list_any (λ row. is_none row.stop && (row.trip == id)) rows
 
@@ -55,26 +55,26 @@ is_flex_id rows id = list_any (λ row. is_none row.stop && (row.trip == id)) row
 abbrev pub stop_of : List (Option Named) → StopTimeRow → Option Named
 stop_of stops row = option_and_then (named_at stops) row.stop
 
--- what is wrong with a stop_id that names this, or nothing: it is unknown, or names no stop
+-- what is wrong with a stop_id that names this, or nothing: it is unknown, or doesn't name a stop
 abbrev pub stop_fault : Option Named → Option FaultKind
 stop_fault None = Some kinds.UnknownId
 stop_fault (Some (names.Stop number)) = None
 stop_fault (Some (names.Station place)) = Some kinds.NotAStop
 stop_fault (Some names.Elsewhere) = Some kinds.NotAStop
 
--- the number of the stop that is named, where it is one
+-- the number, if a stop is named
 abbrev pub stop_number : Option Named → Option ℕ
 stop_number (Some (names.Stop number)) = Some number
 stop_number (Some (names.Station place)) = None
 stop_number (Some names.Elsewhere) = None
 stop_number None = None
 
--- what is wrong with a row: its trip is unknown, else what is wrong with its stop, unless the trip is a flex trip
+-- what is wrong with a row: its trip is unknown, or else its stop is wrong and the trip isn't a flex trip
 abbrev pub linked_fault : List (Option ℕ) → List (Option Named) → Bool → StopTimeRow → Option FaultKind
 linked_fault trips stops flex row =
     or_fault (fault_unless (named_at trips row.trip) kinds.UnknownId) (if flex then None else stop_fault (stop_of stops row))
 
--- a row with its trip's place and its stop's number, which a flex trip's rows don't have
+-- a row with the index of its trip and the number of its stop; rows of flex trips get no stop
 abbrev pub linked_row : List (Option ℕ) → List (Option Named) → Bool → StopTimeRow → StopTimeRow
 linked_row trips stops flex row =
     record row {
@@ -85,21 +85,21 @@ linked_row trips stops flex row =
 
 -- ---- frequencies.txt: the trip is known
 
--- the trip of a row is unknown
+-- the fault of a row whose trip is unknown
 abbrev pub frequency_fault : (List ℕ → Option ℕ) → FrequencyRow → Option FaultKind
 frequency_fault named row = fault_unless (named (string_bytes row.trip)) kinds.UnknownId
 
--- a row with its trip's place
+-- a row with the index of its trip
 abbrev pub frequency_of : (List ℕ → Option ℕ) → FrequencyRow → Frequency
 frequency_of named row = record { trip = unwrap_or (named (string_bytes row.trip)) 0; start = row.start; end = row.end; headway = row.headway }
 
--- a row of frequencies.txt names the trip
+-- some row of frequencies.txt names the trip
 abbrev pub is_repeated : (List ℕ → Option ℕ) → List FrequencyRow → ℕ → Bool
 is_repeated named rows t = list_any (λ row. is_place (named (string_bytes row.trip)) t) rows
 
 -- ---- transfers.txt: both ends are known, and are stops or stations, unless the row is skipped
 
--- every kind but the skipped
+-- every kind but skipped
 abbrev pub is_kept_kind : TransferKind → Bool
 is_kept_kind transfers.Skipped = false
 is_kept_kind transfers.Recommended = true
@@ -107,32 +107,32 @@ is_kept_kind transfers.Timed = true
 is_kept_kind transfers.Minimum = true
 is_kept_kind transfers.Impossible = true
 
--- a row isn't skipped
+-- the row isn't skipped
 abbrev pub is_kept : TransferRow → Bool
 is_kept row = is_kept_kind row.kind
 
--- an end is known, and is neither a stop nor a station
+-- the fault of an end that is known, but is neither a stop nor a station
 abbrev pub end_fault : Option Named → Option FaultKind
 end_fault (Some names.Elsewhere) = Some kinds.NotAStop
 end_fault (Some (names.Stop number)) = None
 end_fault (Some (names.Station place)) = None
 end_fault None = None
 
--- what is wrong with two ends: the first is unknown, the second is; the first is neither stop nor station, the second is neither
+-- what is wrong with two ends, in this order: the first or the second is unknown; the first or the second is neither a stop nor a station
 abbrev pub ends_fault : Option Named → Option Named → Option FaultKind
 ends_fault from to =
     or_fault (fault_unless from kinds.UnknownId) (or_fault (fault_unless to kinds.UnknownId) (or_fault (end_fault from) (end_fault to)))
 
--- what is wrong with a row, unless it is skipped
+-- what is wrong with a row that isn't skipped
 abbrev pub transfer_fault : (List ℕ → Option Named) → TransferRow → Option FaultKind
 transfer_fault named row = if is_kept row then ends_fault (named (string_bytes row.from)) (named (string_bytes row.to)) else None
 
--- an end as what it names
+-- what an end of a transfer names
 abbrev pub named_by : Place → Named
 named_by (places.Stop number) = names.Stop number
 named_by (places.Station place) = names.Station place
 
--- the transfer of a row: each id replaced by the stop or the station that it names
+-- the transfer of a row, with each id replaced by the stop or the station that it names
 pub record IsTransferOf (named : List ℕ → Option Named) (row : TransferRow) (transfer : Transfer) : Type 0 where
   pub from : named (string_bytes row.from) ≡ Some (named_by transfer.from)
   pub to : named (string_bytes row.to) ≡ Some (named_by transfer.to)

@@ -1,4 +1,4 @@
-//! The tables of a feed joined, or the first thing that is wrong with them.
+//! Joins the tables of a feed, or finds the first thing that is wrong with them.
 
 ghost use Rattle.std.specs.Prelude.{◌≡◌, ◌≢◌, ◌≤◌, ◌<◌, ◌+◌, ℕ, List, length, map, filter, Ok, Err, ◌⊎◌, IfOk};
 ghost use Rattle.std.specs.Prelude.{IfErr, IsSortedBy, Some, None, Option, false, slice_index_or, option_map};
@@ -30,7 +30,8 @@ use gtfs_rows::{
 use indexmap::IndexMap;
 use std::alloc::{AllocError, Global};
 
-// What is made of the tables before their trips are judged. The transfers' fault waits until then.
+// The tables with their ids looked up, before the times of trips are judged. A fault of the transfers is kept here,
+// since it comes after those of the times.
 #[derive(Drop)]
 struct Links {
     order: RowOrder,
@@ -41,10 +42,10 @@ struct Links {
     transfers: Result<Vec<Transfer>, TableFault>,
 }
 
-/// The feed of the tables, or their first fault. Faults are judged in this order: the parents of stops, then the
-/// trip and the stop of each stop time, then the trips that repeat, then the times of each trip, then the transfers;
-/// each in the order of its file. An id stands for the first row that has it. With `strict` an arrival must be after
-/// the departure before it. The feed's ids are looked up by the hash of the tables.
+/// Returns the feed of the tables, or their first fault. These are judged in turn: the parents of stops, the trip and
+/// the stop of each stop time, the trips of frequencies, the times of each trip, and the transfers; each in the order
+/// of its file, times by trip in the order of `trips.txt`. An id stands for the first row that has it. If `strict`,
+/// each arrival must be later than the departure before it. The feed's ids are looked up by the hash of the tables.
 #[tactic(none)]
 pub fn join(alloc: Global, tables: Tables, strict: bool) -> Result<Feed, TableFault>
     ensures ok { IfOk result (IsJoined strict tables) }
@@ -61,7 +62,7 @@ pub fn join(alloc: Global, tables: Tables, strict: bool) -> Result<Feed, TableFa
     }
 }
 
-// The links of the tables, or the first of their ids that names nothing.
+// Looks up the ids of the tables, or returns the first fault of an id.
 #[tactic(none)]
 fn link(alloc: Global, tables: &Tables) -> Result<Links, TableFault>
     requires stops { length tables.now.stops.items ≤ u32.MAX }
@@ -81,7 +82,7 @@ fn link(alloc: Global, tables: &Tables) -> Result<Links, TableFault>
     link_by(alloc, tables, &names, &places)
 }
 
-// The links by what the ids name.
+// Looks up the ids of the tables in maps of what they name, or returns the first fault of an id.
 #[tactic(none)]
 fn link_by(
     alloc: Global,
@@ -125,8 +126,8 @@ fn link_by(
     })
 }
 
-// What the stop_ids of stop_times.txt name, and which of its trip_ids have a row without a stop, or the first row whose
-// trip or stop is wrong.
+// Returns what the stop_ids of stop_times.txt name, and which of its trip_ids have a row without a stop; or the fault
+// of the first row whose trip or stop is wrong.
 fn judged_times(
     alloc: Global,
     stop_times: &StopTimes,
@@ -157,7 +158,7 @@ fn judged_times(
     }
 }
 
-// The feed of tables whose ids are linked, or the first fault of its trips or transfers.
+// Returns the feed of tables whose ids are looked up, or the first fault of its trips' times or its transfers.
 #[tactic(none)]
 fn feed_of(alloc: Global, tables: Tables, links: Links, strict: bool) -> Result<Feed, TableFault>
     requires { IsLinked (stop_named tables.stops.items) (trip_named tables.trips.items) tables links }
@@ -192,7 +193,7 @@ fn feed_of(alloc: Global, tables: Tables, links: Links, strict: bool) -> Result<
     }
 }
 
-// What a feed has of its rows and links.
+// The parts of a feed that are made from rows and links.
 #[derive(Drop)]
 struct Made {
     stops: Vec<Stop>,
@@ -202,7 +203,7 @@ struct Made {
     transfers: Vec<Transfer>,
 }
 
-// What is made of rows by their links, or the first fault of the trips' times or the transfers.
+// Makes the parts of a feed from rows and links, or returns the first fault of the trips' times or the transfers.
 #[tactic(none)]
 fn made_of(
     alloc: Global,
@@ -261,7 +262,8 @@ fn made_of(
     }
 }
 
-// The rows in their order, each with what it names, and the trips with their rows, unless the times of one are wrong.
+// Returns the rows in order, each with its trip and stop, and the trips with their rows; or the first fault of a
+// trip's times.
 #[tactic(none)]
 fn timed_rows(
     alloc: Global,
@@ -304,7 +306,7 @@ fn timed_rows(
     }
 }
 
-// The trips with their rows, unless the times of one are wrong.
+// Returns the trips with their rows, or the first fault of a trip's times.
 fn timed_trips(
     alloc: Global,
     trips: Vec<TripRow>,
@@ -353,7 +355,7 @@ fn timed_trips(
     Ok(timed)
 }
 
-// The place behind the last row of a trip.
+// Returns the index after the last row of a trip.
 fn end_of_trip(rows: &[StopTimeRow], order: &RowOrder, first: usize, trip: usize) -> usize
     requires len { length rows.now ≡ length (turns_by order.now rows.now) }
     requires rising { IsSortedBy comes_before (turns_by order.now rows.now) }
@@ -372,7 +374,7 @@ fn end_of_trip(rows: &[StopTimeRow], order: &RowOrder, first: usize, trip: usize
     rows.len()
 }
 
-// Judges the times of a trip, whose rows stand from a place on up to before another.
+// Judges the times of a trip, whose rows are those from `first` up to but not including `end`.
 fn judge_trip(
     alloc: Global,
     rows: &[StopTimeRow],
@@ -396,7 +398,7 @@ fn judge_trip(
     }
 }
 
-// The fault of one of a trip's rows, told of its record.
+// Returns the fault of one of a trip's rows, with the number of its record.
 fn told(order: &RowOrder, first: usize, end: usize, at: usize, kind: FaultKind) -> TableFault
     requires { first ≤ end }
     ensures { (rows : List LinkedRow) → end ≤ length rows
@@ -414,7 +416,7 @@ fn told(order: &RowOrder, first: usize, end: usize, at: usize, kind: FaultKind) 
     }
 }
 
-// The rows that stand for stops, with their stations.
+// Returns the stops among the rows, with their stations.
 fn feed_stops(
     alloc: Global,
     rows: Vec<StopRow>,
@@ -437,7 +439,7 @@ fn feed_stops(
     Ok(stops)
 }
 
-// The station at a place, if there is one.
+// Returns the station at an index, if there is one.
 fn station_at(stations: &[Option<u32>], place: usize) -> Option<u32>
     ensures { result ≡ slice_index_or stations.now place None }
 {

@@ -1,5 +1,5 @@
-//! The tables of a GTFS feed, joined: trips with their stop times in order, stops with their stations, transfers with
-//! both ends found; or the first thing that is wrong with them.
+//! Joins the tables of a GTFS feed: trips with their stop times in order, stops with their stations, transfers with
+//! both ends found; or finds the first thing that is wrong with them.
 //!
 //! The files and their columns are those of the GTFS Schedule Reference.
 #![tactic(auto)]

@@ -1,4 +1,4 @@
-//! The rows of the tables, each id replaced by what it names, or the first of each that names nothing.
+//! Replaces each id in the rows of the tables by what it names, or finds the first row with a wrong id.
 
 ghost use Rattle.std.specs.Prelude.{◌≡◌, ◌≢◌, ◌<◌, ℕ, length, map, filter, IfOk, IfErr, IfSome, None, Some};
 ghost use Rattle.std.specs.Prelude.{is_some, slice_index_or, slice_set, true, false, not, count_by};
@@ -21,8 +21,8 @@ use gtfs_rows::{
 use indexmap::IndexMap;
 use std::alloc::{AllocError, Global};
 
-// What the ids of stop_times.txt name: its trip_ids and its stop_ids, and which of the trip_ids
-// have a row without a stop.
+// What the trip_ids and the stop_ids of stop_times.txt name, and which of the trip_ids have a row without
+// a stop.
 #[derive(Drop)]
 pub(crate) struct RowNames {
     pub(crate) trips: Vec<Option<u32>>,
@@ -30,7 +30,7 @@ pub(crate) struct RowNames {
     pub(crate) flex: Vec<bool>,
 }
 
-// The fault of the row at a place: records are numbered from 1.
+// Returns the fault of the row at an index; records are numbered from 1.
 pub(crate) fn fault_at(table: Table, place: usize, kind: FaultKind) -> TableFault
     requires { place < usize.MAX }
     ensures { result ≡ fault_of table place kind }
@@ -42,7 +42,7 @@ pub(crate) fn fault_at(table: Table, place: usize, kind: FaultKind) -> TableFaul
     }
 }
 
-// The want of memory.
+// Returns the fault that memory ran out.
 pub(crate) fn out_of_memory() -> TableFault
     ensures { result.kind ≡ FaultKind.OutOfMemory }
 {
@@ -53,7 +53,7 @@ pub(crate) fn out_of_memory() -> TableFault
     }
 }
 
-// The place of the trip that stands at a place, if one does.
+// Returns the index in trips.txt of the trip that the trip_id of an index names, if it names one.
 pub(crate) fn place_at(trips: &[Option<u32>], place: u32) -> Option<u32>
     ensures { result ≡ named_at trips.now place }
 {
@@ -65,7 +65,7 @@ pub(crate) fn place_at(trips: &[Option<u32>], place: u32) -> Option<u32>
     }
 }
 
-// What the stop_id of a row names.
+// Returns what the stop_id of a row names, if it names anything.
 fn stop_at(stops: &[Option<Named>], row: &StopTimeRow) -> Option<Named>
     ensures { result ≡ stop_of stops.now row.now }
 {
@@ -77,7 +77,7 @@ fn stop_at(stops: &[Option<Named>], row: &StopTimeRow) -> Option<Named>
     }
 }
 
-// The station of each row of stops.txt.
+// Returns the station of each row of stops.txt, or the fault of the first stop whose parent isn't a station.
 pub(crate) fn stations(
     alloc: Global,
     stops: &[StopRow],
@@ -105,7 +105,8 @@ pub(crate) fn stations(
     Ok(found)
 }
 
-// The station that a stop names as its parent. Of other places the parent isn't looked up.
+// Returns the index in stops.txt of the station that a stop names as its parent: `UnknownId` if the parent isn't a
+// station. Parents of other places aren't looked up.
 fn station(row: &StopRow, names: &IndexMap<&str, Named, IdHash>) -> Result<Option<u32>, FaultKind>
     ensures fine { IfOk result (λ place. parent_fault (held_at names.now) row.now ≡ None) }
     ensures ok { IfOk result (λ place. place ≡ station_of (held_at names.now) row.now) }
@@ -120,7 +121,7 @@ fn station(row: &StopRow, names: &IndexMap<&str, Named, IdHash>) -> Result<Optio
     }
 }
 
-// Whether a row with each trip_id has a blank stop_id.
+// Returns for each trip_id whether some row with it has a blank stop_id.
 pub(crate) fn flex_ids(
     alloc: Global,
     rows: &[StopTimeRow],
@@ -138,14 +139,14 @@ pub(crate) fn flex_ids(
     Ok(flex)
 }
 
-// Whether the trip at a place is marked.
+// Returns whether the trip_id of an index is marked.
 pub(crate) fn flex_at(flex: &[bool], id: usize) -> bool
     ensures { result ≡ slice_index_or flex.now id false }
 {
     id < flex.len() && flex[id]
 }
 
-// Judges the trips and the stops of the rows.
+// Returns the fault of the first row whose trip or stop is wrong, if there is one.
 pub(crate) fn judge_rows(
     rows: &[StopTimeRow],
     trips: &[Option<u32>],
@@ -166,7 +167,7 @@ pub(crate) fn judge_rows(
     Ok(())
 }
 
-// What is wrong with the trip or the stop of a row.
+// Returns what is wrong with the trip or the stop of a row, if anything. Stops of flex trips aren't judged.
 fn wrong_link(
     row: &StopTimeRow,
     trips: &[Option<u32>],
@@ -188,7 +189,7 @@ fn wrong_link(
     }
 }
 
-// A row with its trip's place and its stop's number.
+// Returns a row with the index of its trip and the number of its stop; rows of flex trips get no stop.
 fn linked(
     row: &StopTimeRow,
     trips: &[Option<u32>],
@@ -213,8 +214,8 @@ fn linked(
     }
 }
 
-// The rows in their order, each with its trip's place and its stop's number. Rows that are in order
-// already stay where they are.
+// Returns the rows in order, each with the index of its trip and the number of its stop. Rows that are already
+// in order stay where they are.
 pub(crate) fn linked_rows(
     alloc: Global,
     rows: Vec<StopTimeRow>,
@@ -232,7 +233,7 @@ pub(crate) fn linked_rows(
     }
 }
 
-// The rows, each with its trip's place and its stop's number.
+// Returns the rows, each with the index of its trip and the number of its stop.
 fn linked_in_place(mut rows: Vec<StopTimeRow>, names: &RowNames) -> Vec<StopTimeRow>
     requires { (id : ℕ) → id < length names.now.trips.items
         → slice_index_or names.now.flex.items id false ≡ is_flex_id rows.items id }
@@ -246,7 +247,7 @@ fn linked_in_place(mut rows: Vec<StopTimeRow>, names: &RowNames) -> Vec<StopTime
     rows
 }
 
-// A row with its trip's place and its stop's number, where flex trips are marked.
+// Returns a row with the index of its trip and the number of its stop, given the marks of flex trips.
 fn linked_marked(row: &StopTimeRow, names: &RowNames) -> StopTimeRow
     ensures { result ≡ linked_row names.now.trips.items names.now.stops.items
         (slice_index_or names.now.flex.items row.now.trip false) row.now }
@@ -255,7 +256,7 @@ fn linked_marked(row: &StopTimeRow, names: &RowNames) -> StopTimeRow
     linked(row, &names.trips, &names.stops, flex)
 }
 
-// The rows by their turns in a list of their own.
+// Copies the rows into a new list, in the order of their turns.
 fn linked_by_turns(
     alloc: Global,
     rows: &[StopTimeRow],
@@ -275,7 +276,7 @@ fn linked_by_turns(
     Ok(ordered)
 }
 
-// The row of a record's number, or a row without stop and times.
+// Returns the row of the record of this number, or a row without stop and times if there is none.
 fn row_numbered(rows: &[StopTimeRow], number: u64) -> StopTimeRow
     ensures { result ≡ row_of rows.now number }
 {
@@ -295,7 +296,7 @@ fn row_numbered(rows: &[StopTimeRow], number: u64) -> StopTimeRow
     }
 }
 
-// Whether frequencies.txt names each trip.
+// Returns for each trip whether frequencies.txt names it, or the fault of the first row whose trip is unknown.
 pub(crate) fn repeating(
     alloc: Global,
     frequencies: &[FrequencyRow],
@@ -322,7 +323,7 @@ pub(crate) fn repeating(
     Ok(repeats)
 }
 
-// A row of frequencies.txt with the place of its trip, 0 for one that isn't known.
+// Returns a row of frequencies.txt with the index of its trip, 0 if the trip is unknown.
 fn frequency(row: &FrequencyRow, places: &IndexMap<&str, u32, IdHash>) -> Frequency
     ensures { result ≡ frequency_of (held_at places.now) row.now }
 {
@@ -335,7 +336,7 @@ fn frequency(row: &FrequencyRow, places: &IndexMap<&str, u32, IdHash>) -> Freque
     }
 }
 
-// The rows of frequencies.txt with the places of their trips.
+// Returns the rows of frequencies.txt with the indices of their trips.
 pub(crate) fn linked_frequencies(
     alloc: Global,
     rows: &[FrequencyRow],
@@ -350,7 +351,7 @@ pub(crate) fn linked_frequencies(
     Ok(linked)
 }
 
-// Marks a place, if it is one.
+// Marks an index, unless it is past the end.
 fn mark(marks: &mut Vec<bool>, place: usize)
     ensures { marks.new.items ≡ slice_set marks.old.items place true }
 {
@@ -359,7 +360,7 @@ fn mark(marks: &mut Vec<bool>, place: usize)
     }
 }
 
-// The transfers that aren't skipped.
+// Returns the transfers that aren't skipped, or the first fault of one of them.
 pub(crate) fn transfers(
     alloc: Global,
     rows: &[TransferRow],
@@ -386,7 +387,8 @@ pub(crate) fn transfers(
     Ok(kept)
 }
 
-// A transfer between what its two ids name, unless it is skipped.
+// Returns the transfer between the places that the row's ids name, or what is wrong with an id; none if the row is
+// skipped.
 fn transfer(
     row: &TransferRow,
     names: &IndexMap<&str, Named, IdHash>,
@@ -412,14 +414,15 @@ fn transfer(
     }
 }
 
-// Whether a transfer isn't skipped.
+// Returns whether a transfer isn't skipped.
 fn is_counted(row: &TransferRow) -> bool
     ensures { result ≡ is_kept row.now }
 {
     row.kind != TransferKind::Skipped
 }
 
-// Both ends of a transfer: they are known, and then each is a stop or a station.
+// Returns both ends of a transfer: first `UnknownId` if either is unknown, then `NotAStop` if either is neither a
+// stop nor a station.
 fn ends(from: Option<Named>, to: Option<Named>) -> Result<(Place, Place), FaultKind>
     ensures fine { IfOk result (λ places. ends_fault from to ≡ None) }
     ensures from { IfOk result (λ places. from ≡ Some (named_by places.0)) }
@@ -438,7 +441,7 @@ fn ends(from: Option<Named>, to: Option<Named>) -> Result<(Place, Place), FaultK
     }
 }
 
-// A stop or a station as an end of a transfer.
+// Returns a stop or a station as an end of a transfer; none for another place.
 fn end_of(named: Named) -> Option<Place>
     ensures some { IfSome result (λ place. (named ≡ named_by place) × (end_fault (Some named) ≡ None)) }
     ensures none { result ≡ None → end_fault (Some named) ≡ Some FaultKind.NotAStop }
@@ -450,7 +453,7 @@ fn end_of(named: Named) -> Option<Place>
     }
 }
 
-// How many rows are skipped.
+// Returns how many rows are skipped.
 pub(crate) fn skipped_in(rows: &[TransferRow]) -> usize
     ensures { result ≡ count_by (λ row. not (is_kept row)) rows.now }
 {

@@ -15,16 +15,16 @@ use std::alloc::{AllocError, Global};
 pub enum Named {
     /// A stop, by its number.
     Stop(u32),
-    /// A station, by the place of its row.
+    /// A station, by the index of its row.
     Station(u32),
     /// A place of another kind.
     Elsewhere,
 }
 
-// What each id names, or the want of memory.
+// What each id names. Memory may run out.
 type ById<'a, T> = Result<IndexMap<&'a str, T, IdHash>, AllocError>;
 
-// What each id of stops.txt names.
+// Returns what each id of stops.txt names.
 pub(crate) fn stops_by_id(alloc: Global, hash: IdHash, stops: &[StopRow]) -> ById<'_, Named>
     requires { length stops.now ≤ u32.MAX }
     ensures { IfOk result (λ names. (id : List ℕ) → held_at names id ≡ stop_named stops.now id) }
@@ -41,7 +41,8 @@ pub(crate) fn stops_by_id(alloc: Global, hash: IdHash, stops: &[StopRow]) -> ByI
     Ok(names)
 }
 
-// What a row of stops.txt stands for, with the stops before it and the rows before it.
+// Returns what a row of stops.txt stands for, given how many stops (`number`) and how many rows (`place`) come
+// before it.
 fn named_as(location: Location, number: u32, place: u32) -> Named
     ensures { result ≡ name_of location number place }
 {
@@ -52,7 +53,7 @@ fn named_as(location: Location, number: u32, place: u32) -> Named
     }
 }
 
-// The place of the row of each id of trips.txt.
+// Returns the index of the row of each id of trips.txt.
 pub(crate) fn trips_by_id(alloc: Global, hash: IdHash, trips: &[TripRow]) -> ById<'_, u32>
     requires { length trips.now ≤ u32.MAX }
     ensures { IfOk result (λ places. (id : List ℕ) → held_at places id ≡ trip_named trips.now id) }
@@ -79,7 +80,7 @@ fn add_first<'a, T: Copy>(
     Ok(())
 }
 
-// What each of the ids names.
+// Returns what each of the ids names, if anything.
 pub(crate) fn named_each<T: Copy>(
     alloc: Global,
     ids: &IndexSet<String, IdHash>,

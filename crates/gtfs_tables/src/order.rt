@@ -8,7 +8,7 @@ use crate::links::place_at;
 use gtfs_rows::StopTimeRow;
 use std::alloc::{AllocError, Global};
 
-/// Where a row goes: its trip's place, its stop_sequence, and its record's number.
+/// The sort key of a row: the index of its trip, its stop_sequence, and the number of its record.
 #[derive(Clone, Copy, Debug, PartialEq, Eq, PartialOrd, Ord)]
 pub struct Turn {
     pub trip: u32,
@@ -16,14 +16,14 @@ pub struct Turn {
     pub number: u64,
 }
 
-/// In which order the rows go: that of the file, or that of turns.
+/// The order of the rows: that of the file, or that of a list of turns.
 #[derive(Drop)]
 pub enum RowOrder {
     Filed,
     ByTurns(Vec<Turn>),
 }
 
-// The order of the rows. Turns take memory only where the rows don't stand in order already.
+// Returns the order of the rows. A list of turns is made only if the rows aren't already in order.
 pub(crate) fn order_of_rows(
     alloc: Global,
     rows: &[StopTimeRow],
@@ -39,7 +39,7 @@ pub(crate) fn order_of_rows(
     Ok(RowOrder::ByTurns(turns))
 }
 
-// The turns of the rows, in the order of the file.
+// Returns the turns of the rows, in the order of the file.
 fn turns_of(
     alloc: Global,
     rows: &[StopTimeRow],
@@ -54,7 +54,7 @@ fn turns_of(
     Ok(turns)
 }
 
-// The turn of the row at a place of the file.
+// Returns the turn of the row at an index in the file.
 fn turn_of(trips: &[Option<u32>], row: &StopTimeRow, place: usize) -> Turn
     requires { place < usize.MAX }
     ensures { result ≡ turn_of trips.now (place + 1) row.now }
@@ -66,7 +66,7 @@ fn turn_of(trips: &[Option<u32>], row: &StopTimeRow, place: usize) -> Turn
     }
 }
 
-// Whether no row's turn comes before that of the row ahead of it.
+// Returns whether the rows are already in the order of their turns.
 fn are_in_order(rows: &[StopTimeRow], trips: &[Option<u32>]) -> bool
     ensures { result ≡ true → IsSortedBy comes_before (turns_from trips.now 1 rows.now) }
 {
@@ -84,7 +84,7 @@ fn are_in_order(rows: &[StopTimeRow], trips: &[Option<u32>]) -> bool
     true
 }
 
-// The trip of the row at a place, and its record's number, 0 past the end; the rows stand in their order.
+// Returns the trip of the row at an index; the rows are in order.
 pub(crate) fn trip_at(rows: &[StopTimeRow], order: &RowOrder, at: usize) -> u32
     requires within { at < length rows.now }
     requires len { length rows.now ≡ length (turns_by order.now rows.now) }

@@ -1,4 +1,4 @@
-//! Laws of what joining tables can tell. The functions do nothing: their contracts are the laws.
+//! Laws of what joining tables can return. The functions do nothing: their contracts are the laws.
 
 ghost use Rattle.std.specs.Prelude.{◌≡◌, ℕ, List, Option, Bool};
 ghost use Rattle.gtfs_rows.specs.declared.fault.TableFault.{TableFault as Fault};
@@ -10,13 +10,13 @@ ghost use Rattle.gtfs_tables.specs.declared.order.Turn.{Turn};
 ghost use Rattle.gtfs_tables.specs.declared.tables.Feed.{Feed};
 ghost use Rattle.gtfs_tables.specs.declared.tables.Tables.{Tables};
 
-/// The rows of stop times have one order.
+/// The rows of stop times have only one order.
 pub fn one_order()
     ensures { (trips : List (Option ℕ)) (rows : List StopTimeRow) (a b : List Turn) → IsInOrder trips rows a
         → IsInOrder trips rows b → a ≡ b }
 {}
 
-/// Tables have one first fault at most.
+/// Tables have at most one first fault.
 pub fn one_fault()
     ensures { (strict : Bool) (t : Tables) (a b : Fault) → IsFirstFault strict t a → IsFirstFault strict t b → a ≡ b }
 {}
@@ -27,7 +27,7 @@ pub fn joined_without_fault()
         → ¬ (IsFirstFault strict t fault) }
 {}
 
-/// Tables have one feed at most.
+/// Tables have at most one feed.
 pub fn one_feed()
     ensures { (strict : Bool) (t : Tables) (a b : Feed) → IsJoined strict t a → IsJoined strict t b → IsSameFeed a b }
 {}

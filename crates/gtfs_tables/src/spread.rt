@@ -1,4 +1,4 @@
-//! The times of a trip's rows, spread over its blank ones.
+//! Gives times to the blank rows of a trip.
 
 ghost use Rattle.std.specs.Prelude.{◌≡◌, ◌+◌, ◌-◌, ◌*◌, ◌/◌, ◌<◌, ◌≤◌, ℕ, None, Some, length, slice_index_or, IfOk};
 ghost use Rattle.std.specs.Prelude.{IsSome, OnOk};
@@ -7,9 +7,9 @@ ghost use Rattle.gtfs_tables.specs.Spread.{IsSpread, arrival_at, departure_at, p
 use gtfs_rows::StopTimeRow;
 use std::alloc::{AllocError, Global};
 
-/// The arrival and the departure of each of a trip's rows, in seconds after the start of the service day. The rows
-/// are by rising stop_sequence. The time between the departure before a run of blank rows and the arrival after it
-/// is cut into equal parts, rounded down to whole seconds.
+/// Returns the arrival and the departure of each of a trip's rows, in seconds after the start of the service day. The
+/// rows are in order. The time between the departure before a sequence of blank rows and the arrival after it is cut
+/// into equal parts, whose ends are rounded down to whole seconds. Memory may run out.
 pub fn spread(alloc: Global, rows: &[StopTimeRow]) -> Result<Vec<(u32, u32)>, AllocError>
     requires first { IsSome (arrival_at rows.now 0) }
     requires last { IsSome (arrival_at rows.now (length rows.now - 1)) }
@@ -25,7 +25,7 @@ pub fn spread(alloc: Global, rows: &[StopTimeRow]) -> Result<Vec<(u32, u32)>, Al
     Ok(times)
 }
 
-// The first row from a place on that has a time, or the end.
+// Returns the index of the first row at or after `from` that has a time, or the number of rows if there is none.
 fn next_given(rows: &[StopTimeRow], from: usize) -> usize
     requires { from ≤ length rows.now }
     ensures from { from ≤ result }
@@ -41,7 +41,7 @@ fn next_given(rows: &[StopTimeRow], from: usize) -> usize
     rows.len()
 }
 
-// The times of a row that has one, and of the blank rows from it to the next that has one.
+// Adds the times of a row that has one, and of the blank rows after it, up to the next that has one.
 fn add_times(
     times: &mut Vec<(u32, u32)>,
     rows: &[StopTimeRow],
@@ -81,7 +81,7 @@ fn add_times(
     add_parts(times, departs, to, next - at)
 }
 
-// The ends of all parts but the last.
+// Adds the ends of all parts but the last, each as arrival and departure.
 fn add_parts(
     times: &mut Vec<(u32, u32)>,
     from: u32,
@@ -105,7 +105,7 @@ fn add_parts(
     Ok(())
 }
 
-// The end of the j-th part.
+// Returns the end of the j-th part, in seconds after the start of the service day.
 fn part(from: u32, to: u32, parts: usize, j: usize) -> u32
     requires some { 0 < parts }
     requires within { j ≤ parts }
@@ -115,7 +115,7 @@ fn part(from: u32, to: u32, parts: usize, j: usize) -> u32
     from + ((j as u128 * span as u128) / parts as u128) as u32
 }
 
-// When the row at a place arrives.
+// Returns the arrival of the row at an index, or its departure if it has no arrival.
 pub(crate) fn arrival(rows: &[StopTimeRow], at: usize) -> Option<u32>
     requires { at < length rows.now }
     ensures { result ≡ arrival_at rows.now at }
@@ -124,7 +124,7 @@ pub(crate) fn arrival(rows: &[StopTimeRow], at: usize) -> Option<u32>
     row.arrival.or(row.departure)
 }
 
-// When the row at a place departs.
+// Returns the departure of the row at an index, or its arrival if it has no departure.
 pub(crate) fn departure(rows: &[StopTimeRow], at: usize) -> Option<u32>
     requires { at < length rows.now }
     ensures { result ≡ departure_at rows.now at }

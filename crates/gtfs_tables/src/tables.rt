@@ -1,4 +1,4 @@
-//! The tables of a feed as they are read, and as they name one another.
+//! The tables of a feed as they are read, and the feed that they are joined to.
 
 ghost use Rattle.std.specs.Prelude.{length};
 ghost use Rattle.gtfs_tables.specs.Joined.{AreRunnable, NameStopsBelow};
@@ -26,7 +26,7 @@ pub struct Tables {
 #[derive(Debug, Drop)]
 pub struct Stop {
     pub id: String,
-    /// The place, from 0, of its station's row in `stops.txt`.
+    /// The index of its station's row in `stops.txt`.
     pub station: Option<u32>,
 }
 
@@ -35,59 +35,59 @@ pub struct Stop {
 pub struct Trip {
     pub id: String,
     pub service: String,
-    /// The place of its first row among the feed's stop times.
+    /// The index of its first row in the feed's stop times.
     pub first: usize,
-    /// The place behind its last row.
+    /// The index after its last row.
     pub end: usize,
     /// Whether `frequencies.txt` names it.
     pub repeats: bool,
-    /// Whether a row of it has a blank stop_id.
+    /// Whether any of its rows has a blank stop_id.
     pub flex: bool,
 }
 
-/// What an end of a transfer stands for.
+/// An end of a transfer.
 #[derive(Clone, Copy, Debug, PartialEq, Eq)]
 pub enum Place {
     /// A stop, by its number.
     Stop(u32),
-    /// A station, by the place of its row in `stops.txt`.
+    /// A station, by the index of its row in `stops.txt`.
     Station(u32),
 }
 
-/// A transfer between two stops, or stations in place of their stops.
+/// A transfer between two ends; a station stands for all its stops.
 #[derive(Clone, Copy, Debug)]
 pub struct Transfer {
     pub from: Place,
     pub to: Place,
     pub kind: TransferKind,
-    /// The min_transfer_time, where it is a number.
+    /// The min_transfer_time in seconds, if it is a number.
     pub seconds: Option<u32>,
 }
 
 /// A row of `frequencies.txt`: the trip starts at the start time, and again after each headway, before the end time.
 #[derive(Clone, Copy, Debug, PartialEq, Eq)]
 pub struct Frequency {
-    /// The trip's place among the feed's trips.
+    /// The index of the trip in the feed's trips.
     pub trip: u32,
     /// Seconds after the start of the service day.
     pub start: u32,
     /// Seconds after the start of the service day.
     pub end: u32,
-    /// Seconds from a start to the next.
+    /// Seconds from one start to the next.
     pub headway: u32,
 }
 
 /// The tables of a feed, each id replaced by what it names.
 #[derive(Drop)]
 pub struct Feed {
-    /// The stops and platforms in the order of `stops.txt`. A stop's number is its place here.
+    /// The stops and platforms in the order of `stops.txt`. A stop's number is its index here.
     pub stops: Vec<Stop>,
     /// The trips in the order of `trips.txt`.
     pub trips: Vec<Trip>,
-    /// All rows of `stop_times.txt`, by trip, then by rising stop_sequence, then by record. A row's trip is its place
-    /// among the trips, its stop the stop's number, None for each row of a flex trip.
+    /// All rows of `stop_times.txt`, by trip, then by rising stop_sequence, then by record. A row's trip is an index of
+    /// `trips`; its stop is the stop's number, or None if the trip is a flex trip.
     pub stop_times: Vec<StopTimeRow>,
-    /// The rows of `frequencies.txt`, in their order.
+    /// The rows of `frequencies.txt`, in order.
     pub frequencies: Vec<Frequency>,
     /// The transfers that aren't skipped, in the order of `transfers.txt`.
     pub transfers: Vec<Transfer>,
@@ -95,10 +95,11 @@ pub struct Feed {
     pub skipped: usize,
     pub calendar: Vec<CalendarRow>,
     pub calendar_dates: Vec<CalendarDateRow>,
-    /// The hash by which ids are looked up. Nothing that is found depends on it.
+    /// The hash by which ids are looked up. No result depends on it.
     pub hash: IdHash,
-    // each trip's rows are among the stop times; if it makes connections, they have times at both ends and stops
+    // each trip's rows are among the stop times; if it makes connections, the first and the last have a time and all
+    // have stops
     pub ghost runnable: { AreRunnable (length stops.items) stop_times.items trips.items } by { AreRunnable-prop (length stops.items) stop_times.items trips.items },
-    // the stops that transfers name are the feed's
+    // the stops that transfers name are stops of the feed
     pub ghost named: { NameStopsBelow (length stops.items) transfers.items } by { NameStopsBelow-prop (length stops.items) transfers.items },
 }

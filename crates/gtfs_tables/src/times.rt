@@ -1,5 +1,5 @@
-//! What can be wrong with the times of a trip: a sequence twice, an end without a time, times that
-//! go back, no duration.
+//! What can be wrong with the times of a trip: a stop_sequence that occurs twice, an end without a time, times that
+//! go back, a hop without duration.
 
 ghost use Rattle.std.specs.Prelude.{◌≡◌, ◌<◌, ◌≤◌, ◌-◌, ◌+◌, ℕ, length, IfOk, None, Some, nat_lt, slice_index_or};
 ghost use Rattle.gtfs_tables.specs.First.{first_place};
@@ -13,7 +13,7 @@ use crate::spread::{arrival, departure, spread};
 use gtfs_rows::{FaultKind, StopTimeRow};
 use std::alloc::{AllocError, Global};
 
-// The first row at fault of a trip, and what is wrong there.
+// Returns the index of the row with the first fault of a trip, and what is wrong there. Memory may run out.
 pub(crate) fn first_wrong(
     alloc: Global,
     rows: &[StopTimeRow],
@@ -33,14 +33,14 @@ pub(crate) fn first_wrong(
     wrong_spread(alloc, rows)
 }
 
-// Whether a row has no stop.
+// Returns whether any row has no stop.
 pub(crate) fn is_flex(rows: &[StopTimeRow]) -> bool
     ensures { result ≡ flex_of rows.now }
 {
     rows.iter().any(|row| row.stop.is_none())
 }
 
-// What is wrong with the sequence and the times as they are given.
+// Returns the first fault of the sequences and of the times as they are given.
 fn wrong_given(rows: &[StopTimeRow]) -> Option<(usize, FaultKind)>
     requires { 0 < length rows.now }
     ensures { result ≡ given_wrong rows.now }
@@ -57,7 +57,7 @@ fn wrong_given(rows: &[StopTimeRow]) -> Option<(usize, FaultKind)>
     None
 }
 
-// The first row without duration, once the times are spread.
+// Returns the first row that doesn't arrive after the departure before it, once the times are spread.
 fn wrong_spread(
     alloc: Global,
     rows: &[StopTimeRow],
@@ -74,7 +74,7 @@ fn wrong_spread(
     }
 }
 
-// The first row with the sequence of the row before.
+// Returns the first row with the sequence of the row before.
 #[tactic(auto, using(crate::proofs::FirstLemmas::searches))]
 fn sequence_twice(rows: &[StopTimeRow]) -> Option<usize>
     ensures { result ≡ first_place (is_twice rows.now) (length rows.now) }
@@ -87,7 +87,7 @@ fn sequence_twice(rows: &[StopTimeRow]) -> Option<usize>
     None
 }
 
-// Whether a row has the sequence of the row before.
+// Returns whether a row has the sequence of the row before.
 fn is_repeated(rows: &[StopTimeRow], at: usize) -> bool
     requires { at < length rows.now }
     ensures { result ≡ is_twice rows.now at }
@@ -95,7 +95,7 @@ fn is_repeated(rows: &[StopTimeRow], at: usize) -> bool
     at > 0 && rows[at].sequence == rows[at - 1].sequence
 }
 
-// The first row, or else the last, where it has no time.
+// Returns the first row, or else the last, if it has no time.
 fn end_without_time(rows: &[StopTimeRow]) -> Option<usize>
     requires { 0 < length rows.now }
     ensures { result ≡ end_untimed rows.now }
@@ -110,7 +110,7 @@ fn end_without_time(rows: &[StopTimeRow]) -> Option<usize>
     }
 }
 
-// The first row whose arrival is after its departure, or before the last departure given ahead of it.
+// Returns the first row whose arrival is after its departure, or before the last departure given in earlier rows.
 #[tactic(auto, using(crate::proofs::FirstLemmas::searches))]
 fn time_back(rows: &[StopTimeRow]) -> Option<usize>
     ensures { result ≡ first_place (goes_back rows.now) (length rows.now) }
@@ -127,7 +127,7 @@ fn time_back(rows: &[StopTimeRow]) -> Option<usize>
     None
 }
 
-// Whether an arrival is before the last departure, or after the row's own.
+// Returns whether a row arrives before the last departure in earlier rows (`left`), or after its own departure.
 fn is_back(left: u32, arrives: Option<u32>, departs: Option<u32>) -> bool
     ensures { result ≡ back left arrives departs }
 {
@@ -137,7 +137,7 @@ fn is_back(left: u32, arrives: Option<u32>, departs: Option<u32>) -> bool
     }
 }
 
-// The first row that doesn't arrive after the departure before it.
+// Returns the first row that doesn't arrive after the departure before it.
 #[tactic(auto, using(crate::proofs::FirstLemmas::searches))]
 fn no_duration(times: &[(u32, u32)]) -> Option<usize>
     ensures { result ≡ first_place (is_short times.now) (length times.now) }
@@ -150,7 +150,7 @@ fn no_duration(times: &[(u32, u32)]) -> Option<usize>
     None
 }
 
-// Whether a row doesn't arrive after the departure before it.
+// Returns whether a row doesn't arrive after the departure before it.
 fn is_hop(times: &[(u32, u32)], at: usize) -> bool
     requires { at < length times.now }
     ensures { result ≡ is_short times.now at }

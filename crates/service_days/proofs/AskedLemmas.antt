@@ -1,4 +1,4 @@
--- A service more that was asked for.
+-- How what is known changes with one more service that was asked for.
 use Rattle.std.proofs.Common.{◌≡◌, ℕ, List, Bool, Option, Some, IfSome, inl, inr, cond, String, sym, ap, ◌∙◌, subst}
 use Rattle.std.specs.HashMap.{get_by_text}
 use Rattle.std.specs.Str.{bytes_eq}

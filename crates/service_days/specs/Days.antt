@@ -1,9 +1,9 @@
--- The days in a row.
+-- Consecutive days.
 use Rattle.std.specs.Prelude.{◌+◌, if◌then◌else◌}
 use Rattle.gtfs_rows.specs.Values.{is_civil}
 use Rattle.gtfs_rows.specs.declared.values.Day.{Day}
 
--- a day on in the month, the first of the next month, the first of the next year: the first of them that is a civil date
+-- the next day of the month if it is a civil date, else the first of the next month if that is one, else the first of the next year
 abbrev pub day_after : Day → Day
 day_after d =
     if is_civil (record d { day = d.day + 1 }) then record d { day = d.day + 1 }

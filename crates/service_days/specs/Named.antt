@@ -3,6 +3,6 @@ use Rattle.std.specs.Prelude.{ℕ, List, map}
 use Rattle.std.specs.String.{string_bytes}
 use Rattle.service_days.specs.declared.named.NamedServices.{NamedServices}
 
--- their names, in the order in which they were first named
+-- the names of the services, in the order in which they were first named
 abbrev pub names_of : NamedServices → List (List ℕ)
 names_of named = map string_bytes named.ids.keys

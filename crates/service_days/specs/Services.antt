@@ -1,4 +1,4 @@
--- On which days a service runs.
+-- The days on which a service runs.
 use Rattle.std.specs.Prelude.{◌≡◌, ◌==◌, ◌&&◌, ◌||◌, not, if◌then◌else◌, ℕ, List, [], pos, map, filter, get_or, nat_le, nat_lt, Bool, true, false}
 use Rattle.std.specs.List.{list_any}
 use Rattle.std.specs.Option.{option_map_or}
@@ -20,7 +20,7 @@ use Rattle.service_days.specs.declared.services.DayException.{DayException}
 abbrev pub weekday_on : Day → ℕ
 weekday_on d = weekday_number (days_from_civil (pos d.year) d.month d.day)
 
--- the one day is the other or comes before it
+-- the first day is no later than the second
 abbrev pub is_not_after : Day → Day → Bool
 is_not_after a b =
     if a.year == b.year then (if a.month == b.month then nat_le a.day b.day else nat_lt a.month b.month) else nat_lt a.year b.year
@@ -28,7 +28,7 @@ is_not_after a b =
 abbrev pub is_same_day : Day → Day → Bool
 is_same_day a b = (a.year == b.year) && (a.month == b.month) && (a.day == b.day)
 
--- what a row says of its service
+-- the week of a row of calendar.txt, and the exception of a row of calendar_dates.txt
 abbrev pub week_of : CalendarRow → Week
 week_of row = record { weekdays = row.weekdays; start = row.start; end = row.end }
 
@@ -49,23 +49,23 @@ adds day e = is_same_day e.day day && is_added e.exception
 abbrev pub removes : Day → DayException → Bool
 removes day e = is_same_day e.day day && not (is_added e.exception)
 
--- the weekday and the range hold or the day is added, and it isn't removed
+-- the day isn't removed, and either it is added or a week has it
 abbrev pub is_running : List Week → List DayException → Day → Bool
 is_running weeks exceptions day =
     (list_any (runs_in (weekday_on day) day) weeks || list_any (adds day) exceptions) && not (list_any (removes day) exceptions)
 
--- what the tables say of a service
+-- the weeks and the exceptions of a service in the tables
 abbrev pub weeks_in : List CalendarRow → List ℕ → List Week
 weeks_in rows service = map week_of (filter (λ row. bytes_eq service (string_bytes row.service)) rows)
 
 abbrev pub exceptions_in : List CalendarDateRow → List ℕ → List DayException
 exceptions_in rows service = map exception_of (filter (λ row. bytes_eq service (string_bytes row.service)) rows)
 
--- a service runs on a day, which is a civil date
+-- the day is a civil date, and the service runs on it
 abbrev pub is_active : List CalendarRow → List CalendarDateRow → List ℕ → Day → Bool
 is_active calendar dates service day = is_civil day && is_running (weeks_in calendar service) (exceptions_in dates service) day
 
--- what is held of a service
+-- the weeks and the exceptions that are held for a service
 abbrev pub weeks_of : Services → List ℕ → List Week
 weeks_of services service = option_map_or (λ held. held.items) (get_by_text services.weeks service) []
 

@@ -11,7 +11,7 @@ use Rattle.jiff_tz.specs.TzifReader.{read_tzif}
 use Rattle.service_days.specs.declared.zone.Zone.{Zone}
 use Rattle.service_days.specs.declared.zone.Zone.TheVariants.{Rule, Table}
 
--- the offsets that a zone's clocks may have when they show a datetime: one, or two where they are changed
+-- the offsets that a zone's clocks may have when they show a datetime: one, or two at a change of the clocks
 abbrev pub offsets_in : Zone → DateTime → AmbiguousOffset
 offsets_in (Rule zone) at = ambiguous_at (plain_zone zone) at
 offsets_in (Table table) at = table_offsets table at
@@ -20,7 +20,7 @@ offsets_in (Table table) at = table_offsets table at
 abbrev pub instant_in : Zone → DateTime → ℤ
 instant_in zone at = instant_of at (compatible_offset (offsets_in zone at))
 
--- the zone has one offset
+-- the zone always has this offset
 abbrev pub IsFixedZone : ℤ → Zone → Type 0
 IsFixedZone seconds zone = (at : DateTime) → (compatible_offset (offsets_in zone at)).seconds ≡ seconds
 
@@ -34,7 +34,7 @@ abbrev pub IsTableOf : List ℕ → Zone → Type 0
 IsTableOf bytes (Rule zone) = ⊥
 IsTableOf bytes (Table table) = (read_tzif bytes ≡ Ok (tzif_view table)) × RuleAgrees table
 
--- the bytes spell no table, or one whose last rule disagrees with it
+-- the bytes don't spell a table, or spell one whose last rule disagrees with it
 abbrev pub IsBadFile : List ℕ → Type 0
 IsBadFile bytes = (is_ok (read_tzif bytes) ≡ false) ⊎ HasBadRule (read_tzif bytes)
 

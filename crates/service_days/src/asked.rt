@@ -1,4 +1,4 @@
-//! The services of a day, each asked for once.
+//! Remembers which services run on a day.
 
 ghost use Rattle.std.specs.Prelude.{◌≡◌, List, IfOk, OnOk};
 ghost use Rattle.gtfs_rows.specs.declared.rows.CalendarDateRow.{CalendarDateRow};
@@ -13,15 +13,15 @@ use gtfs_rows::{Day, IdHash};
 use indexmap::IndexMap;
 use std::alloc::{AllocError, Global};
 
-/// Which services run on a day, as far as they were asked for: whoever asks for many trips of few
-/// services has each looked up once.
+/// Which services run on a day, of those that were asked for. A caller who asks for many trips of few services has
+/// each service looked up once.
 #[derive(Drop)]
 pub struct DayServices {
     running: IndexMap<String, bool, IdHash>,
 }
 
 impl DayServices {
-    /// None of these services was asked for.
+    /// Returns an empty record: none of these services was asked for yet.
     pub fn new(alloc: Global, services: &Services) -> DayServices
         ensures { (calendar : List CalendarRow) (dates : List CalendarDateRow) (day : ServiceDay)
             → AreOfDay calendar dates day result }
@@ -31,7 +31,8 @@ impl DayServices {
         }
     }
 
-    /// Whether a service runs on the day, which is one and the same in all calls, as [`active`] tells.
+    /// Returns whether a service runs on the day, as [`active`] does. The services and the day must be the same in all
+    /// calls. Memory may run out.
     pub fn runs(
         &mut self,
         services: &Services,

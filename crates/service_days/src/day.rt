@@ -1,4 +1,4 @@
-//! The start of a day, twelve hours before its noon in the zone, and the day after a day.
+//! The start of a day, twelve hours before its noon in a zone, and the day after a day.
 
 ghost use Rattle.std.specs.Prelude.{◌≡◌, IfSome, IfNone, IfOk, IfErr, false, true};
 ghost use Rattle.gtfs_rows.specs.Values.{is_civil};
@@ -10,10 +10,9 @@ use crate::zone::Zone;
 use gtfs_rows::Day;
 use jiff::civil::Date;
 
-/// The instant at which a day starts in a zone, in seconds after 1970-01-01T00:00:00Z: 43,200
-/// seconds before the instant of the day's noon. Where the zone's clocks show noon twice or never,
-/// that is the noon by the offset before the change. `DayOutOfRange` where there is no such day, or
-/// no instant for its noon.
+/// Returns the instant at which a day starts in a zone, in seconds after 1970-01-01T00:00:00Z: 43,200 seconds
+/// before the day's noon. If the zone's clocks show noon twice or never on that day, noon is taken by the offset
+/// before the change. `DayOutOfRange` if there is no such day, or its noon has no instant.
 pub fn day_start(zone: &Zone, day: Day) -> Result<i64, DayFault>
     ensures ok { IfOk result (IsDayStart zone.now day) }
     ensures err { IfErr result (λ fault. (fault ≡ DayFault.DayOutOfRange) × HasNoStart zone.now day) }
@@ -27,7 +26,7 @@ pub fn day_start(zone: &Zone, day: Day) -> Result<i64, DayFault>
     }
 }
 
-/// The civil day that follows a civil day. The day after the last is in the year 10000, which no civil day is.
+/// Returns the day after a civil day. After 9999-12-31 that is 10000-01-01, which isn't a civil day.
 pub fn day_after(day: Day) -> Day
     requires { is_civil day ≡ true }
     ensures { result ≡ following day }
@@ -55,7 +54,7 @@ pub fn day_after(day: Day) -> Day
     }
 }
 
-// The day as jiff has it, if it is a civil date of the years 1 to 9999.
+// Returns the day as a date of jiff, if it is a civil date of the years 1 to 9999.
 pub(crate) fn civil_date(day: Day) -> Option<Date>
     ensures some { IfSome result (λ date. (is_civil day ≡ true) × IsDate day date) }
     ensures none { IfNone result (is_civil day ≡ false) }

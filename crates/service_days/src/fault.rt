@@ -18,14 +18,14 @@ pub enum DayFault {
 }
 
 impl DayFault {
-    /// The number by which refusals are told.
+    /// Returns the number of the fault.
     pub fn number(self) -> u8
         ensures { result ≡ (fault_told self).0 }
     {
         self as u8
     }
 
-    /// The name by which refusals are told, as `BadZone`.
+    /// Returns the name of the fault, such as `BadZone`.
     pub fn name(self) -> &'static str
         ensures { result.now ≡ (fault_told self).1 }
     {

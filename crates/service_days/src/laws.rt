@@ -8,18 +8,18 @@ ghost use Rattle.service_days.specs.Days.{day_after as following};
 ghost use Rattle.service_days.specs.Zones.{HasNoStart, IsDayStart};
 ghost use Rattle.service_days.specs.declared.zone.Zone.{Zone};
 
-/// A day has one start at most in a zone.
+/// A day has at most one start in a zone.
 pub fn one_start()
     ensures { (zone : Zone) (day : Day) (start other : ℤ) → IsDayStart zone day start → IsDayStart zone day other
         → start ≡ other }
 {}
 
-/// A day that has a start isn't without one.
+/// No day both has a start and has none.
 pub fn started_or_not()
     ensures { (zone : Zone) (day : Day) (start : ℤ) → IsDayStart zone day start → ¬ (HasNoStart zone day) }
 {}
 
-/// The day after a civil day has the next day number, by which its weekday is told too.
+/// The day after a civil day has the next day number, and so also the next weekday.
 pub fn days_are_counted_on()
     ensures { (day : Day) → is_civil day ≡ true
         → days_from_civil (pos (following day).year) (following day).month (following day).day

@@ -1,7 +1,7 @@
-//! The days of services: on which a service runs, and the instant at which a day starts in a time zone.
+//! The days on which services run, and the instant at which a day starts in a time zone.
 //!
-//! A day of a timetable is counted from noon less twelve hours, so that its times stay right on the days of 23 and of
-//! 25 hours on which the clocks are changed (GTFS Schedule Reference, field type Time).
+//! The times of a service day count from noon minus twelve hours, so that they are also right on days of 23 or 25
+//! hours, on which the clocks change (GTFS Schedule Reference, field type Time).
 #![tactic(auto)]
 
 mod asked;

@@ -1,4 +1,4 @@
-//! The services that trips name, each once, so that which of them run on a day is worked out once.
+//! The services that trips name, each once, so that each is looked up only once for a day.
 
 ghost use Rattle.std.specs.Prelude.{◌≡◌, [], List, map, IfOk, OnOk};
 ghost use Rattle.gtfs_rows.specs.Ids.{seen_also};
@@ -14,14 +14,14 @@ use gtfs_rows::{Day, IdHash};
 use indexmap::IndexSet;
 use std::alloc::{AllocError, Global};
 
-/// The services that were named, each once, in the order in which they were first named.
+/// Distinct services, in the order in which they were first named.
 #[derive(Drop)]
 pub struct NamedServices {
     ids: IndexSet<String, IdHash>,
 }
 
 impl NamedServices {
-    /// No service was named.
+    /// Returns an empty list.
     pub fn new(alloc: Global, services: &Services) -> NamedServices
         ensures { names_of result ≡ [] }
     {
@@ -30,7 +30,7 @@ impl NamedServices {
         }
     }
 
-    /// The index of a service, which goes last if it wasn't named before.
+    /// Returns the index of a service, which is added at the end if it wasn't named before. Memory may run out.
     pub fn index_of(&mut self, service: &String) -> Result<usize, AllocError>
         ensures names { OnOk result (names_of self.new ≡ seen_also (names_of self.old) (string_bytes service.now)) }
         ensures index { IfOk result (λ index. StandsAt (names_of self.new) index (string_bytes service.now)) }
@@ -42,7 +42,7 @@ impl NamedServices {
         Ok(index)
     }
 
-    /// Whether each of the services runs on a day, in their order, as [`active`] returns.
+    /// Returns for each service, in order, whether it runs on a day, as [`active`] does. Memory may run out.
     pub fn active_on(
         &self,
         alloc: Global,

@@ -1,4 +1,4 @@
-//! On which days a service runs: its weekly calendar within its dates, and the days that are added and taken out.
+//! The days on which a service runs: its weekdays between two dates, and the days that are added or removed.
 
 ghost use Rattle.std.specs.Prelude.{◌≡◌, ◌<◌, ◌++◌, ◌∷◌, if◌then◌else◌, ℕ, List, [], IfOk, OnOk};
 ghost use Rattle.std.specs.List.{list_any};
@@ -31,7 +31,7 @@ struct DayException {
     exception: Exception,
 }
 
-/// The services of a feed, found by their ids.
+/// The services of a feed, by id.
 #[derive(Drop)]
 pub struct Services {
     weeks: IndexMap<String, Vec<Week>, IdHash>,
@@ -39,7 +39,8 @@ pub struct Services {
 }
 
 impl Services {
-    /// The services of `calendar.txt` and `calendar_dates.txt`, whose rows may be of any order, looked up by this hash.
+    /// Returns the services of `calendar.txt` and `calendar_dates.txt`, whose rows may be in any order, looked up by
+    /// this hash. Memory may run out.
     pub fn new(
         alloc: Global,
         hash: IdHash,
@@ -54,13 +55,13 @@ impl Services {
         })
     }
 
-    // The hash by which services are looked up.
+    // Returns the hash by which services are looked up.
     pub(crate) fn hash(&self) -> IdHash {
         *self.weeks.hasher()
     }
 }
 
-// Adds what is said of a service.
+// Adds a week or an exception to those of a service.
 fn add<T: Drop>(
     alloc: Global,
     held: &mut IndexMap<String, Vec<T>, IdHash>,
@@ -114,9 +115,9 @@ fn exceptions_of(
     Ok(exceptions)
 }
 
-/// Whether a service runs on a day: a row of its calendar has the weekday and the day is in its range, or the day is
-/// added, and it isn't removed (GTFS Schedule Reference, `calendar.txt` and `calendar_dates.txt`). A service without
-/// rows never runs, nor does any on a day that is no civil date.
+/// Returns whether a service runs on a day: the day isn't removed, and either it is added, or it is in the range and
+/// on a weekday of a row of `calendar.txt` (GTFS Schedule Reference, `calendar.txt` and `calendar_dates.txt`). A
+/// service without rows never runs, and no service runs on a day that isn't a civil date.
 pub fn active(services: &Services, service: &str, day: Day) -> bool
     ensures { (calendar : List CalendarRow) (dates : List CalendarDateRow) → HoldsServices calendar dates services.now
         → result ≡ is_active calendar dates service.now day }
@@ -156,7 +157,7 @@ fn is_removed(exceptions: &[DayException], day: Day) -> bool
     exceptions.iter().any(|e| same_day(e.day, day) && matches!(e.exception, Exception::Removed))
 }
 
-// Whether a day is another or comes before it.
+// Returns whether the first day is no later than the second.
 fn not_after(a: Day, b: Day) -> bool
     ensures { result ≡ is_not_after a b }
 {

@@ -1,4 +1,4 @@
-//! Time zones by their names.
+//! Time zones: of a fixed offset, of a POSIX rule, or of a time zone file.
 
 ghost use Rattle.std.specs.Prelude.{◌≡◌, ◌≢◌, ◌↔◌, IsOk, IsSome, IfOk, IfErr, IsErrOf, false};
 ghost use Rattle.std.specs.Result.{is_ok};
@@ -15,14 +15,14 @@ use std::alloc::Global;
 /// A time zone.
 #[derive(Drop)]
 pub enum Zone {
-    /// One rule for all time.
+    /// A fixed offset or a POSIX rule, for all time.
     Rule(TimeZone<'static>),
-    /// The table of a time zone file, which the zone owns.
+    /// The table of a time zone file, owned by the zone.
     Table(Tzif),
 }
 
 impl Zone {
-    /// The zone whose clocks are ahead of UTC by so many seconds, always.
+    /// Returns the zone whose clocks are always this many seconds ahead of UTC.
     pub fn fixed(seconds: i32) -> Zone
         requires { IsWithin 86_399 seconds }
         ensures { IsFixedZone seconds result }
@@ -33,7 +33,7 @@ impl Zone {
         }
     }
 
-    /// The zone of a POSIX rule, as `CET-1CEST,M3.5.0,M10.5.0/3`; `BadZone` where the text is none.
+    /// Returns the zone of a POSIX rule such as `CET-1CEST,M3.5.0,M10.5.0/3`; `BadZone` if the text isn't one.
     pub fn posix(text: &str) -> Result<Zone, DayFault>
         ensures succeeds { IsOk result ↔ IsSome (read_whole text.now) }
         ensures value { IfOk result (IsRuleOf text.now) }
@@ -45,8 +45,8 @@ impl Zone {
         }
     }
 
-    /// The zone of a time zone file's bytes (TZif, RFC 9636); `BadZone` where they are none, or where the file's last
-    /// rule disagrees with its table, else `OutOfMemory`.
+    /// Returns the zone of a time zone file's bytes (TZif, RFC 9636). `BadZone` if they aren't such a file, or if the
+    /// file's last rule disagrees with its table; `OutOfMemory` if memory ran out.
     pub fn file_bytes(alloc: Global, bytes: &[u8]) -> Result<Zone, DayFault>
         ensures value { IfOk result (IsTableOf bytes.now) }
         ensures unread { is_ok (read_tzif bytes.now) ≡ false → IsErrOf result DayFault.BadZone }
@@ -59,7 +59,7 @@ impl Zone {
         }
     }
 
-    // The zone as jiff has it.
+    // Returns the zone as a time zone of jiff.
     pub(crate) fn time_zone(&self) -> TimeZone<'_>
         ensures { (at : DateTime) → ambiguous_at (plain_zone result) at ≡ offsets_in self.entry.now at }
     {
@@ -70,7 +70,7 @@ impl Zone {
     }
 }
 
-// Why a time zone file is refused.
+// Returns why a time zone file is refused.
 fn file_fault(error: jiff::Error) -> DayFault
     ensures bad { result ≡ DayFault.BadZone → error ≢ Memory }
     ensures memory { result ≡ DayFault.OutOfMemory → error ≡ Memory }

@@ -1,4 +1,4 @@
--- Which claims are made, though no transfer is possible between two stations.
+-- The claims that are made even if no transfer is possible between two stations.
 use Rattle.std.proofs.Common.{◌≡◌, ◌≢◌, ◌==◌, ◌⊎◌, inl, inr, ℕ, List, true, false, Option, Some, sym, ap, subst, ◌∙◌}
 use Rattle.std.proofs.lemmas.Bool.{cases_eq, eqb-true, false≢true}
 use Rattle.reasoning.proofs.ListLemmas.{same_at}

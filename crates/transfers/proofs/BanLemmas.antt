@@ -1,4 +1,4 @@
--- What transfers forbid between stations, listed, in order and looked up.
+-- The bans of transfers: listed, sorted and looked up.
 use Rattle.std.proofs.Common.{◌≡◌, ◌⊎◌, inl, inr, ℕ, ◌+◌, ◌<◌, List, [], ◌∷◌, ◌++◌, length, take, get_or, Option, Some, None, Contains, refl}
 use Rattle.std.proofs.Common.{sym, ap, subst, ◌∙◌, arith, Result, Ok, Err, is_ok, true, false}
 use Rattle.std.specs.declared.cmp.Ordering.{Ordering}

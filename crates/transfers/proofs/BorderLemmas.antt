@@ -1,4 +1,4 @@
--- The places with a key, found among those that have one.
+-- The indices with a given key, found among all that have a key.
 use Rattle.std.proofs.Common.{◌≡◌, ℕ, ◌+◌, ◌-◌, ◌<◌, ◌≤◌, inl, inr, List, length, take, drop, ltb, leb, ltb-true, ltb-false, leb-true, leb-false, true, false}
 use Rattle.std.proofs.Common.{Option, Contains, get_or, sym, ap, subst, ◌∙◌, arith}
 use Rattle.std.specs.List.{slice_index, AllWithin}

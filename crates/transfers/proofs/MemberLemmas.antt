@@ -1,4 +1,4 @@
--- The places that have a key.
+-- The indices that have a key.
 use Rattle.std.proofs.Common.{◌≡◌, ℕ, ◌+◌, ◌<◌, ◌≤◌, inl, inr, List, [], ◌∷◌, ◌++◌, length, map, Option, Some, None, Contains, get_or, sym, ap, subst}
 use Rattle.std.proofs.Common.{◌∙◌, arith, append-nil}
 use Rattle.std.specs.List.{slice_get}

@@ -1,4 +1,4 @@
--- The footpaths of the first claims on their pairs.
+-- The footpaths of the first claims about their pairs.
 use Rattle.std.proofs.Common.{◌≡◌, ℕ, suc, ◌+◌, ◌-◌, ◌<◌, ◌≤◌, inl, inr, List, [], ◌∷◌, ◌++◌, Contains, get_or, refl, sym, ap, subst, ◌∙◌}
 use Rattle.std.proofs.Common.{arith, append-nil}
 use Rattle.std.proofs.lemmas.Option.{slice_get-get_or, slice_get_within}

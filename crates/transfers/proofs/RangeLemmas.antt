@@ -1,4 +1,4 @@
--- What is claimed is of stops that the feed has or its transfers name, and each stop has a loop.
+-- Claims are about stops that the feed has or that its transfers name, and each stop has a loop.
 use Rattle.std.proofs.Common.{◌≡◌, ℕ, ◌+◌, ◌<◌, ◌≤◌, inl, inr, List, length, take, get_or, All, Bool, true, Option, Some, None, refl, sym, ap}
 use Rattle.std.proofs.Common.{subst, ◌∙◌, arith}
 use Rattle.std.specs.List.{slice_get}

@@ -1,4 +1,4 @@
--- A listed footpath is claimed by what is never left out.
+-- The claim of a listed footpath is never left out.
 use Rattle.std.proofs.Common.{◌≡◌, ◌==◌, inl, inr, ℕ, List, Bool, true, false, Option, Some, None, refl, sym, ap, subst, ◌∙◌}
 use Rattle.std.proofs.lemmas.Bool.{ne_eqb}
 use Rattle.std.proofs.lemmas.Option.{same_Some}

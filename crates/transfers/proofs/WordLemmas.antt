@@ -1,4 +1,4 @@
--- What is said of a pair of stops, and the first claim on it.
+-- The word that counts for a pair of stops, and the first claim about it.
 use Rattle.std.proofs.Common.{◌≡◌, ◌==◌, ◌&&◌, ℕ, suc, ◌≤◌, ◌⊎◌, inl, inr, nat_lt, List, [], ◌∷◌, length, if◌then◌else◌, Bool, true, false, Option, Some}
 use Rattle.std.proofs.Common.{None, Contains, refl, sym, ap, subst, ◌∙◌, arith}
 use Rattle.std.proofs.lemmas.Option.{same_Some, none-some}

@@ -16,17 +16,17 @@ use Rattle.transfers.specs.declared.claims.Source.TheVariants.{Stops, Station, D
 use Rattle.transfers.specs.Listed.{source_of, station_of}
 use Rattle.transfers.specs.Claims.{IsRowInto}
 
--- a transfer says that none is possible from a station to a station
+-- some transfer says that none is possible from one station to the other
 abbrev pub IsBan : List Transfer → ℕ → ℕ → Type 0
 IsBan rows from to = (row : Transfer) × Contains rows row × (row.kind ≡ Impossible) × (row.from ≡ TheStation from) × (row.to ≡ TheStation to)
 
--- the same, where each stop has a station
+-- both stations are there, and no transfer is possible between them
 abbrev pub IsVoid : List Transfer → Option ℕ → Option ℕ → Type 0
 IsVoid rows None to = ⊥
 IsVoid rows (Some from) None = ⊥
 IsVoid rows (Some from) (Some to) = IsBan rows from to
 
--- what two places and a kind forbid between stations
+-- the ban between two ends, if both are stations; then the bans that a kind of transfer states, and those of a transfer
 abbrev pub ban_between : Place → Place → Option Ban
 ban_between (TheStop from) to = None
 ban_between (TheStation from) (TheStop to) = None
@@ -46,7 +46,7 @@ bans_by Skipped from to = []
 abbrev pub bans_in : Transfer → List Ban
 bans_in row = bans_by row.kind row.from row.to
 
--- these are all that transfers forbid between two stations
+-- these are all bans that the transfers state
 pub record HasBans (rows : List Transfer) (bans : List Ban) : Type 0 where
   pub has : (b : Ban) → Contains bans b → IsBan rows b.from b.to
   pub each : (b : Ban) → IsBan rows b.from b.to → Contains bans b
@@ -54,35 +54,35 @@ pub record HasBans (rows : List Transfer) (bans : List Ban) : Type 0 where
 abbrev pub ban_cmp : Ban → Ban → Ordering
 ban_cmp a b = ordering_then (nat_cmp a.to b.to) (nat_cmp a.from b.from)
 
--- and they are in order, by the station led into
+-- they are also sorted, by the station that they lead to
 pub record AreBans (rows : List Transfer) (bans : List Ban) : Type 0 where
   pub all : HasBans rows bans
   pub sorted : IsSorted ban_cmp bans
 
--- the station that a place is, or a stop of
+-- the station that an end is, or the station of the stop that it is
 abbrev pub station_at : List Stop → Place → Option ℕ
 station_at stops (TheStop stop) = station_of stops stop
 station_at stops (TheStation station) = Some station
 
--- whether a source counts after one that says that no transfer is possible between stations
+-- a claim of this source doesn't count: it isn't by a transfer that names both stops itself, and no transfer is possible between the stations
 abbrev pub MayBeSilent : Source → Type 0 → Type 0
 MayBeSilent Stops void = ⊥
 MayBeSilent Station void = void
 MayBeSilent Default void = void
 
--- a transfer says nothing but of loops: none is possible between its stations, and it doesn't name both stops itself
+-- a transfer says nothing except about loops: it doesn't name both stops itself, and no transfer is possible between its stations
 abbrev pub IsMute : List Stop → List Transfer → Transfer → ℕ → Type 0
 IsMute stops rows row to = MayBeSilent (source_of row) (IsVoid rows (station_at stops row.from) (station_of stops to))
 
--- a claim needn't be made: no transfer is possible between the stations of its stops, none names both stops itself, and it is of no loop
+-- a claim needn't be made: its source doesn't name both stops itself, no transfer is possible between their stations, and it isn't about a loop
 pub record IsSilent (stops : List Stop) (rows : List Transfer) (c : Claim) : Type 0 where
   pub apart : c.from ≢ c.to
   pub void : MayBeSilent c.source (IsVoid rows (station_of stops c.from) (station_of stops c.to))
 
--- what is claimed, without what needn't be
+-- the claims without those that needn't be made
 abbrev pub Aloud : List Stop → List Transfer → (Claim → Type 0) → Claim → Type 0
 Aloud stops rows made c = made c × ¬ IsSilent stops rows c
 
--- a transfer claims it of the way from a stop to itself
+-- a transfer makes this claim about the loop of a stop
 abbrev pub IsOwnInto : List Stop → ℕ → Transfer → Claim → Type 0
 IsOwnInto stops to row c = IsRowInto stops to row c × (c.from ≡ c.to)

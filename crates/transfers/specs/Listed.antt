@@ -1,4 +1,4 @@
--- The footpaths that a feed lists. (GTFS Schedule Reference, stops.txt and transfers.txt; the times where none is given are our own.)
+-- The footpaths that a feed lists, by the GTFS Schedule Reference (stops.txt and transfers.txt). Times that it leaves open are our own.
 use Rattle.std.specs.Prelude.{◌≡◌, ◌==◌, ◌&&◌, ◌<◌, ◌≤◌, ◌↔◌, ℕ, min, nat_lt, Bool, true, false, if◌then◌else◌, List, [], ◌∷◌, length, slice_get, Option}
 use Rattle.std.specs.Prelude.{All, Some, None}
 pub use Rattle.reasoning.specs.Options.{is_that_number as is_station}
@@ -26,16 +26,16 @@ station_in (Some stop) = stop.station
 abbrev pub station_of : List Stop → ℕ → Option ℕ
 station_of stops stop = station_in (slice_get stops stop)
 
--- whether a stop is one of the station's
+-- the stop is one of the station's
 abbrev pub is_child : List Stop → ℕ → ℕ → Bool
 is_child stops station stop = is_station (station_of stops stop) station
 
--- whether a place stands for a stop: it names that stop, or its station
+-- the end stands for a stop: it is that stop, or its station
 abbrev pub stands_for : List Stop → Place → ℕ → Bool
 stands_for stops (TheStop named) stop = named == stop
 stands_for stops (TheStation station) stop = is_child stops station stop
 
--- whether a transfer names both stops themselves, or a station
+-- the source of a transfer's claims: it names both stops themselves, or a station
 abbrev pub source_by : Place → Place → Source
 source_by (TheStop from) (TheStop to) = Stops
 source_by (TheStop from) (TheStation to) = Station
@@ -45,12 +45,12 @@ source_by (TheStation from) (TheStation to) = Station
 abbrev pub source_of : Transfer → Source
 source_of row = source_by row.from row.to
 
--- the time that is given, a day at most, or so many seconds
+-- the given time, at most a day, or so many seconds if none is given
 abbrev pub given_or : Option ℕ → ℕ → ℕ
 given_or None secs = secs
 given_or (Some given) secs = min given 86400
 
--- what a transfer says of a pair of stops that it stands for; a stop can't be kept apart from itself
+-- what a transfer says about a pair of stops that its ends stand for; it can't forbid a loop
 abbrev pub word_by : TransferKind → Option ℕ → Bool → Option Word
 word_by Recommended given is_loop = Some (Takes (given_or given (if is_loop then 0 else 120)))
 word_by Timed given is_loop = Some (Takes (given_or given 0))
@@ -61,48 +61,48 @@ word_by Skipped given is_loop = None
 abbrev pub word_of : Transfer → Bool → Option Word
 word_of row is_loop = word_by row.kind row.seconds is_loop
 
--- whether two sources are the same
+-- the two sources are the same
 abbrev pub is_source : Source → Source → Bool
 is_source Stops Stops = true
 is_source Station Station = true
 is_source Default Default = true
 is_source _ _ = false
 
--- what a transfer says of a pair of stops, where it is from that source
+-- what a transfer of this source says about a pair of stops
 abbrev pub word_for : List Stop → Source → ℕ → ℕ → Transfer → Option Word
 word_for stops source from to row =
     if is_source (source_of row) source && stands_for stops row.from from && stands_for stops row.to to then word_of row (from == to) else None
 
--- of two words: there is no footpath where one says so, else the least time
+-- the word of two that counts: there is no footpath if one says so, or else the least time counts
 abbrev pub least_word : Word → Word → Word
 least_word Never other = Never
 least_word (Takes secs) Never = Never
 least_word (Takes secs) (Takes other) = Takes (min secs other)
 
--- what counts of two things said, where each may be none
+-- the word of two that counts, if either is there
 abbrev pub heard : Option Word → Option Word → Option Word
 heard None other = other
 heard (Some word) None = Some word
 heard (Some word) (Some other) = Some (least_word word other)
 
--- what the transfers from one source say of a pair of stops
+-- the word that counts among those of one source about a pair of stops
 abbrev pub said_by : List Stop → Source → ℕ → ℕ → List Transfer → Option Word
 said_by stops source from to [] = None
 said_by stops source from to (row ∷ rows) = heard (word_for stops source from to row) (said_by stops source from to rows)
 
--- whether a stop is of that station
+-- the station is there, and the stop is one of its stops
 abbrev pub is_of : List Stop → Option ℕ → ℕ → Bool
 is_of stops None stop = false
 is_of stops (Some station) stop = is_child stops station stop
 
--- what holds of a pair of stops where no transfer counts: no time for a loop, two minutes within a station
+-- the word for a pair of stops if no transfer counts: no time for a loop, two minutes within a station
 abbrev pub default_word : List Stop → ℕ → ℕ → Option Word
 default_word stops from to =
     if from == to
     then (if nat_lt to (length stops) then Some (Takes 0) else None)
     else (if is_of stops (station_of stops to) from then Some (Takes 120) else None)
 
--- what is said of a pair of stops: by transfers that name both themselves, else by those of stations, else by default
+-- the word that counts for a pair of stops: of transfers that name both themselves, else of those that name a station, else the default
 abbrev pub word_between : Feed → ℕ → ℕ → Option Word
 word_between feed from to =
     or_else (said_by feed.stops.items Stops from to feed.transfers.items)
@@ -113,11 +113,11 @@ secs_of None = None
 secs_of (Some Never) = None
 secs_of (Some (Takes secs)) = Some secs
 
--- the seconds of the listed footpath from a stop to a stop, where there is one
+-- the seconds of the listed footpath from one stop to another, if there is one
 abbrev pub listed_secs : Feed → ℕ → ℕ → Option ℕ
 listed_secs feed from to = secs_of (word_between feed from to)
 
--- these are the listed footpaths from and to some stops
+-- these are the listed footpaths between the pairs of stops that are meant
 pub record AreListed (feed : Feed) (meant : ℕ → ℕ → Type 0) (paths : List Footpath) : Type 0 where
   pub in_order : AreInOrder paths
   pub has : (from to secs : ℕ) → HasFootpath paths from to secs → meant from to × (listed_secs feed from to ≡ Some secs)
@@ -130,15 +130,15 @@ pub record AreAllListed (feed : Feed) (paths : List Footpath) : Type 0 where
   pub in_range : All (λ f. (f.from < length feed.stops.items) × (f.to < length feed.stops.items)) paths
   pub loops : (stop : ℕ) → stop < length feed.stops.items → (secs : ℕ) × HasFootpath paths stop stop secs
 
--- from whatever stop to one below a number
+-- from any stop to one below a number
 abbrev pub LeadBelow : ℕ → ℕ → ℕ → Type 0
 LeadBelow end from to = to < end
 
--- into stops below a number more footpaths are listed than that
+-- more than `most` footpaths lead into stops below a number that is at most `end`
 abbrev pub ListsMoreBelow : Feed → ℕ → ℕ → Type 0
 ListsMoreBelow feed end most = (few : ℕ) × (few ≤ end) × (paths : List Footpath) × AreListed feed (LeadBelow few) paths × (most < length paths)
 
--- the feed lists more footpaths than that
+-- the feed lists more than `most` footpaths
 pub record ListsMore (feed : Feed) (most : ℕ) : Type 0 where
   pub paths : List Footpath
   pub in_order : AreInOrder paths

@@ -1,4 +1,4 @@
--- What a feed's stops and transfers are looked up by.
+-- How a feed's stops and transfers are looked up.
 use Rattle.std.specs.Prelude.{ℕ, ◌≤◌, List, length, map, All, Option, Some, None}
 use Rattle.gtfs_tables.specs.declared.tables.Feed.{Feed}
 use Rattle.gtfs_tables.specs.declared.tables.Stop.{Stop}
@@ -12,7 +12,7 @@ use Rattle.transfers.specs.Groups.{AreGroups}
 use Rattle.transfers.specs.Heard.{HearsOnce}
 use Rattle.transfers.specs.Listed.{NamesBelow}
 
--- the stop, or the station, that a place is
+-- the stop, or the station, that an end is
 abbrev pub stop_named : Place → Option ℕ
 stop_named (TheStop stop) = Some stop
 stop_named (TheStation station) = None
@@ -21,14 +21,14 @@ abbrev pub station_named : Place → Option ℕ
 station_named (TheStop stop) = None
 station_named (TheStation station) = Some station
 
--- what transfers forbid, stops by their stations, transfers by the stop or the station that they lead to
+-- the lookup has the bans, the stops grouped by station, and the transfers grouped by the stop or the station that they lead to
 pub record IsLookup (stops : List Stop) (rows : List Transfer) (l : Lookup) : Type 0 where
   pub bans : AreBans rows l.bans.items
   pub children : AreGroups (map (λ stop. stop.station) stops) l.children.keys.items l.children.numbers.items
   pub into_stops : AreGroups (map (λ row. stop_named row.to) rows) l.into_stops.keys.items l.into_stops.numbers.items
   pub into_stations : AreGroups (map (λ row. station_named row.to) rows) l.into_stations.keys.items l.into_stations.numbers.items
 
--- the stops of a feed that is known and its transfers that are heard, which are looked up right
+-- the stops of the feed, and the transfers that are left of it; the lookup is made from these
 abbrev pub stops_in : Known → List Stop
 stops_in known = known.feed.now.stops.items
 
@@ -38,11 +38,11 @@ transfers_in known = known.lookup.now.transfers.items
 abbrev pub IsKnown : Known → Type 0
 IsKnown known = IsLookup (stops_in known) (transfers_in known) known.lookup.now
 
--- and those say all that counts
+-- the transfers that are left say all that counts
 abbrev pub IsHeard : Known → Type 0
 IsHeard known = HearsOnce known.feed.now.transfers.items (transfers_in known)
 
--- the number is above those of all stops that the feed has or its transfers name
+-- the number is above those of all stops that the feed has or that its transfers name
 pub record EndsBelow (feed : Feed) (end : ℕ) : Type 0 where
   pub stops : length feed.stops.items ≤ end
   pub named : All (λ row. NamesBelow end row.from × NamesBelow end row.to) feed.transfers.items

@@ -1,4 +1,4 @@
-//! The pairs of stations between which a transfer says that none is possible.
+//! The pairs of stations between which no transfer is possible.
 
 ghost use Rattle.std.specs.Prelude.{◌≡◌, ◌++◌, true, false, List, IfOk, OnOk};
 ghost use Rattle.gtfs_tables.specs.declared.tables.Transfer.{Transfer as TheTransfer};
@@ -7,15 +7,15 @@ ghost use Rattle.transfers.specs.Bans.{AreBans, HasBans, IsBan, ban_between, ban
 use gtfs_tables::{Place, Transfer, TransferKind};
 use std::alloc::{AllocError, Global};
 
-/// That no transfer is possible from the stops of a station to those of a station, unless one names
-/// both stops themselves.
+/// No transfer is possible from the stops of one station to those of another (or the same), except by transfers
+/// that name both stops themselves.
 #[derive(Clone, Copy, PartialEq, Eq, PartialOrd, Ord)]
 pub(crate) struct Ban {
     pub to: u32,
     pub from: u32,
 }
 
-// That none is possible between the stations that two places are, where they are stations.
+// Returns the ban between two ends, if both are stations.
 fn ban_between(from: Place, to: Place) -> Option<Ban>
     ensures { result ≡ ban_between from to }
 {
@@ -26,7 +26,7 @@ fn ban_between(from: Place, to: Place) -> Option<Ban>
     }
 }
 
-// Adds what a transfer forbids.
+// Adds the ban that a transfer states, if it states one.
 fn add_ban(bans: &mut Vec<Ban>, row: &Transfer) -> Result<(), AllocError>
     ensures { OnOk result (bans.new.items ≡ bans.old.items ++ bans_in row.now) }
 {
@@ -45,7 +45,7 @@ fn add_ban(bans: &mut Vec<Ban>, row: &Transfer) -> Result<(), AllocError>
     }
 }
 
-// What transfers forbid, in their order.
+// Returns the bans that transfers state, in the order of the transfers.
 fn bans_made(alloc: Global, rows: &[Transfer]) -> Result<Vec<Ban>, AllocError>
     ensures { IfOk result (λ bans. HasBans rows.now bans.items) }
 {
@@ -56,7 +56,7 @@ fn bans_made(alloc: Global, rows: &[Transfer]) -> Result<Vec<Ban>, AllocError>
     Ok(bans)
 }
 
-/// What transfers forbid between two stations, in order.
+/// Returns the bans that transfers state, sorted.
 pub(crate) fn bans_of(alloc: Global, rows: &[Transfer]) -> Result<Vec<Ban>, AllocError>
     ensures { IfOk result (λ bans. AreBans rows.now bans.items) }
 {
@@ -65,7 +65,7 @@ pub(crate) fn bans_of(alloc: Global, rows: &[Transfer]) -> Result<Vec<Ban>, Allo
     Ok(bans)
 }
 
-/// Whether a transfer from a station to a station is forbidden.
+/// Returns whether a transfer from one station to another is banned.
 pub(crate) fn is_ban(bans: &[Ban], from: u32, to: u32) -> bool
     ensures found { (rows : List TheTransfer) → AreBans rows bans.now → result ≡ true → IsBan rows from to }
     ensures none { (rows : List TheTransfer) → AreBans rows bans.now → result ≡ false → ¬ IsBan rows from to }

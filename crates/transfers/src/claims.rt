@@ -1,4 +1,4 @@
-//! What is said of a way on foot from a stop to a stop, and who says it.
+//! Claims: what a feed says about footpaths between pairs of stops, and what in the feed says it.
 
 ghost use Rattle.std.specs.Prelude.{◌≡◌, OnOk};
 ghost use Rattle.transfers.specs.Bans.{Aloud, IsOwnInto};
@@ -13,35 +13,36 @@ use crate::lookup::Known;
 use gtfs_tables::{Place, Transfer, TransferKind};
 use std::alloc::AllocError;
 
-/// The time of a transfer where none is given, in seconds.
+/// The time of a transfer that gives none, in seconds.
 pub const USUAL_SECS: u32 = 120;
 
-/// The longest time that a transfer is taken to need, in seconds.
+/// The longest time of a transfer, in seconds. A longer one counts as this.
 pub const MOST_SECS: u32 = 86_400;
 
-/// Who says something of an ordered pair of stops. Where several do, the first of them, in this order, counts.
+/// What in the feed makes a claim. If several sources make claims about an ordered pair of stops, the first of them
+/// in this order counts.
 #[derive(Clone, Copy, Debug, PartialEq, Eq, PartialOrd, Ord)]
 pub enum Source {
     /// A transfer that names both stops themselves.
     Stops,
     /// A transfer that names a station.
     Station,
-    /// What holds where no transfer counts.
+    /// The default, if no transfer counts.
     Default,
 }
 
-/// What is said of an ordered pair of stops. Where one source says several things, the least, in this order, counts.
+/// What a claim says about an ordered pair of stops. If one source makes several claims, the least in this order
+/// counts.
 #[derive(Clone, Copy, Debug, PartialEq, Eq, PartialOrd, Ord)]
 pub enum Word {
     /// There is no direct footpath.
     Never,
-    /// One takes so many seconds.
+    /// There is a footpath that takes so many seconds.
     Takes(u32),
 }
 
-/// Something that is said of an ordered pair of stops. Claims are in order by the stop led into,
-/// then by the stop left, then by who says it, then by what is said: so of each pair the claim that
-/// counts comes first.
+/// A claim about an ordered pair of stops. Claims are ordered by the stop that the way leads to, the stop that it
+/// leaves, the source and the word, so the claim that counts for a pair comes first.
 #[derive(Clone, Copy, Debug, PartialEq, Eq, PartialOrd, Ord)]
 pub struct Claim {
     pub to: u32,
@@ -50,13 +51,13 @@ pub struct Claim {
     pub word: Word,
 }
 
-/// What is claimed so far.
+/// The claims made so far.
 #[derive(Drop)]
 pub(crate) struct Claims {
     pub made: Vec<Claim>,
 }
 
-// Whether a transfer names both stops themselves, or a station.
+// Returns whether a transfer names both stops themselves, or a station.
 pub(crate) fn source_of(row: &Transfer) -> Source
     ensures { result ≡ source_of row.now }
 {
@@ -66,7 +67,7 @@ pub(crate) fn source_of(row: &Transfer) -> Source
     }
 }
 
-// The time that is given, or so many seconds.
+// Returns the given time, at most a day, or `secs` if none is given, in seconds.
 fn given_or(given: Option<u32>, secs: u32) -> u32
     ensures { result ≡ given_or given secs }
 {
@@ -76,7 +77,7 @@ fn given_or(given: Option<u32>, secs: u32) -> u32
     }
 }
 
-// What a transfer says of a pair of stops that it stands for, where it says something.
+// Returns what a transfer says about a pair of stops that its ends stand for, if anything.
 pub(crate) fn word_of(row: &Transfer, is_loop: bool) -> Option<Word>
     ensures { result ≡ word_of row.now is_loop }
 {
@@ -92,7 +93,7 @@ pub(crate) fn word_of(row: &Transfer, is_loop: bool) -> Option<Word>
     }
 }
 
-// Adds what a transfer says of a pair of stops.
+// Adds the claim of a transfer about a pair of stops, if it makes one.
 fn claim_pair(claims: &mut Vec<Claim>, row: &Transfer, from: u32, to: u32) -> Result<(), AllocError>
     ensures { OnOk result (Adds claims.old.items claims.new.items (IsPairClaim row.now from to)) }
 {
@@ -108,7 +109,7 @@ fn claim_pair(claims: &mut Vec<Claim>, row: &Transfer, from: u32, to: u32) -> Re
     Ok(())
 }
 
-// Adds what a transfer says of the ways into a stop.
+// Adds the claims of a transfer about the ways into a stop.
 fn claim_into(
     claims: &mut Vec<Claim>,
     row: &Transfer,
@@ -124,7 +125,7 @@ fn claim_into(
     Ok(())
 }
 
-// Adds what holds of a way from a stop to one of the same station, where no transfer counts.
+// Adds the default claim about the way from one stop to another of the same station.
 fn claim_sibling(claims: &mut Vec<Claim>, from: u32, to: u32) -> Result<(), AllocError>
     ensures { OnOk result (Adds claims.old.items claims.new.items (IsSiblingPair from to)) }
 {
@@ -139,7 +140,7 @@ fn claim_sibling(claims: &mut Vec<Claim>, from: u32, to: u32) -> Result<(), Allo
     Ok(())
 }
 
-// Adds what holds of the ways to a stop from those of the same station, where no transfer counts.
+// Adds the default claims about the ways to a stop from the other stops of its station.
 fn claim_siblings_of(claims: &mut Vec<Claim>, children: &[u32], to: u32) -> Result<(), AllocError>
     ensures { OnOk result (Adds claims.old.items claims.new.items
         (ForOneOf children.now (λ from. IsSiblingPair from to))) }
@@ -151,7 +152,7 @@ fn claim_siblings_of(claims: &mut Vec<Claim>, children: &[u32], to: u32) -> Resu
 }
 
 impl Claims {
-    // Adds what a transfer says of a stop's loop, if it leaves the stop.
+    // Adds the claim of a transfer about a stop's loop, if the transfer begins at the stop or its station.
     fn add_own(&mut self, known: &Known, row: &Transfer, to: u32) -> Result<(), AllocError>
         requires { IsKnown known.now }
         ensures { OnOk result (Adds self.old.made.items self.new.made.items
@@ -164,7 +165,7 @@ impl Claims {
         }
     }
 
-    // Adds what a transfer says of the ways into a stop.
+    // Adds the claims of a transfer about the ways into a stop, except those that don't count.
     fn add_said(&mut self, known: &Known, row: &Transfer, to: u32) -> Result<(), AllocError>
         requires { IsKnown known.now }
         ensures { OnOk result (Adds self.old.made.items self.new.made.items
@@ -177,7 +178,7 @@ impl Claims {
         }
     }
 
-    // Adds what the transfer of a number says of the ways into a stop.
+    // Adds the claims of the transfer with this number about the ways into a stop.
     fn add_row(&mut self, known: &Known, number: u32, to: u32) -> Result<(), AllocError>
         requires { IsKnown known.now }
         ensures { OnOk result (Adds self.old.made.items self.new.made.items
@@ -189,7 +190,7 @@ impl Claims {
         }
     }
 
-    // Adds what transfers say of the ways into a stop.
+    // Adds the claims of the transfers with these numbers about the ways into a stop.
     fn add_rows(&mut self, known: &Known, numbers: &[u32], to: u32) -> Result<(), AllocError>
         requires { IsKnown known.now }
         ensures { OnOk result (Adds self.old.made.items self.new.made.items
@@ -202,7 +203,7 @@ impl Claims {
         Ok(())
     }
 
-    // Adds what holds of the ways to a stop from those of its station, where no transfer counts.
+    // Adds the default claims about the ways to a stop from the other stops of its station, unless there is a ban.
     fn add_siblings(&mut self, known: &Known, station: u32, to: u32) -> Result<(), AllocError>
         requires { IsKnown known.now }
         ensures { OnOk result (Adds self.old.made.items self.new.made.items
@@ -215,7 +216,7 @@ impl Claims {
         }
     }
 
-    // Adds what is said of the ways into a stop as one of a station.
+    // Adds the claims about the ways into a stop that it has as a stop of a station.
     fn add_station(&mut self, known: &Known, station: u32, to: u32) -> Result<(), AllocError>
         requires { IsKnown known.now }
         ensures { OnOk result (Adds self.old.made.items self.new.made.items
@@ -226,7 +227,7 @@ impl Claims {
         self.add_siblings(known, station, to)
     }
 
-    // Adds what holds of the loop of a stop, where no transfer counts.
+    // Adds the default claim about the loop of a stop.
     fn add_loop(&mut self, stop: u32) -> Result<(), AllocError>
         ensures { OnOk result (Adds self.old.made.items self.new.made.items (IsLoopOf stop)) }
     {
@@ -239,7 +240,7 @@ impl Claims {
         Ok(())
     }
 
-    // Adds what is said of the ways into a stop of the feed, beside the transfers that lead to the stop itself.
+    // Adds the claims about the ways into a stop of the feed, except those of transfers that lead to the stop itself.
     fn add_stop(&mut self, known: &Known, station: Option<u32>, to: u32) -> Result<(), AllocError>
         requires { IsKnown known.now }
         ensures { OnOk result (Adds self.old.made.items self.new.made.items
@@ -255,8 +256,8 @@ impl Claims {
         }
     }
 
-    /// Adds all that is said of the ways into a stop, but for what doesn't count since no transfer
-    /// is possible between their stations.
+    /// Adds all claims about the ways into a stop, except those that don't count because no transfer is possible
+    /// between the stations.
     pub fn add_ways(&mut self, known: &Known, to: u32) -> Result<(), AllocError>
         requires { IsKnown known.now }
         ensures { OnOk result (Adds self.old.made.items self.new.made.items

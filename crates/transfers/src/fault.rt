@@ -5,9 +5,9 @@ use std::alloc::AllocError;
 /// Why a feed's footpaths aren't listed.
 #[derive(Clone, Copy, Debug, PartialEq, Eq)]
 pub enum ListingFault {
-    /// There are more than are allowed.
+    /// There are more footpaths than are allowed.
     TooMany,
-    /// Memory was wanting.
+    /// Memory ran out.
     OutOfMemory,
 }
 

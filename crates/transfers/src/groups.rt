@@ -1,4 +1,4 @@
-//! The places of a list in groups, by their keys.
+//! Groups the indices of a list of keys by key.
 
 ghost use Rattle.std.specs.Prelude.{◌≡◌, ◌≤◌, ◌++◌, List, Option, ℕ, length, map, slice_range, IfOk, OnOk};
 ghost use Rattle.std.specs.List.Sorted.{IsNonDecreasing};
@@ -6,25 +6,25 @@ ghost use Rattle.transfers.specs.Groups.{AreGroups, AreMembers, IsGroup, member_
 
 use std::alloc::{AllocError, Global};
 
-// A place and its key.
+// An index and its key.
 #[derive(Clone, Copy, Debug, PartialEq, Eq)]
 struct Member {
     key: u32,
     number: u32,
 }
 
-/// The places of a list of keys that have one, by their keys.
+/// The indices of a list at which there is a key, grouped by key.
 #[derive(Drop)]
 pub(crate) struct Groups {
-    /// The key of each such place, the lowest first.
+    /// The key at each of these indices, the lowest key first.
     pub keys: Vec<u32>,
-    /// The places, in the same order.
+    /// The indices, in the same order.
     pub numbers: Vec<u32>,
     ghost same_length: { length keys.items ≡ length numbers.items },
     ghost rising: { IsNonDecreasing keys.items },
 }
 
-// Adds a place that has a key.
+// Adds an index if it has a key. An index that doesn't fit in 32 bits counts as memory that ran out.
 fn add_member(members: &mut Vec<Member>, key: Option<u32>, number: usize) -> Result<(), AllocError>
     ensures { OnOk result (members.new.items ≡ members.old.items ++ member_of key number) }
 {
@@ -37,7 +37,7 @@ fn add_member(members: &mut Vec<Member>, key: Option<u32>, number: usize) -> Res
     Ok(())
 }
 
-// The places that have a key, by their numbers.
+// Returns the indices that have a key, in order.
 fn members_of(alloc: Global, keys: &[Option<u32>]) -> Result<Vec<Member>, AllocError>
     ensures { IfOk result (λ v. AreMembers keys.now (length keys.now) v.items) }
 {
@@ -48,7 +48,7 @@ fn members_of(alloc: Global, keys: &[Option<u32>]) -> Result<Vec<Member>, AllocE
     Ok(members)
 }
 
-// The keys of members, and their numbers.
+// Returns the keys of members, and their indices.
 fn parts_of(alloc: Global, members: &[Member]) -> Result<(Vec<u32>, Vec<u32>), AllocError>
     ensures keys { IfOk result (λ parts. parts.0.items ≡ map (λ m. m.key) members.now) }
     ensures numbers { IfOk result (λ parts. parts.1.items ≡ map (λ m. m.number) members.now) }
@@ -62,7 +62,7 @@ fn parts_of(alloc: Global, members: &[Member]) -> Result<(Vec<u32>, Vec<u32>), A
     Ok((keys, numbers))
 }
 
-// The numbers from a place up to before another.
+// Returns the numbers from `first` up to but not including `end`.
 fn part(numbers: &[u32], first: usize, end: usize) -> &[u32]
     requires order { first ≤ end }
     requires inside { end ≤ length numbers.now }
@@ -72,7 +72,7 @@ fn part(numbers: &[u32], first: usize, end: usize) -> &[u32]
 }
 
 impl Groups {
-    /// Brings the places that have a key into order. Places that a `u32` can't number count as want of memory.
+    /// Groups the indices that have a key. An index that doesn't fit in 32 bits counts as memory that ran out.
     pub fn new(alloc: Global, keys: &[Option<u32>]) -> Result<Groups, AllocError>
         ensures { IfOk result (λ g. AreGroups keys.now g.keys.items g.numbers.items) }
     {
@@ -82,7 +82,7 @@ impl Groups {
         Ok(Groups { keys, numbers })
     }
 
-    /// The places with a key.
+    /// Returns the indices with this key.
     pub fn group(&self, key: u32) -> &[u32]
         ensures { (all : List (Option ℕ)) → AreGroups all self.now.keys.items self.now.numbers.items
             → IsGroup all key result.now }

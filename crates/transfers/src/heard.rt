@@ -1,4 +1,4 @@
-//! The transfers of a feed, of which what those between the same two places say is heard once.
+//! Drops transfers that say nothing that counts beside others between the same two ends.
 
 ghost use Rattle.std.specs.Prelude.{◌≡◌, true, IfOk, OnOk};
 ghost use Rattle.transfers.specs.Claims.{IsHeardBefore};
@@ -8,16 +8,15 @@ use crate::claims::{Word, word_of};
 use gtfs_tables::{Place, Transfer};
 use std::alloc::{AllocError, Global};
 
-// A place, in an order.
+// An end of a transfer, as a type with an order.
 #[derive(Clone, Copy, Debug, PartialEq, Eq, PartialOrd, Ord)]
 enum End {
     Stop(u32),
     Station(u32),
 }
 
-// The places of a transfer, and what it says between two stops and at one: transfers in this order
-// stand together by their places, and of those of the same two places the ones that count come
-// first.
+// The sort key of a transfer: its ends, and what it says about two different stops and about a stop's loop. In this
+// order transfers between the same two ends follow each other, and those that count come first.
 #[derive(Clone, Copy, Debug, PartialEq, Eq, PartialOrd, Ord)]
 struct Turn {
     to: End,
@@ -42,7 +41,7 @@ fn turn_of(row: &Transfer) -> Turn {
     }
 }
 
-// Whether a word counts before another, or is the same.
+// Returns whether the first word counts before the other, or is the same.
 fn is_heard_before(word: Word, other: Word) -> bool
     ensures { result ≡ true → IsHeardBefore word other }
 {
@@ -53,7 +52,7 @@ fn is_heard_before(word: Word, other: Word) -> bool
     }
 }
 
-// Whether nothing is said that doesn't count after what is said before it, or is the same.
+// Returns whether the other says nothing, or something after which `said` counts first, or the same.
 fn is_heard_in(said: Option<Word>, other: Option<Word>) -> bool
     ensures { result ≡ true → IsHeardIn said other }
 {
@@ -64,7 +63,7 @@ fn is_heard_in(said: Option<Word>, other: Option<Word>) -> bool
     }
 }
 
-// Whether a transfer has the places of another and says all that counts of what the other says.
+// Returns whether the first transfer has the ends of the other and says all that counts of what the other says.
 fn says_first(before: &Transfer, row: &Transfer) -> bool
     ensures { result ≡ true → SaysFirst before.now row.now }
 {
@@ -74,7 +73,7 @@ fn says_first(before: &Transfer, row: &Transfer) -> bool
         && is_heard_in(word_of(before, true), word_of(row, true))
 }
 
-// Adds a transfer, unless the last one says all that counts of it.
+// Adds a transfer, unless the last one kept says all that counts of what it says.
 fn hear(kept: &mut Vec<Transfer>, row: &Transfer) -> Result<(), AllocError>
     ensures { OnOk result (KeepsWhatSays kept.old.items kept.new.items row.now) }
 {
@@ -87,8 +86,8 @@ fn hear(kept: &mut Vec<Transfer>, row: &Transfer) -> Result<(), AllocError>
     Ok(())
 }
 
-/// The transfers without those that say nothing that counts beside others of the same two places:
-/// at most four are left of these.
+/// Returns the transfers without those that say nothing that counts beside others between the same two ends; at most
+/// four of these are left. Memory may run out.
 pub(crate) fn heard_once(alloc: Global, rows: &[Transfer]) -> Result<Vec<Transfer>, AllocError>
     ensures { IfOk result (λ kept. HearsOnce rows.now kept.items) }
 {
@@ -98,7 +97,7 @@ pub(crate) fn heard_once(alloc: Global, rows: &[Transfer]) -> Result<Vec<Transfe
     heard_of(alloc, &sorted)
 }
 
-// The transfers of a list without those of which the one kept before them says all that counts.
+// Returns the transfers of a list without those of which the last one kept says all that counts.
 fn heard_of(alloc: Global, rows: &[Transfer]) -> Result<Vec<Transfer>, AllocError>
     ensures { IfOk result (λ kept. HearsOnce rows.now kept.items) }
 {

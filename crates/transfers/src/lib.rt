@@ -1,4 +1,5 @@
-//! The footpaths that a feed lists: by its transfers, between the stops of a station, and at each stop.
+//! The footpaths that a feed lists: those of its transfers, those between the stops of a station, and the loop of
+//! each stop.
 #![tactic(auto)]
 
 mod bans;

@@ -1,5 +1,5 @@
-//! The footpaths that a feed lists: for each pair of stops the time of the claim that counts, in
-//! the order of a timetable.
+//! Lists the footpaths of a feed: for each pair of stops the time of the claim that counts, in the order of
+//! a timetable.
 
 ghost use Rattle.std.specs.Prelude.{◌≡◌, ◌<◌, ◌≤◌, ◌++◌, ◌+◌, ◌^◌, length, IfOk, IfErr, OnOk, true, false};
 ghost use Rattle.timetable.specs.Legal.{AreInOrder};
@@ -17,7 +17,7 @@ use gtfs_tables::Feed;
 use std::alloc::{AllocError, Global};
 use timetable::Footpath;
 
-// Whether the claim at a place is the first of those that stand together on its pair of stops.
+// Returns whether the claim at an index is the first about its pair of stops.
 fn is_first(claims: &[Claim], place: usize) -> bool
     requires { place < length claims.now }
     ensures first { result ≡ true → IsFirstAt claims.now place }
@@ -31,7 +31,7 @@ fn is_first(claims: &[Claim], place: usize) -> bool
     before.to != claim.to || before.from != claim.from
 }
 
-// Adds the footpath of a claim, where there is one.
+// Adds the footpath of a claim, if the claim gives one.
 fn add_path(paths: &mut Vec<Footpath>, claim: &Claim) -> Result<(), AllocError>
     ensures { OnOk result (paths.new.items ≡ paths.old.items ++ path_of claim.now.from claim.now.to claim.now.word) }
 {
@@ -45,7 +45,7 @@ fn add_path(paths: &mut Vec<Footpath>, claim: &Claim) -> Result<(), AllocError>
     Ok(())
 }
 
-// Adds the footpath of the claim at a place, where the claim is the first on its pair.
+// Adds the footpath of the claim at an index, if the claim is the first about its pair and gives a footpath.
 fn add_first(paths: &mut Vec<Footpath>, claims: &[Claim], place: usize) -> Result<(), AllocError>
     requires { place < length claims.now }
     ensures paths { ArePathsBelow claims.now place paths.old.items
@@ -59,7 +59,7 @@ fn add_first(paths: &mut Vec<Footpath>, claims: &[Claim], place: usize) -> Resul
     Ok(())
 }
 
-// The footpaths of the first claim on each pair of stops.
+// Returns the footpaths of the first claims about each pair of stops.
 fn paths_of(alloc: Global, claims: &[Claim]) -> Result<Vec<Footpath>, AllocError>
     requires { AreSorted claims.now }
     ensures paths { IfOk result (λ v. ArePathsBelow claims.now (length claims.now) v.items) }
@@ -72,7 +72,7 @@ fn paths_of(alloc: Global, claims: &[Claim]) -> Result<Vec<Footpath>, AllocError
     Ok(paths)
 }
 
-// Adds the footpaths into a stop, behind those into the stops before it.
+// Adds the footpaths into a stop, after those into the stops before it.
 fn add_ways(
     alloc: Global,
     paths: &mut Vec<Footpath>,
@@ -93,7 +93,7 @@ fn add_ways(
     paths.extend_from_slice(&ways)
 }
 
-// Adds the footpaths into a stop, unless there are more than that many then.
+// Adds the footpaths into a stop: `TooMany` if there are more than `most` footpaths then.
 fn add_within(
     alloc: Global,
     paths: &mut Vec<Footpath>,
@@ -116,7 +116,7 @@ fn add_within(
     Ok(())
 }
 
-// The footpaths into the stops below a number, unless there are more than that many.
+// Returns the footpaths into the stops below `end`, or `TooMany` if there are more than `most`.
 fn paths_below(
     alloc: Global,
     known: &Known,
@@ -139,27 +139,25 @@ fn paths_below(
     Ok(paths)
 }
 
-/// The footpaths that a feed lists, with their times in seconds, by the stop led into, then by the
-/// stop left, as the GTFS Schedule Reference has them, where they are that many at most.
+/// Returns the footpaths that a feed lists by the GTFS Schedule Reference, with their times in seconds: ordered by
+/// the stop that they lead to, then by the stop that they leave.
 ///
-/// A transfer that names a station stands for each stop of it. For an ordered pair of stops the
-/// transfers that name both stops themselves count, where there are any, else those that name a
-/// station. Where one of them says that no transfer is possible there is no footpath, else the
-/// least of their times is taken. Where none counts, two stops of one station are 120 seconds
-/// apart, and a stop's loop takes no time.
+/// A transfer that names a station stands for each stop of it. For an ordered pair of stops the transfers that
+/// name both stops themselves count, if there are any, or else those that name a station. If one of them says that
+/// no transfer is possible, there is no footpath; otherwise the footpath takes the least of their times. If no
+/// transfer counts, two stops of one station are 120 seconds apart, and a stop's loop takes no time.
 ///
-/// A transfer takes its min_transfer_time, a day at most. Where none is given a timed transfer
-/// takes no time, nor does a recommended one from a stop to itself; any other takes 120 seconds. A
-/// transfer that says that none is possible from a stop to itself is passed over, and so are
-/// skipped transfers.
+/// A transfer takes its min_transfer_time, but at most a day. If none is given, a timed transfer takes no time, nor
+/// does a recommended one from a stop to itself; any other takes 120 seconds. A transfer that says that none is
+/// possible is ignored for a stop's loop, and skipped transfers are ignored.
 ///
-/// Where the feed's transfers name its own stops, the footpaths join its stops.
+/// The footpaths join stops of the feed, and each stop has a loop.
 ///
 /// # Errors
 ///
-/// `TooMany` where the feed lists more footpaths than that. It is told as soon as more are found,
-/// stop by stop: never is there room for more than those and the footpaths into one stop.
-/// `OutOfMemory` where memory was wanting; more stops than a `u32` can number count as that.
+/// `TooMany` if the feed lists more than `most` footpaths. It is returned as soon as more are found, stop by stop,
+/// so memory never holds more than `most` and the footpaths into one stop. `OutOfMemory` if memory ran out, or if
+/// the feed has more stops than a `u32` can number.
 pub fn listed_within(alloc: Global, feed: &Feed, most: usize) -> Result<Vec<Footpath>, ListingFault>
     ensures all { IfOk result (λ v. AreAllListed feed.now v.items) }
     ensures few { IfOk result (λ v. length v.items ≤ most) }
@@ -177,11 +175,11 @@ pub fn listed_within(alloc: Global, feed: &Feed, most: usize) -> Result<Vec<Foot
     paths_below(alloc, &known, end, most)
 }
 
-/// The footpaths that a feed lists, as [`listed_within`] gives them, however many they are.
+/// Returns all footpaths that a feed lists, as [`listed_within`] does, without a limit.
 ///
 /// # Errors
 ///
-/// `OutOfMemory` alone.
+/// Only `OutOfMemory`.
 pub fn listed(alloc: Global, feed: &Feed) -> Result<Vec<Footpath>, FootFault>
     ensures all { IfOk result (λ v. AreAllListed feed.now v.items) }
     ensures err { IfErr result (λ fault. fault ≡ NoMemory) }

@@ -1,4 +1,4 @@
-//! Which stops the places of transfers stand for, and which transfers lead where.
+//! Looks up the stops that the ends of transfers stand for, and the transfers that lead to a stop or a station.
 
 ghost use Rattle.std.specs.Prelude.{◌≡◌, ◌<◌, ◌≤◌, ◌+◌, ◌^◌, true, false, List, length, map, IfOk};
 ghost use Rattle.gtfs_tables.specs.declared.tables.Stop.{Stop as TheStop};
@@ -18,29 +18,29 @@ use gtfs_tables::{Feed, Place, Stop, Transfer};
 use std::alloc::{AllocError, Global};
 use std::slice;
 
-/// What a feed's stops and transfers are looked up by.
+/// The indices by which a feed's stops and transfers are looked up.
 #[derive(Drop)]
 pub(crate) struct Lookup {
-    /// The feed's transfers without those that say nothing that counts.
+    /// The feed's transfers, without those that say nothing that counts.
     pub transfers: Vec<Transfer>,
-    /// The pairs of stations between which one of them says that none is possible.
+    /// The pairs of stations between which one of these transfers says that none is possible.
     pub bans: Vec<Ban>,
-    /// The stops by their stations.
+    /// The stops, grouped by station.
     pub children: Groups,
-    /// The transfers that lead to stops themselves, by these.
+    /// The transfers that lead to a stop itself, grouped by that stop.
     pub into_stops: Groups,
-    /// The transfers that lead to stations, by these.
+    /// The transfers that lead to a station, grouped by that station.
     pub into_stations: Groups,
 }
 
-/// A feed, and what its stops and transfers are looked up by.
+/// A feed with its lookup.
 #[derive(Drop)]
 pub(crate) struct Known<'a> {
     pub feed: &'a Feed,
     pub lookup: &'a Lookup,
 }
 
-// The station of each stop.
+// Returns the station of each stop.
 fn stations(alloc: Global, stops: &[Stop]) -> Result<Vec<Option<u32>>, AllocError>
     ensures { IfOk result (λ v. v.items ≡ map (λ stop. stop.station) stops.now) }
 {
@@ -51,7 +51,7 @@ fn stations(alloc: Global, stops: &[Stop]) -> Result<Vec<Option<u32>>, AllocErro
     Ok(stations)
 }
 
-// The stop that a place is.
+// Returns the stop, if the end is one.
 fn stop_named(place: &Place) -> Option<u32>
     ensures { result ≡ stop_named place.now }
 {
@@ -61,7 +61,7 @@ fn stop_named(place: &Place) -> Option<u32>
     }
 }
 
-// The station that a place is.
+// Returns the station, if the end is one.
 fn station_named(place: &Place) -> Option<u32>
     ensures { result ≡ station_named place.now }
 {
@@ -71,7 +71,7 @@ fn station_named(place: &Place) -> Option<u32>
     }
 }
 
-// The stop that each transfer leads to, and the station.
+// Returns for each transfer the stop that it leads to, if any, and the station that it leads to, if any.
 fn ends_named(
     alloc: Global,
     transfers: &[Transfer],
@@ -89,7 +89,7 @@ fn ends_named(
 }
 
 impl Lookup {
-    /// Brings a feed's stops and transfers into order.
+    /// Makes the lookup of a feed. Memory may run out.
     pub fn new(alloc: Global, feed: &Feed) -> Result<Lookup, AllocError>
         ensures lookup { IfOk result (λ l. IsLookup feed.now.stops.items l.transfers.items l) }
         ensures heard { IfOk result (λ l. HearsOnce feed.now.transfers.items l.transfers.items) }
@@ -109,7 +109,7 @@ impl Lookup {
         })
     }
 
-    /// The stops of a station.
+    /// Returns the stops of a station.
     pub fn children_of(&self, station: u32) -> &[u32]
         ensures { (all : List TheStop) (rows : List TheTransfer) → IsLookup all rows self.now
             → AreChildren all station result.now }
@@ -117,7 +117,7 @@ impl Lookup {
         self.children.group(station)
     }
 
-    /// The stops that an end of a transfer stands for.
+    /// Returns the stops that an end of a transfer stands for.
     pub fn stood_for<'a>(&'a self, place: &'a Place) -> &'a [u32]
         ensures { (all : List TheStop) (rows : List TheTransfer) → IsLookup all rows self.now
             → AreStoodFor all place.now result.now }
@@ -130,7 +130,7 @@ impl Lookup {
 }
 
 impl<'a> Known<'a> {
-    /// The station of a stop.
+    /// Returns the station of a stop, if it has one.
     pub fn station_of(&self, stop: u32) -> Option<u32>
         ensures { result ≡ station_of (stops_in self.now) stop }
     {
@@ -140,7 +140,7 @@ impl<'a> Known<'a> {
         }
     }
 
-    // The station that an end of a transfer is, or is a stop of.
+    // Returns the station that an end of a transfer is, or the station of the stop that it is.
     fn station_at(&self, place: &Place) -> Option<u32>
         ensures { result ≡ station_at (stops_in self.now) place.now }
     {
@@ -150,7 +150,7 @@ impl<'a> Known<'a> {
         }
     }
 
-    /// Whether an end of a transfer stands for a stop.
+    /// Returns whether an end of a transfer stands for a stop.
     pub fn stands_for(&self, place: &Place, stop: u32) -> bool
         ensures { result ≡ stands_for (stops_in self.now) place.now stop }
     {
@@ -160,7 +160,7 @@ impl<'a> Known<'a> {
         }
     }
 
-    /// Whether a transfer says that none is possible between two stations, of stops of which each may have none.
+    /// Returns whether both stations are there and a transfer says that none is possible between them.
     pub fn is_void(&self, from: Option<u32>, to: Option<u32>) -> bool
         requires { IsKnown self.now }
         ensures void { result ≡ true → IsVoid (transfers_in self.now) from to }
@@ -173,8 +173,8 @@ impl<'a> Known<'a> {
         }
     }
 
-    /// Whether a transfer says nothing of the ways into a stop but of its loop: none is possible
-    /// between its stations, and it doesn't name both stops itself.
+    /// Returns whether a transfer says nothing about the ways into a stop, except perhaps about its loop: it doesn't
+    /// name both stops itself, and no transfer is possible between its stations.
     pub fn is_mute(&self, row: &Transfer, to: u32) -> bool
         requires { IsKnown self.now }
         ensures mute { result ≡ true → IsMute (stops_in self.now) (transfers_in self.now) row.now to }
@@ -188,7 +188,7 @@ impl<'a> Known<'a> {
     }
 }
 
-// Whether a stop's station is that one.
+// Returns whether the station is there and is `wanted`.
 fn is_station(station: Option<u32>, wanted: u32) -> bool
     ensures { result ≡ is_station station wanted }
 {
@@ -198,7 +198,7 @@ fn is_station(station: Option<u32>, wanted: u32) -> bool
     }
 }
 
-// The number, or the one behind the stop that a place is, where that is greater.
+// Returns the greater of `end` and the number after the stop, if the end of the transfer is a stop.
 fn end_with(end: usize, place: &Place) -> usize
     ensures more { end ≤ result }
     ensures below { NamesBelow result place.now }
@@ -210,7 +210,7 @@ fn end_with(end: usize, place: &Place) -> usize
     }
 }
 
-/// A number above those of all stops that a feed has or its transfers name.
+/// Returns a number above those of all stops that a feed has or that its transfers name.
 pub(crate) fn end_of_stops(feed: &Feed) -> usize
     requires { length feed.now.stops.items < 2 ^ 32 }
     ensures below { EndsBelow feed.now result }
