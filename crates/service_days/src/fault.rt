@@ -11,7 +11,7 @@ use thiserror::Error;
 pub enum DayFault {
     #[error("the time zone is refused")]
     BadZone = 21,
-    #[error("the day is no civil date, or its noon has no instant")]
+    #[error("the day isn't a civil date, or its noon has no instant")]
     DayOutOfRange = 22,
     #[error("out of memory")]
     OutOfMemory = 23,
