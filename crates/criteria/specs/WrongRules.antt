@@ -4,7 +4,7 @@ use Rattle.std.specs.Ordering.{nat_cmp}
 use Rattle.criteria.specs.Laws.{Rules}
 use Rattle.criteria.specs.declared.arrival_trips.TimeTrips.{TimeTrips}
 
--- riding makes two trips one: a discount for the third; all other trips are counted as they should be
+-- a third trip makes two trips one, as if by a discount; all other trips are counted as they should be
 abbrev pub discounted : Rules TimeTrips → Rules TimeTrips
 discounted rules = record rules {
   ride = λ v. record { time = v.time; trips = if v.trips == 2 then 1 else min (v.trips + 1) 65535 };
