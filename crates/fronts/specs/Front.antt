@@ -47,7 +47,7 @@ points_to entries items (suc n) (suc m) =
 abbrev pub points_from : {V : Type 0} → List (Entry V) → List (Item V) → ℕ → List (Item V)
 points_from entries items head = points_to entries items head head
 
--- a point of the list is no worse than v; equal is no worse
+-- a point of the list is no worse than v (an equal one counts)
 abbrev pub Betters : {V : Type 0} → Rules V → List (Item V) → V → Type 0
 Betters {V} rules points v = (p : Item V) × Contains points p × NoWorse rules p.value v
 

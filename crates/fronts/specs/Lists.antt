@@ -44,7 +44,7 @@ front_at lists place = map point_of (front lists.entries.items lists.items.items
 abbrev pub IsSound : {K V : Type 0} → (K → Rules V) → FrontLists K V → Type 0
 IsSound rules_of lists = AreEntries (rules_of lists.criterion) lists.entries.items lists.items.items
 
--- a point of a list is no worse than v; equal is no worse
+-- a point of a list is no worse than v (an equal one counts)
 abbrev pub IsBettered : {V : Type 0} → Rules V → List (Point V) → V → Type 0
 IsBettered {V} rules points v = (p : Point V) × Contains points p × NoWorse rules p.value v
 

@@ -4,7 +4,7 @@ use Rattle.std.specs.List.{list_any}
 use Rattle.criteria.specs.Laws.{Rules}
 use Rattle.fronts.specs.declared.labels.Label.{Label}
 
--- whether a label is no worse than a value; equal is no worse
+-- whether a label is no worse than a value (an equal one counts)
 abbrev pub is_beaten : {V : Type 0} → Rules V → List (Label V) → V → Bool
 is_beaten rules labels v = list_any (λ l. rules.no_worse l.value v) labels
 

@@ -7,7 +7,7 @@ use Rattle.fronts.specs.declared.entry.Item.{Item}
 use Rattle.fronts.specs.declared.entry.Entry.{Entry}
 use Rattle.fronts.specs.Front.{next_of, departure_of, points_from, Covers}
 
--- whether a point of a list is no worse than v; equal is no worse
+-- whether a point of a list is no worse than v (an equal one counts)
 abbrev pub betters : {V : Type 0} → Rules V → List (Item V) → V → Bool
 betters rules points v = list_any (λ p. rules.no_worse p.value v) points
 
@@ -58,7 +58,8 @@ pub record IsUnion {V : Type 0} (rules : Rules V) (a b new : List (Item V)) : Ty
   pub kept_first : CoversAll rules a new
   pub kept_second : CoversAll rules b new
 
--- `after` follows a front that is put before the list from `place` on: the next entry if both depart together, or else the one at `place`
+-- `after` is the entry that follows a front put before the list from `place` on: `next` if the entry at `place` departs together with the front, and `place` if
+-- it departs later
 abbrev pub Follows : ℕ → ℕ → ℕ → ℕ → ℕ → Type 0
 Follows later next place departure after =
     ((later ≡ departure) × (after ≡ next)) ⊎ ((departure < later) × (after ≡ place))

@@ -1,8 +1,8 @@
 //! Labels of many trips in one vector: those of a trip are side by side, in its run.
 //!
 //! A run is written over while it has room. When it has none, its labels go to the vector's end, with room for nearly
-//! as many again. So a trip leaves no more elements behind than it has, and all of them are fewer than four for each
-//! label of the most that it had at once.
+//! as many again. So a trip has left behind no more elements than its run has, and both together are fewer than four
+//! times the most labels that it had at once.
 
 ghost use Rattle.std.specs.Prelude.{◌≡◌, ◌+◌, ◌++◌, ◌∷◌, [], ℕ, ◌<◌, ◌≤◌, cond, not, take, drop, length, replicate};
 ghost use Rattle.std.specs.Prelude.{Contains, IfOk, OnOk, OnErr, false};

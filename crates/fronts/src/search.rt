@@ -11,7 +11,7 @@ use crate::valued::some_no_worse;
 use criteria::Criterion;
 use std::alloc::AllocError;
 
-/// Whether a point of the front of entry `place` is no worse than a value; equal is no worse.
+/// Whether a point of the front of entry `place` is no worse than a value (an equal one counts).
 pub fn front_betters<C: Criterion>(
     criterion: &C,
     arena: Arena<'_, '_, C::V>,

@@ -45,7 +45,7 @@ impl<V> Valued<V> for Label<V> {
     }
 }
 
-/// Whether one of some values, items or labels is no worse than a value; equal is no worse. Specs then say that
+/// Whether one of some values, items or labels is no worse than a value (an equal one counts). Specs then say that
 /// points *better* the value, and that labels *beat* it. The loop goes over all of them, without a branch.
 pub fn some_no_worse<C: Criterion, T: Valued<C::V>>(
     criterion: &C,

@@ -1,4 +1,5 @@
--- The first fault of a journey for a query: in its legs, then in its walks, then in when legs depart, then in where it begins and ends, and last in when.
+-- The first fault of a journey for a query: of its legs, then of its walks, then of the times at which legs depart, then of where the journey begins and ends,
+-- and last of when.
 use Rattle.std.specs.Prelude.{ℕ, ◌+◌, ◌-◌, ◌<◌, Bool, true, false, not, ◌||◌, ◌&&◌, ◌==◌, nat_lt, nat_le, List, [], ◌∷◌, length, slice_index_or}
 use Rattle.std.specs.Prelude.{Option, Some, None, if◌then◌else◌}
 use Rattle.std.specs.List.{list_any, list_all}
@@ -99,7 +100,7 @@ walk_after_fault t rides i = walk_fault t (i + 1) (ride_at rides i).walk (is_bro
 unfoldable pub walks_fault : TimetableValue → Option Footpath → List RideValue → Option JourneyFault
 walks_fault t start rides = option_or (start_fault t start (leg_stop t rides 0)) (first_below (walk_after_fault t rides) (length rides))
 
--- leg i departs before the ride before it is over
+-- leg i departs before the previous ride is over
 unfoldable pub early_fault : TimetableValue → List RideValue → ℕ → Option JourneyFault
 early_fault t rides i =
     if nat_lt (leg_time t rides i) (time_after t (ride_at rides (i - 1))) then Some (TooEarly i)

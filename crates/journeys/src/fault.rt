@@ -21,8 +21,8 @@ pub enum JourneyFault {
     NoAlighting(usize),
     /// The image doesn't have a footpath of the walk with its seconds.
     NoFootpath(usize),
-    /// The walk's footpaths don't join, or it doesn't lead from leg to leg, or is empty between two; or the start
-    /// leads to the stop where it begins.
+    /// The walk's footpaths don't join, or it doesn't lead from a leg's end to where the next leg departs, or is
+    /// empty between two legs; or the start doesn't lead to the first leg, or leads back to its own stop.
     WalkBroken(usize),
     /// The leg departs before the previous leg and the walk after it are over.
     TooEarly(usize),

@@ -7,7 +7,7 @@ use Rattle.timetable.specs.TimetableValue.{TimetableValue}
 use Rattle.fronts.specs.declared.entry.Ridden.{Ridden}
 use Rattle.profile_scan.specs.Matching.{IsOutdone}
 
--- whether one of some values is no worse than v; equal is no worse. (is_bettered_by of bags asks for a strictly better one.)
+-- whether one of some values is no worse than v (an equal one counts, unlike in is_bettered_by of bags, which asks for a strictly better one)
 abbrev pub is_bettered : {V : Type 0} → Rules V → List V → V → Bool
 is_bettered rules values v = list_any (λ b. rules.no_worse b v) values
 

@@ -17,7 +17,7 @@ pub record IsAsked {K : Type 0} (t : TimetableValue) (asked : Asked K) : Type 0 
   pub starts : AreStarts t asked.query.source asked.starts
   pub ways : AreWays t asked.query.target (ways_of asked.ways)
 
--- the indices from `start` on, before `end`; this is the first of a connection that departs at the latest arrival or later
+-- the indices from `start` on, before `end`, which is the first of a connection that departs at the latest arrival or later
 pub record IsWindow {K : Type 0} (t : TimetableValue) (asked : Asked K) (start end : ℕ) : Type 0 where
   pub can_ask : IsAsked t asked
   pub order : start ≤ end

@@ -24,8 +24,8 @@ use Rattle.profile_scan.specs.declared.ways.Ways.{Ways}
 abbrev pub points_at : {K V : Type 0} → Stops K V → ℕ → List (Point V)
 points_at stops stop = list_points stops.lists (slice_index stops.heads.items stop)
 
--- what a stop was offered last: for each time before `before`, its points have one that departs then or later and is no
--- worse than `value`. (Another thing than IsOffered of Steps: there a point is one of an offer.)
+-- what a stop was offered last: for each time before `before`, its points have one that departs then or later and is no worse than `value`. (Not to be confused
+-- with IsOffered of Steps, by which a point is one of an offer.)
 pub record IsOffered {V : Type 0} (rules : Rules V) (points : List (Point V)) (offered : Offered V) : Type 0 where
   pub admitted : Admits rules offered.value
   pub covers : (time : ℕ) → time < offered.before → IsCovered rules points time offered.value

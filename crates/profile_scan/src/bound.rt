@@ -93,8 +93,8 @@ impl<C: Criterion> Bound<C> {
     }
 }
 
-/// Whether one of some values is no worse than a value. Equal is no worse, unlike in `is_bettered_by` of `bags`,
-/// which asks for a strictly better one. It is `some_no_worse` of bare values, under the name of its definition in
+/// Whether one of some values is no worse than a value (an equal one counts, unlike in `is_bettered_by` of `bags`,
+/// which asks for a strictly better one). It is `some_no_worse` of bare values, under the name of its definition in
 /// specs/Bound.antt.
 pub fn is_bettered<C: Criterion>(criterion: &C, values: &[C::V], value: &C::V) -> bool
     requires values { (b : _) → Contains values.now b → Admits (C.rules criterion.now) b }

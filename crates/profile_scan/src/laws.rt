@@ -49,7 +49,7 @@ pub fn tags_may_come<C: Criterion>(_criterion: &C)
     ensures { TagsMayCome (C.rules _criterion.now) }
 {}
 
-/// The latest departure matters only at the source: no way to go on depends on it, and of a journey only the
+/// The latest departure matters only at the source: no way to go on depends on it, and of a journey only its own
 /// departure.
 pub fn cut_is_the_sources()
     ensures { CutIsTheSources Counts }

@@ -67,7 +67,7 @@ impl<C: Criterion> Origins<C> {
     }
 
     // Offers each label of the connection's trip, boarded after a start, to the points found from the stop where the
-    // start begins; nothing if the query doesn't allow that departure.
+    // start begins; nothing if the start is a loop, or the query doesn't allow that departure.
     fn set_out_by(
         &mut self,
         asked: &Asked<C>,

@@ -114,7 +114,8 @@ impl<C: Criterion> Stops<C> {
         Ok(())
     }
 
-    // Goes over footpaths into the stop where a connection begins, those at the indices `walks`, and boards after each.
+    // Goes over the footpaths at the indices `walks`, which lead to the stop where a connection begins, and boards
+    // after each.
     #[inline(always)]
     fn board_walks<S: ConnSource>(
         &mut self,
@@ -180,8 +181,8 @@ impl<C: Criterion> Stops<C> {
         Ok(())
     }
 
-    // Goes over footpaths into the stop where a connection begins, those at the indices `walks`, and boards by one
-    // ridden value after each.
+    // Goes over the footpaths at the indices `walks`, which lead to the stop where a connection begins, and boards by
+    // one ridden value after each.
     #[inline(always)]
     fn board_one<S: ConnSource>(
         &mut self,
@@ -240,8 +241,8 @@ impl<C: Criterion> Stops<C> {
         Ok(())
     }
 
-    /// Boards a connection, if passengers may get on there: offers the list of every stop its boardings by the labels
-    /// of the connection's trip, but for those whose value after the ride `hop.bound` betters.
+    /// Boards a connection, if passengers may get on there: offers to the list of every stop the boardings from there
+    /// by the labels of the connection's trip, except those whose value after the ride `hop.bound` betters.
     #[inline(always)]
     pub fn board<S: ConnSource>(
         &mut self,

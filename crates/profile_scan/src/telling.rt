@@ -89,7 +89,7 @@ impl<'a, C: Criterion> View<'a, C> {
     }
 
     // Adds a node that says how one leaves the trip of a label for good, and returns its number. The label has to be
-    // one that ends, as that which `tell_journey` has from `note_route`; for another the number means nothing.
+    // one that ends, like the one that `tell_journey` gets from `note_route`; for any other the number means nothing.
     fn tell_end(&self, label: usize, nodes: &mut Vec<Node>) -> Result<usize, AllocError>
         ensures nodes { Extends nodes.old.items nodes.new.items }
         ensures says { IfOk result (λ number. (walks : _) → IsLabelTold walks (story_seen self.now) label

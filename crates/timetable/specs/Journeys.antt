@@ -92,7 +92,7 @@ pub record IsJourney (t : TimetableValue) (source target : ℕ) (j : JourneyValu
 abbrev pub DepartsAt : TimetableValue → ℕ → JourneyValue → Type 0
 DepartsAt t departure j = departure + start_secs j.start ≡ first_departure t j.rides
 
--- when it is over
+-- when the journey is over
 abbrev pub arrival : TimetableValue → JourneyValue → ℕ
 arrival t j = final_time t 0 j.rides
 

@@ -4,8 +4,8 @@ use crate::limits::TIME_END;
 use reasoning::variant_name;
 use thiserror::Error;
 
-/// What a client asks for: all best journeys from a source to a target that depart between two times and arrive by a
-/// third. Times are in seconds after the base.
+/// What a client asks for: journeys from a source to a target that depart between two times and arrive by a third.
+/// Times are in seconds after the base.
 #[derive(Clone, Copy, Debug, PartialEq, Eq)]
 pub struct Query {
     pub source: u32,
