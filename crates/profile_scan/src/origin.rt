@@ -127,7 +127,8 @@ impl<C: Criterion> Origin<C> {
     }
 
     /// Sets out for a connection, if passengers may get on there: offers to the points found each label of its trip,
-    /// without a start and after each footpath to where it begins.
+    /// without a start if it begins at the source, and after each footpath from the source to where it begins, except
+    /// a loop.
     pub fn set_out<S: ConnSource>(
         &mut self,
         asked: &Asked<C>,

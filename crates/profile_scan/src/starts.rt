@@ -15,7 +15,7 @@ pub struct Starts {
 }
 
 impl Starts {
-    /// Whether a footpath from the source leads to a stop.
+    /// Whether a footpath that isn't a loop leads from the source to a stop.
     pub fn lead_to(&self, stop: u32) -> bool
         requires { stop < vec_len self.now.led }
         ensures { slice_get self.now.led.items stop ≡ Some result }
@@ -32,7 +32,7 @@ fn is_start(walk: &Footpath, from: u32) -> bool
     walk.from == from && walk.to != from
 }
 
-// Whether a footpath leads to a stop from the source.
+// Whether a footpath that isn't a loop leads from the source, `from`, to a stop.
 fn is_led<S: ConnSource>(source: &S, from: u32, stop: u32) -> bool
     requires { stop < (S.timetable source.now).stops }
     ensures { MatchBool result (IsLed (S.timetable source.now) from stop)
