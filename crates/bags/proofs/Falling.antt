@@ -1,4 +1,4 @@
--- Departures of entries that fall.
+-- Entries whose departures fall.
 use Rattle.std.proofs.Common.{◌≡◌, ℕ, ◌<◌, ◌≤◌, ◌-◌, List, length, get_or, AllPairs, arith, ap}
 use Rattle.bags.specs.declared.entry.Entry.{Entry}
 use Rattle.bags.proofs.Order.{falling_to}

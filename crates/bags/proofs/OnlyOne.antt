@@ -1,4 +1,4 @@
--- A point in the place of the only one, which it dominates.
+-- A point that replaces the only one, which it dominates.
 use Rattle.std.proofs.Common.{◌≡◌, true, List, [], ◌∷◌, slice_set, Contains, inl, inr, arith, refl, sym, subst}
 use Rattle.reasoning.proofs.ListLemmas.{contains_only}
 use Rattle.criteria.specs.Laws.{Rules}

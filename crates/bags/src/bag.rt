@@ -1,5 +1,4 @@
-//! A bag: points under a criterion, none of which dominates another, with what is asked of it and
-//! how a point is taken in.
+//! A bag: points under a criterion, none of which dominates another; how they are read, and how one is added.
 
 ghost use Rattle.std.specs.Prelude.{length};
 ghost use Rattle.bags.specs.Dominance.{IsBag};
@@ -16,7 +15,7 @@ use std::alloc::{AllocError, Global};
 #[derive(Drop)]
 pub struct Bag<C: Criterion> {
     criterion: C,
-    // by falling departure, and of equal departures by the criterion's order
+    // by falling departure; of equal departures by the criterion's order
     entries: Vec<Entry<C::V>>,
     pub ghost kept: { IsBag (C.rules criterion) (points_in entries.items) },
     pub ghost listed: { AreListed (C.rules criterion) (points_in entries.items) },
@@ -41,14 +40,14 @@ impl<C: Criterion> Bag<C> {
         }
     }
 
-    /// How many points stand.
+    /// The number of points.
     pub fn len(&self) -> usize
         ensures { result ≡ length (points_of self.now) }
     {
         self.entries.len()
     }
 
-    /// The point at a place.
+    /// The point at an index.
     pub fn point(&self, i: usize) -> Point<C::V>
         requires { i < length (points_of self.now) }
         ensures { slice_get (points_of self.now) i ≡ Some result }
@@ -56,12 +55,10 @@ impl<C: Criterion> Bag<C> {
         self.entries[i].point
     }
 
-    /// Takes a point in, unless one that stands dominates it, and drops those
-    /// that it dominates. The answer tells whether the point now stands; a
-    /// point of the same departure and value, which stands already, keeps its
-    /// tag. Only a point that would stand takes memory, and where there is
-    /// none the bag stays as it was. The value must be one that the criterion
-    /// admits, as all values of journeys are.
+    /// Adds a point, unless one of the bag dominates it, and drops those that it dominates. Returns whether it was
+    /// added: a point of the same departure and value that is there already stays, with its tag. If memory runs out,
+    /// the bag stays as it was; a point that isn't added needs none. The value must be one that the criterion admits,
+    /// as all values of journeys are.
     pub fn insert(&mut self, departure: u32, value: C::V, tag: usize) -> Result<bool, AllocError>
         requires { Admits (C.rules (criterion_of self.old)) value }
         ensures criterion { criterion_of self.new ≡ criterion_of self.old }
@@ -86,8 +83,8 @@ impl<C: Criterion> Bag<C> {
         insert_point(&self.criterion, &mut self.entries, point)
     }
 
-    // Whether the point at a place is a best one from a time on, `late` points departing then or
-    // later: none behind it has a value no worse.
+    // Whether the point at an index is a best one from a time on, if the first `late` points are those that depart
+    // then or later: no other of these behind it has a value no worse.
     pub(crate) fn is_best_before(&self, place: usize, late: usize) -> bool
         requires place { place < late }
         requires late { late ≤ length (points_of self.now) }
@@ -99,15 +96,15 @@ impl<C: Criterion> Bag<C> {
         !some_no_worse(&self.criterion, &self.entries, place + 1, late, &value)
     }
 
-    // How many points depart at a time or later.
+    // The number of points that depart at a time or later.
     pub(crate) fn count_late(&self, time: u32) -> usize
         ensures { AreLate (points_of self.now) time result }
     {
         count_late(&self.entries, time)
     }
 
-    // A place from which on no point before the one at a place is a best one, from any time on at
-    // which that one hasn't departed.
+    // An index such that no point from there on, before the one at `place`, is a best one from a time on at which the
+    // one at `place` hasn't departed.
     pub(crate) fn skip(&self, place: usize) -> usize
         requires place { place < length (points_of self.now) }
         ensures back { result ≤ place }

@@ -14,9 +14,9 @@ pub struct Point<V> {
     pub tag: usize,
 }
 
-/// Whether a point comes before another: its time does, or their times are equal and the criterion
-/// lists its value first. The times are told apart from the points, since some lists begin with the
-/// first departure and some with the last.
+/// Whether a point comes before another: its time is earlier, or their times are equal and the criterion lists its
+/// value first. The times are arguments of their own, since some lists begin with the first departure and some with
+/// the last.
 pub fn comes_first<C: Criterion>(
     criterion: &C,
     time: u32,

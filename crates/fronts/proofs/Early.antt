@@ -1,4 +1,4 @@
--- What an entry that departs too early says of its place.
+-- Searches that pass an entry which departs too early: what is known of its index, and of the next entry.
 use Rattle.std.proofs.Common.{◌≡◌, ℕ, ◌<◌, ◌≤◌, List, length, get_or, ap, sym, ◌∙◌, subst}
 use Rattle.criteria.specs.Laws.{Rules}
 use Rattle.fronts.specs.declared.entry.Item.{Item}

@@ -5,26 +5,26 @@ use Rattle.fronts.specs.declared.entry.Item.{Item}
 use Rattle.fronts.specs.declared.entry.Entry.{Entry}
 use Rattle.fronts.specs.Front.{front, next_of, departure_of, Betters}
 
--- an entry carries a front, by the entry that comes next on its list, where there is one
+-- an entry carries a front, given the next entry on its list, if there is one
 pub record IsLinked {V : Type 0} (rules : Rules V) (departure next later : ℕ)
     (points rest : List (Item V)) : Type 0 where
   -- the next entry departs later
   pub rises : 0 < next → departure < later
-  -- the points depart no earlier than the entry, and are worth what the laws speak of
+  -- the points depart no earlier than the entry, and their values are admitted
   pub late : (p : Item V) → Contains points p → departure ≤ p.departure
   pub admitted : (p : Item V) → Contains points p → Admits rules p.value
-  -- those that depart later than the entry are of the next one's front
+  -- those that depart later than the entry are in the next one's front
   pub from : (p : Item V) → Contains points p → (p.departure ≡ departure) ⊎ Contains rest p
-  -- and each of that front is bettered
+  -- and each point of that front is bettered
   pub over : (p : Item V) → Contains rest p → Betters rules points p.value
 
--- the entry at a place
+-- the entry at an index carries a front
 abbrev pub IsEntry : {V : Type 0} → Rules V → List (Entry V) → List (Item V) → ℕ → Type 0
 IsEntry rules entries items m =
     IsLinked rules (departure_of entries m) (next_of entries m) (departure_of entries (next_of entries m))
     (front entries items m) (front entries items (next_of entries m))
 
--- all of them: links lead back, to the entry at place 0, which departs later than any time
+-- all entries: links lead back, to entry 0, which departs at the greatest time
 pub record AreEntries {V : Type 0} (rules : Rules V) (entries : List (Entry V)) (items : List (Item V)) : Type 0 where
   pub some : 0 < length entries
   pub ends : next_of entries 0 ≡ 0

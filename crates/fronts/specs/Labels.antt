@@ -1,4 +1,4 @@
--- Labels of many trips: under a total criterion each trip's one label in its slot, else those of each in a run.
+-- Labels of many trips: under a total criterion each trip's one label is in its slot; under any other, each trip's labels are in a run.
 use Rattle.std.specs.Prelude.{◌≡◌, ℕ, ◌+◌, ◌<◌, List, length, slice_get}
 use Rattle.criteria.specs.Laws.{Rules, IsTotal}
 use Rattle.fronts.specs.RunLabels.{AreRunLabels, run_labels, runs_of}
@@ -14,14 +14,14 @@ labels_at labels trip = slot_or (slice_get labels.slots.items trip) (run_labels 
 abbrev pub trips_of : {V : Type 0} → Labels V → ℕ
 trips_of labels = length labels.slots.items + length (runs_of labels.runs)
 
--- labels of trips, of values that the laws speak of: slots where one label a trip is enough, else runs
+-- the values of labels are admitted; there are slots only under a total criterion, and runs only under another
 pub record AreLabels {V : Type 0} (rules : Rules V) (labels : Labels V) : Type 0 where
   pub slots : AreSlots rules labels.slots.items
   pub runs : AreRunLabels rules labels.runs
   pub total : 0 < length labels.slots.items → IsTotal rules
   pub partial : 0 < length (runs_of labels.runs) → IsTotal rules → ⊥
 
--- labels of trips that stay as they were, each trip's
+-- each trip's labels stay as they were
 pub record StayLabels {V : Type 0} (rules : Rules V) (old new : Labels V) : Type 0 where
   pub labels : AreLabels rules new
   pub long : trips_of new ≡ trips_of old

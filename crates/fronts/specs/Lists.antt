@@ -24,7 +24,7 @@ entries_of lists = lists.entries.items
 abbrev pub items_of : {K V : Type 0} → FrontLists K V → List (Item V)
 items_of lists = lists.items.items
 
--- how one goes on, by the tags of points
+-- the steps by which one goes on from points: the tag of a point is the index of its step
 abbrev pub steps_of : {K V : Type 0} → FrontLists K V → List Step
 steps_of lists = lists.steps.items
 
@@ -32,24 +32,24 @@ steps_of lists = lists.steps.items
 abbrev pub point_of : {V : Type 0} → Item V → Point V
 point_of item = record { departure = item.departure; value = item.value; tag = item.tag }
 
--- the points of the list that begins at a place
+-- the points of the list that begins at an entry
 abbrev pub list_points : {K V : Type 0} → FrontLists K V → ℕ → List (Point V)
 list_points lists head = map point_of (points_from lists.entries.items lists.items.items head)
 
--- the front that the entry at a place carries
+-- the front of the entry at an index
 abbrev pub front_at : {K V : Type 0} → FrontLists K V → ℕ → List (Point V)
 front_at lists place = map point_of (front lists.entries.items lists.items.items place)
 
--- what holds of all entries
+-- the entries of all lists carry their fronts
 abbrev pub IsSound : {K V : Type 0} → (K → Rules V) → FrontLists K V → Type 0
 IsSound rules_of lists = AreEntries (rules_of lists.criterion) lists.entries.items lists.items.items
 
--- a point of a list is no worse than v; an equal one is
+-- a point of a list is no worse than v (an equal one counts)
 abbrev pub IsBettered : {V : Type 0} → Rules V → List (Point V) → V → Type 0
 IsBettered {V} rules points v = (p : Point V) × Contains points p × NoWorse rules p.value v
 
--- a list takes the ridden values in: each of its points stood before or is one of them after the footpath, and its tag
--- says so; what was covered stays so, and each of them is covered
+-- a list takes the ridden values in: each of its points was there before, or is one of these values after the footpath, and its tag names a step that says so;
+-- what was covered stays covered, and each of these values is
 pub record TakesRidden {V : Type 0} (rules : Rules V) (steps : List Step) (departure first walk secs : ℕ)
     (ridden : List (Ridden V)) (old new : List (Point V)) : Type 0 where
   pub only : (p : Point V) → Contains new p

@@ -1,4 +1,4 @@
--- What a search in a list, and what is put before one, make of its points.
+-- What a search in a list finds, and what putting a front before a list makes of its points.
 use Rattle.std.specs.Prelude.{◌≡◌, ◌⊎◌, ℕ, ◌<◌, ◌≤◌, List, [], ◌∷◌, Bool, true, false, not, filter}
 use Rattle.std.specs.Prelude.{Contains, length}
 use Rattle.std.specs.List.{list_any}
@@ -7,21 +7,21 @@ use Rattle.fronts.specs.declared.entry.Item.{Item}
 use Rattle.fronts.specs.declared.entry.Entry.{Entry}
 use Rattle.fronts.specs.Front.{next_of, departure_of, points_from, Covers}
 
--- whether a point of a list is no worse than v; an equal one is
+-- whether a point of a list is no worse than v (an equal one counts)
 abbrev pub betters : {V : Type 0} → Rules V → List (Item V) → V → Bool
 betters rules points v = list_any (λ p. rules.no_worse p.value v) points
 
--- whether v is no worse than the one point of a list, if that has no more than one
+-- whether a list has no point, or only one, than which v is no worse
 abbrev pub outdoes_alone : {V : Type 0} → Rules V → V → List (Item V) → Bool
 outdoes_alone rules v [] = true
 outdoes_alone rules v (p ∷ []) = rules.no_worse v p.value
 outdoes_alone rules v (p ∷ q ∷ points) = false
 
--- those of a list that none of some points betters
+-- the points of a list that `points` don't better
 abbrev pub left_by : {V : Type 0} → Rules V → List (Item V) → List (Item V) → List (Item V)
 left_by rules points others = filter (λ p. not (betters rules points p.value)) others
 
--- the first entry on a list that departs at a time or later: its list has all points of the list that depart then
+-- entry m of a list departs at a time or later, and all points of the list that depart then or later are on the list from there on
 pub record IsLate {V : Type 0} (entries : List (Entry V)) (items : List (Item V)) (head time m : ℕ) : Type 0 where
   pub within : m < length entries
   pub late : time ≤ departure_of entries m
@@ -29,21 +29,21 @@ pub record IsLate {V : Type 0} (entries : List (Entry V)) (items : List (Item V)
   pub all : (p : Item V) → Contains (points_from entries items head) p → time ≤ p.departure
       → Contains (points_from entries items m) p
 
--- these entries lead from a place to another along a list
+-- these entries, one after the other, lead from `head` to m along a list
 abbrev pub IsPath : {V : Type 0} → List (Entry V) → ℕ → List ℕ → ℕ → Type 0
 IsPath entries head [] m = head ≡ m
 IsPath entries head (b ∷ bs) m = (head ≡ b) × (0 < b) × (b < length entries) × IsPath entries (next_of entries b) bs m
 
--- and depart before a time
+-- these entries depart before a time
 abbrev pub DepartBefore : {V : Type 0} → List (Entry V) → ℕ → List ℕ → Type 0
 DepartBefore entries time places = (b : ℕ) → Contains places b → departure_of entries b < time
 
--- a list covers what another does
+-- a list covers all that another covers
 abbrev pub CoversAll : {V : Type 0} → Rules V → List (Item V) → List (Item V) → Type 0
 CoversAll {V} rules old new =
     (departure : ℕ) (v : V) → Admits rules v → Covers rules old departure v → Covers rules new departure v
 
--- points of one departure, that may be put before a list
+-- points of one departure that may be put before the list from entry m on
 pub record MayPut {V : Type 0} (rules : Rules V) (entries : List (Entry V)) (departure m : ℕ)
     (points : List (Item V)) : Type 0 where
   pub within : m < length entries
@@ -52,13 +52,14 @@ pub record MayPut {V : Type 0} (rules : Rules V) (entries : List (Entry V)) (dep
   pub departs : (p : Item V) → Contains points p → p.departure ≡ departure
   pub admitted : (p : Item V) → Contains points p → Admits rules p.value
 
--- two sets of points come to be a list: each of its points is of one of them, and it covers what they cover
+-- a list is made of two sets of points: each of its points is in one of them, and it covers all that they cover
 pub record IsUnion {V : Type 0} (rules : Rules V) (a b new : List (Item V)) : Type 0 where
   pub only : (p : Item V) → Contains new p → Contains a p ⊎ Contains b p
   pub kept_first : CoversAll rules a new
   pub kept_second : CoversAll rules b new
 
--- what comes after a front put before the list of an entry
+-- `after` is the entry that follows a front put before the list from `place` on: `next` if the entry at `place` departs together with the front, and `place` if
+-- it departs later
 abbrev pub Follows : ℕ → ℕ → ℕ → ℕ → ℕ → Type 0
 Follows later next place departure after =
     ((later ≡ departure) × (after ≡ next)) ⊎ ((departure < later) × (after ≡ place))

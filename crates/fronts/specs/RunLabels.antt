@@ -1,4 +1,4 @@
--- Labels of many trips, those of each in a run.
+-- Labels of many trips, each trip's in a run.
 use Rattle.std.specs.Prelude.{◌≡◌, ◌⊎◌, ℕ, ◌+◌, ◌≤◌, List, take, drop, length, slice_index_or, Contains}
 use Rattle.reasoning.specs.Lists.{Extends}
 use Rattle.criteria.specs.Laws.{Rules, Admits}
@@ -28,18 +28,18 @@ run_labels labels trip = labels_in labels.labels.items (run_at labels.runs.items
 abbrev pub AreApart : Run → Run → Type 0
 AreApart a b = (a.first + a.room ≤ b.first) ⊎ (b.first + b.room ≤ a.first)
 
--- so many places have room for runs: each within them, and no two in one place
+-- runs of a vector of `places` labels: each has room for its labels, within the vector, and no two overlap
 pub record AreRuns (runs : List Run) (places : ℕ) : Type 0 where
   pub counted : (k : ℕ) → (run_at runs k).count ≤ (run_at runs k).room
   pub within : (k : ℕ) → (run_at runs k).first + (run_at runs k).room ≤ places
   pub apart : (a b : ℕ) → (a ≡ b → ⊥) → AreApart (run_at runs a) (run_at runs b)
 
--- labels of trips, of values that the laws speak of
+-- labels in runs, whose values are admitted
 pub record AreRunLabels {V : Type 0} (rules : Rules V) (labels : RunLabels V) : Type 0 where
   pub runs : AreRuns labels.runs.items (length labels.labels.items)
   pub admitted : (l : Label V) → Contains labels.labels.items l → Admits rules l.value
 
--- new labels stand in a run, and the others where they stood: what was in the old run's room may be gone
+-- the new labels are in a run, and those of other runs where they were; what was in the room of the old run may be gone
 pub record ArePut {V : Type 0} (old : List (Label V)) (run : Run) (new : List (Label V)) (placed : Run)
     (now : List (Label V)) : Type 0 where
   pub counted : placed.count ≤ placed.room
@@ -51,13 +51,12 @@ pub record ArePut {V : Type 0} (old : List (Label V)) (run : Run) (new : List (L
   pub apart : (other : Run) → other.first + other.room ≤ length old → AreApart other run → AreApart other placed
   pub only : (l : Label V) → Contains now l → Contains old l ⊎ Contains new l
 
--- labels that were to stand in a run and may not all be there: what was before is, where it was, and behind it none
--- but new ones
+-- the new labels may not all be there: the old ones are where they were, and behind them are only new ones
 pub record ArePartlyPut {V : Type 0} (old new now : List (Label V)) : Type 0 where
   pub extends : Extends old now
   pub only : (l : Label V) → Contains now l → Contains old l ⊎ Contains new l
 
--- labels of trips that stay as they were, each trip's
+-- each trip's labels stay as they were
 pub record StayRunLabels {V : Type 0} (rules : Rules V) (old new : RunLabels V) : Type 0 where
   pub labels : AreRunLabels rules new
   pub long : length (runs_of new) ≡ length (runs_of old)

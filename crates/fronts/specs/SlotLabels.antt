@@ -1,4 +1,4 @@
--- Labels of trips that have no more than one: each in the trip's slot.
+-- Labels of trips that have at most one each, in the trip's slot.
 use Rattle.std.specs.Prelude.{◌≡◌, ℕ, List, [], ◌∷◌, cond, nat_eq, Option, Some, None, slice_get}
 use Rattle.criteria.specs.Laws.{Rules, Admits}
 use Rattle.fronts.specs.declared.labels.Label.{Label}
@@ -11,7 +11,7 @@ no_tag = 4294967295
 abbrev pub label_in : {V : Type 0} → Label V → List (Label V)
 label_in slot = cond (nat_eq slot.tag no_tag) [] (slot ∷ [])
 
--- what is in a slot, or others where there is no slot
+-- the label in a slot, if there is one; without a slot, `others`
 abbrev pub slot_or : {V : Type 0} → Option (Label V) → List (Label V) → List (Label V)
 slot_or None others = others
 slot_or (Some slot) others = label_in slot
@@ -20,6 +20,6 @@ slot_or (Some slot) others = label_in slot
 abbrev pub slot_label : {V : Type 0} → List (Label V) → ℕ → List (Label V)
 slot_label slots trip = slot_or (slice_get slots trip) []
 
--- slots of values that the laws speak of
+-- the values of slots are admitted
 abbrev pub AreSlots : {V : Type 0} → Rules V → List (Label V) → Type 0
 AreSlots {V} rules slots = (k : ℕ) (slot : Label V) → slice_get slots k ≡ Some slot → Admits rules slot.value

@@ -7,13 +7,13 @@ use Rattle.fronts.specs.declared.entry.Step.{Step}
 use Rattle.fronts.specs.Front.{Betters, Covers}
 use Rattle.fronts.specs.Putting.{CoversAll}
 
--- a step and a point are kept, the point's tag being the place of the step
+-- a step and a point are added; the point's tag is the index of the step
 pub record IsKept {V : Type 0} (steps : List Step) (kept : List (Item V)) (departure : ℕ) (v : V) (step : Step)
     (new_steps : List Step) (now : List (Item V)) : Type 0 where
   pub steps_more : new_steps ≡ steps ++ step ∷ []
   pub kept_more : now ≡ kept ++ record { departure = departure; value = v; tag = length steps } ∷ []
 
--- a point is one of the ridden values after a footpath, and its tag is the place of the step that says so
+-- a point is one of the ridden values after a footpath, and its tag is the index of a step that says so
 pub record IsBoarding {V : Type 0} (rules : Rules V) (steps : List Step) (departure first walk secs : ℕ)
     (ridden : List (Ridden V)) (p : Item V) : Type 0 where
   pub by : Ridden V
@@ -22,19 +22,18 @@ pub record IsBoarding {V : Type 0} (rules : Rules V) (steps : List Step) (depart
   pub worth : p.value ≡ rules.walk secs by.value
   pub goes_on : slice_get steps p.tag ≡ Some (record { first = first; label = by.label; walk = walk })
 
--- each of some points is
+-- each of these points is one
 abbrev pub AreBoardings : {V : Type 0} → Rules V → List Step → ℕ → ℕ → ℕ → ℕ → List (Ridden V) → List (Item V) → Type 0
 AreBoardings {V} rules steps departure first walk secs ridden points =
     (p : Item V) → Contains points p → IsBoarding rules steps departure first walk secs ridden p
 
--- the values at the first n places are bettered, after the footpath, by a point that is kept, or of a front
+-- the first n ridden values are bettered, after the footpath, by points that are kept or by those of a front
 abbrev pub AllWalked : {V : Type 0} → Rules V → List (Item V) → ℕ → List (Ridden V) → ℕ → List (Item V) → Type 0
 AllWalked {V} rules points secs ridden n kept =
     (k : ℕ) (d : Ridden V) → k < n → Betters rules kept (rules.walk secs (slice_index_or ridden k d).value)
     ⊎ Betters rules points (rules.walk secs (slice_index_or ridden k d).value)
 
--- a list takes the ridden values in: each of its points stood before or is one of them, what was covered stays so, and
--- each of them is covered
+-- a list takes the ridden values in: each of its points was there before or is one of them, what was covered stays covered, and each of them is
 pub record TakesBoardings {V : Type 0} (rules : Rules V) (steps : List Step) (departure first walk secs : ℕ)
     (ridden : List (Ridden V)) (old new : List (Item V)) : Type 0 where
   pub only : (p : Item V) → Contains new p → Contains old p ⊎ IsBoarding rules steps departure first walk secs ridden p

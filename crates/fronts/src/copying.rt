@@ -4,7 +4,7 @@ ghost use Rattle.std.specs.Prelude.{◌≡◌, IfOk, replicate};
 
 use std::alloc::{AllocError, Global};
 
-/// So many copies of an item. The kit's `vec!` clones, of which less is known than of a copy.
+/// Returns `count` copies of an item. The kit's `vec!` clones, and contracts know less of a clone than of a copy.
 pub fn copies<T: Copy>(alloc: Global, item: T, count: usize) -> Result<Vec<T>, AllocError>
     ensures { IfOk result (λ items. items.items ≡ replicate count item) }
 {

@@ -1,4 +1,4 @@
-//! What lists of fronts are made of: items, entries with their fronts, and the steps by which one goes on.
+//! What lists of fronts are made of: items, entries with their fronts, and steps, which say how one goes on.
 
 /// A departure, in seconds, and a value, with a tag that names how one goes on.
 #[derive(Clone, Copy, Debug, Drop)]
@@ -10,11 +10,11 @@ pub struct Item<V> {
 
 /// A departure, a value and a tag, with the front of all points of its list that depart then or later.
 ///
-/// The front is the entry's own point, and then `count` items from the place `rest` on.
+/// The front is the entry's own point, and then `count` items from index `rest` on.
 #[derive(Clone, Copy, Drop)]
 pub struct Entry<V> {
     pub departure: u32,
-    // the place of the next entry on the list
+    // the index of the next entry on the list
     pub next: u32,
     pub rest: u32,
     pub count: u32,
@@ -29,8 +29,8 @@ pub struct Arena<'e, 'i, V> {
     pub items: &'i [Item<V>],
 }
 
-/// How one goes on from a point: the connection that is boarded, the label by which one rides on,
-/// and the place of the footpath to the connection.
+/// How one goes on from a point: the index of the connection that is boarded, the label by which one rides on, and
+/// the index of the footpath to the connection.
 #[derive(Clone, Copy, Debug, Drop)]
 pub struct Step {
     pub first: u32,
@@ -45,8 +45,8 @@ pub struct Ridden<V> {
     pub label: u32,
 }
 
-/// How a footpath leads to a connection: the latest departure, the connection, the place of the
-/// footpath and its seconds.
+/// How a footpath leads to a connection: the latest departure, the index of the connection, and the index of the
+/// footpath with its seconds.
 #[derive(Clone, Copy, Drop)]
 pub struct Boarding {
     pub departure: u32,

@@ -1,4 +1,4 @@
-//! The lists of fronts: the front from a time on, its points, and the list that comes of an insertion.
+//! Lists of fronts: the front from a time on, its points, and insertions.
 
 use crate::entry::{Arena, Boarding, Entry, Item, Ridden, Step};
 use crate::insertion::insert;
@@ -8,9 +8,10 @@ use bags::Point;
 use criteria::Criterion;
 use std::alloc::{AllocError, Global};
 
-/// Lists of points under a criterion, each named by a place, its head. Place 0 is the empty list.
+/// Lists of points under a criterion. A list is named by its head, the index of its first entry; 0 names the empty
+/// list.
 ///
-/// A list is never changed: an insertion makes another one of it.
+/// A list is never changed: an insertion makes a new one of it.
 #[derive(Drop)]
 pub struct FrontLists<C: Criterion> {
     criterion: C,
@@ -34,7 +35,7 @@ impl<C: Criterion> FrontLists<C> {
     ghost use Rattle.fronts.specs.Lists.{front_at, IsBettered, TakesRidden};
     ghost use Rattle.fronts.specs.Putting.{MayPut, IsUnion};
 
-    /// No lists but the empty one.
+    /// Makes the empty list, and no other.
     pub fn new(alloc: Global, criterion: C) -> Result<Self, AllocError>
         ensures criterion { IfOk result (λ lists. lists_criterion lists ≡ criterion) }
         ensures sound { IfOk result (λ lists. IsSound C.rules lists) }
@@ -62,8 +63,8 @@ impl<C: Criterion> FrontLists<C> {
         })
     }
 
-    /// The place of the front from a time on: it is made of points of the list that depart at the time or later, and
-    /// for each of these it has one that is no worse.
+    /// The index of an entry whose front stands for the list from a time on: it has only points of the list that
+    /// depart at the time or later, and for each of these one that is no worse.
     pub fn front_from(&self, head: u32, time: u32) -> u32
         requires sound { IsSound C.rules self.now }
         requires head { head < length (entries_of self.now) }
@@ -81,7 +82,7 @@ impl<C: Criterion> FrontLists<C> {
         late(&self.criterion, arena, head, time)
     }
 
-    /// How many points the front at a place has.
+    /// The number of points that the front of entry `place` has.
     pub fn front_len(&self, place: u32) -> usize
         requires sound { IsSound C.rules self.now }
         requires within { place < length (entries_of self.now) }
@@ -94,7 +95,7 @@ impl<C: Criterion> FrontLists<C> {
         with_own(entry.count)
     }
 
-    /// A point of the front at a place.
+    /// The point at index `k` of the front of entry `place`.
     pub fn front_point(&self, place: u32, k: usize) -> Point<C::V>
         requires sound { IsSound C.rules self.now }
         requires within { place < length (entries_of self.now) }
@@ -109,15 +110,15 @@ impl<C: Criterion> FrontLists<C> {
         point(item.departure, item.value, item.tag)
     }
 
-    /// How one goes on from a point, by its tag.
+    /// The step by which one goes on from a point with this tag, or `None` if there is no such step.
     pub fn step(&self, tag: usize) -> Option<Step>
         ensures { result ≡ slice_get (steps_of self.now) tag }
     {
         self.steps.get(tag).copied()
     }
 
-    /// Takes the ridden values in after a footpath, and returns the new list. The old one stays as it was. If memory
-    /// runs out, no list is made.
+    /// Takes the ridden values, after a footpath, into a list, and returns the head of the list that has them. All
+    /// lists stay as they were, also if memory runs out; then there is no new one.
     #[inline(always)]
     pub fn insert(
         &mut self,
@@ -165,7 +166,7 @@ impl<C: Criterion> FrontLists<C> {
         )
     }
 
-    /// Takes one ridden value in after a footpath, as [`FrontLists::insert`] takes several.
+    /// Takes one ridden value, after a footpath, into a list, as [`FrontLists::insert`] takes several.
     #[inline(always)]
     pub fn insert_one(
         &mut self,
@@ -200,8 +201,8 @@ impl<C: Criterion> FrontLists<C> {
         self.take_one(head, boarding, ride)
     }
 
-    // Takes one ridden value in. At most insertions the list begins no earlier, so that is asked first. Where it begins
-    // earlier, the front from the departure on is mostly no worse than the value: then no entry has to be passed.
+    // Takes one ridden value in. In most insertions the list begins no earlier, so that is tested first. If it begins
+    // earlier, the front from the departure on mostly betters the value, and then no entry has to be passed.
     #[inline(always)]
     fn take_one(
         &mut self,
@@ -277,8 +278,8 @@ impl<C: Criterion> FrontLists<C> {
         )
     }
 
-    // Takes one ridden value in before a list whose first entry departs no earlier: no entry is passed, and what is
-    // kept is this value or none.
+    // Takes one ridden value in before a list whose first entry departs no earlier: no entry is passed, and only this
+    // value can be kept.
     #[inline(always)]
     fn insert_ahead(
         &mut self,
@@ -324,8 +325,8 @@ impl<C: Criterion> FrontLists<C> {
         self.put_one(head, point)
     }
 
-    // Puts one point before a list whose first entry departs no earlier, with what it leaves of that list's front. That
-    // is mostly nothing, and then the point is put by itself.
+    // Puts a front before a list whose first entry departs no earlier: one point, and those of the list's front that
+    // it doesn't better. Mostly there are none of these, and then the point is put alone.
     #[inline(always)]
     fn put_one(&mut self, head: u32, point: Item<C::V>) -> Result<u32, AllocError>
         requires sound { IsSound C.rules self.old }
@@ -374,14 +375,14 @@ fn point<V>(departure: u32, value: V, tag: u32) -> Point<V>
     }
 }
 
-// How many points the front of an entry has: the entry's own and so many items.
+// The number of points of an entry's front: its own and `count` items.
 fn with_own(count: u32) -> usize
     ensures { result ≡ count + 1 }
 {
     count as usize + 1
 }
 
-// An item at a place from another on.
+// The item at index `rest + k`.
 fn item_at<V: Copy>(items: &[Item<V>], rest: u32, k: usize) -> Item<V>
     requires { rest + k < length items.now }
     ensures { slice_get items.now (rest + k) ≡ Some result }

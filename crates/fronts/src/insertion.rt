@@ -1,4 +1,4 @@
-//! Insertions in a list, which make another list of it.
+//! Insertions into a list, each of which makes a new list.
 
 ghost use Rattle.std.specs.Prelude.{◌≡◌, ℕ, ◌<◌, ◌≤◌, length, Contains, IfOk};
 ghost use Rattle.criteria.specs.Laws.{Admits, IsSecs};
@@ -14,8 +14,8 @@ use crate::search::pass;
 use criteria::Criterion;
 use std::alloc::AllocError;
 
-// Puts what a list leaves of an entry's front before it, where that is something. The list covers
-// what comes after the entry.
+// Puts before the list from `place` on those points of the front of `from` that the list's first front doesn't
+// better, if there are any. The list covers what comes after `from`. Returns the head of the list that has both.
 fn join_one<C: Criterion>(
     criterion: &C,
     entries: &mut Vec<Entry<C::V>>,
@@ -50,7 +50,8 @@ fn join_one<C: Criterion>(
     Ok(new)
 }
 
-// Puts what a list leaves of the fronts of these entries before it, from the last one on.
+// Puts before the list from `place` on what remains of the passed entries, from the last to the first, as `join_one`
+// does. Returns the head of the list that has all of it.
 #[inline(always)]
 fn join<C: Criterion>(
     criterion: &C,
@@ -84,7 +85,7 @@ fn join<C: Criterion>(
     Ok(new)
 }
 
-/// Takes the ridden values in after a footpath: the list that comes of it.
+/// Takes the ridden values, after a footpath, into a list. Returns the head of the list that has them.
 #[inline(always)]
 pub fn insert<C: Criterion>(
     criterion: &C,

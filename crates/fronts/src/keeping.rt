@@ -13,7 +13,7 @@ use crate::search::{front_betters, part};
 use criteria::Criterion;
 use std::alloc::AllocError;
 
-// Keeps a point that none of the front at a place betters.
+// Adds a point to those kept, unless the front of entry `place` betters it.
 fn keep_point<C: Criterion>(
     criterion: &C,
     arena: Arena<'_, '_, C::V>,
@@ -34,7 +34,8 @@ fn keep_point<C: Criterion>(
     Ok(())
 }
 
-/// Keeps those of the front of an entry that none of the front at another place betters.
+/// Keeps the points of the front of entry `from` that the front of entry `place` doesn't better, instead of those
+/// kept before.
 pub fn keep_front<C: Criterion>(
     criterion: &C,
     arena: Arena<'_, '_, C::V>,
@@ -63,7 +64,7 @@ pub fn keep_front<C: Criterion>(
     Ok(())
 }
 
-// Keeps those of some points that none of the front at a place betters.
+// Adds to those kept the points that the front of entry `place` doesn't better.
 fn keep_each<C: Criterion>(
     criterion: &C,
     arena: Arena<'_, '_, C::V>,
@@ -84,7 +85,7 @@ fn keep_each<C: Criterion>(
     Ok(())
 }
 
-// Keeps a value: its step, and a point with the place of the step for its tag.
+// Adds a value: its step to the steps, and to the points kept one whose tag is the index of that step.
 fn keep_value<V: Copy>(
     steps: &mut Vec<Step>,
     kept: &mut Vec<Item<V>>,
@@ -106,7 +107,8 @@ fn keep_value<V: Copy>(
     Ok(())
 }
 
-/// Keeps the ridden values, each after a footpath, that none of the front at a place betters.
+/// Keeps the ridden values, each after the footpath, that the front of entry `place` doesn't better, instead of the
+/// points kept before.
 #[inline(always)]
 pub fn keep_walked<C: Criterion>(
     criterion: &C,

@@ -1,7 +1,7 @@
 //! Labels of many trips: the values that a passenger aboard each trip can reach at the target.
 //!
-//! A criterion that is total needs one label a trip, which is in the trip's slot; of any other the labels of a trip are
-//! in a run. Which it is, is known when the program is compiled: each call asks the criterion, and not the labels.
+//! Under a total criterion one label a trip is enough, in the trip's slot; under any other, the labels of a trip are
+//! in a run. Each call asks the criterion which it is, not the labels: so it is known when the program is compiled.
 
 ghost use Rattle.std.specs.Prelude.{◌≡◌, ◌++◌, ◌∷◌, [], ℕ, ◌<◌, cond, length, not, IfOk, OnOk, OnErr, false};
 ghost use Rattle.criteria.specs.Laws.{Admits};
@@ -20,16 +20,16 @@ pub struct Label<V> {
     pub tag: u32,
 }
 
-/// The labels of so many trips: of each those of which none is no worse than another.
+/// The labels of a number of trips. None of a trip's labels is no worse than another.
 #[derive(Drop)]
 pub struct Labels<V> {
-    // of each trip its one label, under a total criterion
+    // each trip's one label, under a total criterion
     slots: Vec<Label<V>>,
-    // of each trip its labels, under any other
+    // each trip's labels, under any other
     runs: RunLabels<V>,
 }
 
-/// So many trips without labels.
+/// Makes the labels of `trips` trips: each trip has none yet.
 pub fn no_labels<C: Criterion>(
     alloc: Global,
     criterion: &C,
@@ -51,7 +51,7 @@ pub fn no_labels<C: Criterion>(
     })
 }
 
-/// How many labels a trip has.
+/// The number of labels that a trip has.
 #[inline(always)]
 pub fn label_count<C: Criterion>(criterion: &C, labels: &Labels<C::V>, trip: u32) -> u32
     requires trip { trip < trips_of labels.now }

@@ -1,6 +1,7 @@
 //! Fronts: lists of entries in one vector, each with the front of the points that depart at its time or later.
 //!
-//! Entries and items are only pushed, never changed, so a place names the same list for ever. Place 0 ends each list.
+//! Entries and items are only pushed, never changed, so the index of an entry names the same list for ever. Entry 0
+//! ends each list.
 #![tactic(auto)]
 
 mod copying;

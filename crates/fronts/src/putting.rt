@@ -12,7 +12,7 @@ use crate::valued::some_no_worse;
 use criteria::Criterion;
 use std::alloc::AllocError;
 
-/// A length as a 32-bit index. Past 2^32 - 1 there is none, as if memory had run out.
+/// Returns a length as a 32-bit index. Past 2^32 - 1 it fails, as if memory had run out.
 pub fn place_of(len: usize) -> Result<u32, AllocError>
     ensures place { IfOk result (λ place. place ≡ len) }
     ensures full { OnErr result (4294967295 < len) }
@@ -23,7 +23,7 @@ pub fn place_of(len: usize) -> Result<u32, AllocError>
     Ok(len as u32)
 }
 
-// Pushes a point unless one of some points is no worse.
+// Pushes a point unless one of `points` is no worse.
 fn leave<C: Criterion>(
     criterion: &C,
     items: &mut Vec<Item<C::V>>,
@@ -42,7 +42,7 @@ fn leave<C: Criterion>(
     Ok(())
 }
 
-// Pushes each of so many items, from an index on, unless one of some points is no worse.
+// Pushes each of the `count` items from index `rest` on, unless one of `points` is no worse.
 fn leave_part<C: Criterion>(
     criterion: &C,
     items: &mut Vec<Item<C::V>>,
@@ -66,7 +66,7 @@ fn leave_part<C: Criterion>(
     Ok(())
 }
 
-// Pushes what some points leave of the front at a place.
+// Pushes the points of the front of entry `place` that `points` don't better.
 #[inline(always)]
 fn leave_front<C: Criterion>(
     criterion: &C,
@@ -96,7 +96,7 @@ fn leave_front<C: Criterion>(
     Ok(())
 }
 
-// Pushes all points but the first. Mostly there is no other, and then nothing is asked of the vector.
+// Pushes all points but the first. Mostly there are no others, and then the vector isn't touched.
 fn push_others<V: Copy>(items: &mut Vec<Item<V>>, points: &[Item<V>]) -> Result<(), AllocError>
     requires some { 0 < length points.now }
     ensures extends { Extends items.old.items items.new.items }
@@ -108,8 +108,8 @@ fn push_others<V: Copy>(items: &mut Vec<Item<V>>, points: &[Item<V>]) -> Result<
     Ok(())
 }
 
-// What comes after a front of some departure that is put before the list of an entry: that entry,
-// or the next one if it departs then.
+// The entry that follows a front which is put before the list of `entry`: `entry` itself, at `place`, or the next one
+// if `entry` departs together with that front.
 fn follow<V: Copy>(entry: &Entry<V>, place: u32, departure: u32) -> u32
     requires { departure ≤ entry.now.departure }
     ensures { Follows entry.now.departure entry.now.next place departure result }
@@ -121,7 +121,8 @@ fn follow<V: Copy>(entry: &Entry<V>, place: u32, departure: u32) -> u32
     }
 }
 
-/// Puts points of one departure, and what they leave of a list's front, as a front before that list.
+/// Puts a front before a list: points of one departure, and those of the list's front that they don't better. Returns
+/// the index of the new entry.
 #[inline(always)]
 pub fn put<C: Criterion>(
     criterion: &C,
@@ -160,8 +161,8 @@ pub fn put<C: Criterion>(
     Ok(new)
 }
 
-/// Puts one point before a list if it is no worse than all of that list's front: so it is the only point of the new
-/// one.
+/// Puts a front of only one point before a list whose front has no point, or only one, than which the new one is no
+/// worse. Returns the index of the new entry.
 #[inline(always)]
 pub fn put_alone<C: Criterion>(
     criterion: &C,

@@ -1,9 +1,8 @@
-//! Labels of many trips in one vector: those of a trip stand side by side, a run of it.
+//! Labels of many trips in one vector: those of a trip are side by side, in its run.
 //!
-//! A run is written over while it has room. Where it has none, its labels go to the vector's end,
-//! with room for nearly as many again. So the places that a trip has left behind are no more than
-//! those that it has, and all of them are fewer than four for each label of the most that it had at
-//! once.
+//! A run is written over while it has room. When it has none, its labels go to the vector's end, with room for nearly
+//! as many again. So a trip has left behind no more elements than its run has, and both together are fewer than four
+//! times the most labels that it had at once.
 
 ghost use Rattle.std.specs.Prelude.{◌≡◌, ◌+◌, ◌++◌, ◌∷◌, [], ℕ, ◌<◌, ◌≤◌, cond, not, take, drop, length, replicate};
 ghost use Rattle.std.specs.Prelude.{Contains, IfOk, OnOk, OnErr, false};
@@ -20,7 +19,7 @@ use crate::valued::some_no_worse;
 use criteria::Criterion;
 use std::alloc::{AllocError, Global};
 
-/// Where labels stand: so many from a place on, and for how many there is room.
+/// Where a trip's labels are: `count` of them from index `first` on, where there is room for `room`.
 #[derive(Clone, Copy, Drop)]
 pub struct Run {
     pub first: u32,
@@ -28,12 +27,12 @@ pub struct Run {
     pub room: u32,
 }
 
-/// The labels of so many trips: of each those of which none is no worse than another.
+/// The labels of a number of trips. None of a trip's labels is no worse than another.
 #[derive(Drop)]
 pub struct RunLabels<V> {
     runs: Vec<Run>,
     labels: Vec<Label<V>>,
-    // room for the labels of one trip
+    // scratch memory: the labels of one trip
     kept: Vec<Label<V>>,
 }
 
@@ -42,7 +41,7 @@ impl<V: Copy> RunLabels<V> {
     ghost use Rattle.criteria.specs.Laws.{Rules};
     ghost use Rattle.fronts.specs.RunLabels.{AreRunLabels, run_labels, runs_of};
 
-    /// So many trips without labels.
+    /// Makes the labels of `trips` trips: each trip has none yet.
     pub fn new(alloc: Global, trips: u32) -> Result<Self, AllocError>
         ensures long { IfOk result (λ labels. length (runs_of labels) ≡ trips) }
         ensures labels { IfOk result (λ labels. (rules : Rules _) → AreRunLabels rules labels) }
@@ -56,7 +55,7 @@ impl<V: Copy> RunLabels<V> {
         })
     }
 
-    /// How many labels a trip has.
+    /// The number of labels that a trip has.
     pub fn count(&self, trip: u32) -> u32
         requires trip { trip < length (runs_of self.now) }
         requires labels { (rules : Rules _) × AreRunLabels rules self.now }
@@ -75,7 +74,7 @@ impl<V: Copy> RunLabels<V> {
     }
 }
 
-// As many runs as wanted, without room.
+// Returns `count` runs without labels or room.
 fn no_runs(alloc: Global, count: usize) -> Result<Vec<Run>, AllocError>
     ensures { IfOk result (λ runs. runs.items ≡ replicate count no_run) }
 {
@@ -95,7 +94,7 @@ fn part<V>(labels: &[Label<V>], run: Run) -> &[Label<V>]
     &labels[run.first as usize..run.first as usize + run.count as usize]
 }
 
-// Keeps a label, unless a value is no worse.
+// Adds a label to those kept, unless `value` is no worse.
 fn keep_other<C: Criterion>(
     criterion: &C,
     label: Label<C::V>,
@@ -112,7 +111,7 @@ fn keep_other<C: Criterion>(
     Ok(())
 }
 
-// Keeps each label, unless a value is no worse.
+// Keeps each label unless `value` is no worse, instead of those kept before.
 fn keep_others<C: Criterion>(
     criterion: &C,
     labels: &[Label<C::V>],
@@ -131,7 +130,7 @@ fn keep_others<C: Criterion>(
     Ok(())
 }
 
-// Writes labels over those from a place on.
+// Writes labels over those from index `first` on.
 fn write_over<V: Copy>(labels: &mut Vec<Label<V>>, first: u32, new: &[Label<V>])
     requires { first + length new.now ≤ length labels.old.items }
     ensures { labels.new.items ≡ take first labels.old.items
@@ -142,7 +141,7 @@ fn write_over<V: Copy>(labels: &mut Vec<Label<V>>, first: u32, new: &[Label<V>])
     }
 }
 
-// Puts labels at the end, with room for nearly as many again.
+// Puts labels at the end, with room for nearly as many again. Returns where they are.
 fn append<V: Copy>(labels: &mut Vec<Label<V>>, new: &[Label<V>]) -> Result<Run, AllocError>
     requires some { 0 < length new.now }
     ensures put { IfOk result (λ placed. (run : Run) → ArePut labels.old.items run new.now placed labels.new.items) }
@@ -156,7 +155,7 @@ fn append<V: Copy>(labels: &mut Vec<Label<V>>, new: &[Label<V>]) -> Result<Run, 
     Ok(Run { first, count, room })
 }
 
-// Puts labels where a run has room for them, or else at the end, and tells where they are.
+// Puts labels where a run is, if it has room for them, or else at the end. Returns where they are.
 fn put<V: Copy>(labels: &mut Vec<Label<V>>, run: Run, new: &[Label<V>]) -> Result<Run, AllocError>
     requires some { 0 < length new.now }
     requires within { run.first + run.room ≤ length labels.old.items }

@@ -11,7 +11,7 @@ use crate::valued::some_no_worse;
 use criteria::Criterion;
 use std::alloc::AllocError;
 
-/// Whether a point of the front at a place is no worse than a value; an equal one is.
+/// Whether a point of the front of entry `place` is no worse than a value (an equal one counts).
 pub fn front_betters<C: Criterion>(
     criterion: &C,
     arena: Arena<'_, '_, C::V>,
@@ -34,7 +34,7 @@ pub fn front_betters<C: Criterion>(
     some_no_worse(criterion, part(arena.items, entry.rest, entry.count), value)
 }
 
-/// Whether a value is no worse than the one point of the front at a place, if that has no more than one.
+/// Whether the front of entry `place` has no point, or only one, than which the value is no worse.
 #[inline(always)]
 pub fn outdoes<C: Criterion>(
     criterion: &C,
@@ -58,7 +58,7 @@ pub fn outdoes<C: Criterion>(
     criterion.no_worse(value, &entry.value)
 }
 
-/// The items from a place on, so many of them.
+/// The `count` items from index `rest` on.
 pub fn part<V>(items: &[Item<V>], rest: u32, count: u32) -> &[Item<V>]
     requires { rest + count ≤ length items.now }
     ensures { result.now ≡ take count (drop rest items.now) }
@@ -66,7 +66,7 @@ pub fn part<V>(items: &[Item<V>], rest: u32, count: u32) -> &[Item<V>]
     &items[rest as usize..rest as usize + count as usize]
 }
 
-/// The place of the first entry on a list, from `head` on, that departs at a time or later; 0 where the list has none.
+/// The index of the first entry, on the list from `head` on, that departs at a time or later; 0 if there is none.
 pub fn late<C: Criterion>(criterion: &C, arena: Arena<'_, '_, C::V>, head: u32, time: u32) -> u32
     requires entries { AreEntries (C.rules criterion.now) arena.entries.now arena.items.now }
     requires head { head < length arena.entries.now }
@@ -79,8 +79,8 @@ pub fn late<C: Criterion>(criterion: &C, arena: Arena<'_, '_, C::V>, head: u32, 
     place
 }
 
-/// The place of the first entry on a list that departs at a time or later, as [`late`] finds it;
-/// `passed` has the places of the entries before it, in the order of the list, and no others.
+/// Returns the index of the first entry on a list that departs at a time or later, as [`late`] does. In `passed` it
+/// leaves the indices of the entries before it, in the order of the list, and no others.
 pub fn pass<C: Criterion>(
     criterion: &C,
     arena: Arena<'_, '_, C::V>,

@@ -1,6 +1,6 @@
-//! Labels of trips that have no more than one: each in the trip's slot, in which there may be none.
+//! Labels of trips that have at most one each, in the trip's slot. A slot may be empty.
 //!
-//! That one is enough where the criterion is total: of two labels the better one stays.
+//! One label is enough if the criterion is total: of two labels the better one stays.
 
 ghost use Rattle.std.specs.Prelude.{◌≡◌, ◌++◌, ◌∷◌, [], ℕ, ◌<◌, ◌≤◌, cond, nat_eq, not, length};
 ghost use Rattle.std.specs.Prelude.{IfOk, OnOk, OnErr, slice_get, Some, false};
@@ -18,7 +18,7 @@ use std::alloc::{AllocError, Global};
 // The tag of a slot without a label.
 const NO_TAG: u32 = u32::MAX;
 
-/// So many slots without labels.
+/// Returns `count` empty slots.
 pub fn empty_slots<C: Criterion>(
     alloc: Global,
     criterion: &C,
@@ -37,7 +37,7 @@ pub fn empty_slots<C: Criterion>(
     Ok(slots)
 }
 
-/// How many labels are in a trip's slot.
+/// The number of labels in a trip's slot, 0 or 1.
 #[inline(always)]
 pub fn count_at<V: Copy>(slots: &[Label<V>], trip: u32) -> u32
     requires { trip < length slots.now }
@@ -48,7 +48,7 @@ pub fn count_at<V: Copy>(slots: &[Label<V>], trip: u32) -> u32
     count_in(slot.tag)
 }
 
-// How many labels are in a slot of this tag.
+// The number of labels in a slot with this tag, 0 or 1.
 #[inline(always)]
 fn count_in(tag: u32) -> u32
     ensures count { result ≡ cond (nat_eq tag no_tag) 0 1 }
@@ -83,7 +83,7 @@ fn beats<C: Criterion>(criterion: &C, slot: &Label<C::V>, value: &C::V) -> bool
     criterion.no_worse(&slot.value, value)
 }
 
-// A number as the tag of a label. From 2^32 - 1 on there is no room.
+// Returns a number as the tag of a label. From 2^32 - 1 on it fails, as if memory had run out.
 fn slot_tag(number: usize) -> Result<u32, AllocError>
     ensures tag { IfOk result (λ tag. (tag ≡ number) × (tag < no_tag)) }
     ensures full { OnErr result (no_tag ≤ number) }
@@ -95,8 +95,8 @@ fn slot_tag(number: usize) -> Result<u32, AllocError>
     Ok(tag)
 }
 
-/// Replaces the label in a trip's slot by a value with its tag, unless the label there is no worse. Returns whether it
-/// did. From tag 2^32 - 1 on it fails, as if memory had run out, if it were to replace the label; then no slot changes.
+/// Replaces the label in a trip's slot by a value with its tag, unless the label there is no worse. Returns whether
+/// it did. If it would, but the tag is 2^32 - 1 or more, it fails as if memory had run out, and no slot changes.
 #[inline(always)]
 pub fn offer_slot<C: Criterion>(
     criterion: &C,

@@ -1,4 +1,4 @@
-//! What has a value, and whether some of it is good enough.
+//! Things with a value, and whether one of them is good enough.
 
 ghost use Rattle.std.specs.Prelude.{◌≡◌, Contains};
 ghost use Rattle.std.specs.List.{list_any};
@@ -8,9 +8,9 @@ use crate::entry::Item;
 use crate::labels::Label;
 use criteria::Criterion;
 
-/// What has a value.
+/// A thing with a value.
 pub trait Valued<V> {
-    // the value that it has
+    // its value
     ghost value_of: { Self → V };
 
     /// Its value.
@@ -45,8 +45,8 @@ impl<V> Valued<V> for Label<V> {
     }
 }
 
-/// Whether one of some values, items or labels is no worse than a value; an equal one is. In specs these then *better*
-/// the value, and labels *beat* it. It goes over all of them, without a branch.
+/// Whether one of some values, items or labels is no worse than a value (an equal one counts). Specs then say that
+/// points *better* the value, and that labels *beat* it. The loop goes over all of them, without a branch.
 pub fn some_no_worse<C: Criterion, T: Valued<C::V>>(
     criterion: &C,
     points: &[T],

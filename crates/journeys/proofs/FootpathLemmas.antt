@@ -1,4 +1,4 @@
--- What the test for a footpath says, and footpaths into a stop by the stop that they leave.
+-- What the test for a footpath means; and footpaths into a stop, in order of the stop that they leave.
 use Rattle.std.proofs.Common.{◌≡◌, ℕ, ◌+◌, ◌<◌, ◌≤◌, true, false, List, slice_get, Some, Contains, ◌↔◌, true≢false, refl, sym, ap, subst, ◌∙◌, arith, inl, inr}
 use Rattle.std.proofs.lemmas.Bool.{cases_eq, cases_order, cases_Bool, and_parts, eqb-true, eq-eqb, and_from}
 use Rattle.std.proofs.lemmas.Option.{slice_get_within, get_or_from_slice_get, same_Some}

@@ -1,4 +1,4 @@
--- Numbers, a digit on.
+-- Numbers with one more digit.
 use Rattle.std.proofs.Common.{◌≡◌, ℕ, ◌+◌, ◌-◌, ◌*◌, ◌^◌, ◌<◌, ◌≤◌, suc, zero, List, [], ◌∷◌, length, get_or, take, drop, Some, None, Bool, true, ltb}
 use Rattle.std.proofs.Common.{refl, ap, ◌∙◌, arith, add-one}
 use Rattle.std.specs.List.{list_all, prefix_len}

@@ -1,4 +1,4 @@
--- What is read is spelled so, and what is spelled so is read.
+-- A journey that is read from a text has that text, and a journey is read from its text.
 use Rattle.std.proofs.Common.{◌≡◌, ◌≢◌, ◌⊎◌, ℕ, zero, suc, ◌^◌, ◌<◌, ◌≤◌, Bool, true, false, not, ◌&&◌, eqb, ltb, cond, List, [], ◌∷◌, ◌++◌, length}
 use Rattle.std.proofs.Common.{get_or, take, drop, codes, Option, Some, None, refl, sym, ap, subst, ◌∙◌, append_assoc, arith, inl, inr, rules}
 use Rattle.std.specs.Prelude.{decimal, IfSome, IfOk, MatchResult, Result, Ok, Err}

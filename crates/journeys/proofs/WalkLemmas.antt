@@ -1,4 +1,4 @@
--- Walks, a footpath on.
+-- Walks with one more footpath.
 use Rattle.std.proofs.Common.{◌≡◌, ℕ, ◌+◌, ◌<◌, ◌≤◌, suc, zero, true, eqb, List, [], ◌∷◌, length, get_or, drop, Some}
 use Rattle.std.proofs.Common.{refl, ap, arith, add-one}
 use Rattle.std.specs.List.{list_all}

@@ -8,7 +8,7 @@ use Rattle.journeys.specs.Extracted.{Attains}
 use Rattle.journeys.specs.declared.answering.Departure.{Departure}
 use Rattle.journeys.specs.declared.answering.Answer.{Answer}
 
--- the point of a departure; no tag is left
+-- the point of a departure, with tag 0
 abbrev pub point_of : {V : Type 0} → Departure V → Point V
 point_of departure = record { departure = departure.time; value = departure.value; tag = 0 }
 
@@ -16,7 +16,7 @@ point_of departure = record { departure = departure.time; value = departure.valu
 abbrev pub points_of : {K V : Type 0} → Answer K V → List (Point V)
 points_of answer = map point_of answer.departures.items
 
--- each point stands with a journey that attains it
+-- each departure has a journey that attains its point
 abbrev pub AreAttained : {K V : Type 0} → Rules V → TimetableValue → Query → Answer K V → Type 0
 AreAttained {K} {V} rules t q answer =
     (departure : Departure V) → Contains answer.departures.items departure → Attains rules t q (point_of departure) departure.journey

@@ -22,22 +22,22 @@ pub record Attains {V : Type 0} (rules : Rules V) (t : TimetableValue) (q : Quer
   pub plain : IsPlain t q.target j
   pub worth : p.value ≡ journey_value rules t j
 
--- a journey that is spelled; where none is, the one with no ride
+-- the journey that is spelled; if none is, the one without rides
 abbrev pub or_none : Option JourneyValue → JourneyValue
 or_none None = record { start = None; rides = [] }
 or_none (Some j) = j
 
--- a node boards: how one goes on from a stop is what it says, by an earlier node
+-- a node boards: it spells how one goes on from a stop, by what an earlier node spells
 abbrev pub IsBoarding : List Node → ℕ → Boarding → Type 0
 IsBoarding nodes number b = (b.next < number) × ((spelled nodes number).onward ≡ boarded_after b.walk b.first (spelled nodes b.next).aboard)
 
--- a node gets off: at the end, or to board again, by an earlier node
+-- a node gets off, for good or to board again: it spells how one goes on in a trip, by what an earlier node spells
 abbrev pub IsAlighting : List Node → ℕ → Alighting → Type 0
 IsAlighting nodes number (Ends last walk) = (spelled nodes number).aboard ≡ Some (record { last = last; walk = walk_of walk; rides = [] })
 IsAlighting nodes number (Changes last b) =
     (b.next < number) × ((spelled nodes number).aboard ≡ changed_at last (boarded_after b.walk b.first (spelled nodes b.next).aboard))
 
--- the rides of one who boards at a place and goes on as is spelled
+-- the rides of a passenger who boards connection `first` and goes on as is spelled
 abbrev pub rides_on : ℕ → Option Aboard → Option (List RideValue)
 rides_on first None = None
 rides_on first (Some x) = Some (boarded first x)

@@ -1,4 +1,4 @@
--- The numbers and names by which faults are told.
+-- The numbers and names of faults.
 use Rattle.std.specs.Prelude.{ℕ, List, codes, Option, Some, None}
 use Rattle.journeys.specs.declared.fault.JourneyFault.{JourneyFault}
 use Rattle.journeys.specs.declared.fault.JourneyFault.TheVariants.{LegRange, TwoTrips, NoBoarding, NoAlighting, NoFootpath, WalkBroken, TooEarly}
@@ -28,7 +28,7 @@ name_of WrongEnds = codes "WrongEnds"
 name_of OutsideWindow = codes "OutsideWindow"
 name_of (NoFootpath i) = codes "NoFootpath"
 
--- want of memory has no number of its own
+-- out of memory has no number of its own
 abbrev pub text_number : TextFault → Option ℕ
 text_number BadText = Some 80
 text_number OutOfMemory = None

@@ -1,4 +1,4 @@
--- Queries whose stops are asked by name.
+-- Queries by the names of their stops.
 use Rattle.std.specs.Prelude.{◌≡◌, ◌⊎◌, ℕ, ◌<◌, List}
 use Rattle.timetable.specs.Legal.{At}
 use Rattle.timetable.specs.NamesValue.{NamesValue}
@@ -25,18 +25,18 @@ pub record Asks (names : NamesValue) (from to : List ℕ) (window : Window) (q :
   pub target : IsNamed names to q.target
   pub times : (q.from ≡ window.from) × (q.until ≡ window.until) × (q.by ≡ window.by)
 
--- why no query is asked: a name is that of no stop, else what is wrong with the query
+-- why there is no query: no stop has one of the names, or else the query has this fault
 abbrev pub IsRefused : ImageValue → List ℕ → List ℕ → Window → QueryFault → Type 0
 IsRefused image from to window UnknownStop = NamesNone image.names from ⊎ NamesNone image.names to
 IsRefused image from to window SameStop = (q : Query) × Asks image.names from to window q × IsFirstFault image.timetable.stops q SameStop
 IsRefused image from to window BadWindow = (q : Query) × Asks image.names from to window q × IsFirstFault image.timetable.stops q BadWindow
 
--- every stop is asked, to the least stop of a name, in the window
+-- the destination is the least stop of a name, in the window
 pub record AsksAll (names : NamesValue) (to : List ℕ) (window : Window) (d : Destination) : Type 0 where
   pub target : IsNamed names to d.target
   pub times : (d.from ≡ window.from) × (d.until ≡ window.until) × (d.by ≡ window.by)
 
--- why no stop is: the name is that of no stop, else the window is bad
+-- why there is no destination: no stop has the name, or else the window is bad
 abbrev pub IsRefusedOfAll : ImageValue → List ℕ → Window → QueryFault → Type 0
 IsRefusedOfAll image to window UnknownStop = NamesNone image.names to
 IsRefusedOfAll image to window SameStop = ⊥

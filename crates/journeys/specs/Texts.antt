@@ -5,11 +5,11 @@ use Rattle.timetable.specs.declared.network.Footpath.{Footpath}
 use Rattle.timetable.specs.declared.journey.Leg.{Leg}
 use Rattle.timetable.specs.JourneyValue.{RideValue, JourneyValue}
 
--- a number, in decimal, behind a space
+-- a space and a number in decimal
 abbrev pub number_text : ℕ → List ℕ
 number_text n = 32 ∷ decimal n
 
--- a footpath's numbers: the stop left, the stop led into, the seconds
+-- a footpath's numbers: the stop that it leaves, the stop that it leads to, the seconds
 abbrev pub footpath_text : Footpath → List ℕ
 footpath_text f = number_text f.from ++ (number_text f.to ++ number_text f.secs)
 
@@ -32,7 +32,7 @@ start_text (Some f) = walk_text f
 abbrev pub text_of : JourneyValue → List ℕ
 text_of j = drop 1 (start_text j.start ++ flat_map ride_text j.rides)
 
--- journeys that have a text
+-- numbers that have 32 bits at most
 abbrev pub IsFootpathOfWords : Footpath → Type 0
 IsFootpathOfWords f = (f.from < 2 ^ 32) × (f.to < 2 ^ 32) × (f.secs < 2 ^ 32)
 

@@ -19,7 +19,7 @@ use profile_scan::{ConnSource, Found, Profiles, profile};
 use std::alloc::{AllocError, Global};
 use timetable::{Journey, Query};
 
-/// A best departure: when it is, in seconds after the base, its value, and a journey that attains both.
+/// A best departure: its time, in seconds after the base, its value, and a journey that attains both.
 #[derive(Drop)]
 pub struct Departure<V> {
     pub time: u32,
@@ -27,8 +27,8 @@ pub struct Departure<V> {
     pub journey: Journey,
 }
 
-/// The answer of a profile query: all best departures in order, each with a journey, the seconds of
-/// the footpath from the source to the target, if there is one, and how many connections were read.
+/// The answer of a profile query: all best departures in order, each with a journey; the seconds of the footpath from
+/// the source to the target, if there is one; and how many connections were read.
 #[derive(Drop)]
 pub struct Answer<C: Criterion> {
     pub departures: Vec<Departure<C::V>>,
@@ -36,12 +36,11 @@ pub struct Answer<C: Criterion> {
     pub read: usize,
 }
 
-/// Answers a query that can be asked: exactly the points of all journeys that count for it, which
-/// no other such point dominates, in order, each with a journey that counts, departs when the point
-/// does, and is worth the point's value.
+/// Answers a query that can be asked: exactly the points of all journeys that count for it which no other such point
+/// dominates, in order, each with a journey that counts, departs when the point does, and is worth the point's value.
 ///
-/// Each connection of the window is asked for once, from the last to the first. The only error is
-/// want of memory; then a beginning of them was asked for.
+/// Each connection of the window is asked for once, from the last to the first. The only error is that memory runs
+/// out; then only a first part of them was asked for.
 pub fn answer_query<S: ConnSource, C: Criterion>(
     alloc: Global,
     source: &mut S,
@@ -72,7 +71,7 @@ pub fn answer_query<S: ConnSource, C: Criterion>(
     })
 }
 
-/// How many connections the window of a query has.
+/// The number of connections that the window of a query has.
 pub fn window_len<S: ConnSource>(source: &S, query: &Query) -> usize
     ensures { result ≡ length (window (S.timetable source.now) query.now) }
 {
@@ -80,7 +79,7 @@ pub fn window_len<S: ConnSource>(source: &S, query: &Query) -> usize
     end.saturating_sub(source.first_at(query.from))
 }
 
-// The points of an answer, each with a journey.
+// Returns the points of an answer, each with a journey.
 fn departures_of<C: Criterion>(
     alloc: Global,
     found: &Found<C>,
@@ -107,10 +106,11 @@ fn departures_of<C: Criterion>(
     Ok(departures)
 }
 
-/// The best departures from one stop, of the answers from all stops, each with a journey that counts, departs when the
-/// point does, and is worth the point's value. So journeys are made stop by stop, and need not be in memory at once.
+/// Returns the best departures from one stop, which isn't the target, out of the answers from all stops, each with a
+/// journey that counts, departs when the point does, and is worth the point's value. So journeys are made stop by
+/// stop, and needn't be in memory all at once.
 ///
-/// The source has to be of the timetable that was scanned. The only error is that memory runs out.
+/// The source has to be one of the timetable that was scanned. The only error is that memory runs out.
 pub fn departures_from<S: ConnSource, C: Criterion>(
     alloc: Global,
     source: &S,

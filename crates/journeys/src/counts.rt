@@ -16,7 +16,7 @@ use crate::way::Way;
 use image_verifier::Verified;
 use timetable::{Journey, Query, Times};
 
-// The first fault of the journey itself, and of where it leads.
+// The first fault of legs and walks, and of where the journey begins and ends.
 #[tactic(auto, unfolding(crate::specs::Faults::path_fault))]
 fn path_fault(image: &Verified, query: &Query, way: &Way<'_>) -> Option<JourneyFault>
     ensures { result ≡ path_fault image.now.timetable query.now way.now.start way.now.rides.now }
@@ -46,18 +46,19 @@ fn judge(image: &Verified, query: &Query, way: &Way<'_>) -> Result<Times, Journe
     times_inside(image, query, way)
 }
 
-/// The departure and final time of a journey that holds in the image and counts for the query; else its first fault.
+/// Returns when a journey departs and when it is over, if it holds in the image and counts for the query; otherwise
+/// the error is its first fault.
 ///
-/// No memory is taken. A query may be any: one whose source or target is no stop, or whose window
-/// is empty, has no journey that counts; one from a stop to itself has journeys that lead back.
+/// It takes no memory. Any query is allowed: for one whose source or target is no stop, or whose window is empty, no
+/// journey counts; for one from a stop to itself, journeys that lead back do.
 pub fn check(image: &Verified, query: &Query, journey: &Journey) -> Result<Times, JourneyFault>
-    // It counts, departs then and is over then.
+    // The journey counts, and departs and is over at these times.
     ensures counts { IfOk result (λ times. Counts image.now.timetable query.now times.dep journey.now
         × (times.arr ≡ arrival image.now.timetable journey.now)) }
-    // What counts is accepted.
+    // Each journey that counts is accepted.
     ensures only { (departure : ℕ) → Counts image.now.timetable query.now departure journey.now
         → result ≡ Ok (record { dep = departure; arr = arrival image.now.timetable journey.now }) }
-    // Which fault it is.
+    // The error is the first fault.
     ensures fault { IfErr result (λ e. first_fault image.now.timetable query.now journey.now ≡ Some e) }
 {
     let way = Way {
@@ -67,7 +68,7 @@ pub fn check(image: &Verified, query: &Query, journey: &Journey) -> Result<Times
     judge(image, query, &way)
 }
 
-/// A journey has no fault just where it counts, at some departure.
+/// A journey has no fault exactly if it counts, at some departure.
 pub fn faultless_counts()
     ensures { (t : TimetableValue) (q : Query) (j : JourneyValue) → (first_fault t q j ≡ None)
         ↔ ((departure : ℕ) × Counts t q departure j) }

@@ -1,4 +1,4 @@
-//! What is asked of every stop, by the name of the target.
+//! Queries from every stop, by the name of the target.
 
 ghost use Rattle.std.specs.Prelude.{MatchResult};
 ghost use Rattle.profile_scan.specs.Destinations.{CanBeAsked};
@@ -9,10 +9,10 @@ use image_verifier::Verified;
 use profile_scan::Destination;
 use timetable::QueryFault;
 
-/// What asks, of an image, for journeys from every stop to the stop of a name. Where stops share a
-/// name, the least of them is meant. Names are compared byte by byte.
+/// Returns the destination of journeys of an image from every stop to the stop of a name. If stops share the name,
+/// the least of them is meant. Names are compared byte by byte.
 ///
-/// The error is `UnknownStop` where no stop has the name, else `BadWindow`.
+/// The error is `UnknownStop` if no stop has the name, or else `BadWindow`.
 pub fn destination_named(
     image: &Verified,
     to: &[u8],

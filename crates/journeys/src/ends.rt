@@ -12,7 +12,7 @@ use crate::way::Way;
 use image_verifier::Verified;
 use timetable::{Footpath, Query, Ride, Times};
 
-// When ride i is over, its walk too, or the greatest number where it is later.
+// When ride i is over, including its walk, in seconds after the base; at most 2^64 - 1.
 fn over_at(image: &Verified, rides: &[Ride], i: usize) -> u64
     requires legs { AreLegs image.now.timetable rides.now }
     requires within { i < length rides.now }
@@ -36,7 +36,7 @@ fn early_fault(image: &Verified, rides: &[Ride], i: usize) -> Option<JourneyFaul
     None
 }
 
-/// The first leg that departs before the ride before it is over.
+/// The fault of the first leg that departs before the previous ride is over.
 #[tactic(auto, using(timetable::proofs::FirstLemmas::searches), unfolding(crate::specs::Faults::times_fault))]
 pub fn times_fault(image: &Verified, rides: &[Ride]) -> Option<JourneyFault>
     requires legs { AreLegs image.now.timetable rides.now }
@@ -50,7 +50,7 @@ pub fn times_fault(image: &Verified, rides: &[Ride]) -> Option<JourneyFault>
     None
 }
 
-// Where a journey begins, where its first leg departs given.
+// The stop where a journey begins; `stop` is where its first leg departs.
 fn begin_of(start: Option<Footpath>, stop: u32) -> u32
     ensures { result ≡ begin_of start stop }
 {
@@ -70,7 +70,7 @@ fn start_secs(start: Option<Footpath>) -> u32
     }
 }
 
-// Where a walk from a stop ends.
+// The stop where a walk from a stop ends.
 fn walk_end(stop: u32, walk: &[Footpath]) -> u32
     ensures { result ≡ walk_end stop walk.now }
 {
@@ -81,7 +81,7 @@ fn walk_end(stop: u32, walk: &[Footpath]) -> u32
     here
 }
 
-// Where ride i ends, its walk too.
+// The stop where ride i ends, including its walk.
 fn stop_after(image: &Verified, rides: &[Ride], i: usize) -> u32
     requires legs { AreLegs image.now.timetable rides.now }
     requires within { i < length rides.now }
@@ -91,7 +91,7 @@ fn stop_after(image: &Verified, rides: &[Ride], i: usize) -> u32
     walk_end(connection_at(image, ride.leg.last).to, &ride.walk)
 }
 
-/// Whether the journey begins or ends elsewhere.
+/// Returns `WrongEnds` if the journey doesn't begin at the source or doesn't end at the target.
 #[tactic(auto, unfolding(crate::specs::Faults::ends_fault))]
 pub fn ends_fault(image: &Verified, query: &Query, way: &Way<'_>) -> Option<JourneyFault>
     requires legs { AreLegs image.now.timetable way.now.rides.now }
@@ -108,7 +108,8 @@ pub fn ends_fault(image: &Verified, query: &Query, way: &Way<'_>) -> Option<Jour
     None
 }
 
-/// When a journey departs and is over, where both are inside the window.
+/// Returns when a journey departs and when it is over. The error is `OutsideWindow` if it departs earlier or later
+/// than the query allows, or is over too late.
 #[tactic(auto, unfolding(crate::specs::Faults::window_fault))]
 pub fn times_inside(image: &Verified, query: &Query, way: &Way<'_>) -> Result<Times, JourneyFault>
     requires legs { AreLegs image.now.timetable way.now.rides.now }

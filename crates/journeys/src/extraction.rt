@@ -28,7 +28,7 @@ enum Alighting {
     Changes { last: u32, boarding: Boarding },
 }
 
-// The boarding that a node is, by an earlier node.
+// The boarding that a node says, if it says one.
 #[tactic(auto, using(crate::proofs::SpellLemmas::nothing_said))]
 fn boards_at<C: Criterion>(found: &Found<C>, number: usize) -> Option<Boarding>
     ensures { MatchOption result ((spelled (nodes_of found.now) number).onward
@@ -49,7 +49,7 @@ fn boards_at<C: Criterion>(found: &Found<C>, number: usize) -> Option<Boarding>
     }
 }
 
-// How one gets off by a node, and by earlier ones.
+// How one gets off, as a node and earlier ones say, if they say it.
 #[tactic(auto, using(crate::proofs::SpellLemmas::nothing_said))]
 fn gets_off_at<C: Criterion>(found: &Found<C>, number: usize) -> Option<Alighting>
     ensures { MatchOption result ((spelled (nodes_of found.now) number).aboard
@@ -72,7 +72,7 @@ fn gets_off_at<C: Criterion>(found: &Found<C>, number: usize) -> Option<Alightin
     }
 }
 
-// How many rides follow the leg that one gets off by a node, where it spells any.
+// The number of rides that follow the leg which ends as a node says, if the node spells any.
 fn rides_after<C: Criterion>(found: &Found<C>, from: usize) -> usize
     ensures { (x : Aboard) → (spelled (nodes_of found.now) from).aboard ≡ Some x → result ≡ length x.rides }
 {
@@ -90,7 +90,7 @@ fn rides_after<C: Criterion>(found: &Found<C>, from: usize) -> usize
     rides
 }
 
-// One ride more.
+// Adds one ride, whose walk is one footpath or none.
 fn ride(
     alloc: Global,
     rides: &mut Vec<Ride>,
@@ -107,7 +107,7 @@ fn ride(
     Ok(())
 }
 
-// The rides of one who boards a connection and goes on by a node.
+// The rides of a passenger who boards a connection and goes on as a node says; `None` if it spells none.
 fn rides_from<C: Criterion>(
     alloc: Global,
     found: &Found<C>,
@@ -163,11 +163,11 @@ fn spelled_at<C: Criterion>(
     }
 }
 
-/// The journey of a point of an answer, at its place: one that counts for the query, departs when
-/// the point does, and is worth the point's value. Each change is one footpath, and after the last
-/// leg there is one only where that leg ends elsewhere than at the target.
+/// Returns the journey of the point at an index of an answer: it counts for the query, departs when the point does,
+/// and is worth the point's value. Each change is one footpath, and after the last leg there is one only if that leg
+/// doesn't end at the target.
 ///
-/// The only error is want of memory.
+/// The only error is that memory runs out.
 pub fn extract<C: Criterion>(
     alloc: Global,
     found: &Found<C>,
@@ -176,11 +176,11 @@ pub fn extract<C: Criterion>(
     requires { i < length (listed found.now) }
     ensures spelled { IfOk result (λ journey. (p : _) → slice_get (listed found.now) i ≡ Some p
         → journey ≡ or_none (spelled (nodes_of found.now) p.tag).journey) }
-    // It attains the point in the query and the timetable that the answer keeps.
+    // It attains the point, for the query and the timetable that the answer keeps.
     ensures kept { IfOk result (λ journey. (p : _) → slice_get (listed found.now) i ≡ Some p
         → ∥ Attains (C.rules (criterion_of_found found.now)) (timetable_of found.now) (query_of found.now) p journey
         ∥₁) }
-    // So it does in those of which the caller knows that they were answered.
+    // So it does for the query and the timetable of which the caller knows that this is their answer.
     ensures attains { IfOk result (λ journey. (criterion : _) (t : TimetableValue) (q : Query) (p : _)
         → Answers criterion (C.rules criterion) t q found.now → slice_get (listed found.now) i ≡ Some p
         → Attains (C.rules criterion) t q p journey) }

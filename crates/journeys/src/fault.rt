@@ -7,33 +7,33 @@ use reasoning::variant_name;
 
 /// Why a journey doesn't count for a query, with the number of the leg or walk.
 ///
-/// Legs count from 0. Walk i is before leg i, the start being walk 0; the last walk, after all
-/// legs, has the number of legs.
+/// Legs count from 0. Walk i is before leg i, and walk 0 is the start; the last walk, after all legs, has the number
+/// of legs.
 #[derive(Clone, Copy, Debug, PartialEq, Eq)]
 pub enum JourneyFault {
-    /// A leg's first connection is after its last one, or the image hasn't got them; or there is no leg at all.
+    /// The leg's first connection is after its last one, or the image doesn't have them; or there is no leg at all.
     LegRange(usize),
-    /// A leg's first and last connection are of two trips.
+    /// The leg's first and last connection are of two trips.
     TwoTrips(usize),
-    /// Nobody gets on where the leg departs.
+    /// Passengers may not get on where the leg departs.
     NoBoarding(usize),
-    /// Nobody gets off where the leg ends.
+    /// Passengers may not get off where the leg ends.
     NoAlighting(usize),
-    /// The image hasn't got a footpath of the walk with its seconds.
+    /// The image doesn't have a footpath of the walk with its seconds.
     NoFootpath(usize),
-    /// Footpaths don't join, or the walk doesn't lead from leg to leg, or is empty between two, or
-    /// is a start to the stop itself.
+    /// The walk's footpaths don't join, or it doesn't lead from a leg's end to where the next leg departs, or is
+    /// empty between two legs; or the start doesn't lead to the first leg, or leads back to its own stop.
     WalkBroken(usize),
-    /// The leg departs before the leg and walk before it are over.
+    /// The leg departs before the previous leg and the walk after it are over.
     TooEarly(usize),
     /// The journey doesn't begin at the source, or doesn't end at the target.
     WrongEnds,
-    /// The journey departs outside the window, or before second 0, or is over too late.
+    /// The journey departs earlier or later than the query allows, or before second 0, or is over too late.
     OutsideWindow,
 }
 
 impl JourneyFault {
-    /// The number by which the fault is told, from 81 to 89.
+    /// The fault's number, from 81 to 89.
     pub fn number(self) -> u8
         ensures { result ≡ number_of self }
     {
@@ -50,7 +50,7 @@ impl JourneyFault {
         }
     }
 
-    /// The name by which the fault is told, as `LegRange`.
+    /// The fault's name, as `LegRange`.
     pub fn name(self) -> &'static str
         ensures { result.now ≡ name_of self }
     {

@@ -8,7 +8,7 @@ use crate::fault::JourneyFault;
 use image_verifier::Verified;
 use timetable::{Connection, Leg, Ride};
 
-/// The connection at a place.
+/// The connection at an index.
 pub fn connection_at(image: &Verified, i: u32) -> Connection
     requires { i < length image.now.timetable.connections }
     ensures { result ≡ connection_at image.now.timetable i }

@@ -1,4 +1,4 @@
-//! Queries whose stops are asked by name.
+//! Queries by the names of their stops.
 
 ghost use Rattle.std.specs.Prelude.{MatchResult};
 ghost use Rattle.timetable.specs.Queries.{IsAskable};
@@ -7,7 +7,7 @@ ghost use Rattle.journeys.specs.Questions.{Asks, IsRefused};
 use image_verifier::Verified;
 use timetable::{Query, QueryFault};
 
-/// When one travels, in seconds after the base.
+/// The times of a query, in seconds after the base.
 #[derive(Clone, Copy, Debug, PartialEq, Eq)]
 pub struct Window {
     /// The earliest departure.
@@ -18,10 +18,10 @@ pub struct Window {
     pub by: u32,
 }
 
-/// The query that asks, of an image, for journeys from the stop of one name to the stop of another.
-/// Where stops share a name, the least of them is meant. Names are compared byte by byte.
+/// Returns the query for journeys of an image from the stop of one name to the stop of another. If stops share a
+/// name, the least of them is meant. Names are compared byte by byte.
 ///
-/// The error is `UnknownStop` where no stop has one of the names, else the first fault of the query.
+/// The error is `UnknownStop` if no stop has one of the names, or else the first fault of the query.
 pub fn query_of(
     image: &Verified,
     from: &[u8],

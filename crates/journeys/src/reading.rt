@@ -36,7 +36,7 @@ fn value(digits: &[u8]) -> Option<u32>
     Some(value)
 }
 
-// The number that digits show without a leading zero.
+// The number that digits show, if it is a u32 without a leading zero.
 #[tactic(auto, unfolding(crate::specs::Reading::number_of_digits))]
 fn number_of_digits(digits: &[u8]) -> Option<u32>
     requires { list_all is_ascii_digit digits.now ≡ true }
@@ -49,7 +49,7 @@ fn number_of_digits(digits: &[u8]) -> Option<u32>
     }
 }
 
-// The number that all digits at the front show.
+// The number that all digits at the front show, and the bytes after them.
 #[tactic(auto, unfolding(crate::specs::Reading::number_at, crate::specs::Reading::number_of_digits))]
 fn number(bytes: &[u8]) -> Result<(u32, &[u8]), TextFault>
     ensures { Gives (λ x. (x.0, x.1.now)) result (number_at bytes.now) }
@@ -90,14 +90,14 @@ fn leg(bytes: &[u8]) -> Result<(Leg, &[u8]), TextFault>
     Ok((Leg { first, last }, rest))
 }
 
-// What comes after a word.
+// The bytes after a word, if they begin with it.
 fn after<'a>(word: &[u8], bytes: &'a [u8]) -> Option<&'a [u8]>
     ensures { option_map (λ x. x.now) result ≡ after word.now bytes.now }
 {
     bytes.strip_prefix(word)
 }
 
-// The walks that stand here. Each takes a byte at least.
+// The walks at the front, and the bytes after them. Each walk takes at least one byte.
 fn walks(alloc: Global, bytes: &[u8]) -> Result<(Vec<Footpath>, &[u8]), TextFault>
     ensures { Gives (λ x. (x.0.items, x.1.now)) result (walks_at (length bytes.now) bytes.now) }
 {
@@ -124,7 +124,7 @@ fn ride(alloc: Global, bytes: &[u8]) -> Result<(Ride, &[u8]), TextFault>
     Ok((Ride { leg, walk }, rest))
 }
 
-// The rides up to the end, the first without its word. Each takes a byte at least.
+// The rides up to the end; the first is without its word. Each takes at least one byte.
 fn rides(alloc: Global, bytes: &[u8]) -> Result<Vec<Ride>, TextFault>
     ensures { Gives (λ v. v.items) result (rides_at (length bytes.now) bytes.now) }
 {
@@ -145,7 +145,7 @@ fn rides(alloc: Global, bytes: &[u8]) -> Result<Vec<Ride>, TextFault>
     Err(TextFault::BadText)
 }
 
-// The start, up to the word of the first ride.
+// The start, and the bytes after the word of the first ride.
 #[tactic(auto, unfolding(crate::specs::Reading::start_at))]
 fn start(bytes: &[u8]) -> Result<(Option<Footpath>, &[u8]), TextFault>
     ensures { Gives (λ x. (x.0, x.1.now)) result (start_at bytes.now) }
@@ -165,8 +165,8 @@ fn start(bytes: &[u8]) -> Result<(Option<Footpath>, &[u8]), TextFault>
     }
 }
 
-/// The journey that the bytes spell, from the first to the last of them, or `BadText`, or
-/// `OutOfMemory` where memory was refused.
+/// Returns the journey that all the bytes spell. The error is `BadText` if they spell none, and `OutOfMemory` if
+/// memory runs out.
 #[tactic(auto, unfolding(crate::specs::Reading::journey_at))]
 pub fn journey(alloc: Global, bytes: &[u8]) -> Result<Journey, TextFault>
     ensures { Gives (λ j. j) result (journey_at bytes.now) }

@@ -103,19 +103,20 @@ pub fn journey_string(alloc: Global, journey: &Journey) -> Result<String, AllocE
     }
 }
 
-/// The journey whose text the bytes are. Numbers are decimal, without leading zeros, up to
-/// 4,294,967,295; at most one walk comes before the first ride, and there is at least one ride.
+/// Returns the journey whose text this is. Numbers are decimal, without leading zeros, up to 4,294,967,295; at most
+/// one walk comes before the first ride, and there is at least one ride. The error is `BadText` for any other text,
+/// and `OutOfMemory` if memory runs out.
 pub fn journey_parse(alloc: Global, text: &[u8]) -> Result<Journey, TextFault>
-    // What is read is spelled so.
+    // The text is that of the journey that is read.
     ensures found { IfOk result (λ j. HasText j × (text.now ≡ text_of j)) }
-    // What is spelled so is read, unless memory runs out.
+    // If a journey has this text, it is read, unless memory runs out.
     ensures only { (j : JourneyValue) → HasText j → text.now ≡ text_of j
         → MatchResult result (λ found. found ≡ j) (λ e. e ≡ OutOfMemory) }
 {
     journey(alloc, text)
 }
 
-/// No two journeys have one text, so what was written is read again as it was.
+/// No two journeys have the same text, so a journey that was written is read as it was.
 pub fn one_text()
     ensures { (j k : JourneyValue) → HasText j → HasText k → text_of j ≡ text_of k → j ≡ k }
 {}

@@ -7,7 +7,7 @@ ghost use Rattle.journeys.specs.declared.text_fault.TextFault.TheVariants.{OutOf
 use reasoning::variant_name;
 use std::alloc::AllocFailed;
 
-/// Why a text is read as no journey.
+/// Why no journey is read from a text.
 #[derive(Clone, Copy, Debug, PartialEq, Eq)]
 pub enum TextFault {
     /// It is no journey's text.
@@ -16,7 +16,7 @@ pub enum TextFault {
 }
 
 impl TextFault {
-    /// The number by which the fault is told, 80; want of memory has none.
+    /// The fault's number, 80; out of memory has none.
     pub fn number(self) -> Option<u8>
         ensures { result ≡ text_number self }
     {
@@ -26,7 +26,7 @@ impl TextFault {
         }
     }
 
-    /// The name by which the fault is told, as `BadText`.
+    /// The fault's name, as `BadText`.
     pub fn name(self) -> &'static str
         ensures { result.now ≡ text_name self }
     {

@@ -13,7 +13,7 @@ use crate::way::Way;
 use image_verifier::Verified;
 use timetable::{Footpath, Ride};
 
-/// Where footpaths end to end lead to from a stop.
+/// The stop that footpaths, end to end, lead to from a stop; `None` if they don't join.
 pub fn led_to(stop: u32, walk: &[Footpath]) -> Option<u32>
     ensures { result ≡ led_to stop walk.now }
 {
@@ -27,7 +27,7 @@ pub fn led_to(stop: u32, walk: &[Footpath]) -> Option<u32>
     Some(here)
 }
 
-/// The seconds of a walk, or the greatest number where they are more.
+/// The seconds of a walk, at most 2^64 - 1.
 #[tactic(auto, using(crate::proofs::WalkLemmas::sums))]
 pub fn walk_secs(walk: &[Footpath]) -> u64
     ensures { result ≡ min (walk_secs walk.now) (2 ^ 64 - 1) }
@@ -69,7 +69,7 @@ fn start_fault(image: &Verified, start: Option<Footpath>, stop: u32) -> Option<J
     }
 }
 
-// Whether footpaths lead elsewhere, or nowhere.
+// Whether footpaths lead to another stop than `goal`, or don't join.
 fn is_elsewhere(led: Option<u32>, goal: u32) -> bool
     ensures { result ≡ is_elsewhere led goal }
 {
@@ -105,7 +105,7 @@ fn walk_after_fault(image: &Verified, rides: &[Ride], i: usize) -> Option<Journe
     walk_fault(image, i + 1, &ride.walk, is_broken(image, rides, i))
 }
 
-/// The first fault of the walks, where the legs have none.
+/// The first fault of the walks of a journey whose legs have none.
 #[tactic(auto, using(timetable::proofs::FirstLemmas::searches), unfolding(crate::specs::Faults::walks_fault))]
 pub fn walks_fault(image: &Verified, way: &Way<'_>) -> Option<JourneyFault>
     requires legs { AreLegs image.now.timetable way.now.rides.now }

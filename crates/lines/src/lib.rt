@@ -1,4 +1,5 @@
-//! Lines over any reader and writer: cut at LF, however the bytes are cut into reads.
+//! The lines of any reader, cut at LF, however the reads divide the bytes; readers and writers whose failures are
+//! counted.
 #![tactic(auto)]
 
 mod block;

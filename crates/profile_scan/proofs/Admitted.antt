@@ -1,4 +1,4 @@
--- Whatever follows is worth an admitted value, so the laws of a criterion speak of all that a scan keeps.
+-- All ways to go on have admitted values, so the laws of a criterion apply to all that a scan keeps.
 use Rattle.std.proofs.Common.{ℕ, ◌+◌, ◌≤◌, List, [], ◌∷◌, Option, Contains, arith, sym, subst}
 use Rattle.criteria.specs.Laws.{Rules, Laws, Admits, NoWorse}
 use Rattle.bags.specs.declared.point.Point.{Point}

@@ -1,4 +1,4 @@
--- Values of walks, and how a chain of footpaths gives way to one.
+-- Values of walks, and how one footpath replaces a chain of them.
 use Rattle.std.proofs.Common.{ℕ, List, [], ◌∷◌, Option, Some, None, Contains, arith, refl, sym, ◌∙◌}
 use Rattle.criteria.specs.Laws.{Rules, Laws, Admits, NoWorse}
 use Rattle.timetable.specs.declared.network.Footpath.{Footpath}

@@ -1,4 +1,4 @@
--- What is outdone by points found outdoes in turn what is worse, and what is carried on.
+-- What stays outdone: a value that is no better, a value after a ride, and any value as more points are found. And the points carried on.
 use Rattle.std.proofs.Common.{ℕ, ◌+◌, ◌≤◌, List, arith, inl}
 use Rattle.criteria.specs.Laws.{Rules, Laws, Admits, NoWorse}
 use Rattle.bags.specs.declared.point.Point.{Point}

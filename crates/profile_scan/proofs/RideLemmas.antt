@@ -1,4 +1,4 @@
--- Labels after the ride, and what comes of boarding by them.
+-- Labels after the ride, and what boarding by them offers.
 use Rattle.std.proofs.Common.{◌≡◌, true, false, ℕ, ◌+◌, ◌-◌, ◌<◌, ◌≤◌, List, [], ◌∷◌, ◌++◌, length, set, Contains}
 use Rattle.std.proofs.Common.{slice_get, slice_index, Some, get_or, get_or-set_same, get_or-set_other, refl, sym, ◌∙◌, ap, subst, inl}
 use Rattle.std.proofs.Common.{inr, arith}

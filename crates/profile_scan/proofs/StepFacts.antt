@@ -1,4 +1,4 @@
--- What is kept alike matches alike, and where nothing is offered all stays.
+-- If the same is kept, the same matches; and if nothing is offered, nothing changes.
 use Rattle.std.proofs.Common.{◌≡◌, ◌≢◌, ◌<◌, ℕ, List, [], length, Contains, Option, None, refl, sym, ap, subst, arith}
 use Rattle.timetable.specs.Legal.{IsLegal}
 use Rattle.timetable.proofs.LegalLemmas.{connection_at-stands}

@@ -1,4 +1,4 @@
--- Offers put together from smaller ones, and taken in under nodes to which further ones may come.
+-- Offers made of smaller ones, and lists that take them in while a story grows.
 use Rattle.std.specs.Prelude.{◌≡◌, ◌≢◌, ◌⊎◌, ℕ, ◌+◌, ◌-◌, ◌<◌, ◌≤◌, List, [], ◌∷◌, length, map, Contains, slice_get}
 use Rattle.std.specs.Prelude.{Option, Some, None}
 use Rattle.std.proofs.Common.{inl, inr}
@@ -22,7 +22,7 @@ use Rattle.fronts.specs.declared.labels.Label.{Label}
 use Rattle.fronts.specs.declared.labels.Labels.{Labels}
 use Rattle.fronts.specs.Labels.{AreLabels, labels_at, trips_of}
 
--- one way, which is open
+-- an offer of one way
 abbrev pub one_way : {V : Type 0} → ℕ → V → (ℕ → Type 0) → Offer (Unit {0}) V
 one_way departure value fits = record
     { is_open = λ _. Unit {0}; departure = λ _. departure; value = λ _. value; fits_tag = λ _. fits }
@@ -33,7 +33,7 @@ set_out_way tags departure value s = one_way departure value (λ tag. (x : Aboar
     → tags.earlier.aboard s.label ≡ Some x
     → tags.later.journey tag ≡ Some (record { start = s.start; rides = boarded s.first x }))
 
--- each way that some element offers
+-- an offer of all ways that the elements for which `There` holds offer
 abbrev pub each_of : {X A V : Type 0} → (X → Type 0) → (X → Offer A V) → Offer (X × A) V
 each_of There offer = record {
   is_open = λ way. There way.0 × (offer way.0).is_open way.1;
@@ -42,7 +42,7 @@ each_of There offer = record {
   fits_tag = λ way. (offer way.0).fits_tag way.1;
 }
 
--- labels as points: who sits in a trip has departed
+-- labels as points; their departure is 0, since whoever sits in a trip has departed
 abbrev pub label_points : {V : Type 0} → List (Label V) → List (Point V)
 label_points labels = map (λ label. record { departure = 0; value = label.value; tag = label.tag }) labels
 
@@ -50,29 +50,29 @@ label_points labels = map (λ label. record { departure = 0; value = label.value
 abbrev pub trip_points : {V : Type 0} → Labels V → ℕ → List (Point V)
 trip_points labels trip = label_points (labels_at labels trip)
 
--- no labels but those of one trip are others
+-- only the labels of one trip may have changed
 pub record IsRelabelled {V : Type 0} (rules : Rules V) (trip : ℕ) (old new : Labels V) : Type 0 where
   pub labels : AreLabels rules new
   pub long : trips_of new ≡ trips_of old
   pub same : (k : ℕ) → (k ≡ trip → ⊥) → labels_at new k ≡ labels_at old k
 
--- a list takes an offer in while a story is written on: whichever beginning of it one asks, and whatever is still to
--- come
+-- a list takes an offer in while a story grows from `was` to `now`, whatever beginning of `was` gives earlier tags their meaning, and whatever continuation of
+-- `now` gives later tags theirs
 abbrev pub Takes : {A V : Type 0} → Rules V → List Footpath → Story → Story → (Spellings → Offer A V) → List (Point V)
     → List (Point V) → Type 0
 Takes rules walks was now offer old new =
     (before all : Story) → Grows before was → Grows now all
     → TakesIn rules (offer (from_to (told walks before) (told walks all))) old new
 
--- an element stands at a place below n
+-- the element is among the first n
 abbrev pub StandsBefore : {X : Type 0} → List X → ℕ → X → Type 0
 StandsBefore points n x = (k : ℕ) × (k < n) × (slice_get points k ≡ Some x)
 
--- an element stands at one of these places
+-- the element is at one of these indices
 abbrev pub StandsAtOne : {X : Type 0} → List X → List ℕ → X → Type 0
 StandsAtOne points places x = (k : ℕ) × Contains places k × (slice_get points k ≡ Some x)
 
--- the points of a stop are offered each label of a trip, boarded at place i after a footpath
+-- offered to the points of a stop: each label of a trip, boarded at connection i after a footpath
 abbrev pub boardings_after : {V : Type 0} → Rules V → Spellings → ℕ → ℕ → Footpath → List (Point V) → Offer (Point V) V
 boardings_after rules tags i departure walk labels = record {
   is_open = Contains labels;
@@ -82,7 +82,7 @@ boardings_after rules tags i departure walk labels = record {
       → tags.later.onward tag ≡ Some (record { walk = walk ∷ []; rides = boarded i x });
 }
 
--- the points found are offered each label of a trip, boarded at place i after a start
+-- offered to the points found: each label of a trip, boarded at connection i after a start
 abbrev pub settings_out_after : {V : Type 0} → Rules V → Spellings → ℕ → ℕ → Option Footpath → List (Point V)
     → Offer (Point V) V
 settings_out_after rules tags i departure start labels = record {
@@ -93,13 +93,13 @@ settings_out_after rules tags i departure start labels = record {
       → tags.later.journey tag ≡ Some (record { start = start; rides = boarded i x });
 }
 
--- values are those of labels after the ride, each with the number of its label
+-- the ridden values are those of the labels after the ride, each with the tag of its label
 pub record AreRidden {V : Type 0} (rules : Rules V) (labels : List (Point V)) (ridden : List (Ridden V)) : Type 0 where
   pub of_label : (r : Ridden V) → Contains ridden r → (l : Point V) × Contains labels l
       × (r.value ≡ rules.ride l.value) × (r.label ≡ l.tag)
   pub each : (l : Point V) → Contains labels l → (r : Ridden V) × Contains ridden r × (r.value ≡ rules.ride l.value)
 
--- labels are offered each point of a stop that departs at a time or later, the trip being left at place i
+-- offered to labels: each point of a stop that departs at a time or later; the trip is left at connection i
 abbrev pub changes_from : {V : Type 0} → Spellings → ℕ → ℕ → List (Point V) → Offer (Point V) V
 changes_from tags i time bag = record {
   is_open = λ p. Contains bag p × (time ≤ p.departure);
@@ -143,14 +143,13 @@ only_if P offer = record {
   fits_tag = offer.fits_tag;
 }
 
--- how one may end where a connection ends: at the target, or after one footpath of so many seconds to it; and at the
--- target by a time
+-- how one may end where a connection ends: at the target, or after a footpath of `way` seconds to it, and in time for the query
 abbrev pub IsEnding : Connection → Query → Option ℕ → Option Footpath → Type 0
 IsEnding c q way None = (c.to ≡ q.target) × (c.arr ≤ q.by)
 IsEnding c q way (Some f) = (c.to ≢ q.target) × (way ≡ Some f.secs) × (f.from ≡ c.to) × (f.to ≡ q.target)
     × (c.arr + f.secs ≤ q.by)
 
--- labels are offered each way to end there, the trip being left at place i
+-- offered to labels: each way to end where a connection ends; the trip is left at connection i
 abbrev pub endings : {V : Type 0} → Rules V → Spellings → ℕ → Connection → Query → Option ℕ → Offer (Option Footpath) V
 endings rules tags i c q way = record {
   is_open = IsEnding c q way;
@@ -164,8 +163,8 @@ abbrev pub endings_and_changes : {V : Type 0} → Rules V → Spellings → ℕ 
     → List (Point V) → Offer (Option Footpath ⊎ Point V) V
 endings_and_changes rules tags i c q way bag = either (endings rules tags i c q way) (changes_from tags i c.arr bag)
 
--- a start leads to a connection from the source in time, and departs in the window: none where the connection starts at
--- the source, else one footpath to another stop
+-- a start leads to a connection from the source in time, and departs when the query allows: none if the connection starts at the source, or else one footpath
+-- to another stop
 abbrev pub StartsFrom : Query → Connection → Option Footpath → Type 0
 StartsFrom q c None = c.from ≡ q.source
 StartsFrom q c (Some f) = (f.from ≡ q.source) × (f.to ≢ q.source)
@@ -176,11 +175,11 @@ pub record MayStart (q : Query) (c : Connection) (start : Option Footpath) : Typ
   pub not_early : q.from ≤ c.dep - start_secs start
   pub not_late : c.dep - start_secs start ≤ q.until
 
--- a footpath stands at a place from a first one up to before another
+-- a footpath is at an index from `begin` on, before `end`
 abbrev pub StandsBetween : List Footpath → ℕ → ℕ → Footpath → Type 0
 StandsBetween walks begin end walk = (k : ℕ) × (begin ≤ k) × (k < end) × (slice_get walks k ≡ Some walk)
 
--- the footpaths from a first place up to before another lead to a stop
+-- the footpaths at indices from `begin` on, before `end`, lead to a stop
 pub record AreWalksInto (t : TimetableValue) (stop begin end : ℕ) : Type 0 where
   pub stop_in : stop < t.stops
   pub into : (k : ℕ) (f : Footpath) → At t.footpaths k f → begin ≤ k → k < end → f.to ≡ stop
@@ -192,14 +191,13 @@ abbrev pub IsTried : List Footpath → ℕ → ℕ → Option Footpath → Type 
 IsTried walks begin end None = Unit {0}
 IsTried walks begin end (Some walk) = StandsBetween walks begin end walk
 
--- what one footpath into a connection's start offers the points of a stop: something, if it begins there and is short
--- enough
+-- what one footpath to a connection's start offers to the points of a stop: nothing, unless it leaves that stop, at time 0 or later
 abbrev pub boardings_by : {V : Type 0} → Rules V → Spellings → ℕ → Connection → ℕ → List (Point V) → Footpath
     → Offer (Point V) V
 boardings_by rules tags i c stop labels walk = only_if ((walk.from ≡ stop) × (walk.secs ≤ c.dep))
     (boardings_after rules tags i (c.dep - walk.secs) walk labels)
 
--- what one start offers the points found, if it is one
+-- what one start offers to the points found: nothing, unless `MayStart` allows it
 abbrev pub settings_out_by : {V : Type 0} → Rules V → Spellings → ℕ → Connection → Query → List (Point V)
     → Option Footpath → Offer (Point V) V
 settings_out_by rules tags i c q labels start = only_if (MayStart q c start)

@@ -1,5 +1,4 @@
--- What a scan leaves out by a bound: values of points found, none of which departs earlier than the connections that
--- are still to come.
+-- What a scan leaves out by a bound: values of points found, none of which departs earlier than the connections to come.
 use Rattle.std.specs.Prelude.{◌≡◌, ◌⊎◌, ℕ, ◌<◌, ◌≤◌, Bool, true, false, not, List, filter, Contains, slice_get, Some}
 use Rattle.std.specs.List.{list_any}
 use Rattle.criteria.specs.Laws.{Rules, Admits, RidingWorsens}
@@ -8,8 +7,7 @@ use Rattle.timetable.specs.TimetableValue.{TimetableValue}
 use Rattle.fronts.specs.declared.entry.Ridden.{Ridden}
 use Rattle.profile_scan.specs.Matching.{IsOutdone}
 
--- whether one of some values is no worse than v; an equal one is. (is_bettered_by of bags asks for a strictly better
--- one.)
+-- whether one of some values is no worse than v (an equal one counts, unlike in is_bettered_by of bags, which asks for a strictly better one)
 abbrev pub is_bettered : {V : Type 0} → Rules V → List V → V → Bool
 is_bettered rules values v = list_any (λ b. rules.no_worse b v) values
 
@@ -17,13 +15,13 @@ is_bettered rules values v = list_any (λ b. rules.no_worse b v) values
 abbrev pub carried : {V : Type 0} → Rules V → List V → List (Point V) → List (Point V)
 carried rules values points = filter (λ p. not (is_bettered rules values (rules.ride p.value))) points
 
--- values that points found outdo, each
+-- each of these values is outdone by a point found
 pub record AreBounds {V : Type 0} (rules : Rules V) (t : TimetableValue) (found : List (Point V)) (i : ℕ)
     (values : List V) : Type 0 where
   pub admitted : (b : V) → Contains values b → Admits rules b
   pub outdone : (b : V) → Contains values b → IsOutdone rules t found i b
 
--- a value of a point found that departs at a time or later, where riding never makes one better
+-- a value of a point found that departs at a time or later; riding never makes a value better
 pub record IsLateValue {V : Type 0} (rules : Rules V) (found : List (Point V)) (time : ℕ) (b : V) : Type 0 where
   pub worsens : RidingWorsens rules
   pub of : Point V
@@ -31,13 +29,13 @@ pub record IsLateValue {V : Type 0} (rules : Rules V) (found : List (Point V)) (
   pub late : time ≤ of.departure
   pub worth : of.value ≡ b
 
--- values of points found that depart at a time or later come among others, and what these bettered stays bettered
+-- values of points found that depart at a time or later are added to others, and what the old values bettered stays bettered
 pub record IsRenewed {V : Type 0} (rules : Rules V) (found : List (Point V)) (time : ℕ) (old new : List V)
     : Type 0 where
   pub only : (b : V) → Contains new b → Contains old b ⊎ IsLateValue rules found time b
   pub kept : (v : V) → Admits rules v → is_bettered rules old v ≡ true → is_bettered rules new v ≡ true
 
--- the same, and each such point from one place on is bettered; of these places they are those before another
+-- the same, and each such point from index `from` on is bettered; of the points from there on, exactly those before `until` depart at the time or later
 pub record ReadsLate {V : Type 0} (rules : Rules V) (found : List (Point V)) (from time until : ℕ) (old new : List V)
     : Type 0 where
   pub only : (b : V) → Contains new b → Contains old b ⊎ IsLateValue rules found time b
@@ -47,13 +45,13 @@ pub record ReadsLate {V : Type 0} (rules : Rules V) (found : List (Point V)) (fr
   pub late : (k : ℕ) (p : Point V) → from ≤ k → k < until → slice_get found k ≡ Some p → time ≤ p.departure
   pub rest : (k : ℕ) (p : Point V) → until ≤ k → slice_get found k ≡ Some p → p.departure < time
 
--- a value comes among others: there is no further one, what they better stays bettered, and it is bettered too
+-- a value is added to others: nothing else is added, what the old values bettered stays bettered, and the value is bettered too
 pub record TakesValue {V : Type 0} (rules : Rules V) (value : V) (old new : List V) : Type 0 where
   pub only : (b : V) → Contains new b → Contains old b ⊎ (value ≡ b)
   pub kept : (v : V) → Admits rules v → is_bettered rules old v ≡ true → is_bettered rules new v ≡ true
   pub taken : is_bettered rules new value ≡ true
 
--- the same of the values of the points from one place up to before another
+-- the same for the values of the points from index `from` on, before `until`
 pub record TakesPoints {V : Type 0} (rules : Rules V) (points : List (Point V)) (from until : ℕ)
     (old new : List V) : Type 0 where
   pub only : (b : V) → Contains new b → Contains old b
@@ -62,7 +60,7 @@ pub record TakesPoints {V : Type 0} (rules : Rules V) (points : List (Point V)) 
   pub each : (k : ℕ) (p : Point V) → from ≤ k → k < until → slice_get points k ≡ Some p
       → is_bettered rules new p.value ≡ true
 
--- a label comes after the ride, unless it is bettered then
+-- a label's value after the ride is added, unless it is bettered
 pub record RidesLabel {V : Type 0} (rules : Rules V) (values : List V) (label : Point V)
     (old new : List (Ridden V)) : Type 0 where
   pub only : (r : Ridden V) → Contains new r → Contains old r

@@ -19,13 +19,12 @@ pub record Aboard : Type 0 where
   pub walk : List Footpath
   pub rides : List RideValue
 
--- there is a first leg, and it is boarded at place i or later
+-- there is a first leg, and it boards connection i or a later one
 abbrev pub BoardsFrom : ℕ → List RideValue → Type 0
 BoardsFrom i [] = ⊥
 BoardsFrom i (ride ∷ rides) = i ≤ ride.leg.first
 
--- who may leave the stop at the time walks on, by a chain of any length but not by none, boards at place i or later,
--- and is at the target by the query's latest arrival
+-- from the stop, at the time, one walks over one or more footpaths, boards connection i or a later one, and is at the target by the query's latest arrival
 pub record IsOnward (t : TimetableValue) (q : Query) (i stop time : ℕ) (x : Onward) : Type 0 where
   pub walks : x.walk ≢ []
   pub is_walk : IsWalk t stop x.walk
@@ -40,8 +39,7 @@ time_off t x = (connection_at t x.last).arr + walk_secs x.walk
 abbrev pub time_there : TimetableValue → Aboard → ℕ
 time_there t x = final_time t (time_off t x) x.rides
 
--- who sits in the trip stays up to a connection at place i or later, leaves it there, and is at the target by the
--- query's latest arrival; who rides on after that walks first
+-- in the trip, one stays up to connection i or a later one, gets off there, and is at the target by the query's latest arrival; before a further ride one walks
 pub record IsAboard (t : TimetableValue) (q : Query) (i trip : ℕ) (x : Aboard) : Type 0 where
   pub later : i ≤ x.last
   pub in_range : x.last < length t.connections
@@ -52,12 +50,12 @@ pub record IsAboard (t : TimetableValue) (q : Query) (i trip : ℕ) (x : Aboard)
   pub leads : Leads t q.target (walk_end (connection_at t x.last).to x.walk) (time_off t x) x.rides
   pub arrives : time_there t x ≤ q.by
 
--- a journey that counts, and is boarded at place i or later
+-- a journey that counts and boards connection i or a later one
 pub record CountsFrom (t : TimetableValue) (q : Query) (i departure : ℕ) (j : JourneyValue) : Type 0 where
   pub counts : Counts t q departure j
   pub boards : BoardsFrom i j.rides
 
--- what they are worth; of the trip that one sits in, the ride itself comes before
+-- the values of these; in a trip, that of what comes after it, without the ride in it
 abbrev pub onward_value : {V : Type 0} → Rules V → TimetableValue → Onward → V
 onward_value rules t x = walked rules x.walk (ridden rules (final_time t 0 x.rides) x.rides)
 

@@ -1,4 +1,4 @@
--- What is asked of every stop at once, and when it can be.
+-- Queries from every stop at once, and when they can be asked.
 use Rattle.std.specs.Prelude.{ℕ, ◌<◌, ◌≤◌}
 use Rattle.timetable.specs.declared.limits.TheConstants.{TIME_END}
 use Rattle.timetable.specs.declared.query.Query.{Query}
@@ -11,14 +11,14 @@ use Rattle.profile_scan.specs.declared.destination.Destination.{Destination}
 abbrev pub query_from : Destination → ℕ → Query
 query_from d stop = record { source = stop; target = d.target; from = d.from; until = d.until; by = d.by }
 
--- to a stop of a timetable with so many, in a window that is there
+-- the target is a stop of a timetable with this many stops, and the times are possible
 pub record CanBeAsked (stops : ℕ) (d : Destination) : Type 0 where
   pub target : d.target < stops
   pub window : d.from ≤ d.until
   pub in_time : d.from ≤ d.by
   pub small : (d.from < TIME_END) × (d.until < TIME_END) × (d.by < TIME_END)
 
--- what is wrong with it, and that nothing before it is
+-- the destination has this fault, and none of those before it
 abbrev pub IsDestinationFault : ℕ → Destination → QueryFault → Type 0
 IsDestinationFault stops d UnknownStop = stops ≤ d.target
 IsDestinationFault stops d SameStop = ⊥

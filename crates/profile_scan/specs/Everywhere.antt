@@ -36,7 +36,7 @@ abbrev pub story_from : {K V : Type 0} {c : _} → StateOfAll K V c → ℕ → 
 story_from state stop =
     story state.trips.exits.items (steps_of state.stops.lists) (set_outs_from state.origins stop)
 
--- a state over so many stops and trips, under a criterion
+-- a state for `stops` stops and `trips` trips, under a criterion
 pub record IsStateOfAll {K V : Type 0} {c : _} (rules_of : K → Rules V) (criterion : K) (stops trips : ℕ)
     (state : StateOfAll K V c) : Type 0 where
   pub at_stops : AreStops rules_of criterion stops state.stops
@@ -44,7 +44,7 @@ pub record IsStateOfAll {K V : Type 0} {c : _} (rules_of : K → Rules V) (crite
   pub labels : AreLabels (rules_of criterion) state.trips.labels
   pub origins : AreOrigins criterion stops state.origins
 
--- the points found from a stop match every journey from there that boards at a place or later
+-- the points found from a stop match every journey from there that boards connection `start` or a later one
 abbrev pub HasFoundFrom : {K V : Type 0} {c : _} → Rules V → TimetableValue → Query → ℕ → StateOfAll K V c → ℕ → Type 0
 HasFoundFrom rules t q start state stop =
     Matches rules (told t.footpaths (story_from state stop)).journey
@@ -60,11 +60,11 @@ abbrev pub points_in : {V : Type 0} → Option (Vec (Point V)) → List (Point V
 points_in None = []
 points_in (Some points) = points.items
 
--- the points of a stop, at their places
+-- the points of a stop, in order
 abbrev pub listed_from : {K V : Type 0} {c : _} → Profiles K V c → ℕ → List (Point V)
 listed_from profiles stop = points_in (slice_get profiles.lists.items stop)
 
--- what was asked of every stop, and of how many
+-- what was asked from every stop, and how many stops there are
 abbrev pub destination_of : {K V : Type 0} {c : _} → Profiles K V c → Destination
 destination_of profiles = profiles.destination
 
@@ -78,8 +78,8 @@ criterion_of_profiles profiles = profiles.asked.criterion
 abbrev pub walk_from : {K V : Type 0} {c : _} → Profiles K V c → ℕ → Option ℕ
 walk_from profiles stop = slice_index_or (ways_of profiles.asked.ways) stop None
 
--- of a stop: its list is the answer of a query, each point's tag tells a plain journey that counts, with the point's
--- departure and value, and the walk is the footpath from there to the target
+-- from the query's source: its list is the answer of the query, each point's tag tells a plain journey that counts, with the point's departure and value, and
+-- the walk is the footpath from there to the target
 pub record AnswersFrom {K V : Type 0} {c : _} (rules : Rules V) (t : TimetableValue) (q : Query)
     (profiles : Profiles K V c) : Type 0 where
   pub answer : IsAnswer rules t q (listed_from profiles q.source)
@@ -88,8 +88,8 @@ pub record AnswersFrom {K V : Type 0} {c : _} (rules : Rules V) (t : TimetableVa
       (Counts t q) (IsPlain t q.target) (journey_value rules t) p
   pub direct : IsWay t q.target q.source (walk_from profiles q.source)
 
--- the same of every stop but the target of what was asked, each by the query from there; and of the target itself, from
--- which nobody can ask: there the journeys are those that come back to it, and the walk is its loop
+-- the same from every stop but the target, each by its own query; and from the target itself, for which no query can be asked: there the journeys are those
+-- that come back to it, and the walk is its loop
 pub record AnswerAll {K V : Type 0} {c : _} (rules_of : K → Rules V) (t : TimetableValue)
     (profiles : Profiles K V c) : Type 0 where
   pub each : (stop : ℕ) → stop < t.stops → stop ≢ (destination_of profiles).target

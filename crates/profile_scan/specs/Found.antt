@@ -14,11 +14,11 @@ use Rattle.profile_scan.specs.Kept.{IsWay}
 use Rattle.profile_scan.specs.declared.found.Found.{Found}
 use Rattle.profile_scan.specs.declared.nodes.Node.{Node}
 
--- its points, at their places
+-- its points, in order
 abbrev pub listed : {K V : Type 0} {c : _} → Found K V c → List (Point V)
 listed found = found.points.items
 
--- its nodes, at their numbers
+-- its nodes; the number of a node is its index
 abbrev pub nodes_of : {K V : Type 0} {c : _} → Found K V c → List Node
 nodes_of found = found.nodes.items
 

@@ -17,27 +17,25 @@ pub record IsAsked {K : Type 0} (t : TimetableValue) (asked : Asked K) : Type 0 
   pub starts : AreStarts t asked.query.source asked.starts
   pub ways : AreWays t asked.query.target (ways_of asked.ways)
 
--- the places from one up to before another, which is the first of a connection that departs at the latest arrival or
--- after it
+-- the indices from `start` on, before `end`, which is the first of a connection that departs at the latest arrival or later
 pub record IsWindow {K : Type 0} (t : TimetableValue) (asked : Asked K) (start end : ℕ) : Type 0 where
   pub can_ask : IsAsked t asked
   pub order : start ≤ end
   pub past : IsFirstAt t asked.query.by end
 
--- a connection stands at a place
+-- the connection at an index
 pub record StandsAt (t : TimetableValue) (place : ℕ) (c : Connection) : Type 0 where
   pub in_range : place < length t.connections
   pub is : c ≡ connection_at t place
 
--- the hop's numbers and values are such as the laws speak of; nothing here ties them to a timetable
+-- the hop's numbers and values are within what the laws are about; nothing here ties them to a timetable
 pub record IsHop {V : Type 0} (rules : Rules V) (q : Query) (hop : Hop V) : Type 0 where
   pub arrival : IsTime hop.connection.arr
   pub by : IsTime q.by
   pub secs : IfSome hop.way (λ secs. IsSecs secs)
   pub bound : (b : V) → Contains hop.bound.now b → Admits rules b
 
--- the connection stands at its place, it is known whether a footpath leads there from the source, and the way leads
--- from where it ends to the target
+-- the connection is at its index, it is known whether a footpath leads there from the source, and the way leads from where it ends to the target
 pub record IsHopOf {V : Type 0} (rules : Rules V) (t : TimetableValue) (q : Query) (hop : Hop V) : Type 0 where
   pub stands : StandsAt t hop.place hop.connection
   pub by : IsTime q.by

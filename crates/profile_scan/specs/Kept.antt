@@ -24,13 +24,13 @@ use Rattle.profile_scan.specs.declared.ways.Ways.{Ways}
 abbrev pub points_at : {K V : Type 0} → Stops K V → ℕ → List (Point V)
 points_at stops stop = list_points stops.lists (slice_index stops.heads.items stop)
 
--- what a stop was offered last: for each time before `before`, its points have one that departs then or later and is no
--- worse than `value`. (Another thing than IsOffered of Steps: there a point is one of an offer.)
+-- what a stop was offered last: for each time before `before`, its points have one that departs then or later and is no worse than `value`. (Not to be confused
+-- with IsOffered of Steps, by which a point is one of an offer.)
 pub record IsOffered {V : Type 0} (rules : Rules V) (points : List (Point V)) (offered : Offered V) : Type 0 where
   pub admitted : Admits rules offered.value
   pub covers : (time : ℕ) → time < offered.before → IsCovered rules points time offered.value
 
--- so many lists under a criterion, and what each was offered
+-- `count` lists under a criterion, and what each was offered last
 pub record AreStops {K V : Type 0} (rules_of : K → Rules V) (criterion : K) (count : ℕ)
     (stops : Stops K V) : Type 0 where
   pub under : lists_criterion stops.lists ≡ criterion
@@ -46,7 +46,7 @@ abbrev pub IsWay : TimetableValue → ℕ → ℕ → Option ℕ → Type 0
 IsWay t target stop None = (f : Footpath) → Contains t.footpaths f → f.from ≡ stop → f.to ≡ target → ⊥
 IsWay t target stop (Some secs) = Contains t.footpaths (record { from = stop; to = target; secs = secs })
 
--- what a word says: so many seconds, or more than a footpath takes
+-- what a word says: the seconds of a footpath, or that there is none, if it is more than a footpath takes
 abbrev pub way_if : Bool → ℕ → Option ℕ
 way_if true word = Some word
 way_if false word = None
@@ -54,21 +54,21 @@ way_if false word = None
 abbrev pub way_in : ℕ → Option ℕ
 way_in word = way_if (nat_le word MAX_WALK_SECS) word
 
--- the seconds from each stop
+-- the seconds of the footpath from each stop
 abbrev pub ways_of : Ways → List (Option ℕ)
 ways_of ways = map way_in ways.seconds.items
 
--- one for each stop
+-- there is an entry for each stop, which is right
 pub record AreWays (t : TimetableValue) (target : ℕ) (ways : List (Option ℕ)) : Type 0 where
   pub long : length ways ≡ t.stops
   pub each : (stop : ℕ) → stop < t.stops → IsWay t target stop (slice_index_or ways stop None)
 
--- a stop is there, among lists under a criterion
+-- there is a list for the stop, and the lists of all stops are as `AreStops` says
 pub record HasStop {K V : Type 0} (rules_of : K → Rules V) (criterion : K) (stop : ℕ) (kept : Stops K V) : Type 0 where
   pub there : stop < vec_len kept.heads
   pub stops : AreStops rules_of criterion (vec_len kept.heads) kept
 
--- what a scan keeps, as its parts have it
+-- what a scan keeps, from its parts
 abbrev pub kept_by : {K V : Type 0} {c : _} → State K V c → ScanValue V
 kept_by state = record {
   bag = points_at state.stops;
@@ -80,7 +80,7 @@ kept_by state = record {
 abbrev pub story_of : {K V : Type 0} {c : _} → State K V c → Story
 story_of state = story state.trips.exits.items (steps_of state.stops.lists) state.origin.set_outs.items
 
--- a state over so many stops and trips, under a criterion
+-- a state for `stops` stops and `trips` trips, under a criterion
 pub record IsState {K V : Type 0} {c : _} (rules_of : K → Rules V) (criterion : K) (stops trips : ℕ)
     (state : State K V c) : Type 0 where
   pub at_stops : AreStops rules_of criterion stops state.stops
@@ -88,8 +88,8 @@ pub record IsState {K V : Type 0} {c : _} (rules_of : K → Rules V) (criterion 
   pub labels : AreLabels (rules_of criterion) state.trips.labels
   pub found : criterion_of state.origin.found ≡ criterion
 
--- the shape of a scan that has read the connections of a timetable from a place on: sizes, criterion, and a bound that
--- points found outdo. What was found is said by MatchesFrom, which the loop of scan_window carries
+-- the shape of a scan that has read the connections of a timetable from an index on: sizes, criterion, and a bound that points found outdo. Which points were
+-- found, `MatchesFrom` says; the loop of scan_window carries it
 pub record IsScan {K V : Type 0} {c : _} (rules_of : K → Rules V) (criterion : K) (t : TimetableValue) (place : ℕ)
     (scan : Scan K V c) : Type 0 where
   pub state : IsState rules_of criterion t.stops t.trips scan.state

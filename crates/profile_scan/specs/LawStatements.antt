@@ -35,7 +35,7 @@ pub record IsInstead {V : Type 0} (rules : Rules V) (t : TimetableValue) (stop :
   pub no_longer : f.secs ≤ walk_secs chain
   pub no_worse : (v : V) → Admits rules v → NoWorse rules (rules.walk f.secs v) (walked rules chain v)
 
--- a chain of footpaths gives way to one closed footpath
+-- each chain of footpaths can be replaced by one footpath
 abbrev pub ChainsGiveWay : {V : Type 0} → Rules V → Type 0
 ChainsGiveWay rules =
     (t : TimetableValue) → IsLegal t → IsWithinLimits t
@@ -54,8 +54,7 @@ pub record DeparturesRise (t : TimetableValue) : Type 0 where
 abbrev pub TogetherNeverContinue : Type 0
 TogetherNeverContinue = (t : TimetableValue) → IsLegal t → DeparturesRise t
 
--- what is kept of the later connections and matches all ways to go on over them still does after the step of one
--- connection
+-- if what is kept matches all ways to go on over the later connections, then after the step of one connection it matches those that begin with this one, too
 abbrev pub OneIndexDown : {V : Type 0} → Rules V
     → (TimetableValue → Query → Spellings → ℕ → ScanValue V → ScanValue V → Type 0) → Type 0
 OneIndexDown {V} rules Step =
@@ -64,7 +63,7 @@ OneIndexDown {V} rules Step =
     → (old new : ScanValue V) → MatchesFrom rules t q tags.earlier (i + 1) old → Step t q tags i old new
     → MatchesFrom rules t q tags.later i new
 
--- what the tags in use spell by the one spelling, they spell by the other
+-- whatever the tags in use spell by `a`, they spell by `b`
 pub record StaySpelled {V : Type 0} (a b : Spelling) (scan : ScanValue V) : Type 0 where
   pub at_stops : (stop : ℕ) (p : Point V) (x : Onward) → Contains (scan.bag stop) p → a.onward p.tag ≡ Some x
       → b.onward p.tag ≡ Some x
@@ -73,14 +72,14 @@ pub record StaySpelled {V : Type 0} (a b : Spelling) (scan : ScanValue V) : Type
   pub at_source : (p : Point V) (j : JourneyValue) → Contains scan.found p → a.journey p.tag ≡ Some j
       → b.journey p.tag ≡ Some j
 
--- what matches still does where further tags come to spell something
+-- what matches still does if further tags come to spell something
 abbrev pub TagsMayCome : {V : Type 0} → Rules V → Type 0
 TagsMayCome {V} rules =
     (t : TimetableValue) (q : Query) (a b : Spelling) (i : ℕ) (scan : ScanValue V)
     → StaySpelled a b scan → MatchesFrom rules t q a i scan → MatchesFrom rules t q b i scan
 
--- the cut at the latest departure is the source's alone: what follows a stop or in a trip doesn't know it, and of a
--- journey only its own departure is asked, however early the cut
+-- the latest departure matters only at the source: ways to go on from a stop or in a trip don't depend on it; a journey that counts departs no later, and
+-- counts for any other latest departure that isn't before its own
 pub record CutIsTheSources (JourneyCounts : TimetableValue → Query → ℕ → JourneyValue → Type 0) : Type 0 where
   pub onward : (t : TimetableValue) (q : Query) (until i stop time : ℕ) (x : Onward) → IsOnward t q i stop time x
       → IsOnward t (record q { until = until }) i stop time x
@@ -108,15 +107,14 @@ NothingFollows {V} rules =
     → (end : ℕ) → IsFirstAt t q.by end
     → (tags : Spelling) → MatchesFrom rules t q tags end (record { bag = λ _. []; labels = λ _. []; found = [] })
 
--- there is one answer only, tags aside
+-- there is only one answer, tags aside
 abbrev pub OneAnswer : {V : Type 0} → Rules V → Type 0
 OneAnswer {V} rules =
     (t : TimetableValue) (q : Query) → CanScan t q
     → (a b : List (Point V)) → IsAnswer rules t q a → IsAnswer rules t q b
     → map untagged a ≡ map untagged b
 
--- a window read backward: its places stand between the first ones at two times, each is a place of a connection, and
--- departures never rise
+-- a window read backward: its indices lie between the first ones at two times, each is that of a connection, and departures never rise
 pub record IsReadBackward (t : TimetableValue) (q : Query) : Type 0 where
   pub falls : (start end : ℕ) → IsFirstAt t q.from start → IsFirstAt t q.by end
       → reverse (window t q) ≡ falling start (end - start)

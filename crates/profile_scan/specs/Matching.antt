@@ -17,7 +17,7 @@ pub record Spelling : Type 0 where
   pub aboard : ℕ → Option Aboard
   pub journey : ℕ → Option JourneyValue
 
--- what is spelled by the one is spelled by the other too
+-- whatever is spelled before is spelled after
 pub record Keeps (before after : Spelling) : Type 0 where
   pub onward : (tag : ℕ) (x : Onward) → before.onward tag ≡ Some x → after.onward tag ≡ Some x
   pub aboard : (tag : ℕ) (x : Aboard) → before.aboard tag ≡ Some x → after.aboard tag ≡ Some x
@@ -47,8 +47,7 @@ pub record Matches {V X : Type 0} (rules : Rules V) (spelled : ℕ → Option X)
   pub sound : (p : Point V) → Contains points p → IsAttained spelled IsThere IsPlainWay value p
   pub complete : (departure : ℕ) (x : X) → IsThere departure x → Covers rules points departure (value x)
 
--- a value is outdone: riding never makes one better, and a point found is no worse and departs no earlier than any
--- connection before place i
+-- a value is outdone: riding never makes one better, and a point found is no worse and departs no earlier than any connection before index i
 pub record IsOutdone {V : Type 0} (rules : Rules V) (t : TimetableValue) (found : List (Point V)) (i : ℕ)
     (v : V) : Type 0 where
   pub worsens : RidingWorsens rules
@@ -57,8 +56,8 @@ pub record IsOutdone {V : Type 0} (rules : Rules V) (t : TimetableValue) (found 
   pub in_time : (k : ℕ) → k < i → (connection_at t k).dep ≤ by.departure
   pub no_worse : NoWorse rules by.value v
 
--- points match the ways that are there, but for those of outdone values: each point is attained, and of each way that
--- isn't outdone departure and value are covered
+-- points match the ways that are there, except those with outdone values: each point is attained, and of each way that isn't outdone departure and value are
+-- covered
 pub record MatchesBut {V X : Type 0} (rules : Rules V) (spelled : ℕ → Option X) (IsThere : ℕ → X → Type 0)
     (IsPlainWay : X → Type 0) (value : X → V) (Outdone : V → Type 0) (points : List (Point V)) : Type 0 where
   pub sound : (p : Point V) → Contains points p → IsAttained spelled IsThere IsPlainWay value p
@@ -76,8 +75,7 @@ pub record ScanValue (V : Type 0) : Type 0 where
   pub labels : ℕ → List (Point V)
   pub found : List (Point V)
 
--- it matches every way to go on over the connections from place i; at stops and in trips but for what the points found
--- outdo, in a trip after the ride
+-- it matches every way to go on over the connections from index i on; at stops and in trips except those that the points found outdo, in a trip after the ride
 pub record MatchesFrom {V : Type 0} (rules : Rules V) (t : TimetableValue) (q : Query) (tags : Spelling) (i : ℕ)
     (scan : ScanValue V) : Type 0 where
   pub at_stops : (stop : ℕ) → stop < t.stops

@@ -35,7 +35,7 @@ abbrev pub set_out_by : Option Footpath → ℕ → Option Aboard → Option Jou
 set_out_by start first None = None
 set_out_by start first (Some x) = Some (record { start = start; rides = boarded first x })
 
--- a node, by what the earlier ones spell
+-- what a node spells, given what the earlier ones spell
 abbrev pub spells : (ℕ → Spelled) → Node → Spelled
 spells earlier (Ends last walk) = record nothing
     { aboard = Some (record { last = last; walk = walk_of walk; rides = [] }) }
@@ -43,11 +43,11 @@ spells earlier (Changes last next) = record nothing { aboard = changed_at last (
 spells earlier (Boards walk first next) = record nothing { onward = boarded_after walk first (earlier next).aboard }
 spells earlier (SetsOut start first next) = record nothing { journey = set_out_by start first (earlier next).aboard }
 
--- what stands at a number, or nothing
+-- what the node of a number spells, or nothing
 abbrev pub at_number : List Spelled → ℕ → Spelled
 at_number done k = slice_index_or done k nothing
 
--- nodes in turn, after what is spelled already
+-- what nodes spell one after the other, given what those before them spell
 unfoldable pub spelled_on : List Spelled → List Node → List Spelled
 spelled_on done [] = done
 spelled_on done (node ∷ nodes) = spelled_on (done ++ spells (at_number done) node ∷ []) nodes

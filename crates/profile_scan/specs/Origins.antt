@@ -47,12 +47,12 @@ AreUnder {K} {V} {c} criterion origins =
     (stop : ℕ) (origin : Origin K V c) → slice_get origins.each.items stop ≡ Some origin
     → criterion_of origin.found ≡ criterion
 
--- and so many stops have some
+-- the same for `count` stops
 pub record AreOrigins {K V : Type 0} {c : _} (criterion : K) (count : ℕ) (origins : Origins K V c) : Type 0 where
   pub long : length origins.each.items ≡ count
   pub under : AreUnder criterion origins
 
--- they stay so, and ways to set out are only added
+-- the points found stay under their criterion, and ways to set out are only added
 pub record ChangesOrigins {K V : Type 0} {c : _} (criterion : K) (old new : Origins K V c) : Type 0 where
   pub long : length new.each.items ≡ length old.each.items
   pub under : AreUnder criterion new

@@ -31,12 +31,12 @@ use Rattle.profile_scan.specs.declared.story.Exit.{Exit}
 use Rattle.profile_scan.specs.declared.story.SetOut.{SetOut}
 use Rattle.profile_scan.specs.declared.trips.Trips.{Trips}
 
--- a trip is there, and labels are of values that the laws speak of
+-- there is such a trip, and the values of labels are admitted
 pub record HasTrip {K V : Type 0} (rules : Rules V) (trip : ℕ) (trips : Trips K V) : Type 0 where
   pub there : trip < trips_of trips.labels
   pub labels : AreLabels rules trips.labels
 
--- no labels but those of one trip are others, and exits are only added
+-- only the labels of one trip may have changed, and exits are only added
 pub record ChangesTrip {K V : Type 0} (rules : Rules V) (trip : ℕ) (old new : Trips K V) : Type 0 where
   pub labels : IsRelabelled rules trip old.labels new.labels
   pub exits : Extends old.exits.items new.exits.items
@@ -48,7 +48,7 @@ TripTakes rules trip offer old new =
     → Takes rules walks (story old.exits.items steps set_outs) (story new.exits.items steps set_outs)
     offer (trip_points old.labels trip) (trip_points new.labels trip)
 
--- labels of values that laws speak of
+-- the values of labels are admitted
 abbrev pub AdmitsLabels : {V : Type 0} → Rules V → List (Label V) → Type 0
 AdmitsLabels {V} rules labels = (l : Point V) → Contains (label_points labels) l → Admits rules l.value
 
@@ -65,7 +65,7 @@ OriginTakes rules walks offer old new =
     → Takes rules walks (story exits steps old.set_outs.items) (story exits steps new.set_outs.items)
     offer (points_of old.found) (points_of new.found)
 
--- so many stops, with ridden values that the laws speak of
+-- `count` stops, and the ridden values are admitted
 pub record AreReady {K V : Type 0} (rules_of : K → Rules V) (criterion : K) (count : ℕ)
     (kept : Stops K V) : Type 0 where
   pub stops : AreStops rules_of criterion count kept
@@ -77,7 +77,7 @@ pub record ChangesStops {K V : Type 0} (rules_of : K → Rules V) (criterion : K
   pub stops : AreStops rules_of criterion count new
   pub steps : Extends (steps_of old.lists) (steps_of new.lists)
 
--- and the ridden values stay
+-- steps are only added, and the ridden values stay
 pub record ChangesLists {K V : Type 0} (rules_of : K → Rules V) (criterion : K) (count : ℕ)
     (old new : Stops K V) : Type 0 where
   pub stops : AreStops rules_of criterion count new
@@ -92,8 +92,7 @@ StopTakes rules walks stop offer old new =
     → Takes rules walks (story exits (steps_of old.lists) set_outs) (story exits (steps_of new.lists) set_outs)
     offer (points_at old stop) (points_at new stop)
 
--- the points of each stop take in what a footpath offers them that stands at a place, ridden values being those of
--- the labels
+-- the points of each stop take in what the footpath at an index offers them; the ridden values are those of the labels
 abbrev pub BoardsAfter : {K V : Type 0}
     → Rules V → Hop V → ℕ → Footpath → List (Ridden V) → Stops K V → Stops K V → Type 0
 BoardsAfter {K} {V} rules hop place walk ridden old new =
@@ -102,7 +101,7 @@ BoardsAfter {K} {V} rules hop place walk ridden old new =
     → (stop : ℕ)
     → StopTakes rules walks stop (λ tags. boardings_by rules tags hop.place hop.connection stop labels walk) old new
 
--- the same of the footpaths from a place up to before another
+-- the same for the footpaths at indices from `begin` on, before `end`
 abbrev pub BoardsAfterEach : {K V : Type 0}
     → Rules V → List Footpath → ℕ → ℕ → Hop V → List (Ridden V) → Stops K V → Stops K V → Type 0
 BoardsAfterEach {K} {V} rules walks begin end hop ridden old new =
@@ -117,8 +116,8 @@ BoardsAfterEach {K} {V} rules walks begin end hop ridden old new =
 abbrev pub points_of_trip : {K V : Type 0} {c : _} → State K V c → Hop V → List (Point V)
 points_of_trip state hop = trip_points state.trips.labels hop.connection.trip
 
--- a state takes a connection in, in the order of the code: alighting gives the labels of its trip, and by these one
--- sets out, which gives the points found, and boards, which gives the points of every stop
+-- a state takes a connection in, in the order of the code: alighting changes the labels of its trip; by these one sets out, which changes the points found, and
+-- boards, which changes the points of every stop
 pub record TakesConnection {K V : Type 0} {c : _} (rules : Rules V) (t : TimetableValue) (q : Query) (hop : Hop V)
     (old new : State K V c) : Type 0 where
   pub between : Story
@@ -136,7 +135,7 @@ pub record TakesConnection {K V : Type 0} {c : _} (rules : Rules V) (t : Timetab
       (λ tags. boardings rules t tags hop.place stop (carried rules hop.bound.now (points_of_trip new hop)))
       (points_at old.stops stop) (points_at new.stops stop)
 
--- points found, under a criterion, match every journey that boards at a place or later
+-- points found, under a criterion, match every journey that boards connection `start` or a later one
 pub record HasFound {K V : Type 0} {c : _} (rules_of : K → Rules V) (t : TimetableValue) (criterion : K) (q : Query)
     (start : ℕ) (state : State K V c) : Type 0 where
   pub same : criterion_of state.origin.found ≡ criterion

@@ -1,5 +1,5 @@
--- Plain ways to go on: each change is one footpath, and after the last leg there is one only where that leg ends
--- elsewhere than at the target. (What a scan finds; journeys that count may walk further.)
+-- Plain ways to go on: each change is one footpath, and after the last leg there is one only if that leg doesn't end at the target. (What a scan finds;
+-- journeys that count may walk further.)
 use Rattle.std.specs.Prelude.{◌≡◌, ◌≢◌, ◌⊎◌, ℕ, List, [], ◌∷◌}
 use Rattle.timetable.specs.declared.network.Footpath.{Footpath}
 use Rattle.timetable.specs.TimetableValue.{TimetableValue}
@@ -11,20 +11,19 @@ use Rattle.profile_scan.specs.Continuations.{Onward, Aboard}
 abbrev pub IsOneFootpath : List Footpath → Type 0
 IsOneFootpath walk = (f : Footpath) × (walk ≡ f ∷ [])
 
--- the walk after a leg, by the rides that follow: to change, one footpath; at the end none where the leg ends at the
--- target, else one
+-- the walk after a leg, given the rides that follow: one footpath to change; at the end none if the leg ends at the target, or else one
 abbrev pub HasPlainWalk : TimetableValue → ℕ → ℕ → List Footpath → List RideValue → Type 0
 HasPlainWalk t target last walk [] =
     (((connection_at t last).to ≡ target) × (walk ≡ []))
     ⊎ (((connection_at t last).to ≢ target) × IsOneFootpath walk)
 HasPlainWalk t target last walk (ride ∷ rides) = IsOneFootpath walk
 
--- rides are plain: so is the walk after each leg
+-- rides are plain if the walk after each leg is
 abbrev pub ArePlain : TimetableValue → ℕ → List RideValue → Type 0
 ArePlain t target [] = Unit {0}
 ArePlain t target (ride ∷ rides) = HasPlainWalk t target ride.leg.last ride.walk rides × ArePlain t target rides
 
--- from a stop, in a trip, or with a whole journey; a journey's start is none or one footpath in any case
+-- plain ways to go on from a stop or in a trip, and plain journeys; the start of a journey is none or one footpath in any case
 abbrev pub IsPlainOnward : TimetableValue → ℕ → Onward → Type 0
 IsPlainOnward t target x = IsOneFootpath x.walk × ArePlain t target x.rides
 

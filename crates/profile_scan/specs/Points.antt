@@ -32,13 +32,13 @@ abbrev pub Before : {V : Type 0} → Rules V → Point V → Point V → Type 0
 Before rules p q = (p.departure < q.departure)
     ⊎ ((p.departure ≡ q.departure) × (rules.list_order p.value q.value ≡ Less))
 
--- the test of that
+-- the same as a Boolean test
 abbrev pub is_before : {V : Type 0} → Rules V → Point V → Point V → Bool
 is_before rules p q = nat_lt p.departure q.departure ||
     (p.departure == q.departure && is_lt (rules.list_order p.value q.value))
 
--- the answer: exactly the undominated points, no journey that counts uncovered, in order; under a criterion's laws no
--- point is before itself, so each stands once
+-- the answer: exactly the undominated points, in order, and they cover every journey that counts. Under a criterion's laws no point is before itself, so each
+-- is listed once
 pub record IsAnswer {V : Type 0} (rules : Rules V) (t : TimetableValue) (q : Query)
     (points : List (Point V)) : Type 0 where
   pub exactly : (departure : ℕ) (v : V) → Lists points departure v ↔ IsUndominated rules t q departure v

@@ -9,11 +9,11 @@ use Rattle.profile_scan.specs.declared.starts.Starts.{Starts}
 abbrev pub IsLed : TimetableValue → ℕ → ℕ → Type 0
 IsLed t source stop = (f : Footpath) × IsStart t source (Some f) × (f.to ≡ stop)
 
--- whether one does
+-- whether a footpath does
 abbrev pub SaysLed : TimetableValue → ℕ → ℕ → Bool → Type 0
 SaysLed t source stop led = MatchBool led (IsLed t source stop) (IsLed t source stop → ⊥)
 
--- the same of each stop
+-- the same for each stop
 pub record AreStarts (t : TimetableValue) (source : ℕ) (starts : Starts) : Type 0 where
   pub long : vec_len starts.led ≡ t.stops
   pub each : (stop : ℕ) (led : Bool) → slice_get starts.led.items stop ≡ Some led → SaysLed t source stop led

@@ -13,15 +13,14 @@ use Rattle.profile_scan.specs.Points.{Covers}
 use Rattle.profile_scan.specs.Continuations.{Onward, Aboard}
 use Rattle.profile_scan.specs.Matching.{Spelling, Spellings, Keeps, from_to, IsOutdone, ScanValue}
 
--- what is offered to a list of points: of the ways A those that are open, and for each a departure, a value, and the
--- tags that fit
+-- what is offered to a list of points: those of the ways A that are open, and for each a departure, a value, and the tags that fit
 pub record Offer (A V : Type 0) : Type 1 where
   pub is_open : A → Type 0
   pub departure : A → ℕ
   pub value : A → V
   pub fits_tag : A → ℕ → Type 0
 
--- a point is one of an offer. (Another thing than IsOffered of Kept, which is of what a stop was offered last.)
+-- a point is one of an offer. (Not to be confused with IsOffered of Kept, which is about what a stop was offered last.)
 pub record IsOffered {A V : Type 0} (offer : Offer A V) (p : Point V) : Type 0 where
   pub way : A
   pub is_open : offer.is_open way
@@ -29,15 +28,13 @@ pub record IsOffered {A V : Type 0} (offer : Offer A V) (p : Point V) : Type 0 w
   pub worth : p.value ≡ offer.value way
   pub fits : offer.fits_tag way p.tag
 
--- a list takes an offer in: each point stood before or is offered, what was covered stays so, and all that is offered
--- is covered
+-- a list takes an offer in: each point was there before or is offered, what was covered stays covered, and all that is offered is covered
 pub record TakesIn {A V : Type 0} (rules : Rules V) (offer : Offer A V) (old new : List (Point V)) : Type 0 where
   pub only : (p : Point V) → Contains new p → Contains old p ⊎ IsOffered offer p
   pub kept : (departure : ℕ) (v : V) → Admits rules v → Covers rules old departure v → Covers rules new departure v
   pub covered : (way : A) → offer.is_open way → Covers rules new (offer.departure way) (offer.value way)
 
--- how one who sits in a trip may leave it where a connection ends: at the target; one footpath before the target; or to
--- change, as a point of that stop does
+-- how a passenger may leave a trip where a connection ends: at the target; one footpath before the target; or to change, as a point of that stop does
 pub data Leaving (V : Type 0) : Type 0 where
   ends : Leaving V
   ends_after : Footpath → Leaving V
@@ -54,13 +51,13 @@ MayLeave t q i bag (ends_after f) =
     × ((connection_at t i).arr + f.secs ≤ q.by)
 MayLeave t q i bag (changes p) = Contains bag p × ((connection_at t i).arr ≤ p.departure)
 
--- its value
+-- the value of a way to leave
 abbrev pub leaving_value : {V : Type 0} → Rules V → TimetableValue → ℕ → Leaving V → V
 leaving_value rules t i ends = rules.arrive (connection_at t i).arr
 leaving_value rules t i (ends_after f) = rules.walk f.secs (rules.arrive ((connection_at t i).arr + f.secs))
 leaving_value rules t i (changes p) = p.value
 
--- what its tag has to spell
+-- what the tag of a way to leave has to spell
 abbrev pub LeavingTag : {V : Type 0} → Spellings → ℕ → Leaving V → ℕ → Type 0
 LeavingTag tags i ends tag = tags.later.aboard tag ≡ Some (record { last = i; walk = []; rides = [] })
 LeavingTag tags i (ends_after f) tag = tags.later.aboard tag ≡ Some (record { last = i; walk = f ∷ []; rides = [] })
@@ -68,7 +65,7 @@ LeavingTag tags i (changes p) tag =
     (x : Onward) → tags.earlier.onward p.tag ≡ Some x
     → tags.later.aboard tag ≡ Some (record { last = i; walk = x.walk; rides = x.rides })
 
--- the labels of the connection's trip are offered each way to leave it, where passengers may get off
+-- offered to the labels of the connection's trip: each way to leave it, if passengers may get off
 abbrev pub leavings : {V : Type 0} → Rules V → TimetableValue → Query → Spellings → ℕ → List (Point V)
     → Offer (Leaving V) V
 leavings rules t q tags i bag = record {
@@ -78,7 +75,7 @@ leavings rules t q tags i bag = record {
   fits_tag = LeavingTag tags i;
 }
 
--- a ride from the connection on, as a label goes on, with the rides after it
+-- the ride that boards connection i and goes on as a label says, with the rides after it
 abbrev pub boarded : ℕ → Aboard → List RideValue
 boarded i x = record { leg = record { first = i; last = x.last }; walk = x.walk } ∷ x.rides
 
@@ -87,8 +84,7 @@ pub record Boarding (V : Type 0) : Type 0 where
   pub walk : Footpath
   pub label : Point V
 
--- one may board connection i so from a stop: passengers may get on there, and the footpath leads there from the stop
--- and begins at time 0 or later
+-- one may board connection i from a stop in this way: passengers may get on there, and the footpath leads there from the stop and begins at time 0 or later
 pub record MayBoard {V : Type 0} (t : TimetableValue) (i stop : ℕ) (labels : List (Point V))
     (way : Boarding V) : Type 0 where
   pub boards : (connection_at t i).board ≡ true
@@ -98,7 +94,7 @@ pub record MayBoard {V : Type 0} (t : TimetableValue) (i stop : ℕ) (labels : L
   pub fits : way.walk.secs ≤ (connection_at t i).dep
   pub is_label : Contains labels way.label
 
--- the points of a stop are offered each label after each footpath from the stop to the connection
+-- offered to the points of a stop: each label, after each footpath from the stop to the connection
 abbrev pub boardings : {V : Type 0} → Rules V → TimetableValue → Spellings → ℕ → ℕ → List (Point V)
     → Offer (Boarding V) V
 boardings rules t tags i stop labels = record {
@@ -114,7 +110,7 @@ pub record SettingOut (V : Type 0) : Type 0 where
   pub start : Option Footpath
   pub label : Point V
 
--- by a start of some kind; here alone the window of departures is asked for
+-- one may set out by a start of some kind; only here the query's earliest and latest departure matter
 pub record MaySetOutBy {V : Type 0} (IsOfKind : Option Footpath → Type 0) (t : TimetableValue) (q : Query) (i : ℕ)
     (labels : List (Point V))
     (way : SettingOut V) : Type 0 where
@@ -130,7 +126,7 @@ pub record MaySetOutBy {V : Type 0} (IsOfKind : Option Footpath → Type 0) (t :
 abbrev pub MaySetOut : {V : Type 0} → TimetableValue → Query → ℕ → List (Point V) → SettingOut V → Type 0
 MaySetOut t q = MaySetOutBy (IsStart t q.source) t q
 
--- the points found are offered each label after each start
+-- offered to the points found: each label, after each start
 abbrev pub settings_out : {V : Type 0} → Rules V → TimetableValue → Query → Spellings → ℕ → List (Point V)
     → Offer (SettingOut V) V
 settings_out rules t q tags i labels = record {
@@ -141,17 +137,17 @@ settings_out rules t q tags i labels = record {
       → tags.later.journey tag ≡ Some (record { start = way.start; rides = boarded i x });
 }
 
--- of some points those that are carried on: each but those that a point found outdoes, after the ride, for who boards
--- no later than by connection i
+-- the points that are carried on: all, except perhaps those whose value after the ride a point found outdoes, for passengers who board connection i or an
+-- earlier one
 pub record AreCarried {V : Type 0} (rules : Rules V) (t : TimetableValue) (found : List (Point V)) (i : ℕ)
     (points carried : List (Point V)) : Type 0 where
   pub only : (p : Point V) → Contains carried p → Contains points p
   pub all : (p : Point V) → Contains points p → Contains carried p
       ⊎ IsOutdone rules t found (i + 1) (rules.ride p.value)
 
--- one connection, from what a scan keeps of the later ones: first the labels of its trip, by the points of the stop
--- where it ends; then, by these labels and what their tags spell between, the points found and the points of every
--- stop. The points found are offered all labels; what they outdo isn't carried on to labels and stops
+-- the step of one connection, from what a scan keeps of the later ones: first the labels of its trip change, by the points of the stop where it ends; then, by
+-- these labels and what their tags spell in between, the points found and the points of every stop. All labels are offered to the points found; what these
+-- outdo isn't carried on to labels and stops
 pub record IsStep {V : Type 0} (rules : Rules V) (t : TimetableValue) (q : Query) (tags : Spellings) (i : ℕ)
     (old new : ScanValue V) : Type 0 where
   pub between : Spelling
@@ -169,8 +165,8 @@ pub record IsStep {V : Type 0} (rules : Rules V) (t : TimetableValue) (q : Query
   pub sets_out : TakesIn rules
       (settings_out rules t q (from_to between tags.later) i (new.labels (connection_at t i).trip)) old.found new.found
 
--- where nothing is offered at a connection: its trip has no labels, and who gets off can neither be at the target nor
--- go on, on foot or by a point of the stop
+-- a connection at which nothing is offered: its trip has no labels, and whoever gets off can neither be at the target nor go on, on foot or by a point of the
+-- stop
 pub record IsIdle {V : Type 0} (q : Query) (c : Connection) (way : Option ℕ)
     (labels bag : List (Point V)) : Type 0 where
   pub no_labels : labels ≡ []

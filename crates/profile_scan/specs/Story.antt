@@ -12,8 +12,7 @@ use Rattle.profile_scan.specs.declared.story.Exit.{Exit}
 use Rattle.profile_scan.specs.declared.story.Exit.TheVariants.{Ends, Changes}
 use Rattle.profile_scan.specs.declared.story.SetOut.{SetOut}
 
--- of each label how its trip is left, of each point of a stop the step that boards, and of each point found how one
--- sets out, by their tags
+-- for each label how its trip is left, for each point of a stop the step that boards, and for each point found how one sets out; their tags are the indices
 pub record Story : Type 0 where
   pub exits : List Exit
   pub steps : List Step
@@ -22,19 +21,19 @@ pub record Story : Type 0 where
 abbrev pub story : List Exit → List Step → List SetOut → Story
 story exits steps set_outs = record { exits = exits; steps = steps; set_outs = set_outs }
 
--- a story, and what is written down after it
+-- a story, and the same with more written down after it
 pub record Grows (old new : Story) : Type 0 where
   pub exits : Extends old.exits new.exits
   pub steps : Extends old.steps new.steps
   pub set_outs : Extends old.set_outs new.set_outs
 
--- what an exit tells, by what the steps do
+-- what an exit tells, given what the steps tell
 abbrev pub exit_tells : (ℕ → Option Onward) → Option Exit → Option Aboard
 exit_tells onward None = None
 exit_tells onward (Some (Ends last walk)) = Some (record { last = last; walk = walk_of walk; rides = [] })
 exit_tells onward (Some (Changes last step)) = changed_at last (onward step)
 
--- what a step tells, by what the labels do
+-- what a step tells, given what the labels tell
 abbrev pub boards_by : ℕ → Option Aboard → Option Footpath → Option Onward
 boards_by first x None = None
 boards_by first x (Some f) = boarded_after f first x
@@ -43,18 +42,18 @@ abbrev pub step_tells : List Footpath → (ℕ → Option Aboard) → Option Ste
 step_tells walks aboard None = None
 step_tells walks aboard (Some s) = boards_by s.first (aboard s.label) (slice_get walks s.walk)
 
--- what a way to set out tells, by what the labels do
+-- what a way to set out tells, given what the labels tell
 abbrev pub set_out_tells : (ℕ → Option Aboard) → Option SetOut → Option JourneyValue
 set_out_tells aboard None = None
 set_out_tells aboard (Some s) = set_out_by s.start s.first (aboard s.label)
 
--- what a label tells, in so many legs at most
+-- what a label tells, in at most n legs
 unfoldable pub label_tells : List Footpath → Story → ℕ → ℕ → Option Aboard
 label_tells walks s zero label = None
 label_tells walks s (suc n) label = exit_tells
     (λ tag. step_tells walks (label_tells walks s n) (slice_get s.steps tag)) (slice_get s.exits label)
 
--- what each tag tells, of whatever it may be
+-- what each tag tells: as that of a point of a stop, of a label, or of a point found
 abbrev pub told : List Footpath → Story → Spelling
 told walks s = record {
   onward = λ tag. step_tells walks (label_tells walks s (length s.exits)) (slice_get s.steps tag);

@@ -1,4 +1,4 @@
--- Journeys told in nodes.
+-- Journeys written as nodes.
 use Rattle.std.specs.Prelude.{◌≡◌, ℕ, List, [], ◌∷◌, Option, Some, None, slice_get, Contains}
 use Rattle.bags.specs.declared.point.Point.{Point}
 use Rattle.timetable.specs.declared.network.Footpath.{Footpath}
@@ -35,7 +35,7 @@ ending_by (Some (Changes last step)) = None
 abbrev pub ending : Story → ℕ → Option End
 ending s label = ending_by (slice_get s.exits label)
 
--- these labels lead from one to another
+-- these labels, each by its change, lead from `first` to `last`
 abbrev pub IsRoute : Story → ℕ → List ℕ → ℕ → Type 0
 IsRoute s first [] last = first ≡ last
 IsRoute s first (label ∷ labels) last = (first ≡ label)
@@ -45,7 +45,7 @@ IsRoute s first (label ∷ labels) last = (first ≡ label)
 abbrev pub IsLabelTold : List Footpath → Story → ℕ → Type 0
 IsLabelTold walks s label = (x : Aboard) × ((told walks s).aboard label ≡ Some x)
 
--- and the node of a number says the same
+-- the node of a number says what the story tells of a label
 abbrev pub SaysLabel : List Footpath → Story → ℕ → List Node → ℕ → Type 0
 SaysLabel walks s label nodes number = (x : Aboard) → (told walks s).aboard label ≡ Some x
     → (spelling nodes).aboard number ≡ Some x
@@ -58,7 +58,7 @@ abbrev pub SaysJourney : List Footpath → Story → ℕ → List Node → ℕ �
 SaysJourney walks s tag nodes number = (j : JourneyValue) → (told walks s).journey tag ≡ Some j
     → (spelling nodes).journey number ≡ Some j
 
--- a point has the departure and the value of one of these, and its tag is the number of a node that says its journey
+-- a point has the departure and the value of one of `points`, and its tag is the number of a node that says the journey of that one
 pub record IsRetold {V : Type 0} (walks : List Footpath) (s : Story) (points : List (Point V)) (nodes : List Node)
     (p : Point V) : Type 0 where
   pub of : Point V

@@ -9,11 +9,11 @@ use Rattle.timetable.specs.declared.query.Query.{Query}
 abbrev pub departs_inside : TimetableValue → Query → ℕ → Bool
 departs_inside t q i = nat_le q.from (connection_at t i).dep && nat_lt (connection_at t i).dep q.by
 
--- the places of all such connections, rising
+-- the indices of all such connections, rising
 abbrev pub window : TimetableValue → Query → List ℕ
 window t q = filter (departs_inside t q) (range_with_len 0 (length t.connections))
 
--- n places from low on, the last first
+-- n indices from low on, the last first
 abbrev pub falling : ℕ → ℕ → List ℕ
 falling low zero = []
 falling low (suc n) = (low + n) ∷ falling low n

@@ -24,13 +24,13 @@ pub fn timetable_of<S: ConnSource>(source: &S) -> Kept<Timetable>
     Kept::at(source, &())
 }
 
-/// Answers a query that can be asked: exactly the points of all journeys that count for it, which no other such point
-/// dominates, in order.
+/// Finds the answer of a query that can be asked: exactly the points of all journeys that count for it which no other
+/// such point dominates, in order.
 ///
-/// Each point has a tag that spells a journey which attains it, and the direct footpath is beside them. Each connection
-/// that departs at `from` or later and before `by` is asked for once, from the last to the first: a later leg may
-/// depart after `until`.
-/// The only error is that memory ran out (or a number of 32 bits); then a beginning of them was asked for.
+/// Each point has a tag that spells a journey which attains it, and the direct footpath is beside them. Each
+/// connection that departs at `from` or later and before `by` is asked for once, from the last to the first: a later
+/// leg may depart after `until`. The only error is that memory runs out, or that a number would need more than 32
+/// bits; then only a first part of these connections was asked for.
 pub fn profile<S: ConnSource, C: Criterion>(
     alloc: Global,
     source: &mut S,

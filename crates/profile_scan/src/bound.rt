@@ -34,7 +34,7 @@ impl<C: Criterion> Bound<C> {
     ghost use Rattle.bags.specs.Bag.{criterion_of, points_of};
     ghost use Rattle.profile_scan.specs.Bound.{IsRenewed, ReadsLate};
 
-    /// No values.
+    /// Makes a bound without values.
     pub fn new(alloc: Global) -> Self
         ensures { result.values.items ≡ [] }
     {
@@ -46,7 +46,8 @@ impl<C: Criterion> Bound<C> {
         }
     }
 
-    // Reads the values of the points, from the place on, that depart at a time or later, and returns where they end.
+    // Reads the values of the points, from index `self.place` on, that depart at a time or later. Returns the index
+    // where they end.
     fn read_late(&mut self, criterion: &C, found: &Bag<C>, time: u32) -> Result<usize, AllocError>
         requires worsens { RidingWorsens (C.rules criterion.now) }
         requires found { criterion_of found.now ≡ criterion.now }
@@ -92,9 +93,9 @@ impl<C: Criterion> Bound<C> {
     }
 }
 
-/// Whether one of some values is no worse than a value. An equal one is, so *bettered* means less here than in
-/// `is_bettered_by` of `bags`, which asks for a strictly better one. It is `some_no_worse` of bare values, under the
-/// name of its definition in specs/Bound.antt.
+/// Whether one of some values is no worse than a value (an equal one counts, unlike in `is_bettered_by` of `bags`,
+/// which asks for a strictly better one). It is `some_no_worse` of bare values, under the name of its definition in
+/// specs/Bound.antt.
 pub fn is_bettered<C: Criterion>(criterion: &C, values: &[C::V], value: &C::V) -> bool
     requires values { (b : _) → Contains values.now b → Admits (C.rules criterion.now) b }
     requires value { Admits (C.rules criterion.now) value.now }
@@ -103,7 +104,7 @@ pub fn is_bettered<C: Criterion>(criterion: &C, values: &[C::V], value: &C::V) -
     some_no_worse(criterion, values, value)
 }
 
-// Whether `other` stays when `value` comes.
+// Whether `other` stays when `value` is added.
 fn stays<C: Criterion>(criterion: &C, value: &C::V, other: &C::V) -> bool
     requires value { Admits (C.rules criterion.now) value.now }
     requires other { Admits (C.rules criterion.now) other.now }
@@ -112,7 +113,7 @@ fn stays<C: Criterion>(criterion: &C, value: &C::V, other: &C::V) -> bool
     !criterion.no_worse(value, other)
 }
 
-// Drops the values that a value is no worse than.
+// Drops the values than which a value is no worse.
 fn drop_bettered<C: Criterion>(criterion: &C, values: &mut Vec<C::V>, value: &C::V)
     requires values { (b : _) → Contains values.old.items b → Admits (C.rules criterion.now) b }
     requires value { Admits (C.rules criterion.now) value.now }
@@ -129,7 +130,7 @@ fn drop_bettered<C: Criterion>(criterion: &C, values: &mut Vec<C::V>, value: &C:
     values.truncate(kept);
 }
 
-// Adds a value, unless one that is there is no worse, and drops those that it is no worse than.
+// Adds a value, unless one that is there is no worse, and drops those than which it is no worse.
 fn take_value<C: Criterion>(
     criterion: &C,
     value: C::V,
@@ -147,8 +148,8 @@ fn take_value<C: Criterion>(
     Ok(())
 }
 
-// The first place, from another on, from which on all points depart before a time. A bag's points stand by falling
-// departure.
+// The first index, from `from` on, from which on all points depart before a time. A bag's points are in order of
+// falling departure.
 fn late_until<C: Criterion>(found: &Bag<C>, from: usize, time: u32) -> usize
     requires { from ≤ length (points_of found.now) }
     ensures from { from ≤ result }
@@ -165,7 +166,7 @@ fn late_until<C: Criterion>(found: &Bag<C>, from: usize, time: u32) -> usize
     found.len()
 }
 
-// Takes the values of the points at some places.
+// Adds the values of the points at some indices.
 fn take_points<C: Criterion>(
     criterion: &C,
     found: &Bag<C>,
@@ -187,7 +188,7 @@ fn take_points<C: Criterion>(
     Ok(())
 }
 
-// The departure of the point at a place, or 0 past the last.
+// The departure of the point at an index, or 0 past the last.
 fn departure_at<C: Criterion>(found: &Bag<C>, place: usize) -> u32
     ensures there { (p : _) → slice_get (points_of found.now) place ≡ Some p → result ≡ p.departure }
     ensures past { length (points_of found.now) ≤ place → result ≡ 0 }

@@ -1,9 +1,10 @@
-//! What is asked of every stop at once: to one target, in one window.
+//! Queries from every stop at once, to one target.
 
 use timetable::limits::TIME_END;
 use timetable::{Query, QueryFault};
 
-/// What is asked of every stop: to a stop, departing in a window, arriving by a time. Times are seconds after the base.
+/// What is asked from every stop: journeys to one target that depart between two times and arrive by a third. Times
+/// are in seconds after the base.
 #[derive(Clone, Copy, Debug, PartialEq, Eq)]
 pub struct Destination {
     pub target: u32,
@@ -32,8 +33,8 @@ impl Destination {
         }
     }
 
-    /// Ok if the queries from all other stops of a timetable with so many stops can be asked, else the first fault:
-    /// `UnknownStop` if there is no such target, `BadWindow` if the window can't be.
+    /// Checks that the queries from all other stops of a timetable with this many stops can be asked. If not, the
+    /// error is the first fault: `UnknownStop` if there is no such target, `BadWindow` if the times can't be.
     pub fn check(&self, stops: u32) -> Result<(), QueryFault>
         ensures askable { IsOk result ↔ CanBeAsked stops self.now }
         ensures fault { IfErr result (IsDestinationFault stops self.now) }

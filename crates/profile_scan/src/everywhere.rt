@@ -1,4 +1,5 @@
-//! One scan of a window for all sources: like the scan for one, but for the points found, which are kept for each stop.
+//! One scan of a window for all sources: like the scan for one, except for the points found, which are kept for each
+//! stop.
 //!
 //! A point found from one source outdoes nothing for another, so this scan has no bound.
 
@@ -37,7 +38,7 @@ impl<C: Criterion> StateOfAll<C> {
     ghost use Rattle.profile_scan.specs.Origins.{found_from, from_stop};
     ghost use Rattle.profile_scan.specs.Everywhere.{IsStateOfAll, kept_from, story_from};
 
-    // Of so many stops and trips, where nothing was read.
+    // A state for `stops` stops and `trips` trips, before any connection is read.
     fn new(alloc: Global, criterion: &C, stops: u32, trips: u32) -> Result<Self, AllocError>
         ensures state { IfOk result (λ state. IsStateOfAll C.rules criterion.now stops trips state) }
         ensures bags { IfOk result (λ state. (stop : ℕ) → points_at state.stops stop ≡ []) }
@@ -54,7 +55,7 @@ impl<C: Criterion> StateOfAll<C> {
         })
     }
 
-    // True only if the connection can add nothing, which is so of many; false is always safe.
+    // Returns true only if the connection can add nothing, as many can't; false is always safe.
     fn is_idle(&self, asked: &Asked<C>, connection: &Connection, way: Option<u32>) -> bool
         requires trip { HasTrip (C.rules asked.now.criterion) connection.now.trip self.now.trips }
         requires stop { HasStop C.rules asked.now.criterion connection.now.to self.now.stops }

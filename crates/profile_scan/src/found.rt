@@ -13,8 +13,8 @@ use criteria::Criterion;
 use std::alloc::{AllocError, Global};
 use timetable::{Kept, Query, Timetable};
 
-/// The answer of a profile query: the points of all best departures, by departure, then by the criterion's order. Each
-/// point's tag is the number of a node, and by the nodes from there on it spells a journey that attains the point.
+/// The answer of a profile query: the points of all best departures, by departure, then by the criterion's order.
+/// Each point's tag is the number of a node, from which on the nodes spell a journey that attains the point.
 ///
 /// It keeps the criterion. The timetable, the query and the proof that this is their answer are in fields that only
 /// contracts see.
@@ -32,14 +32,14 @@ pub struct Found<C: Criterion> {
 impl<C: Criterion> Found<C> {
     ghost use Rattle.profile_scan.specs.Found.{listed, nodes_of, walk_of_found};
 
-    /// How many points there are.
+    /// The number of points.
     pub fn len(&self) -> usize
         ensures { result ≡ length (listed self.now) }
     {
         self.points.len()
     }
 
-    /// The point at a place: its departure, in seconds after the base, and its value.
+    /// The point at an index: its departure, in seconds after the base, and its value.
     pub fn point(&self, i: usize) -> Point<C::V>
         requires { i < length (listed self.now) }
         ensures { slice_get (listed self.now) i ≡ Some result }
@@ -47,14 +47,14 @@ impl<C: Criterion> Found<C> {
         self.points[i]
     }
 
-    /// All of them, one after the other.
+    /// All points, in order.
     pub fn points(&self) -> &[Point<C::V>]
         ensures { result.now ≡ listed self.now }
     {
         &self.points
     }
 
-    /// The node of a number, if there is one. A point's tag is the number of its own.
+    /// The node of a number, if there is one. A point's tag is the number of its node.
     pub fn node(&self, number: usize) -> Option<Node>
         ensures { result ≡ slice_get (nodes_of self.now) number }
     {
@@ -69,7 +69,7 @@ impl<C: Criterion> Found<C> {
     }
 }
 
-/// The points of a bag by departure, then by the criterion's order.
+/// Returns the points of a bag by departure, then by the criterion's order.
 pub fn in_order<C: Criterion>(
     alloc: Global,
     criterion: &C,
@@ -90,8 +90,7 @@ pub fn in_order<C: Criterion>(
     Ok(points)
 }
 
-// Puts a point in its place among points in order. A bag's points come by departure nearly, so its place is near the
-// end.
+// Puts a point among points in order. A bag's points come nearly by departure, so the index is near the end.
 fn put<C: Criterion>(
     criterion: &C,
     points: &mut Vec<Point<C::V>>,
@@ -106,7 +105,7 @@ fn put<C: Criterion>(
     Ok(())
 }
 
-// The place of a point among points in order.
+// The index at which to put a point among points in order.
 fn place_for<C: Criterion>(criterion: &C, points: &[Point<C::V>], point: &Point<C::V>) -> usize
     requires { CanPut (C.rules criterion.now) points.now point.now }
     ensures within { result ≤ length points.now }

@@ -9,7 +9,7 @@ use timetable::{Connection, Query};
 pub struct Asked<C> {
     // by which values are compared
     pub criterion: C,
-    // in a scan for all sources the target stands in for its source
+    // in a scan for all sources the target is also the source
     pub query: Query,
     // for each stop whether a footpath that isn't a loop leads there from the query's source
     pub starts: Starts,

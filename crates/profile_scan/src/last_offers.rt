@@ -1,8 +1,8 @@
-//! The last offer that each stop's list took from boarding by an only label.
+//! The last offer that each stop's list took from boarding by a trip's only label.
 //!
-//! Most offers are no better than the one before, and this small record says so: neither the head of the stop's list
-//! nor an entry is read. It may be old but is never false: what a list covers it still covers after each insertion,
-//! perhaps by another point. So boarding by several labels may leave it as it is.
+//! Most offers are no better than the one before, and this small record shows it: neither the head of the stop's list
+//! nor an entry has to be read. The record may be old but is never false: what a list covers it still covers after
+//! each insertion, perhaps by another point. So boarding by several labels may leave the record as it is.
 
 ghost use Rattle.std.specs.Prelude.{◌≡◌, ℕ, IfOk, length, slice_get, Some};
 ghost use Rattle.criteria.specs.Laws.{Admits};
@@ -20,7 +20,7 @@ pub struct Offered<V> {
     pub value: V,
 }
 
-/// So many stops that were offered nothing.
+/// Returns the records of `count` stops that were offered nothing yet.
 pub fn none_offered<C: Criterion>(
     alloc: Global,
     criterion: &C,

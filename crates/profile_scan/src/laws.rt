@@ -1,7 +1,7 @@
 //! The laws by which one scan from the last connection to the first finds the answer of a profile query.
 //!
-//! Each is a function whose contract is the law, for every criterion with its laws. Most have no code and speak of the
-//! definitions alone; `found_answers` speaks of one answer, and the last two run the scan over two sources.
+//! Each is a function whose contract is the law, for every criterion with its laws. Most have no code and are about
+//! the definitions alone; `found_answers` is about one answer, and the last two run the scan over two sources.
 
 ghost use Rattle.std.specs.Prelude.{◌≡◌, ◌++◌, ℕ, IfOk, OnOk, OnErr, map, reverse, take};
 ghost use Rattle.timetable.specs.Journeys.{Counts};
@@ -23,7 +23,7 @@ use sources::{ConnSource, Decoded, InPlace};
 use std::alloc::{AllocError, Global};
 use timetable::Query;
 
-/// A chain of footpaths gives way to one closed footpath, which takes no longer and is no worse before any value.
+/// Each chain of footpaths can be replaced by one footpath, which takes no longer and is no worse before any value.
 pub fn chains_give_way<C: Criterion>(_criterion: &C)
     ensures { ChainsGiveWay (C.rules _criterion.now) }
 {}
@@ -38,33 +38,34 @@ pub fn nothing_follows<C: Criterion>(_criterion: &C)
     ensures { NothingFollows (C.rules _criterion.now) }
 {}
 
-/// Bags, labels and points found that match every way to go on over the later connections still do one index down.
+/// If bags, labels and points found match every way to go on over the later connections, then after the step of one
+/// connection they match those that begin with this one, too.
 pub fn one_index_down<C: Criterion>(_criterion: &C)
     ensures { OneIndexDown (C.rules _criterion.now) (IsStep (C.rules _criterion.now)) }
 {}
 
-/// What matches still does where further tags come to spell something.
+/// What matches still does if further tags come to spell something.
 pub fn tags_may_come<C: Criterion>(_criterion: &C)
     ensures { TagsMayCome (C.rules _criterion.now) }
 {}
 
-/// The cut at the latest departure is the source's alone: no way to go on knows it, and of a journey it asks the
-/// departure only.
+/// The latest departure matters only at the source: no way to go on depends on it, and of a journey only its own
+/// departure.
 pub fn cut_is_the_sources()
     ensures { CutIsTheSources Counts }
 {}
 
-/// Points found that match at the window's start, none dominating another, in order, are the answer.
+/// Points found that match at the window's start, none of which dominates another, in order, are the answer.
 pub fn match_is_the_answer<C: Criterion>(_criterion: &C)
     ensures { MatchIsTheAnswer (C.rules _criterion.now) }
 {}
 
-/// A query has one answer only, tags aside.
+/// A query has only one answer, tags aside.
 pub fn one_answer<C: Criterion>(_criterion: &C)
     ensures { OneAnswer (C.rules _criterion.now) }
 {}
 
-/// Read backward, a window's places fall one by one, all are places of connections, and departures never rise.
+/// Read backward, a window's indices fall by one each time, all are those of connections, and departures never rise.
 pub fn window_is_read_backward()
     ensures { WindowIsReadBackward }
 {}
@@ -77,8 +78,9 @@ pub fn found_answers<C: Criterion>(found: &Found<C>)
     let _kept = found.points();
 }
 
-/// Two sources of one timetable give a query the same points, tags aside, and each is asked once for each connection of
-/// the window. The only error is that memory runs out; then each was asked for a beginning of them.
+/// Two sources of one timetable give a query the same points, tags aside, and each is asked once for each connection
+/// of the window. The only error is that memory runs out; then each was asked only for a first part of them, perhaps
+/// for none.
 pub fn two_sources<A: ConnSource, B: ConnSource, C: Criterion>(
     alloc: Global,
     one: &mut A,
@@ -107,8 +109,8 @@ pub fn two_sources<A: ConnSource, B: ConnSource, C: Criterion>(
     Ok((found, again))
 }
 
-/// An image read in place and its lists decoded, as any two sources of one timetable: the same points, tags aside, and
-/// each is asked once for each connection of the window, or a beginning of them if memory runs out.
+/// An image read in place and its lists decoded, as any two sources of one timetable: the same points, tags aside,
+/// and each is asked once for each connection of the window, or only for a first part of them if memory runs out.
 pub fn both_sources<'a, C: Criterion>(
     alloc: Global,
     in_place: &mut InPlace<'a>,

@@ -1,4 +1,4 @@
-//! How one goes on from each label and each point, in nodes that name earlier ones by number.
+//! How one goes on from each label and each point: nodes that name earlier ones by number.
 
 use timetable::Footpath;
 

@@ -35,7 +35,7 @@ impl<C: Criterion> Origin<C> {
     ghost use Rattle.profile_scan.specs.Hops.{IsHopOf};
     ghost use Rattle.profile_scan.specs.Parts.{AdmitsLabels, ChangesOrigin, OriginTakes};
 
-    /// No points.
+    /// Makes an origin without points.
     pub fn new(alloc: Global, criterion: C) -> Self
         ensures criterion { criterion_of result.found ≡ criterion }
         ensures none { points_of result.found ≡ [] }
@@ -47,7 +47,7 @@ impl<C: Criterion> Origin<C> {
         }
     }
 
-    // Offers the points found one point, with how one sets out, which is kept only if the point was accepted.
+    // Offers one point to the points found. How one sets out for it is kept only if the point was accepted.
     fn offer(
         &mut self,
         criterion: &C,
@@ -69,7 +69,7 @@ impl<C: Criterion> Origin<C> {
         Ok(())
     }
 
-    /// Offers the points found each label of the connection's trip, boarded by a way of setting out.
+    /// Offers to the points found each label of the connection's trip, boarded after this departure.
     #[inline(never)]
     pub fn set_out_after(
         &mut self,
@@ -100,8 +100,8 @@ impl<C: Criterion> Origin<C> {
         Ok(())
     }
 
-    // Offers the points found each label of the connection's trip, boarded after `start`; nothing if that doesn't leave
-    // the source in the window.
+    // Offers to the points found each label of the connection's trip, boarded after `start`; nothing if that isn't a
+    // start from the source, or departs at a time that the query doesn't allow.
     #[inline(always)]
     fn set_out_by(
         &mut self,
@@ -126,8 +126,9 @@ impl<C: Criterion> Origin<C> {
         }
     }
 
-    /// Sets out for a connection, if passengers may get on there: offers the points found each label of its trip, after
-    /// no start and after each footpath into where it begins.
+    /// Sets out for a connection, if passengers may get on there: offers to the points found each label of its trip,
+    /// without a start if it begins at the source, and after each footpath from the source to where it begins, except
+    /// a loop.
     pub fn set_out<S: ConnSource>(
         &mut self,
         asked: &Asked<C>,
@@ -167,8 +168,8 @@ pub struct Departure {
     pub time: u32,
 }
 
-/// How one sets out from the source by a start to board a connection, if that departs in the window. Few starts
-/// are from the source, so that is tested first.
+/// How one sets out from the source by a start to board a connection, if the start is from there and the query allows
+/// that departure. Few starts are from the source, so that is tested first.
 #[inline(always)]
 pub fn departure_by(
     query: &Query,

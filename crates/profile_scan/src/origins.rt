@@ -29,7 +29,7 @@ impl<C: Criterion> Origins<C> {
     ghost use Rattle.profile_scan.specs.Origins.{AreOrigins, AreUnder, ChangesOrigins, SourceTakes};
     ghost use Rattle.profile_scan.specs.Origins.{found_from, from_stop, starts_at};
 
-    /// So many stops without points.
+    /// Makes `count` origins without points.
     pub fn new(alloc: Global, criterion: C, count: u32) -> Result<Self, AllocError>
         ensures origins { IfOk result (λ origins. AreOrigins criterion count origins) }
         ensures none { IfOk result (λ origins. (stop : ℕ) → found_from origins stop ≡ []) }
@@ -41,7 +41,8 @@ impl<C: Criterion> Origins<C> {
         Ok(Origins { each })
     }
 
-    // Offers the points found from a stop each label of the connection's trip, boarded by a way of setting out there.
+    // Offers to the points found from a stop each label of the connection's trip, boarded after this departure from
+    // there.
     fn set_out_from(
         &mut self,
         asked: &Asked<C>,
@@ -65,8 +66,8 @@ impl<C: Criterion> Origins<C> {
         self.each[stop as usize].set_out_after(asked, hop, departure, labels)
     }
 
-    // Offers the points found from the stop where a start begins each label of the connection's trip, boarded after it,
-    // where that departs in the window.
+    // Offers each label of the connection's trip, boarded after a start, to the points found from the stop where the
+    // start begins; nothing if the start is a loop, or the query doesn't allow that departure.
     fn set_out_by(
         &mut self,
         asked: &Asked<C>,
@@ -97,9 +98,9 @@ impl<C: Criterion> Origins<C> {
         }
     }
 
-    /// Sets out for a connection from each stop that leads there, if passengers may get on: offers
-    /// the points found from where it begins each label of its trip, and so those from where a
-    /// footpath begins that leads there, after it.
+    /// Sets out for a connection from each stop that leads there, if passengers may get on: offers each label of its
+    /// trip to the points found from where it begins, and, after each footpath to there, to those found from where
+    /// the footpath begins.
     pub fn set_out<S: ConnSource>(
         &mut self,
         asked: &Asked<C>,

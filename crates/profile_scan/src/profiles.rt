@@ -1,4 +1,4 @@
-//! The answers of one target from all stops, by one scan.
+//! The answers from all stops to one target, by one scan.
 
 ghost use Rattle.std.specs.Prelude.{◌≡◌, ◌++◌, ℕ, IfOk, OnOk, OnErr, length, reverse, slice_get, take};
 ghost use Rattle.profile_scan.specs.Destinations.{CanBeAsked, query_from};
@@ -23,14 +23,14 @@ use sources::ConnSource;
 use std::alloc::{AllocError, Global};
 use timetable::Kept;
 
-/// The answers of one target, window and criterion from every stop. How journeys go is kept as the scan wrote it down;
-/// `found_from` gives those of one stop.
+/// The answers from every stop, for one target, window and criterion. The scan's story of how journeys go is kept as
+/// it is; `found_from` spells those from one stop.
 #[derive(Drop)]
 pub struct Profiles<C: Criterion> {
     destination: Destination,
     asked: Asked<C>,
     state: StateOfAll<C>,
-    // of each stop the points in order; a point's tag is the number of how one sets out
+    // the points of each stop, in order; a point's tag is the index of how one sets out for it
     lists: Vec<Vec<Point<C::V>>>,
 }
 
@@ -43,7 +43,7 @@ impl<C: Criterion> Profiles<C> {
     ghost use Rattle.profile_scan.specs.Everywhere.{stops_of};
     ghost use Rattle.profile_scan.specs.Everywhere.{walk_from};
 
-    /// What was asked of every stop.
+    /// What was asked from every stop.
     pub fn destination(&self) -> Destination
         ensures { result ≡ destination_of self.now }
     {
@@ -51,7 +51,7 @@ impl<C: Criterion> Profiles<C> {
     }
 
     /// The best departures from a stop, by departure, then by the criterion's order; from the target itself those of
-    /// journeys that come back to it. Their tags are of use to `found_from` alone.
+    /// journeys that come back to it. Only `found_from` can read their tags.
     pub fn points(&self, stop: u32) -> &[Point<C::V>]
         requires { stop < stops_of self.now }
         ensures { result.now ≡ listed_from self.now stop }
@@ -67,8 +67,8 @@ impl<C: Criterion> Profiles<C> {
         self.asked.ways.secs_from(stop)
     }
 
-    /// The answer of the query from one stop, with its journeys. The source has to be of the
-    /// timetable that was scanned. The only error is that memory runs out.
+    /// Returns the answer of the query from one stop, which isn't the target, with its journeys. The source has to be
+    /// one of the timetable that was scanned. The only error is that memory runs out.
     pub fn found_from<S: ConnSource>(
         &self,
         alloc: Global,
@@ -102,7 +102,7 @@ impl<C: Criterion> Profiles<C> {
     }
 }
 
-// Of each stop the points found, in order.
+// Returns the points found from each stop, in order.
 fn lists_in_order<C: Criterion>(
     alloc: Global,
     criterion: &C,
@@ -122,12 +122,13 @@ fn lists_in_order<C: Criterion>(
     Ok(lists)
 }
 
-/// Answers a query from every stop, the target included, by one scan: of each exactly the points of all journeys from
-/// there that count, which no other such point dominates, in order. From the target, where no query can be asked, these
-/// are the journeys that come back to it; a caller that wants only what can be asked leaves the target out.
+/// Answers a query from every stop, the target included, by one scan: for each, exactly the points of all journeys
+/// from there that count which no other such point dominates, in order. From the target, where no query can be asked,
+/// these are the journeys that come back to it; a caller that wants only what can be asked leaves the target out.
 ///
 /// Each connection of the window is asked for once for all stops, from the last to the first. The only error is that
-/// memory runs out (or a number of 32 bits); then a beginning of them was asked for.
+/// memory runs out, or that a number would need more than 32 bits; then only a first part of the connections was
+/// asked for.
 pub fn profiles_to<S: ConnSource, C: Criterion>(
     alloc: Global,
     source: &mut S,
@@ -146,7 +147,7 @@ pub fn profiles_to<S: ConnSource, C: Criterion>(
 {
     let start = source.first_at(destination.from);
     let end = source.first_at(destination.by);
-    // The target stands in for the source. Where footpaths lead from there is of no use to this scan: `starts` is made
+    // The target is the query's source. Where footpaths lead from there is of no use to this scan: `starts` is made
     // only because `Asked` has it.
     let starts = starts_from(alloc, source, destination.target)?;
     let ways = ways_to(alloc, source, destination.target)?;

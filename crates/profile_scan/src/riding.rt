@@ -12,7 +12,7 @@ use criteria::Criterion;
 use fronts::{Label, Ridden};
 use std::alloc::AllocError;
 
-/// A tag or an index as a number of 32 bits. One past 2^32 - 1 counts as out of memory.
+/// Returns a tag or an index as a number of 32 bits. Past 2^32 - 1 it fails, as if memory had run out.
 pub fn number_of(tag: usize) -> Result<u32, AllocError>
     ensures { IfOk result (λ number. number ≡ tag) }
 {
@@ -33,7 +33,7 @@ fn label_point<V>(value: V, tag: u32) -> Point<V>
     }
 }
 
-/// The label at a place, as a point.
+/// The label at an index, as a point.
 pub fn label_at<V: Copy>(labels: &[Label<V>], place: usize) -> Point<V>
     requires { place < length labels.now }
     ensures { slice_get (label_points labels.now) place ≡ Some result }
@@ -42,7 +42,7 @@ pub fn label_at<V: Copy>(labels: &[Label<V>], place: usize) -> Point<V>
     label_point(label.value, label.tag)
 }
 
-// Puts a label's value after the ride into a list, unless it is bettered.
+// Adds a label's value after the ride to a list, unless the bound betters it.
 fn ride_label<C: Criterion>(
     criterion: &C,
     bound: &[C::V],
@@ -66,7 +66,7 @@ fn ride_label<C: Criterion>(
     Ok(())
 }
 
-/// Puts the labels' values after the ride into a list, but for those that are bettered.
+/// Makes a list of the labels' values after the ride, without those that the bound betters.
 #[inline(always)]
 pub fn ride_labels<C: Criterion>(
     criterion: &C,

@@ -30,7 +30,7 @@ impl<C: Criterion> State<C> {
     ghost use Rattle.profile_scan.specs.Hops.{IsHopOf};
     ghost use Rattle.profile_scan.specs.Parts.{HasTrip, TakesConnection};
 
-    // Of so many stops and trips, where nothing was read.
+    // A state for `stops` stops and `trips` trips, before any connection is read.
     fn new(alloc: Global, criterion: &C, stops: u32, trips: u32) -> Result<Self, AllocError>
         ensures state { IfOk result (λ state. IsState C.rules criterion.now stops trips state) }
         ensures bags { IfOk result (λ state. (stop : ℕ) → (kept_by state).bag stop ≡ []) }
@@ -47,7 +47,7 @@ impl<C: Criterion> State<C> {
         })
     }
 
-    // True only if the connection can add nothing, which is so of most; false is always safe.
+    // Returns true only if the connection can add nothing, as most can't; false is always safe.
     fn is_idle(&self, asked: &Asked<C>, connection: &Connection, way: Option<u32>) -> bool
         requires trip { HasTrip (C.rules asked.now.criterion) connection.now.trip self.now.trips }
         requires stop { HasStop C.rules asked.now.criterion connection.now.to self.now.stops }

@@ -7,15 +7,15 @@ use sources::ConnSource;
 use std::alloc::{AllocError, Global};
 use timetable::Footpath;
 
-/// For each stop whether a footpath that isn't a loop leads there from the source. To few stops one does, so setting
-/// out mostly skips the footpaths.
+/// For each stop whether a footpath that isn't a loop leads there from the source. To most stops none does, so
+/// setting out mostly skips the footpaths.
 #[derive(Drop)]
 pub struct Starts {
     led: Vec<bool>,
 }
 
 impl Starts {
-    /// Whether a footpath leads to a stop.
+    /// Whether a footpath that isn't a loop leads from the source to a stop.
     pub fn lead_to(&self, stop: u32) -> bool
         requires { stop < vec_len self.now.led }
         ensures { slice_get self.now.led.items stop ≡ Some result }
@@ -32,7 +32,7 @@ fn is_start(walk: &Footpath, from: u32) -> bool
     walk.from == from && walk.to != from
 }
 
-// Whether a footpath leads to a stop from the source.
+// Whether a footpath that isn't a loop leads from the source, `from`, to a stop.
 fn is_led<S: ConnSource>(source: &S, from: u32, stop: u32) -> bool
     requires { stop < (S.timetable source.now).stops }
     ensures { MatchBool result (IsLed (S.timetable source.now) from stop)
@@ -48,7 +48,7 @@ fn is_led<S: ConnSource>(source: &S, from: u32, stop: u32) -> bool
     false
 }
 
-/// For each stop whether a footpath leads there from the source.
+/// Finds for each stop whether a footpath that isn't a loop leads there from the source.
 pub fn starts_from<S: ConnSource>(
     alloc: Global,
     source: &S,

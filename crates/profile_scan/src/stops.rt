@@ -38,7 +38,7 @@ impl<C: Criterion> Stops<C> {
     ghost use Rattle.profile_scan.specs.Parts.{BoardsAfter};
     ghost use Rattle.profile_scan.specs.Parts.{BoardsAfterEach};
 
-    /// So many stops, whose lists are empty.
+    /// Makes the lists of `count` stops, which are empty.
     pub fn new(alloc: Global, criterion: &C, count: u32) -> Result<Self, AllocError>
         ensures stops { IfOk result (λ stops. AreStops C.rules criterion.now count stops) }
         ensures none { IfOk result (λ stops. (stop : ℕ) → points_at stops stop ≡ []) }
@@ -54,7 +54,7 @@ impl<C: Criterion> Stops<C> {
         })
     }
 
-    /// The head of a stop's list. It is 0 where the list is empty.
+    /// The head of a stop's list, which is 0 if the list is empty.
     pub fn head(&self, stop: u32) -> u32
         requires { stop < vec_len self.now.heads }
         ensures { result ≡ slice_index self.now.heads.items stop }
@@ -114,7 +114,8 @@ impl<C: Criterion> Stops<C> {
         Ok(())
     }
 
-    // Goes over footpaths into the stop where a connection begins, those at the indices `walks`, and boards after each.
+    // Goes over the footpaths at the indices `walks`, which lead to the stop where a connection begins, and boards
+    // after each.
     #[inline(always)]
     fn board_walks<S: ConnSource>(
         &mut self,
@@ -180,8 +181,8 @@ impl<C: Criterion> Stops<C> {
         Ok(())
     }
 
-    // Goes over footpaths into the stop where a connection begins, those at the indices `walks`, and boards by one
-    // ridden value after each.
+    // Goes over the footpaths at the indices `walks`, which lead to the stop where a connection begins, and boards by
+    // one ridden value after each.
     #[inline(always)]
     fn board_one<S: ConnSource>(
         &mut self,
@@ -240,8 +241,8 @@ impl<C: Criterion> Stops<C> {
         Ok(())
     }
 
-    /// Boards a connection, if passengers may get on there: offers the list of every stop its boardings by the labels
-    /// of the connection's trip, but for those whose value after the ride `hop.bound` betters.
+    /// Boards a connection, if passengers may get on there: offers to the list of every stop the boardings from there
+    /// by the labels of the connection's trip, except those whose value after the ride `hop.bound` betters.
     #[inline(always)]
     pub fn board<S: ConnSource>(
         &mut self,
@@ -277,7 +278,7 @@ impl<C: Criterion> Stops<C> {
     }
 }
 
-// As many heads as wanted, of the empty list.
+// Returns `count` heads of the empty list.
 fn no_heads(alloc: Global, count: usize) -> Result<Vec<u32>, AllocError>
     ensures { IfOk result (λ heads. heads.items ≡ replicate count 0) }
 {

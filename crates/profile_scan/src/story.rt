@@ -1,4 +1,4 @@
-//! What a scan writes down of how one goes on, by number.
+//! What a scan writes down about how one goes on, in numbered records.
 
 use timetable::Footpath;
 
@@ -7,11 +7,11 @@ use timetable::Footpath;
 pub enum Exit {
     /// At the target, or one footpath before it.
     Ends { last: u32, walk: Option<Footpath> },
-    /// To change there: `step` is the number of the boarding by which one goes on, in the lists of the stops.
+    /// To change there: `step` is the index, in the lists of the stops, of the step by which one goes on.
     Changes { last: u32, step: usize },
 }
 
-/// How one sets out from the source: a start, the index of the connection that is boarded, and the number of the label
+/// How one sets out from the source: a start, the index of the connection that is boarded, and the tag of the label
 /// by which one rides on.
 #[derive(Clone, Copy, Drop)]
 pub struct SetOut {

@@ -1,4 +1,4 @@
-//! Journeys told in nodes, of the points found alone.
+//! The journeys of the points found, as nodes.
 
 ghost use Rattle.std.specs.Prelude.{◌≡◌, ◌++◌, ◌∷◌, [], ℕ, IfOk, Contains, Some, None, length, map};
 ghost use Rattle.bags.specs.declared.point.Point.{Point};
@@ -19,15 +19,15 @@ use sources::ConnSource;
 use std::alloc::{AllocError, Global};
 use timetable::Footpath;
 
-// How one changes after a label: the place of the connection that one leaves, and the step that boards.
+// How one changes after a label: the index of the connection that one leaves, and the step that boards.
 #[derive(Clone, Copy, Drop)]
 struct Change {
     last: u32,
     step: Step,
 }
 
-// How one ends after a label: the place of the connection that one leaves, and the footpath to the target, if there is
-// one.
+// How one ends after a label: the index of the connection that one leaves, and the footpath to the target, if there
+// is one.
 #[derive(Clone, Copy, Drop)]
 struct End {
     last: u32,
@@ -67,8 +67,8 @@ impl<'a, C: Criterion> View<'a, C> {
         }
     }
 
-    // Follows changes from a label to the one that ends; `route` gets the labels before that. A change leads to an
-    // earlier label, so no label comes twice.
+    // Follows changes from a label to one that ends, and returns that one; `route` gets the labels before it. A
+    // change leads to an earlier label, so no label comes twice.
     fn note_route(&self, first: usize, route: &mut Vec<usize>) -> Result<usize, AllocError>
         ensures route { IfOk result (λ last. IsRoute (story_seen self.now) first route.new.items last) }
         ensures ends { IfOk result (λ last. (walks : _) → IsLabelTold walks (story_seen self.now) first
@@ -89,7 +89,7 @@ impl<'a, C: Criterion> View<'a, C> {
     }
 
     // Adds a node that says how one leaves the trip of a label for good, and returns its number. The label has to be
-    // one that ends, as those are that `tell_journey` has from `note_route`; of another the number means nothing.
+    // one that ends, like the one that `tell_journey` gets from `note_route`; for any other the number means nothing.
     fn tell_end(&self, label: usize, nodes: &mut Vec<Node>) -> Result<usize, AllocError>
         ensures nodes { Extends nodes.old.items nodes.new.items }
         ensures says { IfOk result (λ number. (walks : _) → IsLabelTold walks (story_seen self.now) label
@@ -108,7 +108,8 @@ impl<'a, C: Criterion> View<'a, C> {
         }
     }
 
-    // Adds the nodes that say how one changes after a label, `next` being the number of the node by which one rides on.
+    // Adds the nodes that say how one changes after a label, and returns the number of the last. `next` is the number
+    // of the node by which one rides on.
     fn tell_change<S: ConnSource>(
         &self,
         source: &S,
@@ -147,7 +148,7 @@ impl<'a, C: Criterion> View<'a, C> {
         }
     }
 
-    // Adds the nodes of the journey of a point found.
+    // Adds the nodes of the journey of a point found, and returns the number of the last.
     fn tell_journey<S: ConnSource>(
         &self,
         source: &S,
@@ -196,7 +197,7 @@ pub struct Told<V> {
     pub nodes: Vec<Node>,
 }
 
-/// The points with their journeys as nodes: each point's tag is then the number of a `SetsOut` node.
+/// Returns the points with their journeys as nodes: each point's tag is then the number of a `SetsOut` node.
 pub fn tell_journeys<S: ConnSource, C: Criterion>(
     alloc: Global,
     source: &S,

@@ -1,4 +1,4 @@
-//! What a scan keeps for each trip: labels, which say what it is worth to sit in the trip, and how one leaves it.
+//! What a scan keeps for each trip: labels, which have the value of sitting in the trip, and how one leaves it.
 //!
 //! A trip is left where a connection ends: at the target, one footpath before it, or to change.
 
@@ -43,7 +43,7 @@ impl<C: Criterion> Trips<C> {
     ghost use Rattle.profile_scan.specs.Hops.{IsHop};
     ghost use Rattle.profile_scan.specs.Parts.{HasTrip, ChangesTrip, TripTakes};
 
-    /// So many trips without labels.
+    /// Makes `count` trips without labels.
     pub fn new(alloc: Global, criterion: &C, count: u32) -> Result<Self, AllocError>
         ensures long { IfOk result (λ trips. trips_of trips.labels ≡ count) }
         ensures labels { IfOk result (λ trips. AreLabels (C.rules criterion.now) trips.labels) }
@@ -56,8 +56,7 @@ impl<C: Criterion> Trips<C> {
         })
     }
 
-    // Offers the labels of a trip one value, with how one goes on from it, which is kept only if the label was
-    // accepted.
+    // Offers one value to the labels of a trip. How one goes on from it is kept only if it was accepted.
     fn offer(&mut self, criterion: &C, trip: u32, value: C::V, exit: Exit) -> Result<(), AllocError>
         requires trip { HasTrip (C.rules criterion.now) trip self.old }
         requires admitted { Admits (C.rules criterion.now) value }
@@ -73,9 +72,9 @@ impl<C: Criterion> Trips<C> {
         Ok(())
     }
 
-    // Offers the labels of the connection's trip one point of the stop where it ends, unless `hop.bound` betters its
-    // value after the ride. Mostly a label is no worse already: so the value is compared with the labels first, and
-    // with the bound only if none of them is no worse.
+    // Offers to the labels of the connection's trip one point of the stop where it ends, unless `hop.bound` betters
+    // its value after the ride. Mostly a label is no worse already: so the value is compared with the labels first,
+    // and with the bound only if none of them is no worse.
     fn change_by(
         &mut self,
         asked: &Asked<C>,
@@ -109,10 +108,10 @@ impl<C: Criterion> Trips<C> {
         self.offer(&asked.criterion, hop.connection.trip, point.value, exit)
     }
 
-    // A passenger changes: offers the labels of the connection's trip each point of the stop where it ends that departs
-    // at the arrival or later, but for those whose value after the ride `hop.bound` betters. The front from then on is
-    // enough: for each such point it has one that is no worse. The front's first point (`own`) stands in the front's
-    // entry and the others are items: so the first goes ahead of the loop.
+    // A passenger changes: offers to the labels of the connection's trip each point of the stop where it ends that
+    // departs at the arrival or later, except those whose value after the ride `hop.bound` betters. The front from
+    // then on is enough: for each such point it has one that is no worse. The front's first point (`own`) is in the
+    // front's entry and the others are items: so the first goes ahead of the loop.
     #[inline(always)]
     fn change(
         &mut self,
@@ -131,13 +130,13 @@ impl<C: Criterion> Trips<C> {
             self.old self.new) }
     {
         let head = stops.head(hop.connection.to);
-        // the place of the front's entry, 0 if no point departs so late; `hop.place` is the index of the connection
+        // the index of the front's entry, 0 if no point departs so late; `hop.place` is the index of the connection
         let place = stops.lists.front_from(head, hop.connection.arr);
         let count = stops.lists.front_len(place);
         if count == 0 {
             return Ok(());
         }
-        // the point that the entry has of its own, the first of its front
+        // the entry's own point, the first of its front
         let own = stops.lists.front_point(place, 0);
         self.change_by(asked, hop, &own)?;
         for k in 1..count {
@@ -147,7 +146,7 @@ impl<C: Criterion> Trips<C> {
         Ok(())
     }
 
-    // Offers the labels of the connection's trip the end, if one is at the target in time.
+    // Offers to the labels of the connection's trip the end, if one is at the target in time.
     fn end(&mut self, asked: &Asked<C>, hop: &Hop<C::V>) -> Result<(), AllocError>
         requires hop { IsHop (C.rules asked.now.criterion) asked.now.query hop.now }
         requires trip { HasTrip (C.rules asked.now.criterion) hop.now.connection.trip self.old }
@@ -171,8 +170,9 @@ impl<C: Criterion> Trips<C> {
         }
     }
 
-    /// Leaves a connection's trip where the connection ends, if passengers may get off there: offers its labels the
-    /// end, and the changes by the points of that stop, but for those whose value after the ride `hop.bound` betters.
+    /// Leaves a connection's trip where the connection ends, if passengers may get off there: offers to its labels
+    /// the end, and the changes by the points of that stop, except those whose value after the ride `hop.bound`
+    /// betters.
     #[inline(always)]
     pub fn alight(
         &mut self,

@@ -7,11 +7,11 @@ use sources::ConnSource;
 use std::alloc::{AllocError, Global};
 use timetable::limits::MAX_WALK_SECS;
 
-/// For each stop the seconds of the footpath from it to the target, if there is one. A word for each, since a scan asks
-/// for one at each connection.
+/// For each stop the seconds of the footpath from it to the target, if there is one. Each stop has a word, since a
+/// scan asks for one at each connection.
 #[derive(Drop)]
 pub struct Ways {
-    // `u32::MAX` where there is none
+    // `u32::MAX` if there is none
     seconds: Vec<u32>,
 }
 
@@ -25,7 +25,7 @@ impl Ways {
     }
 }
 
-// What a word says: so many seconds, or, above what a footpath takes, that there is none.
+// What a word says: the seconds of a footpath, or that there is none, if it is more than a footpath takes.
 fn way_of(word: u32) -> Option<u32>
     ensures { result ≡ way_in word }
 {
@@ -49,7 +49,7 @@ pub fn ways_to<S: ConnSource>(alloc: Global, source: &S, target: u32) -> Result<
     Ok(Ways { seconds })
 }
 
-// As many stops as wanted, with no footpath yet.
+// Returns the words of `stops` stops without a footpath.
 fn no_ways(alloc: Global, stops: usize) -> Result<Vec<u32>, AllocError>
     ensures { IfOk result (λ seconds. seconds.items ≡ replicate stops 4294967295) }
 {

@@ -1,4 +1,4 @@
--- Tests put together.
+-- Boolean tests combined.
 use Rattle.std.proofs.Common.{◌≡◌, ◌⊎◌, Bool, true, false, ◌&&◌, ◌||◌, MatchBool, inl, inr, refl}
 use Rattle.std.proofs.lemmas.Bool.{true≢false, false≢true}
 

@@ -1,4 +1,4 @@
--- First and last places, a step on and at the end.
+-- Searches for the first or the last index: one step of a search, and its end.
 use Rattle.std.proofs.Common.{◌≡◌, ℕ, zero, suc, ◌+◌, ◌-◌, ◌<◌, ◌≤◌, Bool, true, false, cond, Option, Some, None, refl, sym, ap, ◌∙◌, arith, inl, inr}
 use Rattle.std.proofs.lemmas.Bool.{cases_eq, cases_Bool, or_parts, or_cases, or_from, or_left, or_right}
 use Rattle.std.proofs.lemmas.Option.{same_Some}

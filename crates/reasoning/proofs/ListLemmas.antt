@@ -1,4 +1,4 @@
--- What stands in a list, at its places, behind a filter and after a write.
+-- The elements of lists: by index, after a filter, and after a write.
 use Rattle.std.proofs.Common.{◌≡◌, ◌≢◌, ◌⊎◌, ℕ, zero, suc, ◌<◌, Bool, true, false, cond, List, [], ◌∷◌, ◌++◌, length, set, replicate, slice_get}
 use Rattle.std.proofs.Common.{slice_index, filter, Contains, Some, inl, inr, refl, sym, ap, ◌∙◌, subst, arith, append-nil, append_assoc}
 use Rattle.std.specs.List.{list_any, AllZip}

@@ -1,4 +1,4 @@
--- What may be there, and results.
+-- Options and results.
 use Rattle.std.proofs.Common.{◌≡◌, ◌⊎◌, Option, Some, None, IsSome, Result, Ok, Err, OnErr, inl, inr, refl, Bool, true, false, cond}
 use Rattle.std.proofs.lemmas.Bool.{false≢true}
 

@@ -1,6 +1,6 @@
--- Lists, one beside another.
+-- Lists that begin with another list.
 use Rattle.std.specs.Prelude.{◌≡◌, List, ◌++◌}
 
--- further elements after those of a list
+-- `new` has the elements of `old`, then perhaps further ones
 abbrev pub Extends : {X : Type 0} → List X → List X → Type 0
 Extends {X} old new = (more : List X) × (new ≡ old ++ more)

@@ -1,7 +1,7 @@
--- What may be there.
+-- Options of numbers.
 use Rattle.std.specs.Prelude.{ℕ, ◌==◌, Bool, false, Option, Some, None}
 
--- whether there is a number, and it is that one
+-- whether the option has this number
 abbrev pub is_that_number : Option ℕ → ℕ → Bool
 is_that_number None number = false
 is_that_number (Some other) number = other == number

@@ -4,7 +4,7 @@ use std::marker::{Model, PhantomData};
 
 /// A `T` as contracts see it. It takes no bytes and owns nothing.
 ///
-/// It can be made at any value, so it says something only where an invariant ties it to fields that run.
+/// It can be made of any value, so it means something only if an invariant ties it to fields that exist at run time.
 #[derive(Drop)]
 pub struct Kept<T> {
     marker: PhantomData<T>,
@@ -20,7 +20,7 @@ impl<T> Model for Kept<T> {
 impl<T> Kept<T> {
     ghost use Rattle.std.specs.Prelude.{◌≡◌};
 
-    /// A value that the caller's proof picks, from what it lends.
+    /// Returns a value that the caller's proof chooses. The proof can use what is lent here.
     pub fn at<A, B>(first: &A, second: &B) -> Kept<T>
         ghost chosen: { T }
         ensures { result.value ≡ chosen }
@@ -30,7 +30,7 @@ impl<T> Kept<T> {
         }
     }
 
-    /// The value that it is lent.
+    /// Returns the item's value. The item is only borrowed.
     pub fn of(item: &T) -> Kept<T>
         ensures { result.value ≡ item.now }
     {

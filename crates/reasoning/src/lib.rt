@@ -1,7 +1,7 @@
-//! What every proof may lean on, and what contracts alone see: first places, lists, digits; traces
-//! and kept values; the names of variants.
+//! What any proof may use: first indices, lists, options, orders, digits. What only contracts see: traces and kept
+//! values. And the names of variants.
 //!
-//! Nothing here knows what a timetable is: its definitions and lemmas name std's words alone.
+//! Nothing here is about timetables: definitions and lemmas use nothing but std.
 #![tactic(auto)]
 
 mod kept;

@@ -4,7 +4,7 @@ use std::marker::Model;
 use std::mem;
 use std::snapshot::Snapshot;
 
-// How a list was put together. A value of it lives for one call of `Snapshot::of`.
+// How a list was put together. A node exists only during a call of `Snapshot::of`.
 #[derive(Drop)]
 enum Node<T> {
     Nothing,
@@ -12,10 +12,10 @@ enum Node<T> {
     Both(Snapshot<Node<T>>, Snapshot<Node<T>>),
 }
 
-/// A list that contracts alone see. It takes no bytes, and its calls no memory.
+/// A list that contracts alone see. It takes no bytes, and its functions no memory.
 ///
-/// It says what its author noted, in this order, and no more: a type that keeps one says by its
-/// invariant how the list and its running fields agree, and lets no other code note.
+/// It has the items that were noted, in this order, and no others. A type that keeps a trace states in its invariant
+/// how the list agrees with the fields that exist at run time, and lets no other code add to it.
 #[derive(Drop)]
 pub struct Trace<T> {
     node: Snapshot<Node<T>>,
@@ -43,7 +43,7 @@ impl<T> Trace<T> {
         }
     }
 
-    /// Adds what it is lent at the end.
+    /// Adds the item at the end. The item is only borrowed.
     pub fn note(&mut self, item: &T)
         ensures { self.new ≡ self.old ++ item.now ∷ [] }
     {

@@ -1,4 +1,4 @@
--- What was added piece by piece was added as one.
+-- To add pieces one by one is to add them joined.
 use Rattle.std.proofs.Common.{◌≡◌, ℕ, List, ◌++◌, ◌∙◌, ap, append_assoc}
 
 by_two : (o a b : List ℕ) → (o ++ a) ++ b ≡ o ++ (a ++ b)

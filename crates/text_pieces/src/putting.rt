@@ -22,7 +22,7 @@ pub fn put_number(out: &mut String, word: &str, number: u64) -> Result<(), Alloc
     write!(out, "{number}")
 }
 
-/// Adds a word and a clock.
+/// Adds a word and a time in seconds, as a clock text.
 pub fn put_clock(out: &mut String, word: &str, time: u32) -> Result<(), AllocError>
     ensures { OnOk result (string_bytes out.new ≡ string_bytes out.old ++ (word.now ++ clock_bytes time)) }
 {
@@ -39,7 +39,7 @@ pub fn put_word(out: &mut String, word: &str) -> Result<(), AllocError>
     put_text(out, word)
 }
 
-/// Adds a number in two digits, or as many as it needs.
+/// Adds a number with at least two digits.
 pub fn put_two(out: &mut String, number: u64) -> Result<(), AllocError>
     ensures { OnOk result (string_bytes out.new ≡ string_bytes out.old ++ two_digits number) }
 {

@@ -1,4 +1,4 @@
--- Lemmas of first and last places, as `reasoning` has them.
+-- Lemmas about first and last indices, from `reasoning`.
 pub use Rattle.reasoning.proofs.FirstLemmas.{option_or-none as or_else-none, option_or-some as or_else-some, option_or_parts as or_else_parts}
 pub use Rattle.reasoning.proofs.FirstLemmas.{first_below-more, first_below-from, first_below-found, first_below-next, last_below-hit, last_below-miss}
 pub use Rattle.reasoning.proofs.FirstLemmas.{last_below-within, no_fault, any_below-more, any_below-found, any_between-empty, any_between-more}

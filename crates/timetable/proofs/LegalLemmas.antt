@@ -1,4 +1,4 @@
--- What a legal timetable within the limits gives to those who read it by place.
+-- What holds for the elements of a legal timetable within the limits, by their indices.
 use Rattle.std.proofs.Common.{◌≡◌, ℕ, zero, suc, ◌+◌, ◌<◌, ◌≤◌, length, Contains, Some, slice_get, refl, sym, ap, subst, ◌∙◌, arith, inl, inr, List}
 use Rattle.std.proofs.lemmas.Bool.{cases_eq, cases_order}
 use Rattle.std.proofs.lemmas.Option.{slice_get-get_or, get_or_from_slice_get, same_Some, slice_get_within}

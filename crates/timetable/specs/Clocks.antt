@@ -7,7 +7,7 @@ use Rattle.std.specs.Fmt.{decimal}
 abbrev pub colon : ℕ
 colon = 58
 
--- hours of one to six digits, minutes and seconds of two, and how many seconds they are together
+-- the text has hours of one to six digits, minutes and seconds of two; `time` is all of them in seconds
 pub record SpellsClock (text : List ℕ) (time : ℕ) : Type 0 where
   pub hours : List ℕ
   pub minutes : List ℕ
@@ -18,14 +18,14 @@ pub record SpellsClock (text : List ℕ) (time : ℕ) : Type 0 where
   pub small : (digits_value 10 minutes < 60) × (digits_value 10 seconds < 60)
   pub sum : time ≡ digits_value 10 hours * 3600 + digits_value 10 minutes * 60 + digits_value 10 seconds
 
--- a number in decimal digits, of which there are two at least
+-- a number in decimal, with at least two digits
 abbrev pub two_digits : ℕ → List ℕ
 two_digits n = if nat_lt n 10 then 48 ∷ decimal n else decimal n
 
--- the text of a time: its hours in two digits or as many as they need, its minutes and its seconds in two
+-- the text of a time in seconds: at least two digits of hours, two of minutes and two of seconds
 abbrev pub clock_bytes : ℕ → List ℕ
 clock_bytes time = two_digits (time / 3600) ++ colon ∷ two_digits (time / 60 % 60) ++ colon ∷ two_digits (time % 60)
 
--- a clock text whose hours have two digits, or more of which the first isn't '0'
+-- a clock text whose hours have two digits, or more than two and don't begin with '0'
 abbrev pub HasNoSpareZero : List ℕ → Type 0
 HasNoSpareZero text = (length text ≡ 8) ⊎ ((8 < length text) × (slice_index text 0 ≢ 48))

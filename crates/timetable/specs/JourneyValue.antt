@@ -1,4 +1,4 @@
--- A journey as lists, without where they lie in memory.
+-- A journey as plain lists.
 use Rattle.std.specs.Prelude.{List, Option}
 use Rattle.timetable.specs.declared.network.Footpath.{Footpath}
 use Rattle.timetable.specs.declared.journey.Leg.{Leg}
@@ -8,7 +8,7 @@ pub record RideValue : Type 0 where
   pub leg : Leg
   pub walk : List Footpath
 
--- a start on foot, or none, and then rides
+-- a start (none, or one footpath) and then rides
 pub record JourneyValue : Type 0 where
   pub start : Option Footpath
   pub rides : List RideValue

@@ -7,11 +7,11 @@ use Rattle.timetable.specs.declared.query.Query.{Query}
 use Rattle.timetable.specs.TimetableValue.{TimetableValue}
 use Rattle.timetable.specs.JourneyValue.{RideValue, JourneyValue}
 
--- what stands past the end of the connections: nobody can board it or leave it
+-- the connection at an index past the end of the list: nobody can board or leave it
 abbrev pub no_connection : Connection
 no_connection = record { from = 0; to = 0; dep = 0; arr = 0; trip = 0; board = false; alight = false }
 
--- the connection at a place
+-- the connection at an index
 abbrev pub connection_at : TimetableValue → ℕ → Connection
 connection_at t i = slice_index_or t.connections i no_connection
 
@@ -33,19 +33,20 @@ abbrev pub walk_end : ℕ → List Footpath → ℕ
 walk_end stop [] = stop
 walk_end stop (f ∷ fs) = walk_end f.to fs
 
--- its time in seconds
+-- the time of a walk, in seconds
 abbrev pub walk_secs : List Footpath → ℕ
 walk_secs [] = 0
 walk_secs (f ∷ fs) = f.secs + walk_secs fs
 
--- where and when a ride is over, its walk too
+-- where and when a ride is over, including its walk
 abbrev pub stop_after : TimetableValue → RideValue → ℕ
 stop_after t ride = walk_end (connection_at t ride.leg.last).to ride.walk
 
 abbrev pub time_after : TimetableValue → RideValue → ℕ
 time_after t ride = (connection_at t ride.leg.last).arr + walk_secs ride.walk
 
--- from a stop, at a time, these rides lead to the goal: stops join, no leg departs before the ride before it is over, and only the last walk may be empty
+-- these rides lead from `stop`, at `time`, to `goal`: each begins at the stop where the one before ended, no earlier than it ended; only the last walk may be
+-- empty
 abbrev pub Leads : TimetableValue → ℕ → ℕ → ℕ → List RideValue → Type 0
 Leads t goal stop time [] = stop ≡ goal
 Leads t goal stop time (ride ∷ rides) =
@@ -56,7 +57,7 @@ Leads t goal stop time (ride ∷ rides) =
     × (rides ≢ [] → ride.walk ≢ [])
     × Leads t goal (stop_after t ride) (time_after t ride) rides
 
--- when the rides are over, the time before them being given
+-- when the rides are over; without rides, `time`
 abbrev pub final_time : TimetableValue → ℕ → List RideValue → ℕ
 final_time t time [] = time
 final_time t time (ride ∷ rides) = final_time t (time_after t ride) rides
@@ -66,12 +67,12 @@ abbrev pub IsStart : TimetableValue → ℕ → Option Footpath → Type 0
 IsStart t source None = Unit {0}
 IsStart t source (Some f) = Contains t.footpaths f × (f.from ≡ source) × (f.to ≢ source)
 
--- where it ends
+-- where the start ends
 abbrev pub start_end : ℕ → Option Footpath → ℕ
 start_end source None = source
 start_end source (Some f) = f.to
 
--- its time in seconds
+-- the time of a start, in seconds
 abbrev pub start_secs : Option Footpath → ℕ
 start_secs None = 0
 start_secs (Some f) = f.secs
@@ -87,15 +88,15 @@ pub record IsJourney (t : TimetableValue) (source target : ℕ) (j : JourneyValu
   pub has_rides : j.rides ≢ []
   pub leads : Leads t target (start_end source j.start) 0 j.rides
 
--- it sets out the start's seconds before its first leg; one that would set out before second 0 has no departure
+-- the journey departs `start_secs` before its first leg; a journey that would have to depart before second 0 has no departure
 abbrev pub DepartsAt : TimetableValue → ℕ → JourneyValue → Type 0
 DepartsAt t departure j = departure + start_secs j.start ≡ first_departure t j.rides
 
--- when it is over
+-- when the journey is over
 abbrev pub arrival : TimetableValue → JourneyValue → ℕ
 arrival t j = final_time t 0 j.rides
 
--- a journey from source to target that departs in the query's window, at this departure, and arrives by its time
+-- a journey from the query's source to its target: it departs at `departure`, no earlier than `from` and no later than `until`, and arrives no later than `by`
 pub record Counts (t : TimetableValue) (q : Query) (departure : ℕ) (j : JourneyValue) : Type 0 where
   pub journey : IsJourney t q.source q.target j
   pub departs : DepartsAt t departure j

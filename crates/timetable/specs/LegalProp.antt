@@ -1,4 +1,4 @@
--- A timetable is legal in one way at most, so that a ghost field can keep the fact as it is.
+-- That a timetable is legal has at most one proof, so that a ghost field can keep this proof.
 use Rattle.std.specs.Prelude.{◌≡◌, ℕ, zero, suc, ◌+◌, ◌<◌, ◌≤◌, List, [], ◌∷◌, Bool, true, false, Option, Some, None, slice_get}
 use Rattle.std.proofs.Common.{sym, ap, subst, ◌∙◌, inl, inr, true≢false, arith, refl}
 use Rattle.std.proofs.lemmas.Bool.{cases_eq, cases_order}
@@ -17,14 +17,14 @@ secs_of : Option Footpath → ℕ
 secs_of None = 0
 secs_of (Some f) = f.secs
 
--- before a place that holds something stands something
+-- a list with an element at an index has one at the index before
 one_before : (paths : List Footpath) (i : ℕ) (f : Footpath) → At paths (suc i) f → (e : Footpath) × At paths i e
 unfolding is_none
 one_before [] i f at_f = absurd (true≢false (ap is_none at_f))
 one_before (e ∷ rest) zero f at_f = (e, refl)
 one_before (e ∷ rest) (suc i) f at_f = one_before rest i f at_f
 
--- what stands after a footpath stands after each that is before it
+-- the order is transitive
 in_order_on : (d e f : Footpath) → IsOrderedBefore d e → IsOrderedBefore e f → IsOrderedBefore d f
 in_order_on d e f first second = (
   omega (arith, first.0, second.0),
@@ -35,7 +35,7 @@ in_order_on d e f first second = (
 )
 
 module _ (paths : List Footpath) (in_order : AreInOrder paths) where
-  -- the order leads from each place to all later ones
+  -- each footpath comes before all later ones, not just before the next
   pub in_order_later : (j i : ℕ) (d f : Footpath) → i < j → At paths i d → At paths j f → IsOrderedBefore d f
   in_order_later zero i d f below at_d at_f = absurd (omega (arith, below))
   in_order_later (suc j) i d f below at_d at_f =
@@ -55,7 +55,7 @@ module _ (paths : List Footpath) (in_order : AreInOrder paths) where
       let after = in_order_later j i (record { from = from; to = to; secs = s }) (record { from = from; to = to; secs = t }) below p q in
       omega (arith, after.1 refl)
 
-  -- an ordered pair of stops has its footpath at one place ..
+  -- an ordered pair of stops has its footpath at one index ..
   pub same_place : (from to s t : ℕ) (p : HasFootpath paths from to s) (q : HasFootpath paths from to t) → p.0 ≡ q.0
   same_place from to s t p q =
       elim (cases_order p.0 q.0) [
@@ -64,7 +64,7 @@ module _ (paths : List Footpath) (in_order : AreInOrder paths) where
         | inr (inr above) ↦ absurd (never_later from to t s q.0 p.0 above q.1 p.1)
       ]
 
-  -- .. and takes one number of seconds
+  -- .. and with one number of seconds
   pub same_secs : (from to s t : ℕ) → HasFootpath paths from to s → HasFootpath paths from to t → s ≡ t
   unfolding secs_of
   same_secs from to s t p q =

@@ -5,7 +5,7 @@ use Rattle.timetable.specs.declared.query.Query.{Query}
 use Rattle.timetable.specs.declared.query.QueryFault.{QueryFault}
 use Rattle.timetable.specs.declared.query.QueryFault.TheVariants.{UnknownStop, SameStop, BadWindow}
 
--- from one stop to another, in a window that is there, of a timetable with so many stops
+-- the query is between two different stops of a timetable with this many stops, and its times are possible
 pub record IsAskable (stops : ℕ) (q : Query) : Type 0 where
   pub source : q.source < stops
   pub target : q.target < stops
@@ -14,17 +14,17 @@ pub record IsAskable (stops : ℕ) (q : Query) : Type 0 where
   pub in_time : q.from ≤ q.by
   pub small : (q.from < TIME_END) × (q.until < TIME_END) × (q.by < TIME_END)
 
--- a window that ends, or whose time of arrival is, before it begins, or a time that no timetable has
+-- the latest departure or the latest arrival is before the earliest departure, or a time is `TIME_END` or later
 abbrev pub HasBadWindow : Query → Type 0
 HasBadWindow q = (q.until < q.from) ⊎ (q.by < q.from) ⊎ (TIME_END ≤ q.from) ⊎ (TIME_END ≤ q.until) ⊎ (TIME_END ≤ q.by)
 
--- what is wrong with a query, and that nothing before it is
+-- the query has this fault, and none of those before it
 abbrev pub IsFirstFault : ℕ → Query → QueryFault → Type 0
 IsFirstFault stops q UnknownStop = (stops ≤ q.source) ⊎ (stops ≤ q.target)
 IsFirstFault stops q SameStop = (q.source < stops) × (q.target < stops) × (q.source ≡ q.target)
 IsFirstFault stops q BadWindow = (q.source < stops) × (q.target < stops) × (q.source ≢ q.target) × HasBadWindow q
 
--- the number and the name by which a fault is told
+-- the number and the name of a fault
 abbrev pub fault_told : QueryFault → ℕ × List ℕ
 fault_told UnknownStop = (31, codes "UnknownStop")
 fault_told SameStop = (32, codes "SameStop")

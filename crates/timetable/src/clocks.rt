@@ -1,4 +1,4 @@
-//! Times as clients read and write them: `HH:MM:SS`, with as many hours as there are.
+//! Times as clients read and write them: `HH:MM:SS`, in which the hours may have more than two digits.
 
 ghost use Rattle.std.specs.Prelude.{◌≡◌, ◌<◌, ◌≤◌, ℕ, Some, length, IfOk, IfSome, MatchOption, string_bytes};
 ghost use Rattle.std.specs.Option.{SomeIff};
@@ -11,10 +11,10 @@ use std::fmt;
 /// The first time, in seconds, that no clock text spells: a text's hours have six digits at most.
 pub const CLOCK_END: u32 = 3_600_000_000;
 
-// How many minutes an hour has: those of a clock text are fewer.
+// The minutes of an hour: a clock text has fewer.
 const MINUTES_END: u32 = 60;
 
-// How many seconds a minute has: those of a clock text are fewer.
+// The seconds of a minute: a clock text has fewer.
 const SECONDS_END: u32 = 60;
 
 /// A time in seconds, which is shown as a clock text.
@@ -32,16 +32,16 @@ impl fmt::Display for Clock {
     }
 }
 
-/// The text of a time in seconds: at least two digits of hours, no more than they need, and two
-/// digits of minutes and of seconds.
+/// Returns a time in seconds as a clock text: at least two digits of hours, two of minutes and two of seconds.
 pub fn clock_text(alloc: Global, seconds: u32) -> Result<String, AllocError>
     ensures { IfOk result (λ text. string_bytes text ≡ clock_bytes seconds) }
 {
     Clock(seconds).to_string(alloc)
 }
 
-/// The seconds that a clock text spells: hours of one to six digits, `:`, minutes and `:` and
-/// seconds of two digits below 60 each.
+/// Returns the seconds that a clock text spells, or `None` if the text is something else. A clock text has one to six
+/// digits of hours, then `:` and two digits of minutes, then `:` and two digits of seconds; minutes and seconds are
+/// below 60.
 pub fn clock_parse(text: &[u8]) -> Option<u32>
     ensures { MatchOption result ((time : ℕ) → ¬ SpellsClock text.now time) (SpellsClock text.now) }
 {
@@ -62,7 +62,7 @@ pub fn clock_parse(text: &[u8]) -> Option<u32>
     }
 }
 
-// The number of one to nine decimal digits.
+// Returns the number that decimal digits spell, or `None` if there are none, or a byte is no digit.
 fn numeral(digits: &[u8]) -> Option<u32>
     requires { length digits.now ≤ 9 }
     ensures { SomeIff result (IsNumeral 10 digits.now) (digits_value 10 digits.now) }

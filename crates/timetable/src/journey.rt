@@ -1,9 +1,10 @@
-//! Journeys: legs, the walks after them, and where they set out.
+//! Journeys: a start, and rides, each of which is a leg and the walk after it.
 
 use crate::Footpath;
 use std::marker::Model;
 
-/// Connections of one trip, by their places in the timetable: on board from the first to the last.
+/// A leg: connections of one trip, boarded at `first` and left at `last`, which are indices of connections of the
+/// timetable.
 #[derive(Clone, Copy, Debug, PartialEq, Eq)]
 pub struct Leg {
     pub first: u32,
@@ -17,7 +18,7 @@ pub struct Ride {
     pub walk: Vec<Footpath>,
 }
 
-/// A start on foot, or none, and then rides.
+/// A start (none, or one footpath) and then rides.
 #[derive(Drop)]
 pub struct Journey {
     pub start: Option<Footpath>,

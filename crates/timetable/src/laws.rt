@@ -17,18 +17,18 @@ pub fn limits()
     ensures times { (MAX_WALK_SECS ≡ 1000000) × (TIME_END ≡ 2000000000) }
 {}
 
-/// A text spells one time at most, and that is below a million hours.
+/// A text spells at most one time, which is below a million hours.
 pub fn one_time()
     ensures one { (text : List ℕ) (time other : ℕ) → SpellsClock text time → SpellsClock text other → time ≡ other }
     ensures small { (text : List ℕ) (time : ℕ) → SpellsClock text time → time < CLOCK_END }
 {}
 
-/// What is written of a time below a million hours spells it: reading undoes writing.
+/// The text of a time below a million hours spells that time: reading undoes writing.
 pub fn written_is_read()
     ensures { (time : ℕ) → time < CLOCK_END → SpellsClock (clock_bytes time) time }
 {}
 
-/// A text with no more zeros than two digits of hours need is what is written of its time: writing undoes reading.
+/// A clock text without a spare zero in front is the text of its time: writing undoes reading.
 pub fn read_is_written()
     ensures { (text : List ℕ) (time : ℕ) → SpellsClock text time → HasNoSpareZero text → clock_bytes time ≡ text }
 {}

@@ -2,7 +2,7 @@
 
 use std::marker::Model;
 
-/// What a trip on one service day is called. A trip that is repeated on a day is a trip for each time.
+/// The name of a trip on one service day. If it runs repeatedly on that day, each time is a trip of its own.
 #[derive(Drop)]
 pub struct TripName {
     pub name: String,

@@ -32,15 +32,15 @@ pub struct Footpath {
     pub secs: u32,
 }
 
-/// Stops and trips by number, connections and footpaths.
+/// The stops, trips, connections and footpaths of a timetable.
 ///
-/// A legal timetable lists its connections by departure and its footpaths by the stop led into,
-/// then by the stop left, each pair once: so a finite set of footpaths is one list.
+/// A legal timetable lists its connections in order of departure, and its footpaths by the stop that they lead to,
+/// then by the stop that they leave, each pair once. So each set of footpaths is one list.
 #[derive(Drop)]
 pub struct Timetable {
-    /// The number of stops: they are called 0, 1, .. in what follows.
+    /// The number of stops, which are numbered from 0.
     pub stops: u32,
-    /// The number of trips.
+    /// The number of trips, which are numbered from 0.
     pub trips: u32,
     pub connections: Vec<Connection>,
     pub footpaths: Vec<Footpath>,

@@ -1,11 +1,11 @@
-//! What a client asks, and the first thing that is wrong with it.
+//! Queries, and the first thing that is wrong with one.
 
 use crate::limits::TIME_END;
 use reasoning::variant_name;
 use thiserror::Error;
 
-/// What a client asks: from a stop to a stop, departing in a window, arriving by a time. Times are
-/// seconds after the base.
+/// What a client asks for: journeys from a source to a target that depart between two times and arrive by a third.
+/// Times are in seconds after the base.
 #[derive(Clone, Copy, Debug, PartialEq, Eq)]
 pub struct Query {
     pub source: u32,
@@ -27,8 +27,7 @@ pub enum QueryFault {
     /// The source is the target.
     #[error("source and target are one stop")]
     SameStop = 32,
-    /// The window ends before it begins, or the latest arrival is before it, or a time is past
-    /// those of every timetable.
+    /// The latest departure or the latest arrival is before the earliest departure, or a time is `TIME_END` or later.
     #[error("the window can't be")]
     BadWindow = 33,
 }
@@ -37,14 +36,14 @@ impl QueryFault {
     ghost use Rattle.std.specs.Prelude.{◌≡◌};
     ghost use Rattle.timetable.specs.Queries.{fault_told};
 
-    /// The number by which the fault is told, from 31 to 33.
+    /// The fault's number, from 31 to 33.
     pub fn number(self) -> u8
         ensures { result ≡ (fault_told self).0 }
     {
         self as u8
     }
 
-    /// The name by which the fault is told, as `UnknownStop`.
+    /// The fault's name, as `UnknownStop`.
     pub fn name(self) -> &'static str
         ensures { result.now ≡ (fault_told self).1 }
     {
@@ -56,7 +55,8 @@ impl Query {
     ghost use Rattle.std.specs.Prelude.{◌↔◌, IsOk, IfErr};
     ghost use Rattle.timetable.specs.Queries.{IsAskable, IsFirstFault};
 
-    /// Ok where the query can be asked of a timetable with so many stops, else the first fault.
+    /// Checks that the query can be asked of a timetable with this many stops. If it can't, the error is its first
+    /// fault.
     pub fn check(&self, stops: u32) -> Result<(), QueryFault>
         ensures askable { IsOk result ↔ IsAskable stops self.now }
         ensures fault { IfErr result (IsFirstFault stops self.now) }

@@ -1,4 +1,4 @@
-//! A number that is the length of a list that nobody keeps.
+//! A counter: the length of a list that only contracts see.
 
 ghost use Rattle.std.specs.Prelude.{◌≡◌, ◌+◌, ◌<◌, ◌^◌, ◌++◌, ◌∷◌, [], List, length};
 ghost use Rattle.reasoning.specs.declared.tests.counter.Event.TheVariants.{Look};
@@ -12,7 +12,7 @@ pub enum Event {
     Look { worker: u64 },
 }
 
-/// The events, as contracts see it. It keeps their number.
+/// Contracts see the list of events; at run time there is only their number.
 #[derive(Drop)]
 pub struct Counter {
     count: u64,

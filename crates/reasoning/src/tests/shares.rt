@@ -1,4 +1,4 @@
-//! What a worker hands on: a number that stays at its greatest value, and the list that it counts.
+//! What a worker passes on: a list that only contracts see, and its length, which stays at the greatest number.
 
 ghost use Rattle.std.specs.Prelude.{◌≡◌, ◌-◌, ◌^◌, ◌++◌, ◌∷◌, [], List, length, min};
 
@@ -62,7 +62,7 @@ fn one_end(end: u64) -> Share<u64>
     share
 }
 
-// No byte of the list crosses, though contracts know it on the other side.
+// No byte of the list goes from one thread to the other, yet contracts know it there.
 fn two_workers<R: Threads>(rt: &R, first: u64, second: u64) -> Share<u64>
     ensures { result ≡ first ∷ second ∷ [] }
 {

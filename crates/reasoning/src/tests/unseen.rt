@@ -5,14 +5,14 @@ ghost use Rattle.std.specs.Prelude.{◌≡◌, ◌+◌, ◌<◌, ◌^◌};
 use crate::{Kept, Trace};
 use std::mem::size_of;
 
-// What no code computes: the sum of two numbers.
+// The sum of two numbers, which no code computes.
 fn sum_of(first: &u32, second: &u32) -> Kept<u64>
     ensures { result.value ≡ first.now + second.now }
 {
     Kept::at(first, second)
 }
 
-/// A number that is one more than another, which nobody keeps.
+/// A number that is one more than another, which only contracts see.
 #[derive(Drop)]
 struct Successor {
     number: u32,
