@@ -3,12 +3,12 @@
 //! | line | what is done |
 //! |---|---|
 //! | `pin SEAT` | the seat pins |
-//! | `release SEAT` | the seat gives back what it holds |
+//! | `release SEAT` | the seat releases what it holds |
 //! | `publish SECOND` | the image that begins at this second becomes the next version |
-//! | `join SEAT` | the seat takes in the oldest notice that is out |
+//! | `join SEAT` | the seat takes in the oldest notice that no seat took in |
 //! | `collect` | each closing shelf is tried |
-//! | `round SECOND` | seat 0 gives back, the image becomes the next version, each closing shelf is tried, and seat 0 takes in the notice and pins |
-//! | `each 0..6` | each of these seats pins, and the image that begins two seconds after its number is published: each version has the second of its number |
+//! | `round SECOND` | `release 0`, `publish SECOND`, `collect`, `join 0` and `pin 0` |
+//! | `each 0..6` | each of these seats pins, and then the image is published that begins at second SEAT + 2, its version |
 //!
 //! Version 1 is the image that begins at second 1.
 
