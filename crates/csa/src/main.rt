@@ -11,7 +11,7 @@ use std::io::{ErrorKind, IsTerminal};
 use std::process::ExitCode;
 use std::rt::Env;
 
-// A folder, from which no read and to which no write succeeds.
+// A folder: reading from it and writing to it both fail.
 const FOLDER: &str = "/";
 
 fn main(rt: HostRuntime) -> ExitCode {

@@ -10,7 +10,7 @@ use Rattle.timetable.specs.NamesValue.{NamesValue}
 use Rattle.answer_pictures.specs.Naming.{stop_bytes}
 use Rattle.csa_commands.specs.StopLines.{AreStopLines, IsFound, IsIn, numbered}
 
--- no stops have no lines
+-- zero stops have no lines
 pub no_lines : (names : NamesValue) (text lines : List ℕ) → lines ≡ [] → AreStopLines names text 0 lines
 no_lines names text lines none = record { parts = []; each = tt; joined = none }
 

@@ -20,7 +20,7 @@ use Rattle.csa_commands.specs.Refusing.{RefusesFeed, refusal_line}
 use Rattle.csa_commands.specs.Zoning.{IsNoZoneOf}
 use Rattle.csa_commands.specs.declared.refusal.Refusal.TheVariants.{Feed as OfFeed}
 
--- the first files of a folder were read, where each read may have given what it gave; and this holds of every content that agrees with these reads
+-- the first files of a folder were read, and some disk may give what was read; and this holds of every content that agrees with these reads
 pub record HoldsOfRead {D : Type 0} (gives : D → List ℕ → MayGive) (folder : List ℕ) (Is : Content → Type 0) : Type 0 where
   pub disk : D
   pub reads : List FileRead
@@ -34,7 +34,7 @@ IsTablesRefusal fault content = AreFilesRefused content fault ⊎ AreTablesRefus
 
 -- `gives` says what a disk of some kind may give for a folder and the name of a file
 module _ {D : Type 0} (gives : D → List ℕ → MayGive) (folder : List ℕ) where
-  -- the files of the folder may hold this content: each read of a file may give what the content has of it
+  -- the files of the folder may hold this content: for each file, some disk may give what the content has of it
   abbrev pub MayBeOf : Content → Type 0
   MayBeOf content = (disk : D) × MayHold (gives disk folder) content all_tables
 

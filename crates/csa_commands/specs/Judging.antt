@@ -30,7 +30,7 @@ pub record IsPosed (image : ImageValue) (question : Question) (text : List ℕ) 
   pub has_text : HasText j
   pub spells : text ≡ text_of j
 
--- when the text's journey departs and arrives, and it counts for the query; or the first fault, of the query, of the text or of the journey
+-- when the text's journey departs and arrives, if it counts for the query; otherwise the first fault, of the query, of the text or of the journey
 abbrev pub IsVerdict : ImageValue → Question → List ℕ → Result Times Failure → Type 0
 IsVerdict image question text (Ok times) =
     (q : Query) × (j : JourneyValue) × IsPosed image question text q j × Counts image.timetable q times.dep j × (times.arr ≡ arrival image.timetable j)

@@ -31,7 +31,7 @@ IsZoneUnread (File path) (Unreadable unread) = unread.now ≡ path.now
 IsZoneUnread (File path) OutOfMemory = Unit {0}
 IsZoneUnread _ _ = ⊥
 
--- the zone that was asked for has this fault, if its file has some bytes
+-- the fault is that of the zone that was asked for, for some bytes of its file
 abbrev pub IsNoZoneOf : PlanText → LoadFault → Type 0
 IsNoZoneOf asked fault =
     (bytes : List ℕ) × (wrong : DayFault) × (fault ≡ Day wrong) × IsZoneFault asked.zone bytes wrong

@@ -84,8 +84,7 @@ fn print_all<O: Write>(
     }
 }
 
-// Says what is wrong with a question of all stops: the target is no stop of the image, or what is wrong with the
-// window.
+// Says that the target is no stop of the image, or what is wrong with the window.
 fn explain_fault<E: Write>(
     image: &Verified,
     request: &DeparturesRequest<'_>,
@@ -139,7 +138,7 @@ fn explain_from<H: Files, E: Write>(rt: &H, path: &str, errors: &mut E) {
     }
 }
 
-// The target and the window that every stop is asked for, or their first fault.
+// The target and the window of the queries from every stop, or their first fault.
 fn destination_asked(
     image: &Verified,
     request: &DeparturesRequest<'_>,

@@ -101,7 +101,7 @@ fn explain_refusal<E: Write>(refusal: Refusal, errors: &mut E) {
     }
 }
 
-// Says what is wrong with which ride or walk of a journey. Takes no memory.
+// Says which ride or walk of a journey is wrong, and why. Takes no memory.
 fn explain_fault<E: Write>(fault: JourneyFault, errors: &mut E) {
     let reason = reason_of(fault);
     let _ = match fault {

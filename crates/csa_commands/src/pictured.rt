@@ -61,7 +61,7 @@ fn picture_text<C: Told>(
     Ok(text)
 }
 
-/// The departures that are drawn: the first `rows`.
+/// The departures that are drawn: the first `rows`, or all if there are fewer.
 fn first_of<V>(departures: &[Departure<V>], rows: usize) -> &[Departure<V>]
     ensures { result.now ≡ take rows departures.now }
 {

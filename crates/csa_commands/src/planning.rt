@@ -57,8 +57,8 @@ pub fn zone_and_plan<'a, H: Files + AllocGlobal + Clock>(
     }
 }
 
-// The bytes of the zone's file; empty if the zone isn't a file, and then nothing fails. `Unreadable` with the file's
-// path if it can't be read, `OutOfMemory` if there is no memory for its bytes.
+// The bytes of the zone's file; empty, without a failure, if the zone isn't a file. Fails with `Unreadable` and the
+// file's path if it can't be read, with `OutOfMemory` if there is no memory for its bytes.
 fn zone_bytes<'a, H: Files + AllocGlobal>(
     rt: &H,
     zone: &ZoneText<'a>,

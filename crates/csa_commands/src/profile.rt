@@ -40,8 +40,8 @@ pub struct Profile {
 }
 
 /// Prints the answer in the form that is asked for: a line for each best departure with a journey, then how many there
-/// are, how many connections were read, and the direct footpath; or the reply of a session. A picture that is asked for
-/// is written first.
+/// are, how many connections were read, and the direct footpath; or what a session would reply. A picture that is asked
+/// for is written first.
 pub fn run<H: Files + AllocGlobal, O: Write, E: Write>(
     rt: &H,
     image: &Verified,

@@ -1,4 +1,4 @@
-//! Reports of the progress while an image is made.
+//! Reports of progress while an image is made.
 
 ghost use Rattle.std.specs.Prelude.{◌≡◌, ◌≤◌, ◌<◌, ◌+◌, ◌-◌, ◌^◌, List, IfOk, IfErr, OnOk};
 ghost use Rattle.image_layout.specs.declared.layout.TheConstants.{LAYOUT};
@@ -22,24 +22,24 @@ use std::time::{Clock, Duration};
 /// The file of a feed that is read last.
 const LAST_FILE: &str = "frequencies.txt";
 
-/// Takes reports while a feed is loaded and its image is written.
+/// What takes reports while a feed is loaded and its image is written.
 pub trait Reports {
-    /// A file is read next; the one before it was judged.
+    /// Reports that a file is read next, and that the one before it was judged.
     fn begin_file(&mut self, name: &str);
 
-    /// The file was read, or isn't there (`None`). After the last file the image is made.
+    /// Reports that the file was read, or isn't there (`None`). After the last file the image is made.
     fn note_file(&mut self, name: &str, bytes: Option<&[u8]>);
 
-    /// The image was made, with these counts.
+    /// Reports that the image was made, with these counts.
     fn note_made(&mut self, report: &Report);
 
-    /// The image is written next, to this path.
+    /// Reports that the image is written next, to this path.
     fn begin_writing(&mut self, path: &str);
 
-    /// The image, of so many words, was written to this path.
+    /// Reports that the image, of so many words, was written to this path.
     fn note_written(&mut self, path: &str, words: usize);
 
-    /// Nothing more is reported.
+    /// Ends the reports.
     fn close(&mut self);
 }
 
@@ -285,7 +285,7 @@ impl<F: FeedFiles, R: Reports> ReportedFiles<F, R> {
         }
     }
 
-    /// Nothing more is reported.
+    /// Ends the reports.
     pub fn close(&mut self) {
         if let Some(reports) = &mut self.reports {
             reports.close();

@@ -12,7 +12,7 @@ use std::alloc::{AllocError, Global};
 use std::io::Write;
 use text_pieces::{put_number, put_text};
 
-/// Prints the counts of an image, which was verified when it was opened. Never returns `REFUSED`.
+/// Prints the counts of an image. The image was verified when it was opened. Never returns `REFUSED`.
 pub fn run<O: Write>(alloc: Global, image: &Verified, output: &mut O) -> u8
     ensures status { Ends result }
     ensures refused { result ≢ REFUSED }

@@ -21,9 +21,9 @@ fn is_special<H: Files>(rt: &H, path: &str) -> bool {
     }
 }
 
-/// Writes an image's words to the path. Where there is a plain file or nothing, the words are written to `PATH.part`,
-/// which is then renamed: so the file is never half an image, not even if it is the one that was read. Where there is
-/// anything else, the words are written into that.
+/// Writes an image's words to the path. If there is a plain file or nothing, the words are written to `PATH.part`,
+/// which is then renamed: so the file is never half an image, not even if it is the one that was read. If there is
+/// anything else, such as a pipe, the words are written into it.
 pub fn put_image<H: Files + AllocGlobal>(rt: &H, path: &str, words: &[u32]) -> io::Result<()>
     requires { IsWholeImage words.now }
 {

@@ -142,7 +142,7 @@ fn line_of(alloc: Global, legs: JourneyLegs) -> Result<String, AllocError> {
 const FRONT: &str =
     "{\"ok\":\"profile\",\"points\":[{\"arr\":\"24:00:00\",\"dep\":\"08:00:00\",\"journey\":\"\",\"legs\":[";
 
-// The reply with a walk and a ride of such names.
+// The reply with a walk and a ride of odd names.
 fn odd_line(alloc: Global) -> Result<String, AllocError> {
     let mut legs = JourneyLegs::new(alloc);
     legs.add_walk(alloc, walk_of(alloc, "", "\\\"")?)?;

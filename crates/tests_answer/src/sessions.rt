@@ -362,7 +362,7 @@ const BY_WALKING: &str =
 const WALKED_REPLIES: &str =
     "{\"ok\":\"profile\",\"points\":[{\"arr\":\"08:20:00\",\"dep\":\"08:00:00\",\"journey\":\"ride 0 0 walk 1 1 0 ride 2 2\",\"trips\":2,\"walked\":0},{\"arr\":\"08:25:00\",\"dep\":\"08:00:00\",\"journey\":\"ride 0 0 walk 1 2 900\",\"trips\":1,\"walked\":900},{\"arr\":\"08:30:00\",\"dep\":\"08:00:00\",\"journey\":\"ride 0 1\",\"trips\":1,\"walked\":0}],\"version\":1,\"walk\":null}\n{\"feed\":\"slow\",\"ok\":\"load\"}\n{\"ok\":\"profile\",\"points\":[{\"arr\":\"08:20:00\",\"dep\":\"08:00:00\",\"journey\":\"ride 0 0 walk 1 1 60 ride 2 2\",\"trips\":2,\"walked\":60},{\"arr\":\"08:30:00\",\"dep\":\"08:00:00\",\"journey\":\"ride 0 1\",\"trips\":1,\"walked\":0}],\"version\":2,\"walk\":null}\n";
 
-// Serves these bytes over an image where one may walk from B to C, and then one where a change at B takes a minute.
+// Serves these bytes over an image where one may walk from B to C; the feed has one where a change at B takes a minute.
 fn walked(alloc: Global, bytes: &[u8]) -> Result<(Result<Ended, SessionFault>, Vec<u8>), Fail> {
     let (first, slow) = (image_with_a_footpath(alloc)?, image(alloc, 60)?);
     served_from(alloc, first, slow, whole(bytes), 10_000, true)

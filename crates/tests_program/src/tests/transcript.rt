@@ -25,14 +25,14 @@
 //! | `prints TEXT`, `tells TEXT` | one more line that it must write to the output, or to the errors with `#` for seconds |
 //! | `ends STATUS` | runs it: it must write these lines and no others, and end with this status |
 //! | `answers TEXT` | `prints TEXT` and `ends 0`, or `ends 2` if the text begins with `refused` |
-//! | `complains STATUS` | runs it: it must print nothing, write any errors, and end with this status |
-//! | `helps` | runs it: it must print anything, write no errors, and end with status 0 |
+//! | `complains STATUS` | runs it: it must print nothing, write some errors, and end with this status |
+//! | `helps` | runs it: it must print something, write no errors, and end with status 0 |
 //! | `saves PATH` | writes the bytes of the input to a file |
 //! | `holds PATH` | the file must have the bytes of the input |
 //! | `lacks PATH` | there must be no such file |
 //!
-//! Each command must be run before the next one and before the end, and so must each `prints` and `tells` be compared:
-//! a transcript that doesn't is refused.
+//! Each command must be run before the next one and before the end, and each line of `prints` or `tells` must have been
+//! compared by then; otherwise the transcript fails.
 
 use crate::tests::base_feed;
 use crate::tests::running::{Machine, Outcome, outcome_of};

@@ -150,7 +150,7 @@ fn assert_stop<C: Told>(
     assert_found(rt, alloc, image, criterion, profiles, &alone, &asked)
 }
 
-/// Asserts this for every stop except the target.
+/// Runs `assert_stop` for every stop except the target.
 fn assert_stops<C: Told>(
     rt: &impl Abort,
     alloc: Global,
@@ -184,7 +184,7 @@ fn answers_to<S: ConnSource, C: Told>(
     Ok(profiles_to(alloc, source, criterion, asked)?)
 }
 
-/// Asserts this of the one scan for all stops, which reads each connection in turn.
+/// Finds the answers from all stops by one scan, which reads each connection in turn, and runs `assert_stops` on them.
 fn assert_answers<C: Told>(
     rt: &impl Abort,
     alloc: Global,
@@ -198,7 +198,7 @@ fn assert_answers<C: Told>(
     assert_stops(rt, alloc, image, criterion, &profiles, source.left)
 }
 
-/// Asserts this under every criterion.
+/// Runs `assert_answers` under every criterion.
 fn assert_criteria(
     rt: &impl Abort,
     alloc: Global,
@@ -210,7 +210,7 @@ fn assert_criteria(
     assert_answers(rt, alloc, image, &ArrivalTripsWalk, asked)
 }
 
-/// Asserts this for every target.
+/// Runs `assert_criteria` for every target.
 fn assert_targets(
     rt: &impl Abort,
     alloc: Global,
