@@ -17,12 +17,12 @@
 //! | `rows PATH LINE | LINE ..` | makes a file of these lines |
 //! | `remove PATH` | removes a file, or a folder with all that is in it |
 //! | `base` | makes the feed of examples/base, in a folder `base_feed` |
-//! | `with FILE PLACE RECORD` | writes a file of that feed anew, with this record at this place (1 is the first after the header) |
+//! | `with FILE PLACE RECORD` | writes a file of that feed anew, its record of this number (from 1) replaced |
 //! | `run WORD ..` | the words of the next command after the program's name; a word in single quotes may have spaces |
 //! | `asks WORD ..` | the same, followed by `--no-warnings` |
 //! | `profile FROM TO AFTER UNTIL BY CRITERION` | the next command is `csa profile` over the input, without warnings |
-//! | `judge FROM TO AFTER UNTIL BY LEG .. | TEXT` | `csa journey` over the input with this query and these legs, and `answers TEXT` |
-//! | `prints TEXT`, `tells TEXT` | one more line that it must write to the output, or to the errors with `#` for seconds |
+//! | `judge FROM TO AFTER UNTIL BY LEG .. | TEXT` | `csa journey` over the input, and then `answers TEXT` |
+//! | `prints TEXT`, `tells TEXT` | one more line that must go to the output, or to the errors with `#` for seconds |
 //! | `ends STATUS` | runs it: it must write these lines and no others, and end with this status |
 //! | `answers TEXT` | `prints TEXT` and `ends 0`, or `ends 2` if the text begins with `refused` |
 //! | `complains STATUS` | runs it: it must print nothing, write some errors, and end with this status |

@@ -8,7 +8,7 @@
 //! | `join SEAT` | the seat takes in the oldest notice that no seat took in |
 //! | `collect` | each closing shelf is tried |
 //! | `round SECOND` | `release 0`, `publish SECOND`, `collect`, `join 0` and `pin 0` |
-//! | `each 0..6` | each of these seats pins, and then the image is published that begins at second SEAT + 2, its version |
+//! | `each 0..6` | each of these seats pins, and then `publish SEAT + 2`, which makes version SEAT + 2 |
 //!
 //! Version 1 is the image that begins at second 1.
 
