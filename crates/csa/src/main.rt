@@ -1,4 +1,4 @@
-//! The program `csa`: it hands its words and streams to the library.
+//! The program `csa`: it passes its words and streams on to the library.
 #![tactic(auto)]
 
 mod source_sum;
@@ -11,12 +11,12 @@ use std::io::{ErrorKind, IsTerminal};
 use std::process::ExitCode;
 use std::rt::Env;
 
-// A folder: neither reads nor writes of it succeed.
+// A folder: reading from it and writing to it both fail.
 const FOLDER: &str = "/";
 
 fn main(rt: HostRuntime) -> ExitCode {
-    // In the place of a stream that was closed the next file or client that is opened would stand:
-    // these do, until the end.
+    // If a standard stream was closed, the next file or client that is opened would take its place. These files take it
+    // instead, until the end.
     let _held = [
         File::open(&rt, FOLDER),
         File::open(&rt, FOLDER),
@@ -47,7 +47,7 @@ fn main(rt: HostRuntime) -> ExitCode {
     ExitCode::from(status)
 }
 
-/// Whether the words ask for the version: what comes behind that word is not read.
+/// Whether the words ask for the version, by the first one after the program's name; later words aren't read.
 fn asks_version(words: &[String]) -> bool {
     match words.get(1) {
         Some(word) => matches!(word.as_str(), "--version" | "-V"),
@@ -55,7 +55,7 @@ fn asks_version(words: &[String]) -> bool {
     }
 }
 
-/// The words of the command line; or the status without them, 4 if memory runs out, 64 if a word isn't UTF-8.
+/// The words of the command line. An error is the exit status: 4 if memory runs out, 64 if a word isn't UTF-8.
 fn words_of<R: Env + AllocGlobal>(rt: &R) -> Result<Vec<String>, u8> {
     let arguments = match env::args(rt) {
         Ok(arguments) => arguments,

@@ -1,4 +1,4 @@
--- What is appended to the bytes that a writer holds, where those are known.
+-- What is appended to the bytes that a writer holds, if these are known.
 use Rattle.std.proofs.Common.{◌≡◌, ◌≤◌, ◌+◌, ◌-◌, ◌++◌, ◌∙◌, [], ℕ, List, Option, Some, None}
 use Rattle.std.proofs.Common.{ap, append-nil, append_assoc, arith, drop, length, subst, sym, take}
 use Rattle.std.proofs.Math.Seq.{take-append-add}
@@ -29,7 +29,7 @@ take_further done n xs least =
     sym (ap (λ (m : ℕ). take (m + n) xs) (sym long) ∙ ap (take (length (take done xs) + n)) (sym split)
     ∙ take-append-add (take done xs) (drop done xs) n)
 
--- the first bytes of a text were appended, and then so many of those that are left
+-- the first bytes of a text were appended, and then the first of those that were left
 pub appended_further : (u v w : Option (List ℕ)) (xs : List ℕ) (done n : ℕ) → done ≤ length xs → Appends u v (take done xs)
     → Appends v w (take n (take (length xs - done) (drop done xs)))
     → Appends u w (take (done + n) xs)

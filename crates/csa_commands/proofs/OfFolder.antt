@@ -1,4 +1,4 @@
--- What a command read of a folder is of that folder.
+-- What a command read from a folder is what that folder may hold.
 use Rattle.std.proofs.Common.{◌≡◌, ◌∷◌, ◌++◌, ◌∙◌, [], ℕ, List, Result, Ok, Err, OnOk, ap, inr, map, subst, sym, take}
 use Rattle.std.specs.Prelude.{All, IfErr, IfOk}
 use Rattle.connections.specs.declared.report.Report.{Report}
@@ -21,7 +21,7 @@ use Rattle.csa_commands.specs.Folders.{AreTablesOf, HoldsOfRead, IsBuildRefusal,
 use Rattle.csa_commands.specs.declared.build.Failure.{Failure}
 use Rattle.csa_commands.specs.declared.build.Failure.TheVariants.{Refused, Unreadable, Unwritten, OutOfMemory}
 
--- what was read in all was read since nothing had been
+-- if nothing was read at first, then all that was read was read since
 read_since : (content : Content) (ts : List Table) {began then : List ℕ} {old new : List FileRead} → then ≡ began → old ≡ []
     → AreRead content ts [] new → AreRead content ts (opened began ∷ old) (opened then ∷ new)
 read_since content ts {began} {then} {old} {new} at none read =
@@ -29,7 +29,7 @@ read_since content ts {began} {then} {old} {new} at none read =
     subst (λ (before : List FileRead). new ≡ before ++ map (read_of content) ts) (sym none) read in
     let first : opened then ≡ opened began = ap opened at in cc
 
--- what holds of all that agrees with what was read, and what follows from it
+-- a weaker statement holds of all content that agrees with what was read
 pub of_read_weaker : {D : Type 0} (gives : D → List ℕ → MayGive) (folder : List ℕ) (A B : Content → Type 0)
     → ((content : Content) → A content → B content) → HoldsOfRead gives folder A → HoldsOfRead gives folder B
 of_read_weaker gives folder A B follows read =
@@ -41,7 +41,7 @@ of_read_weaker gives folder A B follows read =
       holds = λ content ts agrees. follows content (read.holds content ts agrees);
     }
 
--- what follows from a fault for which a feed isn't built
+-- a weaker statement holds of the fault for which a feed isn't built
 pub refused_weaker : (failure : Failure) (A B : LoadFault → Type 0) → ((fault : LoadFault) → A fault → B fault)
     → IfRefused failure A → IfRefused failure B
 refused_weaker (Refused fault) A B follows is = λ unless. follows fault (is unless)
@@ -49,7 +49,7 @@ refused_weaker (Unreadable path) A B follows is = tt
 refused_weaker (Unwritten path kind) A B follows is = tt
 refused_weaker OutOfMemory A B follows is = tt
 
--- over files of a folder, as they began and as they are then
+-- over the files of a folder: first (`began`, `old`) and later (`then`, `new`)
 module _ {D : Type 0} (gives : D → List ℕ → MayGive) (disk : D) (folder began then : List ℕ)
     (old new : List FileRead) where
   may_be_of : (content : Content) → began ≡ folder
@@ -76,7 +76,7 @@ module _ {D : Type 0} (gives : D → List ℕ → MayGive) (disk : D) (folder be
   built_of asked bytes plan t names report same planned given (content, read, loaded) =
       (bytes, plan, content, planned, may_be_of content same read given, loaded)
 
-  -- of files of which nothing was read, and then the first were
+  -- if nothing was read at first, and then the first files were
   pub of_read : (Is : Content → Type 0) → began ≡ folder → old ≡ [] → SomeWereRead (opened began ∷ old) (opened then ∷ new)
       → ∥ All (MayBeRead (gives disk then)) new ∥₁
       → ((content : Content) (ts : List Table) → AreRead content ts (opened began ∷ old) (opened then ∷ new) → Is content)
@@ -92,7 +92,7 @@ module _ {D : Type 0} (gives : D → List ℕ → MayGive) (disk : D) (folder be
         holds = λ content ts read. holds content ts (read_since content ts at none read);
       }
 
-  -- why a feed isn't built, of files of which nothing was read before
+  -- why a feed isn't built, if nothing was read at first
   pub build_refused : {T : Type 0} (result : Result T Failure) (asked : PlanText) (bytes : List ℕ) (plan : Plan) → began ≡ folder
       → old ≡ [] → IsPlanNow asked bytes plan → ∥ All (MayBeRead (gives disk then)) new ∥₁
       → IfErr result (λ failure. IfRefused failure (λ fault. SomeWereRead (opened began ∷ old) (opened then ∷ new)
@@ -108,7 +108,7 @@ module _ {D : Type 0} (gives : D → List ℕ → MayGive) (disk : D) (folder be
         of_read (λ content. IsLoadRefusal content plan fault) same none read.0 given read.1,
       )) is
 
-  -- what reading the tables came to
+  -- the outcome of reading the tables
   pub tables_known : (result : Result Tables ReadFault) → began ≡ folder
       → OnOk result (AllWereRead (opened began ∷ old) (opened then ∷ new)) → ∥ All (MayBeRead (gives disk then)) new ∥₁
       → ((content : Content) (ts : List Table) → AreRead content ts (opened began ∷ old) (opened then ∷ new)
@@ -134,7 +134,7 @@ module _ {D : Type 0} (gives : D → List ℕ → MayGive) (disk : D) (folder be
   refused_known (Err fault) same none first given refused =
       of_read (λ content. NoTables content fault) same none first given refused
 
--- all files were read by some moment, and after that none
+-- if all files were read by some moment, and none was read after it
 pub whole_of : {X : Type 0} (reads : X → List FileRead) (old : List FileRead) (then files : X)
     (IsIt : Content → Type 0) → files ≡ then → AllWereRead old (reads then)
     → ((content : Content) → AreRead content all_tables old (reads then) → IsIt content)

@@ -14,14 +14,14 @@ use Rattle.answer_pictures.specs.Told.{IsHeadingOf}
 use Rattle.journeys.specs.declared.answering.Departure.{Departure}
 use Rattle.csa_commands.specs.Picturing.{IsDrawnAs, IsPictureOf}
 
--- one more line, of the next departure
+-- one more line is that of the next departure
 pub drawn_more : {A B : Type 0} (R : A → B → Type 0) (xs : List A) (i : ℕ) (x : A) (ys zs : List B) (y : B)
     → i < length xs → x ≡ get_or xs i x → AllZip R (take i xs) ys → R x y → zs ≡ ys ++ y ∷ [] → AllZip R (take (i + 1) xs) zs
 drawn_more R xs i x ys zs y lt there before last grown =
     let front : take i xs ++ x ∷ [] ≡ take (i + 1) xs = sym (take_more xs i x lt ∙ ap (λ z. take i xs ++ z ∷ []) (sym there)) in
     subst (λ some. AllZip R some zs) front (subst (AllZip R (take i xs ++ x ∷ [])) (sym grown) (all_zipped_more R (take i xs) ys x y before last))
 
--- a picture, whose lines are those of the departures that are drawn
+-- a picture with the lines of the departures that are drawn
 pub picture_made : {V : Type 0} (told : V
     → ToldValue) (image : ImageValue) (name : CriterionName) (rows : ℕ) (q : Query)
     (departures drawn : List (Departure V))

@@ -10,11 +10,11 @@ use Rattle.timetable.specs.NamesValue.{NamesValue}
 use Rattle.answer_pictures.specs.Naming.{stop_bytes}
 use Rattle.csa_commands.specs.StopLines.{AreStopLines, IsFound, IsIn, numbered}
 
--- of no stop there is no line
+-- zero stops have no lines
 pub no_lines : (names : NamesValue) (text lines : List ℕ) → lines ≡ [] → AreStopLines names text 0 lines
 no_lines names text lines none = record { parts = []; each = tt; joined = none }
 
--- one stop more
+-- the lines of one stop more
 pub one_stop_more : (names : NamesValue) (text : List ℕ) (n : ℕ) (old new part : List ℕ) → IsFound text (n, stop_bytes names n) part
     → new ≡ old ++ part → AreStopLines names text n old → AreStopLines names text (n + 1) new
 one_stop_more names text n old new part is added are =
@@ -35,7 +35,7 @@ is_in text name i j there = (
   sym (take-append-drop i name) ∙ ap (λ (z : List ℕ). take i name ++ z) there ∙ sym (append_assoc (take i name) text (drop j name)),
 )
 
--- one that stands at none isn't
+-- a text that stands at no place of a name isn't in it
 pub not_in : (text name : List ℕ) → ((i : ℕ) → i ≤ length name → (rest : List ℕ) → drop i name ≢ text ++ rest) → ¬ (IsIn text name)
 not_in text name nowhere is =
     let before = is.0 in
@@ -47,7 +47,7 @@ not_in text name nowhere is =
     within : (xs ys zs : List ℕ) → zs ≡ xs ++ ys → length xs ≤ length zs
     within xs ys zs e = let long : length zs ≡ length xs + length ys = ap length e ∙ length-append xs ys in omega (arith, long)
 
--- what a search finds, or not
+-- whether a search finds a text in a name
 pub found_or_not : (found : Bool) (text name : List ℕ) → MatchBool found (HasMatch (FindsText text) name) (FindsText text name None)
     → MatchBool found (IsIn text name) (¬ (IsIn text name))
 found_or_not true text name has = is_in text name has.0 has.1 has.2.1.split

@@ -26,9 +26,9 @@ use Rattle.csa_commands.specs.declared.profile.Failure.TheVariants.{BadQuery, Ou
 use Rattle.csa_commands.specs.declared.profile.Profile.{Profile}
 use Rattle.csa_commands.specs.declared.refusal.Refusal.TheVariants.{Query as OfQuery}
 
--- the query is answered: its points are exactly the undominated points of all journeys that count for it, in order, each once, and each has
--- a line with a journey that attains it; as many connections were read as the window has, and the direct footpath is printed. If a picture is
--- asked for, it is of these very departures
+-- the query is answered: the departures' points are exactly the undominated points of all journeys that count for it, in order, each once, and each departure
+-- has a journey that attains its point. The text shows the departures and the direct footpath, and in lines also that as many connections were read as the
+-- window has. A picture, if one is asked for, shows the same departures
 pub record IsShown {V : Type 0} (told : V → ToldValue) (rules : Rules V) (request : ProfileRequest) (image : ImageValue) (q : Query)
     (profile : Profile) : Type 0 where
   pub departures : List (Departure V)
@@ -39,32 +39,32 @@ pub record IsShown {V : Type 0} (told : V → ToldValue) (rules : Rules V) (requ
   pub text_is : string_bytes profile.text ≡ form_text told image request.form departures (length (window image.timetable q)) walk
   pub drawn : IsDrawn told image request q departures walk profile.picture
 
--- by the criterion of a name
+-- the query is answered under the criterion of this name
 abbrev pub IsShownBy : CriterionName → ProfileRequest → ImageValue → Query → Profile → Type 0
 IsShownBy CriterionName.Arrival request image q profile = IsShown arrival_told by_arrival request image q profile
 IsShownBy CriterionName.ArrivalTrips request image q profile = IsShown trips_told by_trips request image q profile
 IsShownBy CriterionName.ArrivalTripsWalk request image q profile = IsShown walking_told by_walking request image q profile
 
--- the question asks a query of the image, which can be asked, and this answers it
+-- the question makes a query that can be asked of the image, and the profile answers it
 abbrev pub AnswersRequest : ImageValue → ProfileRequest → Profile → Type 0
 AnswersRequest image request profile =
     (q : Query) × IsAskable image.timetable.stops q
     × Asks image.names request.question.from.now request.question.to.now (window_of request.question) q
     × IsShownBy request.criterion request image q profile
 
--- what answers, or why nothing does
+-- the answer, or why there is none
 abbrev pub IsProfile : ImageValue → ProfileRequest → Result Profile Failure → Type 0
 IsProfile image request (Ok profile) = AnswersRequest image request profile
 IsProfile image request (Err (BadQuery fault)) =
     IsRefused image request.question.from.now request.question.to.now (window_of request.question) fault
 IsProfile image request (Err OutOfMemory) = Unit {0}
 
--- the text of what answers was added to what was printed before, and nothing else. No clause says what is in the file of a picture
+-- the text of an answer was added to what was printed before, and nothing else. No clause says what is in the picture's file
 abbrev pub IsPrinted : ImageValue → ProfileRequest → Option (List ℕ) → Option (List ℕ) → Type 0
 IsPrinted image request before after =
     (profile : Profile) × AnswersRequest image request profile × Appends before after (string_bytes profile.text)
 
--- the question asks no query of the image, for a fault, whose line was added to what was printed before, and nothing else
+-- the question makes no query of the image: it has a fault, whose line was added to what was printed before, and nothing else
 abbrev pub IsNoRequest : ImageValue → ProfileRequest → Option (List ℕ) → Option (List ℕ) → Type 0
 IsNoRequest image request before after =
     (fault : QueryFault) × IsRefused image request.question.from.now request.question.to.now (window_of request.question) fault

@@ -12,20 +12,20 @@ use Rattle.timetable.specs.NamesValue.{NamesValue}
 use Rattle.timetable.specs.TimetableValue.{TimetableValue}
 use Rattle.csa_commands.specs.Folders.{IsBuiltFrom}
 
--- why a feed isn't built, where that is a fault and memory didn't run out
+-- if a feed isn't built because of a fault other than want of memory, then this holds of the fault
 abbrev pub IfRefused : Failure → (LoadFault → Type 0) → Type 0
 IfRefused (Refused fault) Is = ¬ (IsWantOfMemory fault) → Is fault
 IfRefused (Unreadable path) Is = Unit {0}
 IfRefused (Unwritten path kind) Is = Unit {0}
 IfRefused OutOfMemory Is = Unit {0}
 
--- how much the image has
+-- how many stops, runs, connections and footpaths the image has
 unfoldable pub made_text : Report → List ℕ
 made_text report =
     (codes "stops " ++ decimal report.stops) ++ (codes " runs " ++ decimal report.runs) ++ (codes " connections " ++ decimal report.connections)
     ++ (codes " footpaths " ++ decimal report.footpaths)
 
--- how much of the feed was changed, repeated or left out
+-- how many trips were lifted, are flex trips, and are named in frequencies.txt, and how many rows of transfers were skipped
 unfoldable pub changed_text : Report → List ℕ
 changed_text report =
     (codes " lifted " ++ decimal report.lifted) ++ (codes " flex " ++ decimal report.flex) ++ (codes " frequencies " ++ decimal report.frequencies)

@@ -1,4 +1,4 @@
--- What a command over an image prints, and for what it is refused.
+-- What a command over an image prints, and why it is refused.
 use Rattle.std.specs.Prelude.{ℕ, List, Option}
 use Rattle.std.specs.Io.KnownBytes.{Appends}
 use Rattle.image_layout.specs.Image.{ImageValue}
@@ -31,7 +31,8 @@ IsDone image (Departures request) before after = AreAllPrinted image request bef
 IsDone image (Stops request) before after = AreStopsPrinted image request.text.now before after
 IsDone image (Upgrade request) before after = Appends before after (counts_line image)
 
--- a journey or a question is refused for its first fault, whose line was added to what was printed before, and nothing else is refused
+-- a journey or a question is refused for its first fault, whose line was added to what was printed before, and nothing else; a list of stops is refused for a
+-- line that is no stop_id, and then nothing was printed. Nothing else is refused
 abbrev pub IsRefusedAs : ImageValue → Asked → Option (List ℕ) → Option (List ℕ) → Type 0
 IsRefusedAs image (Verify path) before after = ⊥
 IsRefusedAs image (Info path) before after = ⊥

@@ -8,7 +8,7 @@ numbers_text stops trips connections footpaths =
     (codes "ok stops " ++ decimal stops) ++ (codes " trips " ++ decimal trips) ++ (codes " connections " ++ decimal connections)
     ++ (codes " footpaths " ++ decimal footpaths)
 
--- how many the image has
+-- the line of the image's counts
 abbrev pub counts_line : ImageValue → List ℕ
 counts_line image =
     numbers_text image.timetable.stops image.timetable.trips (length image.timetable.connections) (length image.timetable.footpaths)

@@ -26,7 +26,7 @@ use Rattle.csa_commands.specs.declared.refusal.Refusal.TheVariants.{Query}
 use Rattle.csa_commands.specs.declared.wanted_stops.NoList.{NoList}
 use Rattle.csa_commands.specs.declared.wanted_stops.NoList.TheVariants.{NotText, UnknownStop, Unreadable, OutOfMemory}
 
--- how departures are printed in a form that was asked for
+-- the form of lines for a form of the command line
 abbrev pub form_of : DeparturesForm → LineForm
 form_of DeparturesForm.Journeys = LineForm.Journeys
 form_of DeparturesForm.Points = LineForm.Points
@@ -34,40 +34,40 @@ form_of DeparturesForm.Summary = LineForm.Summary
 form_of DeparturesForm.Json = LineForm.Json
 form_of DeparturesForm.JsonPoints = LineForm.JsonPoints
 
--- the departures of the stops that are wanted, by the criterion of a name
+-- the text shows the departures from the stops that are wanted, under the criterion of this name
 abbrev pub AreShownBy : CriterionName → DeparturesForm → ImageValue → Destination → Wanted → List ℕ → Type 0
 AreShownBy CriterionName.Arrival form image d wanted printed = AreShown arrival_told by_arrival (form_of form) image d wanted printed
 AreShownBy CriterionName.ArrivalTrips form image d wanted printed = AreShown trips_told by_trips (form_of form) image d wanted printed
 AreShownBy CriterionName.ArrivalTripsWalk form image d wanted printed = AreShown walking_told by_walking (form_of form) image d wanted printed
 
--- when one travels, as the command line asks it
+-- the window that the command line asks for
 abbrev pub window_asked : DeparturesRequest → Window
 window_asked request = record { from = request.after; until = request.until; by = request.by }
 
--- some list names the stops that are wanted
+-- the stops that are wanted are those that some list names
 abbrev pub IsListed : NamesValue → Wanted → Type 0
 IsListed names wanted = (list : List ℕ) × AreWanted names (lines list) wanted
 
--- all stops, unless a file is given: then those that its text names
+-- all stops are wanted, unless a file is given: then those that some list names. No clause says that the list is the file's text
 abbrev pub IsWantedFrom : {A : Type 0} → NamesValue → Option A → Wanted → Type 0
 IsWantedFrom names None wanted = wanted ≡ All
 IsWantedFrom names _ wanted = IsListed names wanted
 
--- if a line is said to be unknown, it is the first of some list that is no stop_id
+-- if a line is reported as unknown, it is the first line of some list that is no stop_id
 abbrev pub IsUnknown : NamesValue → NoList → Type 0
 IsUnknown names (UnknownStop number) = (list : List ℕ) × IsUnknownLine names (lines list) number
 IsUnknown names Unreadable = Unit
 IsUnknown names NotText = Unit
 IsUnknown names OutOfMemory = Unit
 
--- a list can't be read, by the kind of the error: memory ran out, it isn't text, or else
+-- why a list can't be read, by the kind of the error: memory ran out, it isn't UTF-8, or there is another reason
 abbrev pub IsUnlisted : ErrorKind → NoList → Type 0
 IsUnlisted kind (UnknownStop number) = ⊥
 IsUnlisted kind Unreadable = (kind ≢ kinds.OutOfMemory) × (kind ≢ kinds.InvalidData)
 IsUnlisted kind NotText = kind ≡ kinds.InvalidData
 IsUnlisted kind OutOfMemory = kind ≡ kinds.OutOfMemory
 
--- the status of a list that wants no stops
+-- the status if it isn't known which stops are wanted
 abbrev pub list_status : NoList → ℕ
 list_status (UnknownStop number) = REFUSED
 list_status Unreadable = INPUT_OUTPUT
@@ -79,20 +79,20 @@ abbrev pub ArePrinted : CriterionName → DeparturesForm → ImageValue → Dest
 ArePrinted criterion form image d wanted before after =
     (printed : List ℕ) × AreShownBy criterion form image d wanted printed × Appends before after printed
 
--- those of what is asked, which can be asked
+-- the departures for the destination that is asked for, and which can be asked, were printed
 abbrev pub AreAllPrinted : ImageValue → DeparturesRequest → Option (List ℕ) → Option (List ℕ) → Type 0
 AreAllPrinted image request before after =
     (d : Destination) × (wanted : Wanted) × CanBeAsked image.timetable.stops d
     × AsksAll image.names request.to.now (window_asked request) d × IsWantedFrom image.names request.from wanted
     × ArePrinted request.criterion request.form image d wanted before after
 
--- nothing is asked of the image, for a fault, whose line was printed
+-- the request makes no destination of the image: it has a fault, whose line was added to what was printed before, and nothing else
 abbrev pub IsBadQueryOfAll : ImageValue → DeparturesRequest → Option (List ℕ) → Option (List ℕ) → Type 0
 IsBadQueryOfAll image request before after =
     (fault : QueryFault) × IsRefusedOfAll image request.to.now (window_asked request) fault
     × Appends before after (refusal_line (Query fault))
 
--- nothing is asked, or else a file is given that has a line that is no stop_id, and nothing was printed
+-- the request has such a fault; or a file is given, some list has a line that is no stop_id, and nothing was printed
 abbrev pub IsNoneAsked : ImageValue → DeparturesRequest → Option (List ℕ) → Option (List ℕ) → Type 0
 IsNoneAsked image request before after =
     IsBadQueryOfAll image request before after

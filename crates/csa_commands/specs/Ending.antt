@@ -1,4 +1,4 @@
--- With which statuses a command ends.
+-- The statuses with which a command ends.
 use Rattle.std.specs.Prelude.{◌≡◌, ◌⊎◌, ℕ}
 use Rattle.command_requests.specs.declared.statuses.TheConstants.{ACCEPTED, INPUT_OUTPUT, OUT_OF_MEMORY, REFUSED}
 
@@ -6,6 +6,6 @@ use Rattle.command_requests.specs.declared.statuses.TheConstants.{ACCEPTED, INPU
 abbrev pub EndsUndone : ℕ → Type 0
 EndsUndone status = (status ≡ REFUSED) ⊎ (status ≡ INPUT_OUTPUT) ⊎ (status ≡ OUT_OF_MEMORY)
 
--- so it is, or what was asked for is done
+-- one of these, or what was asked for is done
 abbrev pub Ends : ℕ → Type 0
 Ends status = (status ≡ ACCEPTED) ⊎ EndsUndone status

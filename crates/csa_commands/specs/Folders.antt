@@ -1,4 +1,4 @@
--- What a command reads of a folder.
+-- What a command reads from a folder.
 use Rattle.std.specs.Prelude.{◌⊎◌, ℕ, List, [], Option, All, false}
 use Rattle.std.specs.Io.KnownBytes.{Appends}
 use Rattle.connections.specs.declared.report.Report.{Report}
@@ -20,7 +20,7 @@ use Rattle.csa_commands.specs.Refusing.{RefusesFeed, refusal_line}
 use Rattle.csa_commands.specs.Zoning.{IsNoZoneOf}
 use Rattle.csa_commands.specs.declared.refusal.Refusal.TheVariants.{Feed as OfFeed}
 
--- the first of a folder's files were read, each of which may have given what was read; and of every content that agrees with it this holds
+-- the first files of a folder were read, and some disk may give what was read; and this holds of every content that agrees with these reads
 pub record HoldsOfRead {D : Type 0} (gives : D → List ℕ → MayGive) (folder : List ℕ) (Is : Content → Type 0) : Type 0 where
   pub disk : D
   pub reads : List FileRead
@@ -28,13 +28,13 @@ pub record HoldsOfRead {D : Type 0} (gives : D → List ℕ → MayGive) (folder
   pub given : ∥ All (MayBeRead (gives disk folder)) reads ∥₁
   pub holds : (content : Content) (ts : List Table) → AreRead content ts [] reads → Is content
 
--- the first thing that is wrong with a feed's tables: as its files are read, or as they are joined
+-- the first fault of a feed's tables, found as its files are read or as the tables are joined
 abbrev pub IsTablesRefusal : LoadFault → Content → Type 0
 IsTablesRefusal fault content = AreFilesRefused content fault ⊎ AreTablesRefused content false fault
 
--- over what the disks of a kind may give: of a disk, for a folder, for the file of a name
+-- `gives` says what a disk of some kind may give for a folder and the name of a file
 module _ {D : Type 0} (gives : D → List ℕ → MayGive) (folder : List ℕ) where
-  -- the files of the folder may hold this: of each it is what a read of it may give
+  -- the files of the folder may hold this content: for each file, some disk may give what the content has of it
   abbrev pub MayBeOf : Content → Type 0
   MayBeOf content = (disk : D) × MayHold (gives disk folder) content all_tables
 
@@ -42,30 +42,30 @@ module _ {D : Type 0} (gives : D → List ℕ → MayGive) (folder : List ℕ) w
   abbrev pub AreTablesOf : Tables → Type 0
   AreTablesOf t = (content : Content) × MayBeOf content × HoldsTables content t
 
-  -- the feed is that of the folder's files, whose hops may take no time
+  -- the feed is that of the folder's files; its hops may take no time
   abbrev pub IsFeedOf : Feed → Type 0
   IsFeedOf feed = (t : Tables) × AreTablesOf t × IsJoined false t feed
 
-  -- the timetable and its names are those of the folder's files by a plan that was asked for, and have these counts
+  -- the timetable, its names and the counts are those of the folder's files, by a plan that was asked for
   abbrev pub IsBuiltFrom : PlanText → TimetableValue → NamesValue → Report → Type 0
   IsBuiltFrom asked t names report =
       (bytes : List ℕ) × (plan : Plan) × (content : Content) × IsPlanNow asked bytes plan × MayBeOf content
       × IsLoaded content plan t names report
 
-  -- the fault is the first of the folder's tables, a feed is refused for it, and its line was added to what was printed before, and nothing else
+  -- the fault is the first of the folder's tables, the feed is refused for it, and its line was added to what was printed before, and nothing else
   abbrev pub AreTablesRefusedOf : Option (List ℕ) → Option (List ℕ) → Type 0
   AreTablesRefusedOf before after =
       (fault : LoadFault) × RefusesFeed fault × HoldsOfRead gives folder (IsTablesRefusal fault)
       × Appends before after (refusal_line (OfFeed fault))
 
-  -- there is no zone of what was asked for, or the fault is the first of the folder's files by a plan that was asked for
+  -- the fault is that of the zone that was asked for, or the first of the folder's files by a plan that was asked for
   abbrev pub IsBuildRefusal : PlanText → LoadFault → Type 0
   IsBuildRefusal asked fault =
       IsNoZoneOf asked fault
       ⊎ ((bytes : List ℕ) × (plan : Plan) × IsPlanNow asked bytes plan
       × HoldsOfRead gives folder (λ content. IsLoadRefusal content plan fault))
 
-  -- a feed is refused for it, and its line was added to what was printed before, and nothing else
+  -- the feed is refused for such a fault, and its line was added to what was printed before, and nothing else
   abbrev pub IsRefusedBuild : PlanText → Option (List ℕ) → Option (List ℕ) → Type 0
   IsRefusedBuild asked before after =
       (fault : LoadFault) × RefusesFeed fault × IsBuildRefusal asked fault × Appends before after (refusal_line (OfFeed fault))

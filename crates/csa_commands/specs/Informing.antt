@@ -10,6 +10,6 @@ use Rattle.feed_days.specs.Days.{AreDayLines}
 abbrev pub IsInformed : ImageValue → Option (List ℕ) → Option (List ℕ) → Type 0
 IsInformed image before after = (lines : List ℕ) × AreFacts image lines × Appends before after lines
 
--- the lines of the feed's days were added, and nothing else
+-- the lines of the feed's days were added to what was printed before, and nothing else
 abbrev pub IsInformedOfDays : Feed → Option (List ℕ) → Option (List ℕ) → Type 0
 IsInformedOfDays feed before after = (lines : List ℕ) × AreDayLines feed lines × Appends before after lines

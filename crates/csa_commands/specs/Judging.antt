@@ -1,4 +1,4 @@
--- What `csa journey` finds of a journey's text and a question.
+-- What `csa journey` finds out about a journey's text and a question.
 use Rattle.std.specs.Prelude.{◌≡◌, ◌++◌, ℕ, List, Option, Some, Result, Ok, Err, codes}
 use Rattle.std.specs.Io.KnownBytes.{Appends}
 use Rattle.timetable.specs.declared.journey.Times.{Times}
@@ -19,18 +19,18 @@ use Rattle.csa_commands.specs.declared.journey.Failure.TheVariants.{BadQuery, Ba
 use Rattle.csa_commands.specs.declared.refusal.Refusal.{Refusal}
 use Rattle.csa_commands.specs.declared.refusal.Refusal.TheVariants.{BadText as OfText, Journey as OfJourney, Query as OfQuery}
 
--- the question asks this query of the image, which can be asked
+-- the question makes this query of the image, and it can be asked
 abbrev pub IsQueried : ImageValue → Question → Query → Type 0
 IsQueried image question q =
     IsAskable image.timetable.stops q × Asks image.names question.from.now question.to.now (window_of question) q
 
--- the question asks this query, and the text is that of this journey
+-- the question makes this query, and the text is that of this journey
 pub record IsPosed (image : ImageValue) (question : Question) (text : List ℕ) (q : Query) (j : JourneyValue) : Type 0 where
   pub queried : IsQueried image question q
   pub has_text : HasText j
   pub spells : text ≡ text_of j
 
--- when a journey that counts for the query departs and is over; or the first fault: of the query, of the text, of the journey
+-- when the text's journey departs and arrives, if it counts for the query; otherwise the first fault, of the query, of the text or of the journey
 abbrev pub IsVerdict : ImageValue → Question → List ℕ → Result Times Failure → Type 0
 IsVerdict image question text (Ok times) =
     (q : Query) × (j : JourneyValue) × IsPosed image question text q j × Counts image.timetable q times.dep j × (times.arr ≡ arrival image.timetable j)
@@ -50,7 +50,7 @@ abbrev pub IsAccepted : ImageValue → Question → List ℕ → Option (List �
 IsAccepted image question text before after =
     (times : Times) × IsVerdict image question text (Ok times) × Appends before after (times_line times)
 
--- why a journey isn't accepted, as a refusal; that memory ran out is none
+-- the refusal of a journey that isn't accepted; if memory ran out, there is none
 abbrev pub IsRefusedFor : Failure → Refusal → Type 0
 IsRefusedFor (BadQuery fault) refusal = refusal ≡ OfQuery fault
 IsRefusedFor BadText refusal = refusal ≡ OfText

@@ -24,11 +24,11 @@ word_text word = codes " " ++ word
 unfoldable pub named_walk : NamesValue → Footpath → List ℕ
 named_walk names f = codes " walk" ++ word_text (stop_bytes names f.from) ++ word_text (stop_bytes names f.to) ++ number_text f.secs
 
--- when one is at a stop
+-- a time and the name of a stop
 abbrev pub call_text : ℕ → List ℕ → List ℕ
 call_text time stop = (codes " " ++ clock_bytes time) ++ word_text stop
 
--- a ride by the name of its trip, and when it is boarded where, and left where
+-- a ride: the name of its trip, and when and where one boards and leaves it
 unfoldable pub named_hops : NamesValue → Connection → Connection → List ℕ
 named_hops names first last =
     codes " ride" ++ word_text (trip_bytes names first.trip) ++ call_text first.dep (stop_bytes names first.from)

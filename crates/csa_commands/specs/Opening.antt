@@ -1,4 +1,4 @@
--- What bytes that are an image show, and which are none.
+-- Which image bytes spell, and which bytes spell none.
 use Rattle.std.specs.Prelude.{◌≡◌, ◌≢◌, ◌%◌, ℕ, List, Option, Some, length}
 use Rattle.std.specs.Io.KnownBytes.{Appends}
 use Rattle.image_files.specs.Held.{HoldsOfBytes}
@@ -14,7 +14,7 @@ use Rattle.csa_commands.specs.declared.refusal.Refusal.TheVariants.{OddLength, I
 abbrev pub SpellsImage : ImageValue → List ℕ → Type 0
 SpellsImage image bytes = (words : List ℕ) × (bytes_of words ≡ bytes) × Spells words image
 
--- the bytes are no whole words, or spell words that have this first fault
+-- the bytes aren't whole words, or spell words that have this first fault
 abbrev pub IsNoImage : Refusal → List ℕ → Type 0
 IsNoImage OddLength bytes = length bytes % 4 ≢ 0
 IsNoImage (Image fault) bytes = (words : List ℕ) × (bytes_of words ≡ bytes) × (first_fault words ≡ Some fault)
@@ -23,7 +23,7 @@ IsNoImage (Query fault) bytes = ⊥
 IsNoImage BadText bytes = ⊥
 IsNoImage (Journey fault) bytes = ⊥
 
--- it is a refusal of an image: for its length, or for a fault of its words; that memory ran out is none
+-- it is a refusal of an image: for its length, or for a fault of its words other than want of memory
 abbrev pub IsOfImage : Refusal → Type 0
 IsOfImage OddLength = Unit {0}
 IsOfImage (Image fault) = fault ≢ OutOfMemory
@@ -32,7 +32,7 @@ IsOfImage (Query fault) = ⊥
 IsOfImage BadText = ⊥
 IsOfImage (Journey fault) = ⊥
 
--- the line of a refusal of an image was added to what was printed before, and nothing else; the bytes at the path are no image for that refusal
+-- the line of a refusal of an image was added to what was printed before, and nothing else; and the bytes at the path are no image, for that reason
 abbrev pub IsRefusedImage : (List ℕ → Option (List ℕ) → Type 0) → List ℕ → Option (List ℕ) → Option (List ℕ) → Option (List ℕ) → Type 0
 IsRefusedImage may_hold path input before after =
     (refusal : Refusal) × IsOfImage refusal × Appends before after (refusal_line refusal)

@@ -18,8 +18,8 @@ abbrev pub IsDrawnAs : {V : Type 0} → (V → ToldValue) → ImageValue → Dep
 IsDrawnAs told image departure line =
     IsLineOf image.timetable image.names departure.time (told departure.value) departure.journey line
 
--- the picture of a query's departures: what was asked, the direct walk, a line for each of so many departures, the first, in order, on an axis
--- that covers all of them, and how many more there are
+-- the picture of a query's departures: what was asked, the direct walk, a line for each of the first `rows` departures, in order, on an axis that covers all of
+-- these, and how many more departures there are
 pub record IsPictureOf {V : Type 0} (told : V → ToldValue) (image : ImageValue) (criterion : CriterionName) (rows : ℕ) (q : Query)
     (departures : List (Departure V)) (walk : Option ℕ) (text : List ℕ) : Type 0 where
   pub heading : HeadingValue
@@ -30,7 +30,7 @@ pub record IsPictureOf {V : Type 0} (told : V → ToldValue) (image : ImageValue
   pub covered : All (LiesOn axis) lines
   pub is : IsPicture heading axis walk lines (length departures - rows) text
 
--- if a picture is asked for there is one, of these departures, else there is none
+-- if a picture is asked for, there is one, of these departures; otherwise there is none
 abbrev pub IsDrawnIf : {V P : Type 0} → (V → ToldValue) → ImageValue → CriterionName → ℕ → Query → List (Departure V) → Option ℕ
     → Option P → Option (String Global) → Type 0
 IsDrawnIf told image criterion rows q departures walk None None = Unit {0}

@@ -20,7 +20,7 @@ use Rattle.csa_commands.specs.Listing.{word_text}
 use Rattle.csa_commands.specs.declared.refusal.Refusal.{Refusal}
 use Rattle.csa_commands.specs.declared.refusal.Refusal.TheVariants.{OddLength, Image, Feed, Query, BadText, Journey}
 
--- the number and the name by which a refusal is told
+-- the number and the name of a refusal
 abbrev pub refusal_told : Refusal → ℕ × List ℕ
 refusal_told OddLength = words_told WordsFault.OddLength
 refusal_told (Image fault) = image_told fault
@@ -48,7 +48,7 @@ image_places (images.NotClosed a b c) = number_text a ++ number_text b ++ number
 image_places (images.BadNames i) = number_text i
 image_places images.OutOfMemory = []
 
--- where a feed is wrong: the file, and of a table's fault the record
+-- where a feed is wrong: the file, and for a fault of a table the record
 abbrev pub feed_places : LoadFault → List ℕ
 feed_places (feeds.Table fault) = word_text (file_name fault.table) ++ number_text fault.row
 feed_places (feeds.Day fault) = []
@@ -89,6 +89,6 @@ refusal_status (feeds.Footpaths fault) = REFUSED
 refusal_status (feeds.Image fault) = REFUSED
 refusal_status (feeds.FileFailed table) = INPUT_OUTPUT
 
--- a feed is refused for it: neither did memory run out, nor is there a file that can't be read
+-- a feed is refused for this fault: it is neither want of memory nor a file that can't be read
 abbrev pub RefusesFeed : LoadFault → Type 0
 RefusesFeed fault = (¬ (IsWantOfMemory fault)) × (refusal_status fault ≡ REFUSED)

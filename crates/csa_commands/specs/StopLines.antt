@@ -10,7 +10,7 @@ use Rattle.answer_pictures.specs.Naming.{stop_bytes}
 abbrev pub IsIn : List ℕ → List ℕ → Type 0
 IsIn text name = (before : List ℕ) × (after : List ℕ) × (name ≡ (before ++ text) ++ after)
 
--- the first so many stops, each with its number and its name
+-- each stop below `stops`, with its number and its name
 abbrev pub numbered : NamesValue → ℕ → List (ℕ × List ℕ)
 numbered names stops = map (λ stop. (stop, stop_bytes names stop)) (range_with_len 0 stops)
 
@@ -18,17 +18,17 @@ numbered names stops = map (λ stop. (stop, stop_bytes names stop)) (range_with_
 unfoldable pub stop_line : ℕ × List ℕ → List ℕ
 stop_line stop = decimal stop.0 ++ (codes " " ++ stop.1) ++ codes "\n"
 
--- a stop has its line if the text is in its name, else none
+-- a stop has its line if the text is in its name, and otherwise none
 abbrev pub IsFound : List ℕ → ℕ × List ℕ → List ℕ → Type 0
 IsFound text stop lines = (IsIn text stop.1 × (lines ≡ stop_line stop)) ⊎ ((¬ (IsIn text stop.1)) × (lines ≡ []))
 
--- the lines of the first so many stops, in order
+-- the lines of the stops below `stops` whose names have the text in them, in order
 pub record AreStopLines (names : NamesValue) (text : List ℕ) (stops : ℕ) (lines : List ℕ) : Type 0 where
   pub parts : List (List ℕ)
   pub each : AllZip (IsFound text) (numbered names stops) parts
   pub joined : lines ≡ flat_map (λ part. part) parts
 
--- the lines of all stops of the image were added to what was printed before, and nothing else
+-- the lines of all stops of the image whose names have the text in them were added to what was printed before, and nothing else
 abbrev pub AreStopsPrinted : ImageValue → List ℕ → Option (List ℕ) → Option (List ℕ) → Type 0
 AreStopsPrinted image text before after =
     (lines : List ℕ) × AreStopLines image.names text image.timetable.stops lines × Appends before after lines

@@ -21,13 +21,13 @@ counts_of t =
       transfers = length t.transfers.items;
     }
 
--- how many agencies, stops, trips and rows of trips there are
+-- how many agencies, stops, trips and stop times there are
 unfoldable pub trips_text : Counts → List ℕ
 trips_text counts =
     (codes "tables agencies " ++ decimal counts.agencies) ++ (codes " stops " ++ decimal counts.stops) ++ (codes " trips " ++ decimal counts.trips)
     ++ (codes " stop_times " ++ decimal counts.stop_times)
 
--- how many records give services, and how many transfers there are
+-- how many records there are in either calendar, and how many transfers
 unfoldable pub services_text : Counts → List ℕ
 services_text counts =
     (codes " calendar " ++ decimal counts.calendar) ++ (codes " calendar_dates " ++ decimal counts.calendar_dates)
@@ -36,15 +36,15 @@ services_text counts =
 abbrev pub counts_text : Counts → List ℕ
 counts_text counts = trips_text counts ++ services_text counts ++ codes "\n"
 
--- the tables join, so nothing is wrong with them, and have so many records
+-- the tables can be joined, so nothing is wrong with them, and these are their counts
 abbrev pub AreCountsOfJoined : Tables → Counts → Type 0
 AreCountsOfJoined t counts = (feed : Feed) × IsJoined false t feed × (counts ≡ counts_of t)
 
--- the tables of the folder's files have so many records
+-- these are the counts of the tables of the folder's files, which can be joined
 abbrev pub AreCountsOf : {D : Type 0} → (D → List ℕ → MayGive) → List ℕ → Counts → Type 0
 AreCountsOf gives folder counts = (t : Tables) × AreTablesOf gives folder t × AreCountsOfJoined t counts
 
--- the line of these tables was added to what was printed before, and nothing else
+-- the line of these counts was added to what was printed before, and nothing else
 abbrev pub AreCounted : {D : Type 0} → (D → List ℕ → MayGive) → List ℕ
     → Option (List ℕ) → Option (List ℕ) → Type 0
 AreCounted gives folder before after =

@@ -12,30 +12,31 @@ use Rattle.service_days.specs.declared.fault.DayFault.{DayFault}
 use Rattle.csa_commands.specs.declared.planning.PlanFailure.{PlanFailure}
 use Rattle.csa_commands.specs.declared.planning.PlanFailure.TheVariants.{Refused, Unreadable, OutOfMemory}
 
--- of a zone that is no file there are none. No clause says which bytes a file has
+-- there are no bytes if the zone isn't a file. No clause says which bytes a file has
 abbrev pub AreZoneBytes : ZoneText → List ℕ → Type 0
 AreZoneBytes (Fixed ahead) bytes = bytes ≡ []
 AreZoneBytes (Posix rule) bytes = bytes ≡ []
 AreZoneBytes (File path) bytes = Unit {0}
 
--- a file at a path can't be read, or there is no memory for its bytes, by the kind of the error
+-- why a file at a path isn't read, by the kind of the error: it can't be read, or there is no memory for its bytes
 abbrev pub IsUnread : ErrorKind → List ℕ → PlanFailure → Type 0
 IsUnread kind path (Refused fault) = ⊥
 IsUnread kind path (Unreadable unread) = (kind ≢ WasOutOfMemory) × (unread.now ≡ path)
 IsUnread kind path OutOfMemory = kind ≡ WasOutOfMemory
 
--- of a zone that is no file nothing fails; a file can't be read, the one that is named, or there is no memory for its bytes
+-- why the bytes of the zone's file aren't read: the file at its path can't be read, or there is no memory for them. There is no such failure if the zone isn't
+-- a file
 abbrev pub IsZoneUnread : ZoneText → PlanFailure → Type 0
 IsZoneUnread (File path) (Unreadable unread) = unread.now ≡ path.now
 IsZoneUnread (File path) OutOfMemory = Unit {0}
 IsZoneUnread _ _ = ⊥
 
--- there is no zone of what was asked for, over some bytes of its file
+-- the fault is that of the zone that was asked for, for some bytes of its file
 abbrev pub IsNoZoneOf : PlanText → LoadFault → Type 0
 IsNoZoneOf asked fault =
     (bytes : List ℕ) × (wrong : DayFault) × (fault ≡ Day wrong) × IsZoneFault asked.zone bytes wrong
 
--- a plan is refused only for its zone, and fails else only where the bytes of the zone's file can't be had
+-- a plan is refused only for its zone; otherwise it fails only because the bytes of the zone's file can't be read, or there is no memory for them
 abbrev pub IsNoPlan : PlanText → PlanFailure → Type 0
 IsNoPlan asked (Refused fault) = IsNoZoneOf asked fault
 IsNoPlan asked (Unreadable path) = IsZoneUnread asked.zone (Unreadable path)

@@ -1,4 +1,4 @@
-//! What is asked of an image.
+//! The commands over an image.
 
 ghost use Rattle.std.specs.Prelude.{◌≡◌};
 ghost use Rattle.command_requests.specs.declared.statuses.TheConstants.{ACCEPTED, OUT_OF_MEMORY, REFUSED};
@@ -14,22 +14,22 @@ use image_verifier::Verified;
 use std::io::Write;
 use std::rt::Files;
 
-/// A command over the image at a path, `-` for the standard input.
+/// A command over the image at a path, where `-` is the standard input.
 #[derive(Clone, Copy, Drop)]
 pub enum Asked<'a> {
-    /// To say that it is an image, and what it has.
+    /// Print how many stops, trips, connections and footpaths it has.
     Verify(&'a str),
-    /// To print what it has.
+    /// Print what it has.
     Info(&'a str),
-    /// To check a journey against it.
+    /// Check a journey against it.
     Journey(JourneyRequest<'a>),
-    /// To answer a profile query over it.
+    /// Answer a profile query over it.
     Profile(ProfileRequest<'a>),
-    /// To answer the queries from every stop over it.
+    /// Answer the queries from every stop over it.
     Departures(DeparturesRequest<'a>),
-    /// To list its stops by their names.
+    /// List those of its stops whose names contain a text.
     Stops(StopsRequest<'a>),
-    /// To write it anew, in the layout that is written.
+    /// Write it anew, in the current layout.
     Upgrade(UpgradeRequest<'a>),
 }
 
@@ -52,7 +52,7 @@ impl<'a> Asked<'a> {
         }
     }
 
-    /// The window of departures that is asked for.
+    /// The window of departures that is asked for, if the command has one.
     fn departures(self) -> Option<Departures> {
         match self {
             Asked::Profile(request) => Some(Departures {
@@ -68,10 +68,10 @@ impl<'a> Asked<'a> {
     }
 }
 
-/// Does what is asked of an image, the one that was opened, whatever the path: prints it to `output`, or why it is
-/// refused, which `errors` explains. The status is that of an accepted request, of a refused one, of a file or a line
-/// that can't be read or written, or of memory that ran out. If `warnings` are wanted, it warns in `errors` of a window
-/// that goes beyond the image's connections.
+/// Does what is asked of `image`, which need not be the one at the command's path: prints the result to `output`, or
+/// why there is none, which it explains in `errors`. Returns `ACCEPTED`, `REFUSED`, `INPUT_OUTPUT` if a file or a line
+/// can't be read or written, or `OUT_OF_MEMORY`, with nothing printed to `output`. If `warnings` is set, warns in
+/// `errors` of a window that goes beyond the image's connections.
 pub fn answer<H: Files + AllocGlobal, O: Write, E: Write>(
     rt: &H,
     image: &Verified,
@@ -94,7 +94,7 @@ pub fn answer<H: Files + AllocGlobal, O: Write, E: Write>(
     status
 }
 
-// Does what is asked.
+// Does what is asked, as `answer` does, but warns of nothing.
 fn do_asked<H: Files + AllocGlobal, O: Write, E: Write>(
     rt: &H,
     image: &Verified,
@@ -120,7 +120,7 @@ fn do_asked<H: Files + AllocGlobal, O: Write, E: Write>(
     }
 }
 
-// Warns of the window that is asked for, if there is one that goes beyond the image's connections.
+// Warns of the window of departures that is asked for, if there is one and it goes beyond the image's connections.
 fn warn_of_departures<E: Write>(image: &Verified, asked: Asked<'_>, errors: &mut E) {
     if let Some(departures) = asked.departures() {
         warn_of_window(image, departures, errors);

@@ -30,19 +30,19 @@ use text_pieces::{put_number, put_text};
 
 /// Why no image is written.
 enum Failure<'a> {
-    /// The feed isn't loaded, or the zone is none.
+    /// The feed isn't loaded, or the text or the file of the zone is wrong.
     Refused(LoadFault),
-    /// The file at the path can't be read.
+    /// The zone's file, at this path, can't be read.
     Unreadable(&'a str),
-    /// The file at the path can't be written, by an error of this kind.
+    /// The file at this path can't be written, because of an error of this kind.
     Unwritten(&'a str, ErrorKind),
     OutOfMemory,
 }
 
-/// Builds the image of the folder's feed, writes it, and prints its counts to `output`; or prints the first thing
-/// that is wrong. A file at the path is replaced once the image is whole. Explanations go to `errors`, and so do
-/// warnings, if they are wanted, and progress, if it is asked for or that is a terminal. The status is that of an
-/// accepted request, of a refused one, of a file or a line that can't be read or written, or of memory that ran out.
+/// Builds the image of the folder's feed, writes it, and prints its counts to `output`; or prints the first fault. A
+/// plain file at the path is replaced once the image is whole. Explanations go to `errors`; so do warnings, if
+/// `warnings` is set, and progress, if the request asks for it or `is_terminal` is set. Returns `ACCEPTED`, `REFUSED`,
+/// `INPUT_OUTPUT` if a file or a line can't be read or written, or `OUT_OF_MEMORY`, with nothing printed to `output`.
 pub fn run<H: Files + Disk + AllocGlobal + Clock, O: Write, E: Write>(
     rt: &H,
     request: BuildRequest<'_>,
@@ -82,7 +82,7 @@ pub fn run<H: Files + Disk + AllocGlobal + Clock, O: Write, E: Write>(
     }
 }
 
-// Builds the image, and writes it; progress is reported, if there is anything to report it to.
+// Builds the image and writes it, and reports progress to `log`, if there is one.
 fn build<'a, 'c, H: Files + Disk + AllocGlobal + Clock, E: Write>(
     rt: &'c H,
     request: &BuildRequest<'a>,
@@ -107,7 +107,7 @@ fn build<'a, 'c, H: Files + Disk + AllocGlobal + Clock, E: Write>(
     built
 }
 
-// Builds the image of the files, and writes it at the path.
+// Builds the image of the files, and writes it to the path `out`.
 fn build_reported<'a, H: Files + AllocGlobal, F: FeedFiles, R: Reports>(
     rt: &H,
     out: &'a str,
@@ -141,7 +141,7 @@ fn build_reported<'a, H: Files + AllocGlobal, F: FeedFiles, R: Reports>(
     })
 }
 
-// Prints the line of counts. It refuses nothing.
+// Prints the line of counts. Never returns `REFUSED`.
 fn print_counts<O: Write>(alloc: Global, report: &Report, output: &mut O) -> u8
     ensures status { Ends result }
     ensures refused { result ≢ REFUSED }
@@ -166,7 +166,7 @@ fn counts(alloc: Global, report: &Report) -> Result<String, AllocError>
     Ok(line)
 }
 
-// Adds how much the image has.
+// Adds how many stops, runs, connections and footpaths the image has.
 fn append_made(line: &mut String, report: &Report) -> Result<(), AllocError>
     ensures { OnOk result (string_bytes line.new ≡ string_bytes line.old ++ made_text report.now) }
 {
@@ -177,7 +177,8 @@ fn append_made(line: &mut String, report: &Report) -> Result<(), AllocError>
     Ok(())
 }
 
-// Adds how much of the feed was changed, repeated or left out.
+// Adds how many trips were lifted, how many are flex trips, how many `frequencies.txt` names, and how many rows of
+// `transfers.txt` were skipped.
 fn append_changed(line: &mut String, report: &Report) -> Result<(), AllocError>
     ensures { OnOk result (string_bytes line.new ≡ string_bytes line.old ++ changed_text report.now) }
 {

@@ -20,9 +20,9 @@ use std::alloc::Global;
 use std::io::Write;
 use std::rt::Files;
 
-/// Reads and joins the tables of the folder's files, and prints to `output` which service days the feed has, or the
-/// first thing that is wrong, which `errors` explains. The status is that of an accepted request, of a refused one, of
-/// a file or a line that can't be read or written, or of memory that ran out.
+/// Reads and joins the tables of the folder's files, and prints to `output` which service days the feed has; or the
+/// first fault, which it explains in `errors`. Returns `ACCEPTED`, `REFUSED`, `INPUT_OUTPUT` if a file or a line can't
+/// be read or written, or `OUT_OF_MEMORY`, with nothing printed to `output`.
 pub fn run<H: Files + Disk + AllocGlobal, O: Write, E: Write>(
     rt: &H,
     folder: &str,
@@ -46,7 +46,7 @@ pub fn run<H: Files + Disk + AllocGlobal, O: Write, E: Write>(
     }
 }
 
-// The feed of the folder's files.
+// Reads and joins the tables of the folder's files.
 fn read_feed<H: Disk + AllocGlobal>(rt: &H, folder: &str) -> Result<Feed, LoadFault>
     ensures feed { IfOk result (IsFeedOf H.gives folder.now) }
     ensures refused { IfErr result (λ fault. ¬ (IsWantOfMemory fault)
@@ -57,7 +57,7 @@ fn read_feed<H: Disk + AllocGlobal>(rt: &H, folder: &str) -> Result<Feed, LoadFa
     Ok(feed)
 }
 
-// Prints which service days a feed has. It refuses nothing.
+// Prints which service days a feed has. Never returns `REFUSED`.
 fn print_days<O: Write>(alloc: Global, feed: &Feed, output: &mut O) -> u8
     ensures status { Ends result }
     ensures refused { result ≢ REFUSED }

@@ -27,9 +27,9 @@ use std::io::Write;
 use std::rt::Files;
 use timetable::QueryFault;
 
-/// Prints each best departure from every stop, or from those that are wanted, and then how many
-/// stops and departures that were, and how many connections were read. A line of the file that
-/// names no stop is reported on standard error alone.
+/// Prints the best departures from every stop, or from those that are wanted, in the form that is asked for, and then
+/// how many stops and departures there are and how many connections were read. A line of the file of `--from` that
+/// names no stop is reported in `errors` alone.
 pub fn run<H: Files + AllocGlobal, O: Write, E: Write>(
     rt: &H,
     image: &Verified,
@@ -60,7 +60,7 @@ pub fn run<H: Files + AllocGlobal, O: Write, E: Write>(
     }
 }
 
-// Prints the text that answers.
+// Prints the answer.
 fn print_all<O: Write>(
     alloc: Global,
     image: &Verified,
@@ -84,8 +84,7 @@ fn print_all<O: Write>(
     }
 }
 
-// Says what is wrong with a question of all stops: that the target is no stop of the image, or
-// which clock is before another.
+// Says that the target is no stop of the image, or what is wrong with the window.
 fn explain_fault<E: Write>(
     image: &Verified,
     request: &DeparturesRequest<'_>,
@@ -103,8 +102,8 @@ fn explain_fault<E: Write>(
     }
 }
 
-// Says why it isn't known of which stops departures are wanted; the status. A line that is no stop_id was shown when
-// the list was read.
+// Says why it isn't known from which stops departures are wanted, and returns the status. A line that is no stop_id was
+// shown when the list was read.
 fn explain_list<H: Files + AllocGlobal, E: Write>(
     rt: &H,
     request: DeparturesRequest<'_>,
@@ -131,7 +130,7 @@ fn explain_list<H: Files + AllocGlobal, E: Write>(
     }
 }
 
-// Says what --from is, if its value is no file.
+// Says what `--from` is here, if its value is no plain file.
 fn explain_from<H: Files, E: Write>(rt: &H, path: &str, errors: &mut E) {
     if !is_file(rt, path) {
         let line = "csa: --from is a file of stop_ids here; for one stop use csa profile";
@@ -139,7 +138,7 @@ fn explain_from<H: Files, E: Write>(rt: &H, path: &str, errors: &mut E) {
     }
 }
 
-// What is asked of every stop, or its first fault.
+// The target and the window of the queries from every stop, or their first fault.
 fn destination_asked(
     image: &Verified,
     request: &DeparturesRequest<'_>,
@@ -157,7 +156,7 @@ fn destination_asked(
     destination_named(image, request.to.as_bytes(), window)
 }
 
-// The text that answers, by the criterion of a name.
+// The text of the answer, under the criterion that the request names.
 fn text_by_name(
     alloc: Global,
     image: &Verified,
@@ -189,7 +188,7 @@ fn text_by_name(
     }
 }
 
-// How departures are printed in a form that was asked for.
+// The form of lines for a form of the command line.
 fn form_of(form: DeparturesForm) -> LineForm
     ensures { result ≡ form_of form }
 {

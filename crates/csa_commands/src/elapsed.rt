@@ -7,28 +7,28 @@ use std::alloc::AllocError;
 use std::time::{Clock, Duration, Instant};
 use text_pieces::{put_number, put_text};
 
-/// When something began; nothing if the clock couldn't be read.
+/// When something began; unknown if the clock couldn't be read.
 #[derive(Clone, Copy, Drop)]
 pub struct Begun {
     instant: Option<Instant>,
 }
 
 impl Begun {
-    /// It begins now.
+    /// Notes that something begins now.
     pub fn now<C: Clock>(clock: &C) -> Begun {
         Begun {
             instant: Instant::now(clock).ok(),
         }
     }
 
-    /// It began then, if that is known.
+    /// Notes that something began at this instant, if it is known.
     pub fn at(instant: Option<Instant>) -> Begun
         ensures { result.instant ≡ instant }
     {
         Begun { instant }
     }
 
-    /// How long it has lasted by now; nothing if the clock can't be read, or couldn't be when it began.
+    /// How long it has lasted; `None` if the clock can't be read, or couldn't be read when it began.
     pub fn elapsed<C: Clock>(self, clock: &C) -> Option<Duration>
         ensures { self.instant ≡ None → result ≡ None }
     {
@@ -36,8 +36,8 @@ impl Begun {
     }
 }
 
-/// Adds ` seconds ` and how many seconds something took, with three digits behind the point; a hyphen if that isn't
-/// known. An error if memory runs out.
+/// Adds ` seconds ` and how many seconds something took, to three decimals, or a hyphen if that isn't known. Running
+/// out of memory is the only error.
 pub fn put_seconds(line: &mut String, lasted: Option<Duration>) -> Result<(), AllocError>
     ensures { OnOk result (string_bytes line.new ≡ string_bytes line.old ++ seconds_text lasted) }
 {
@@ -47,7 +47,7 @@ pub fn put_seconds(line: &mut String, lasted: Option<Duration>) -> Result<(), Al
     }
 }
 
-// Adds seconds, and thousandths of one, fewer than 1000, in three digits.
+// Adds seconds, and thousandths of a second (fewer than 1000) in three digits.
 fn put_parts(line: &mut String, seconds: u64, thousandths: u64) -> Result<(), AllocError>
     ensures { OnOk result (string_bytes line.new ≡ string_bytes line.old ++ parts_text seconds thousandths) }
 {

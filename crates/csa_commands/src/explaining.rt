@@ -1,6 +1,6 @@
-//! What standard error says beside a refusal: enough for a person to mend what is wrong.
+//! What standard error says besides a refusal: enough for a person to mend what is wrong.
 //!
-//! A line that can't be written, or for which there is no memory, changes nothing.
+//! If a line can't be written, or there is no memory for it, nothing else changes.
 
 use crate::folders::explain_folder;
 use crate::table_fault::{explain_failed, explain_table};
@@ -14,10 +14,10 @@ use std::io::{ErrorKind, Write};
 use std::path::Path;
 use std::rt::Files;
 
-/// How many bytes of a value are shown.
+/// How many bytes of a value are shown at most.
 const LONGEST_SHOWN: usize = 60;
 
-/// Writes the parts of a line, and its end.
+/// Writes the parts of a line, and an LF.
 pub fn explain<E: Write>(errors: &mut E, parts: &[&str]) {
     for part in parts {
         if errors.write_all(part.as_bytes()).is_err() {
@@ -27,7 +27,7 @@ pub fn explain<E: Write>(errors: &mut E, parts: &[&str]) {
     let _ = errors.write_all(b"\n");
 }
 
-/// The system's reason, in words, where it is one that a user can act on.
+/// The system's reason in words, if it is one that a user can act on.
 pub fn reason_of(kind: ErrorKind) -> &'static str {
     match kind {
         ErrorKind::NotFound => "no such file or folder",
@@ -46,7 +46,7 @@ pub fn reason_of(kind: ErrorKind) -> &'static str {
     }
 }
 
-/// Why a file can't be read, as the system says when it is asked again. A pipe or a device isn't opened anew.
+/// Why a file can't be read, as the system says when it is asked again. A pipe or a device isn't opened again.
 pub fn unread_reason<H: Files>(rt: &H, path: &str) -> &'static str {
     let metadata = match fs::metadata(rt, path) {
         Ok(metadata) => metadata,
@@ -64,7 +64,7 @@ pub fn unread_reason<H: Files>(rt: &H, path: &str) -> &'static str {
     }
 }
 
-/// Why nothing is found at a path, by the kind of the error: a link may be there that leads nowhere.
+/// Why nothing is found at a path: there may be a link that leads nowhere; otherwise by the kind of the error.
 pub fn missing_reason<H: Files>(rt: &H, path: &str, kind: ErrorKind) -> &'static str {
     let is_missing = matches!(kind, ErrorKind::NotFound | ErrorKind::NotADirectory);
     if is_missing && Path::new(path).is_symlink(rt) {
@@ -89,7 +89,7 @@ pub fn quoted(alloc: Global, value: &[u8]) -> Result<String, AllocError> {
     }
 }
 
-/// As much of a value as is shown: a character that goes beyond that is left out.
+/// The part of a value that is shown, without a character that is cut off at its end.
 fn shown_part(value: &[u8]) -> &[u8] {
     if value.len() <= LONGEST_SHOWN {
         return value;
@@ -103,7 +103,7 @@ fn shown_part(value: &[u8]) -> &[u8] {
     }
 }
 
-/// Bytes that aren't UTF-8 as they are shown.
+/// Bytes that aren't UTF-8, as they are shown.
 fn quoted_bytes(alloc: Global, value: &[u8], end: &str) -> Result<String, AllocError> {
     let mut text = format!(in alloc; "\"")?;
     for byte in value {
@@ -113,7 +113,7 @@ fn quoted_bytes(alloc: Global, value: &[u8], end: &str) -> Result<String, AllocE
     Ok(text)
 }
 
-/// Adds a byte: plain ASCII as it is, anything else by its number.
+/// Adds a byte: printable ASCII as it is, with quotes and backslashes escaped, any other byte by its number.
 fn push_shown(text: &mut String, byte: u8) -> Result<(), AllocError> {
     match byte {
         b'"' => text.push_str("\\\""),
@@ -147,7 +147,7 @@ pub fn explain_refused<H: Files + AllocGlobal, E: Write>(
     }
 }
 
-/// Explains why a feed isn't loaded whose files are right, or why its zone is none.
+/// Explains a fault of the zone, the days, the times of trips or the footpaths; says nothing of other faults.
 pub fn explain_load<E: Write>(fault: &LoadFault, errors: &mut E) {
     let reason = match fault.number() {
         21 =>
@@ -162,7 +162,7 @@ pub fn explain_load<E: Write>(fault: &LoadFault, errors: &mut E) {
     explain(errors, &["csa: ", reason]);
 }
 
-/// Says how a zone is spelled of which only the name or the path was given, if the system has a file of it.
+/// Says how to write the zone, if `--zone` has only the name or the path of a zone file that the system has.
 pub fn explain_zone<H: Files + AllocGlobal, S: AsStr, E: Write>(
     rt: &H,
     words: &[S],
@@ -173,7 +173,7 @@ pub fn explain_zone<H: Files + AllocGlobal, S: AsStr, E: Write>(
     }
 }
 
-/// Says how the zone of a name is spelled, if the system has a file of it.
+/// Says how to write the zone of this name, if the system has a file of it.
 pub fn explain_zone_named<H: Files + AllocGlobal, E: Write>(rt: &H, name: &str, errors: &mut E) {
     if let Some(path) = zone_path(rt, name) {
         let parts = ["csa: for this zone write --zone file:", path.as_str()];
@@ -181,7 +181,7 @@ pub fn explain_zone_named<H: Files + AllocGlobal, E: Write>(rt: &H, name: &str, 
     }
 }
 
-/// What is behind the folder of zone files, or all of the text if that isn't ahead of it.
+/// A path without the system's folder of zone files; the whole text if it doesn't begin with that folder.
 fn zone_name(zone: &str) -> &str {
     match zone.strip_prefix(ZONES) {
         Some(rest) => rest.strip_prefix('/').unwrap_or(zone),
@@ -189,7 +189,7 @@ fn zone_name(zone: &str) -> &str {
     }
 }
 
-/// The value of an option: the word behind it, or the rest of its own word behind `=`.
+/// The value of an option: the word after it, or what follows `=` in its own word.
 fn value_of<'a, S: AsStr>(words: &'a [S], option: &str) -> Option<&'a str> {
     let mut is_next = false;
     for word in words {

@@ -1,4 +1,4 @@
-//! What is wrong with the folder of a feed: that it is none, or which file it lacks, and where that file is.
+//! What is wrong with a feed's folder: it is no folder, or lacks a file, which may be found elsewhere.
 
 use crate::explaining::{explain, is_file, is_folder, missing_reason, shown_path};
 use gtfs_rows::Table;
@@ -10,10 +10,10 @@ use std::rt::Files;
 /// How many bytes of a folder's names are read at once.
 const PIECE_BYTES: usize = 4096;
 
-/// How many pieces of a folder's names are looked at.
+/// How many pieces of a folder's names are read at most.
 const MOST_PIECES: usize = 64;
 
-/// Says what is wrong with the folder of a feed, if it is none.
+/// Says why the path of a feed is no folder, if that is so.
 pub fn explain_folder<H: Files, E: Write>(rt: &H, folder: &str, errors: &mut E) {
     if let Some(reason) = folder_fault(rt, folder) {
         explain_path(errors, folder, reason);
@@ -24,7 +24,7 @@ fn explain_path<'a, E: Write>(errors: &mut E, path: &'a str, reason: &'a str) {
     explain(errors, &["csa: ", shown_path(path), ": ", reason]);
 }
 
-/// What is wrong with the folder of a feed, if it is none.
+/// Why the path of a feed is no folder; `None` if it is one.
 pub fn folder_fault<H: Files>(rt: &H, folder: &str) -> Option<&'static str> {
     match fs::metadata(rt, folder) {
         Ok(metadata) if metadata.is_dir() => None,
@@ -34,7 +34,8 @@ pub fn folder_fault<H: Files>(rt: &H, folder: &str) -> Option<&'static str> {
     }
 }
 
-/// Which file a folder lacks, and where it is, if it is in a folder below or may be in a zip file.
+/// The message that a folder lacks a file. For `agency.txt` it names a folder below that has the file, or a zip file
+/// that may be the feed. `None` if memory runs out.
 pub fn missing_file<H: Files + AllocGlobal>(rt: &H, folder: &str, table: Table) -> Option<String> {
     let alloc = rt.alloc();
     let name = table.file_name();
@@ -57,16 +58,16 @@ pub fn missing_file<H: Files + AllocGlobal>(rt: &H, folder: &str, table: Table) 
     }
 }
 
-/// Where a feed is that isn't in the folder itself.
+/// Where a feed may be, if it isn't in the folder itself.
 #[derive(Drop)]
 enum Elsewhere {
-    /// In this folder, one below.
+    /// In this folder, one level below.
     Below(String),
     /// Perhaps in this zip file.
     Zipped(String),
 }
 
-/// Where else a feed is, by the first of the folder's names that says so.
+/// Where else the feed may be: the first folder with an `agency.txt`, or zip file, among the folder's names.
 fn found_elsewhere<H: Files + AllocGlobal>(rt: &H, folder: &str) -> Option<Elsewhere> {
     let mut names = rt.open_dir(folder).ok()?;
     let mut piece = new_piece(rt.alloc(), PIECE_BYTES)?;
@@ -87,7 +88,7 @@ fn new_piece(alloc: Global, bytes: usize) -> Option<Vec<u8>> {
     vec![in alloc; 0u8; bytes].ok()
 }
 
-/// Names, each ended by a zero byte: the first one that says where the feed is.
+/// The first folder with an `agency.txt`, or zip file, among these names, each of which ends with a zero byte.
 fn elsewhere_in<H: Files + AllocGlobal>(rt: &H, folder: &str, names: &[u8]) -> Option<Elsewhere> {
     for name in names.split(|byte| *byte == 0) {
         let found = elsewhere_at(rt, folder, name);
@@ -98,7 +99,7 @@ fn elsewhere_in<H: Files + AllocGlobal>(rt: &H, folder: &str, names: &[u8]) -> O
     None
 }
 
-/// Whether the feed is in the folder of a name, or may be in the zip file of it.
+/// The folder of this name, if it has an `agency.txt`, or the zip file of this name.
 fn elsewhere_at<H: Files + AllocGlobal>(rt: &H, folder: &str, name: &[u8]) -> Option<Elsewhere> {
     let name = str::from_utf8(name).ok()?;
     if name.is_empty() || name == "." || name == ".." {

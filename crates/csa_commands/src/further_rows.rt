@@ -1,10 +1,10 @@
-//! Which other rows have what is at fault in one: how many name an id that isn't found, so that it need not be
-//! mended row by row, and which is the first with a key that is there twice.
+//! Other rows with the same fault: how many name an id that isn't found, so that a user can mend all of them at once;
+//! and which row is the first with a key that is there twice.
 
 use crate::records::{Records, Search};
 use crate::suspects::{Form, KeyColumn, Suspect};
 
-/// Counts the rows behind one that name the same id in a column where ids are looked up alike.
+/// Counts the rows after a given one that name the same id, in a column whose ids are looked up alike.
 #[derive(Drop)]
 pub struct FurtherRows<'a> {
     /// The columns that name ids.
@@ -12,9 +12,9 @@ pub struct FurtherRows<'a> {
     /// How the id is looked up.
     pub form: Form,
     pub id: &'a [u8],
-    /// The number of the row, from 1 on behind the header.
+    /// The number of the given row; 1 is the first after the header.
     pub behind: u64,
-    /// How many there are.
+    /// How many such rows there are.
     pub rows: u64,
 }
 

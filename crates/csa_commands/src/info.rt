@@ -11,7 +11,7 @@ use image_verifier::Verified;
 use std::alloc::Global;
 use std::io::Write;
 
-/// Prints what an image has, which was judged when it was opened. It refuses nothing.
+/// Prints what an image has. The image was verified when it was opened. Never returns `REFUSED`.
 pub fn run<O: Write>(alloc: Global, image: &Verified, output: &mut O) -> u8
     ensures status { Ends result }
     ensures refused { result ≢ REFUSED }

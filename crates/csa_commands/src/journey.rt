@@ -23,7 +23,7 @@ use timetable::{QueryFault, Times};
 /// Why a journey isn't accepted.
 #[derive(Drop)]
 pub enum Failure {
-    /// The question asks no query of the image.
+    /// The question makes no query of the image.
     BadQuery(QueryFault),
     /// The text spells no journey.
     BadText,
@@ -32,8 +32,8 @@ pub enum Failure {
     OutOfMemory,
 }
 
-/// Prints when the journey departs and arrives, or why it doesn't hold in the image or doesn't count for the query, which
-/// standard error explains.
+/// Prints when the journey departs and arrives; or the first fault of the query, of the text or of the journey, which
+/// it explains in `errors`.
 pub fn run<O: Write, E: Write>(
     alloc: Global,
     image: &Verified,
@@ -62,7 +62,7 @@ pub fn run<O: Write, E: Write>(
     }
 }
 
-/// When an accepted journey departs and arrives.
+/// The line of an accepted journey: when it departs and arrives.
 fn line_of(alloc: Global, times: Times) -> Result<String, AllocError>
     ensures { IfOk result (λ line. string_bytes line ≡ times_line times) }
 {
@@ -73,7 +73,7 @@ fn line_of(alloc: Global, times: Times) -> Result<String, AllocError>
     Ok(line)
 }
 
-/// Prints why a journey is refused, and explains it.
+/// Prints why a journey is refused, and explains that in `errors`.
 fn refuse<O: Write, E: Write>(alloc: Global, refusal: Refusal, output: &mut O, errors: &mut E) -> u8
     ensures status { EndsUndone result }
     ensures printed { result ≡ REFUSED
@@ -101,7 +101,7 @@ fn explain_refusal<E: Write>(refusal: Refusal, errors: &mut E) {
     }
 }
 
-// It takes no memory.
+// Says which ride or walk of a journey is wrong, and why. Takes no memory.
 fn explain_fault<E: Write>(fault: JourneyFault, errors: &mut E) {
     let reason = reason_of(fault);
     let _ = match fault {
@@ -144,8 +144,8 @@ even at one stop and of 0 seconds"
     }
 }
 
-/// When the journey of a text departs and arrives, as an answer to the question; or the first fault: of the query,
-/// of the text, of the journey. Memory may run out while the text is read.
+/// Finds when the text's journey departs and arrives, if it counts for the question's query; otherwise the first fault,
+/// of the query, of the text or of the journey. Memory may run out while the text is read.
 fn judge(alloc: Global, image: &Verified, request: &JourneyRequest<'_>) -> Result<Times, Failure>
     ensures { IsVerdict image.now request.now.question request.now.text.now result }
 {

@@ -1,5 +1,5 @@
-//! The commands of `csa` but `serve`, over readers and writers; and what `serve` needs beside its sessions: statuses,
-//! the image that it opens, its zone, and what it says of a feed.
+//! All commands of `csa` except `serve`, over readers and writers; and what `serve` needs besides its sessions:
+//! statuses, the image that it opens, its zone, and the explanations of a feed's faults.
 #![tactic(auto)]
 
 mod asked;

@@ -13,7 +13,7 @@ use journeys::{Answer, Departure};
 use std::alloc::{AllocError, Global};
 use text_pieces::{put_number, put_text};
 
-/// The lines of an answer, whose journeys are of the image's numbers.
+/// The lines of an answer, with journeys by the image's numbers.
 pub fn numbered_lines<C: Told>(
     alloc: Global,
     criterion: &C,
@@ -33,7 +33,7 @@ pub fn numbered_lines<C: Told>(
     Ok(lines)
 }
 
-/// The lines of an answer, whose journeys are of the image's names.
+/// The lines of an answer, with journeys by the image's names.
 pub fn named_lines<C: Told>(
     alloc: Global,
     image: &Verified,

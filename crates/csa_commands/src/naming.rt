@@ -129,7 +129,7 @@ fn append_trip(
     put_word(lines, name.as_str())
 }
 
-/// Adds the trip of a leg, and when it is boarded where, and left where.
+/// Adds a leg: its trip, and when and where one boards and leaves it.
 fn append_leg(
     lines: &mut String,
     alloc: Global,
@@ -164,7 +164,7 @@ fn append_hops(
     Ok(())
 }
 
-/// Adds when one is at a stop.
+/// Adds a time and a stop's name, each after a space.
 fn append_call(
     lines: &mut String,
     alloc: Global,

@@ -1,10 +1,10 @@
-//! How many lines end in bytes.
+//! Counts the line ends in bytes.
 
 ghost use Rattle.std.specs.Prelude.{◌≡◌};
 ghost use Rattle.std.specs.List.{count_by};
 ghost use Rattle.csa_commands.specs.Newlines.{is_line_end};
 
-/// How many lines end in the bytes: how many of them are a line feed.
+/// How many lines end in the bytes, each with a line feed.
 pub fn line_ends(bytes: &[u8]) -> u64
     ensures { result ≡ count_by is_line_end bytes.now }
 {

@@ -1,4 +1,4 @@
-//! What every command over an image begins with.
+//! Opens an image, as every command over one does first.
 
 ghost use Rattle.std.specs.Prelude.{◌≡◌, ◌≢◌, IfErr, IfOk, OnOk};
 ghost use Rattle.std.specs.Io.KnownBytes.{Appends};
@@ -19,7 +19,7 @@ use std::fmt;
 use std::io::{Read, Write};
 use std::rt::Files;
 
-/// Why words are no image, as it is said of a file.
+/// Why words are no image, as a message about their file.
 #[derive(Clone, Copy, Drop)]
 struct Reason(ImageFault);
 
@@ -33,7 +33,7 @@ impl fmt::Display for Reason {
     }
 }
 
-/// Whether the words have the header of an image, and something behind it is wrong.
+/// Whether the header is that of an image, so that the fault is behind it.
 fn has_header(fault: ImageFault) -> bool {
     !matches!(
         fault,
@@ -44,9 +44,9 @@ fn has_header(fault: ImageFault) -> bool {
     )
 }
 
-/// The verified image at the path, of the input for `-`; or the status of a command that has said why there is none:
-/// that of a refusal, of a file that can't be read or a line that can't be written, or of memory that ran out, in which
-/// case nothing was printed.
+/// Reads and verifies the image at the path, or the one on `input` if the path is `-`. An error is the command's
+/// status: `REFUSED` with the refusal printed, `INPUT_OUTPUT` if a read or a write fails, or `OUT_OF_MEMORY` with
+/// nothing printed.
 pub fn open_image<H: Files + ImageDisk<Image = H::File> + AllocGlobal, I: Read, O: Write, E: Write>(
     rt: &H,
     path: &str,
@@ -89,7 +89,7 @@ pub fn open_image<H: Files + ImageDisk<Image = H::File> + AllocGlobal, I: Read, 
     }
 }
 
-// Reports that the image at a path can't be read; the status of that.
+// Reports that the image at a path can't be read. Returns `INPUT_OUTPUT`.
 fn report_unread<H: Files, E: Write>(rt: &H, path: &str, errors: &mut E) -> u8
     ensures { result ≡ INPUT_OUTPUT }
 {

@@ -38,7 +38,7 @@ pub fn picture_asked<C: Told>(
     }
 }
 
-/// The picture of an answer, with as many of its departures as are asked for.
+/// The picture of an answer, with as many of its departures as are asked for, the first ones.
 fn picture_text<C: Told>(
     alloc: Global,
     image: &Verified,
@@ -61,7 +61,7 @@ fn picture_text<C: Told>(
     Ok(text)
 }
 
-/// As many departures as are drawn.
+/// The departures that are drawn: the first `rows`, or all if there are fewer.
 fn first_of<V>(departures: &[Departure<V>], rows: usize) -> &[Departure<V>]
     ensures { result.now ≡ take rows departures.now }
 {

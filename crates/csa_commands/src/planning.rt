@@ -1,4 +1,4 @@
-//! What is made of feeds: the service days and the zone that a command line asks for.
+//! The plan of a load: the service days and the zone that a command line asks for.
 
 ghost use Rattle.std.specs.Prelude.{◌≡◌, ◌≤◌, ℕ, List, IfErr, IfOk};
 ghost use Rattle.connections.specs.declared.days.TheConstants.{MAX_DAYS};
@@ -17,14 +17,14 @@ use std::time::Clock;
 /// Why there is no plan.
 #[derive(Drop)]
 pub enum PlanFailure<'a> {
-    /// The zone is none.
+    /// The text or the file of the zone is wrong.
     Refused(LoadFault),
-    /// The file at the path can't be read.
+    /// The zone's file, at this path, can't be read.
     Unreadable(&'a str),
     OutOfMemory,
 }
 
-/// The plan of a feed that is loaded now.
+/// The plan of a load that begins now.
 pub fn plan_of<'a, H: Files + AllocGlobal + Clock>(
     rt: &H,
     asked: &PlanText<'a>,
@@ -40,7 +40,7 @@ pub fn plan_of<'a, H: Files + AllocGlobal + Clock>(
     }
 }
 
-/// The bytes of the zone's file, none of a zone that isn't in a file, and the plan of a feed that is loaded now.
+/// The bytes of the zone's file, empty if the zone isn't a file, and the plan of a load that begins now.
 pub fn zone_and_plan<'a, H: Files + AllocGlobal + Clock>(
     rt: &H,
     asked: &PlanText<'a>,
@@ -57,8 +57,8 @@ pub fn zone_and_plan<'a, H: Files + AllocGlobal + Clock>(
     }
 }
 
-// The bytes of a zone's file; none of another zone. `Unreadable` with the file's path if it can't be read, `OutOfMemory`
-// if there is no memory for its bytes; of another zone there is no failure.
+// The bytes of the zone's file; empty, without a failure, if the zone isn't a file. Fails with `Unreadable` and the
+// file's path if it can't be read, with `OutOfMemory` if there is no memory for its bytes.
 fn zone_bytes<'a, H: Files + AllocGlobal>(
     rt: &H,
     zone: &ZoneText<'a>,
@@ -76,7 +76,7 @@ fn zone_bytes<'a, H: Files + AllocGlobal>(
     }
 }
 
-// Why the bytes of the file at a path can't be had, by the kind of the error.
+// Why the file at a path isn't read, by the kind of the error.
 fn unread<'a>(kind: ErrorKind, path: &'a str) -> PlanFailure<'a>
     ensures { IsUnread kind path.now result }
 {

@@ -24,24 +24,24 @@ use std::io::Write;
 use std::rt::Files;
 use timetable::{Query, QueryFault};
 
-/// Why nothing is printed.
+/// Why a question isn't answered.
 #[derive(Drop)]
 pub enum Failure {
-    /// The question asks no query of the image.
+    /// The question makes no query of the image.
     BadQuery(QueryFault),
     OutOfMemory,
 }
 
-/// What answers a question: a text, and a picture if one is asked for.
+/// The answer to a question: a text, and a picture if one is asked for.
 #[derive(Drop)]
 pub struct Profile {
     text: String,
     picture: Option<String>,
 }
 
-/// Prints each best departure with a journey, and then how many there are, how many connections
-/// were read, and the direct footpath; or else what a session replies. A picture that is asked for
-/// is written before.
+/// Prints the answer in the form that is asked for: a line for each best departure with a journey, then how many there
+/// are, how many connections were read, and the direct footpath; or what a session would reply. A picture that is asked
+/// for is written first.
 pub fn run<H: Files + AllocGlobal, O: Write, E: Write>(
     rt: &H,
     image: &Verified,
@@ -87,7 +87,7 @@ fn print_profile<H: Files + AllocGlobal, O: Write, E: Write>(
     status::write_text(output, profile.text.as_str(), status::ACCEPTED)
 }
 
-/// What answers the question, or why nothing does.
+/// Answers the question, or returns why it can't be answered.
 fn profile_asked(
     alloc: Global,
     image: &Verified,
@@ -105,7 +105,7 @@ fn profile_asked(
     }
 }
 
-/// What answers a query, by the criterion of a name.
+/// Answers a query under the criterion that the request names.
 fn profile_by_name(
     alloc: Global,
     image: &Verified,
@@ -125,7 +125,7 @@ fn profile_by_name(
     }
 }
 
-/// What answers a query: the text and the picture of one answer.
+/// Answers a query under a criterion: the text and the picture are of one and the same answer.
 fn profile_by<C: Told>(
     alloc: Global,
     image: &Verified,
@@ -144,7 +144,7 @@ fn profile_by<C: Told>(
     Ok(Profile { text, picture })
 }
 
-// The text of an answer in a form.
+// The text of an answer, in a form.
 fn text_in_form<C: Told>(
     alloc: Global,
     image: &Verified,

@@ -1,4 +1,4 @@
-//! What is reported while an image is made.
+//! Reports of progress while an image is made.
 
 ghost use Rattle.std.specs.Prelude.{◌≡◌, ◌≤◌, ◌<◌, ◌+◌, ◌-◌, ◌^◌, List, IfOk, IfErr, OnOk};
 ghost use Rattle.image_layout.specs.declared.layout.TheConstants.{LAYOUT};
@@ -22,29 +22,28 @@ use std::time::{Clock, Duration};
 /// The file of a feed that is read last.
 const LAST_FILE: &str = "frequencies.txt";
 
-/// What is reported while a feed is loaded and its image is written.
+/// What takes reports while a feed is loaded and its image is written.
 pub trait Reports {
-    /// A file is read next: the one before was judged.
+    /// Reports that a file is read next, and that the one before it was judged.
     fn begin_file(&mut self, name: &str);
 
-    /// The file was read, or isn't there. Behind the last one the image is made.
+    /// Reports that the file was read, or isn't there (`None`). After the last file the image is made.
     fn note_file(&mut self, name: &str, bytes: Option<&[u8]>);
 
-    /// The image was made, with these counts.
+    /// Reports that the image was made, with these counts.
     fn note_made(&mut self, report: &Report);
 
-    /// The image is written next, at a path.
+    /// Reports that the image is written next, to this path.
     fn begin_writing(&mut self, path: &str);
 
-    /// The image of so many words was written at a path.
+    /// Reports that the image, of so many words, was written to this path.
     fn note_written(&mut self, path: &str, words: usize);
 
-    /// Nothing more is reported.
+    /// Ends the reports.
     fn close(&mut self);
 }
 
-/// Loads a feed as `load` does, and reports each file and then what the image has, if there is
-/// anything to report it to.
+/// Loads a feed as `load` does. Reports each file and then the counts of the image, if there is anything to report to.
 pub fn load_reported<F: FeedFiles, R: Reports>(
     alloc: Global,
     files: &mut ReportedFiles<F, R>,
@@ -77,23 +76,22 @@ pub fn load_reported<F: FeedFiles, R: Reports>(
     loaded
 }
 
-/// Where progress is reported: on a terminal by one line that is rewritten, else by a line for each
-/// thing that begins and one for each that is done. What can't be reported, or finds no memory, is
-/// left out.
+/// Reports progress: on a terminal in one line that is rewritten, elsewhere in a line for each step that begins and one
+/// for each that is done. A line that can't be written, or for which there is no memory, is left out.
 #[derive(Drop)]
 pub struct Progress<'c, C, W> {
     alloc: Global,
     clock: &'c C,
     errors: &'c mut W,
     is_terminal: bool,
-    /// When what is done now began.
+    /// When the current step began.
     begun: Begun,
-    /// The file that is read and judged now, with its bytes and lines.
+    /// The name of the file that was read and is judged now, with how many bytes and lines it has.
     file: Option<(String, u64, u64)>,
 }
 
 impl<'c, C: Clock, W: Write> Progress<'c, C, W> {
-    /// Nothing is done yet. None if there is nothing to report it to.
+    /// The progress before anything is done; `None` if there is nothing to report to.
     pub fn new(
         alloc: Global,
         clock: &'c C,
@@ -131,19 +129,19 @@ impl<'c, C: Clock, W: Write> Progress<'c, C, W> {
         }
     }
 
-    /// Something begins.
+    /// Begins a step, and reports it.
     fn begin(&mut self, doing: &str, what: &str) {
         self.begun = Begun::now(self.clock);
         self.say(format!(in self.alloc; "{doing} {what}"));
     }
 
-    /// What began is done; these are its counts.
+    /// Reports that the step is done, with its counts and how long it took.
     fn end(&mut self, counts: Result<String, AllocError>) {
         let lasted = self.begun.elapsed(self.clock);
         self.say(with_seconds(counts, lasted));
     }
 
-    /// The file at hand was read, and is judged next.
+    /// Keeps the name and the counts of the file that was read and is judged next; on a terminal shows them.
     fn keep_file(&mut self, name: &str, bytes: &[u8]) {
         let (length, lines) = (bytes.len() as u64, lines_of(bytes));
         if self.is_terminal {
@@ -154,7 +152,7 @@ impl<'c, C: Clock, W: Write> Progress<'c, C, W> {
         }
     }
 
-    /// The file at hand, if there is one, was judged.
+    /// Reports that the current file, if there is one, was judged.
     fn end_file(&mut self) {
         if let Some((name, length, lines)) = self.file.take() {
             self.end(format!(in self.alloc; "read {name}: bytes {length} lines {lines}"));
@@ -200,7 +198,7 @@ impl<'c, C: Clock, W: Write> Reports for Progress<'c, C, W> {
         self.end(format!(in self.alloc; "wrote {path}: bytes {bytes}"));
     }
 
-    /// Takes the line of a terminal away.
+    /// Clears the line of a terminal.
     fn close(&mut self) {
         if self.is_terminal {
             self.put("\r\x1b[K");
@@ -208,7 +206,7 @@ impl<'c, C: Clock, W: Write> Reports for Progress<'c, C, W> {
     }
 }
 
-/// How many lines the bytes have; the last one need not end.
+/// How many lines the bytes have; the last one need not end with an LF.
 fn lines_of(bytes: &[u8]) -> u64 {
     let ended = line_ends(bytes);
     match bytes.last() {
@@ -217,7 +215,7 @@ fn lines_of(bytes: &[u8]) -> u64 {
     }
 }
 
-/// A line with how many seconds something took.
+/// The line with how many seconds something took added.
 fn with_seconds(
     line: Result<String, AllocError>,
     lasted: Option<Duration>,
@@ -227,7 +225,7 @@ fn with_seconds(
     Ok(line)
 }
 
-/// The files of a feed, each of which is reported when it is read, if there is anything to report it to.
+/// The files of a feed, each of which is reported when it is read, if there is anything to report to.
 #[derive(Drop)]
 pub struct ReportedFiles<F, R> {
     files: F,
@@ -235,7 +233,7 @@ pub struct ReportedFiles<F, R> {
 }
 
 impl<F: FeedFiles, R: Reports> ReportedFiles<F, R> {
-    /// The files, and where what is done is reported.
+    /// The files, and what takes the reports.
     pub fn new(files: F, reports: Option<R>) -> ReportedFiles<F, R>
         ensures { result.files ≡ files }
     {
@@ -251,7 +249,7 @@ impl<F: FeedFiles, R: Reports> ReportedFiles<F, R> {
         }
     }
 
-    // Reports that the file was read.
+    // Reports that the file was read, or isn't there.
     fn report_read(&mut self, name: &str, bytes: Option<&[u8]>)
         ensures { self.new.files ≡ self.old.files }
     {
@@ -269,7 +267,7 @@ impl<F: FeedFiles, R: Reports> ReportedFiles<F, R> {
         }
     }
 
-    /// Reports that the image is written at a path.
+    /// Reports that the image is written next, to a path.
     pub fn report_writing(&mut self, path: &str)
         ensures { self.new.files ≡ self.old.files }
     {
@@ -278,7 +276,7 @@ impl<F: FeedFiles, R: Reports> ReportedFiles<F, R> {
         }
     }
 
-    /// Reports that the image of so many words was written at a path.
+    /// Reports that the image, of so many words, was written to a path.
     pub fn report_written(&mut self, path: &str, words: usize)
         ensures { self.new.files ≡ self.old.files }
     {
@@ -287,7 +285,7 @@ impl<F: FeedFiles, R: Reports> ReportedFiles<F, R> {
         }
     }
 
-    /// Nothing more is reported.
+    /// Ends the reports.
     pub fn close(&mut self) {
         if let Some(reports) = &mut self.reports {
             reports.close();

@@ -1,4 +1,4 @@
-//! The query of an image that the command line asks, or what is wrong with it.
+//! The query that the command line asks of an image, or what is wrong with it.
 
 ghost use Rattle.std.specs.Prelude.{◌≡◌, MatchResult};
 ghost use Rattle.std.specs.Io.KnownBytes.{Appends};
@@ -20,8 +20,7 @@ use std::alloc::Global;
 use std::io::Write;
 use timetable::{Query, QueryFault};
 
-/// The query between the stops of these names, from the earliest departure until the latest and by
-/// the latest arrival; or its first fault.
+/// Makes the question's query of the image, whose stops it finds by their names; or returns the first fault.
 pub fn query_asked(image: &Verified, question: &Question<'_>) -> Result<Query, QueryFault>
     ensures { MatchResult result
         (λ query. IsAskable image.now.timetable.stops query
@@ -41,7 +40,7 @@ pub fn query_asked(image: &Verified, question: &Question<'_>) -> Result<Query, Q
     )
 }
 
-/// Prints why a question asks no query of an image, and says which end or clock is at fault.
+/// Prints why a question makes no query of an image, and says in `errors` which end or clock is at fault.
 pub fn refuse_question<O: Write, E: Write>(
     alloc: Global,
     image: &Verified,
@@ -62,7 +61,7 @@ pub fn refuse_question<O: Write, E: Write>(
     status
 }
 
-/// Says which end is no stop of the image, or which clock is before another.
+/// Says which end is no stop of the image, that both ends are the same, or what is wrong with the window.
 fn explain_question<E: Write>(
     image: &Verified,
     question: &Question<'_>,
@@ -82,7 +81,7 @@ fn explain_question<E: Write>(
     }
 }
 
-/// Which clock of a window is before another, or past all that an image can have.
+/// What is wrong with a window: one clock is before another, or later than any that an image can have.
 pub fn window_reason(after: u32, until: u32, by: u32) -> &'static str {
     if until < after {
         "--until is before --after"
@@ -93,18 +92,18 @@ pub fn window_reason(after: u32, until: u32, by: u32) -> &'static str {
     }
 }
 
-/// Why a stop_id is refused. An image doesn't know stations, so it may be one.
+/// Why a stop_id is refused. It may be that of a station, which an image doesn't have.
 const UNKNOWN: &str = "no stop of the image has this stop_id \
 (stations aren't stops: give a platform's stop_id, which `csa stops IMAGE TEXT` lists)";
 
-/// Says that an option's stop is no stop of the image, if it is none. It takes no memory.
+/// Says that an option's value is no stop of the image, if that is so. Takes no memory.
 pub fn explain_end<E: Write>(image: &Verified, option: &str, stop: &str, errors: &mut E) {
     if image.find(stop.as_bytes()).is_none() {
         let _ = write!(errors, "csa: {option} {stop:?}: {UNKNOWN}\n");
     }
 }
 
-/// Says that a line of the file of `--from` is no stop of the image, and what it has, if there is memory for that.
+/// Says that a line of the file of `--from` is no stop of the image, and shows the line, if there is memory for that.
 pub fn explain_line<E: Write>(
     alloc: Global,
     path: &str,

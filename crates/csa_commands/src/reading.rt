@@ -1,4 +1,4 @@
-//! The tables of a folder's files.
+//! Reads the tables of a folder's files.
 
 ghost use Rattle.std.specs.Prelude.{IfErr, IfOk};
 ghost use Rattle.feed_files.specs.Reading.{HoldsTables, NoTables};
@@ -7,7 +7,7 @@ ghost use Rattle.csa_commands.specs.Folders.{AreTablesOf, HoldsOfRead};
 use feed_files::{Disk, FolderFiles, ReadFault, read_tables};
 use gtfs_tables::Tables;
 
-/// The tables of the folder's files, or the first thing that is wrong with the files.
+/// Reads the tables of the folder's files; or returns the first fault of these files.
 pub fn tables_in<H: Disk + AllocGlobal>(rt: &H, folder: &str) -> Result<Tables, ReadFault>
     ensures tables { IfOk result (AreTablesOf H.gives folder.now) }
     ensures held { IfOk result (λ tables. HoldsOfRead H.gives folder.now (λ content. HoldsTables content tables)) }

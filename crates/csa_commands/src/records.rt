@@ -1,5 +1,5 @@
-//! The records of a feed's file, read once more to say where a fault is. It takes the memory of a
-//! piece and of two records.
+//! Reads the records of a feed's file once more, to say where a fault is. This takes the memory of one piece and two
+//! records.
 //!
 //! No contract says that this finds the record that the tables' reader refused; transcripts show it.
 
@@ -7,13 +7,13 @@ use std::alloc::{AllocError, Global};
 use std::io::Read;
 use std::mem;
 
-/// How many bytes of a record are kept, and how many fields.
+/// How many bytes, and how many fields, of a record are kept at most.
 const LONGEST_RECORD: usize = 65_536;
 
 /// How many bytes are read at once.
 const PIECE_BYTES: usize = 8192;
 
-/// A file can't be searched: a read failed, there was no memory, or a record was too long to be kept whole.
+/// A file can't be searched: it can't be opened or read, there is no memory, or a record is too long to be kept whole.
 #[derive(Clone, Copy, Drop)]
 pub struct Unread;
 
@@ -25,30 +25,30 @@ impl From<AllocError> for Unread {
 
 /// What is looked for among the records of a file.
 pub trait Search {
-    /// Takes note of the record that was read last: whether it is the one that is looked for.
+    /// Takes note of the record that was read last, and returns whether it is the one that is looked for.
     fn is_found(&mut self, records: &Records) -> bool;
 }
 
 /// Which record is looked for.
 #[derive(Clone, Copy, Drop)]
 pub enum Wanted<'a> {
-    /// The one of this number, from 1 on behind the header, which is 0.
+    /// The record with this number: 0 is the header, 1 the record after it.
     Number(u64),
-    /// The first one behind the header that has this text in this column.
+    /// The first record after the header that has this text in this column.
     Text(&'a str, &'a [u8]),
-    /// The first one, the header included, of which a field isn't UTF-8.
+    /// The first record, or the header, with a field that isn't UTF-8.
     NotUtf8,
 }
 
-/// The fields of a record, without quotes, and its line.
+/// The fields of a record, without quotes, and the line in which it begins.
 #[derive(Drop)]
 pub struct Record {
     pub line: u64,
-    /// The texts of the fields, one behind the other.
+    /// The texts of the fields, end to end.
     text: Vec<u8>,
     /// Where each field ends.
     ends: Vec<usize>,
-    /// Whether it has more than is kept.
+    /// Whether the record has more than is kept.
     is_cut: bool,
 }
 
@@ -72,17 +72,17 @@ impl Record {
         self.text.is_empty() && self.ends.is_empty()
     }
 
-    /// Whether all of it is kept.
+    /// Whether the whole record is kept.
     pub fn is_whole(&self) -> bool {
         !self.is_cut
     }
 
-    /// How many fields there are.
+    /// How many fields are kept.
     pub fn fields(&self) -> usize {
         self.ends.len()
     }
 
-    /// The text of a field without the spaces at its ends, empty if there is none.
+    /// The text of a field, without the spaces at its ends; empty if there is no such field.
     pub fn field(&self, index: usize) -> &[u8] {
         let start = match index.checked_sub(1) {
             Some(before) => self.end(before),
@@ -98,7 +98,7 @@ impl Record {
         }
     }
 
-    /// The index of the first field of this text.
+    /// The index of the first field with this text.
     pub fn index_of(&self, text: &[u8]) -> Option<usize> {
         for index in 0..self.ends.len() {
             if self.field(index) == text {
@@ -144,7 +144,7 @@ enum Position {
     Start,
     Plain,
     Quoted,
-    /// Behind a quote within quotes, which ends them unless another one follows.
+    /// After a quote in a quoted field, which ends the quoted part unless another quote follows.
     BehindQuote,
 }
 
@@ -153,11 +153,11 @@ enum Position {
 pub struct Records {
     pub header: Record,
     pub record: Record,
-    /// How many records were read.
+    /// The number of the last record, which is how many were read before it.
     count: u64,
     line: u64,
     position: Position,
-    /// Whether a record had more than is kept.
+    /// Whether an earlier record had more than is kept.
     is_cut: bool,
 }
 
@@ -173,7 +173,7 @@ impl Records {
         }
     }
 
-    /// Takes the next byte in: whether a record ends there.
+    /// Takes in the next byte, and returns whether a record ends there.
     fn take(&mut self, byte: u8) -> Result<bool, AllocError> {
         if self.record.is_empty() && matches!(self.position, Position::Start) {
             self.record.line = self.line;
@@ -206,7 +206,7 @@ impl Records {
         Ok(false)
     }
 
-    /// Ends a record, unless the line is empty: whether there was one.
+    /// Ends a record, unless the line is empty, and returns whether it did.
     fn end(&mut self) -> Result<bool, AllocError> {
         if self.record.is_empty() && matches!(self.position, Position::Start) {
             return Ok(false);
@@ -216,7 +216,7 @@ impl Records {
         Ok(true)
     }
 
-    /// The number of the record that was read last: 0 is the header.
+    /// The number of the record that was read last: 0 for the header.
     pub fn number(&self) -> u64 {
         self.count
     }
@@ -244,7 +244,7 @@ impl Records {
         self.count = self.count.saturating_add(1);
     }
 
-    /// Takes bytes in until the record is found: whether it is.
+    /// Takes in bytes until the record is found, and returns whether it was.
     fn take_piece<S: Search>(&mut self, bytes: &[u8], search: &mut S) -> Result<bool, AllocError> {
         for byte in bytes {
             if self.take(*byte)? {
@@ -257,7 +257,7 @@ impl Records {
         Ok(false)
     }
 
-    /// The text of the record in a column, empty if there is no such column.
+    /// The text in this column of the record that was read last; empty if there is no such column.
     pub fn value(&self, column: &str) -> &[u8] {
         match self.header.index_of(column.as_bytes()) {
             Some(index) => self.record.field(index),
@@ -295,7 +295,7 @@ fn trimmed(text: &[u8]) -> &[u8] {
     text.get(start..end).unwrap_or(&[])
 }
 
-/// The record that is found, if there is one.
+/// Reads records until one is found, and returns it with the header; `None` if none is found.
 pub fn find<R: Read, S: Search>(
     alloc: Global,
     reader: &mut R,
@@ -322,7 +322,7 @@ fn new_piece(alloc: Global, bytes: usize) -> Result<Vec<u8>, AllocError> {
     vec![in alloc; 0u8; bytes]
 }
 
-/// The bytes that are read next; none at the end.
+/// Reads the next bytes; empty at the end of the file.
 fn read_piece<'a, R: Read>(reader: &mut R, piece: &'a mut [u8]) -> Result<&'a [u8], Unread> {
     match reader.read(piece) {
         Ok(count) => piece.get(..count).ok_or(Unread),
@@ -330,7 +330,7 @@ fn read_piece<'a, R: Read>(reader: &mut R, piece: &'a mut [u8]) -> Result<&'a [u
     }
 }
 
-/// What is found once the file is over: its last record may have no line end.
+/// Ends the search at the end of the file, whose last record may have no line end.
 fn end_of_search<S: Search>(
     mut records: Records,
     search: &mut S,

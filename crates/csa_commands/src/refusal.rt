@@ -39,7 +39,7 @@ pub enum Refusal {
 }
 
 impl Refusal {
-    /// The number by which it is told, as 61.
+    /// The refusal's number, such as 61.
     fn number(self) -> u8
         ensures { result ≡ (refusal_told self).0 }
     {
@@ -53,7 +53,7 @@ impl Refusal {
         }
     }
 
-    /// The name by which it is told, as `BadMagic`.
+    /// The refusal's name, such as `BadMagic`.
     fn name(self) -> &'static str
         ensures { result.now ≡ (refusal_told self).1 }
     {
@@ -68,7 +68,7 @@ impl Refusal {
     }
 }
 
-// The number by which a text that spells no journey is told.
+// The number of the refusal of a text that spells no journey.
 fn bad_text_number() -> u8
     ensures { Some result ≡ text_number OfText }
 {
@@ -87,7 +87,7 @@ pub fn refusal_line(alloc: Global, refusal: Refusal) -> Result<String, AllocErro
     Ok(line)
 }
 
-// Adds where something is wrong.
+// Adds the places of a refusal: where something is wrong.
 fn put_places(line: &mut String, refusal: Refusal) -> Result<(), AllocError>
     ensures { OnOk result (string_bytes line.new ≡ string_bytes line.old ++ refusal_places refusal) }
 {
@@ -123,7 +123,7 @@ fn put_image_places(line: &mut String, fault: ImageFault) -> Result<(), AllocErr
     }
 }
 
-// Adds which file of a feed is wrong, and of a table's fault the record.
+// Adds which file of a feed is wrong, and for a fault of a table the number of the record.
 fn put_feed_places(line: &mut String, fault: LoadFault) -> Result<(), AllocError>
     ensures { OnOk result (string_bytes line.new ≡ string_bytes line.old ++ feed_places fault) }
 {
@@ -174,8 +174,8 @@ fn put_record(line: &mut String, file: &str, row: u64) -> Result<(), AllocError>
     Ok(())
 }
 
-/// Prints why a feed isn't loaded. The status is that of a refusal, or of a file that can't be read, if that is why; or
-/// that of a failed write, or of memory that ran out. If it ran out, nothing is printed.
+/// Prints why a feed isn't loaded. Returns `REFUSED`; `INPUT_OUTPUT` if the reason is a file that can't be read, or if
+/// a write fails; or `OUT_OF_MEMORY`, with nothing printed, if memory ran out before or runs out now.
 pub fn refuse_feed<O: Write>(alloc: Global, output: &mut O, fault: LoadFault) -> u8
     ensures status { EndsUndone result }
     ensures memory { IsWantOfMemory fault → result ≡ OUT_OF_MEMORY }
@@ -192,7 +192,7 @@ pub fn refuse_feed<O: Write>(alloc: Global, output: &mut O, fault: LoadFault) ->
     status::print_refusal_as(alloc, output, Refusal::Feed(fault), status_of(fault))
 }
 
-// The status of a feed that isn't loaded, once that is printed.
+// The status of a feed that isn't loaded, if its refusal is printed.
 fn status_of(fault: LoadFault) -> u8
     ensures kind { result ≡ refusal_status fault }
     ensures either { (result ≡ REFUSED) ⊎ (result ≡ INPUT_OUTPUT) }

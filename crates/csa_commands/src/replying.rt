@@ -10,10 +10,10 @@ use image_verifier::Verified;
 use journeys::Answer;
 use std::alloc::{AllocError, Global};
 
-/// The version that an image is which a server has just opened.
+/// The version of the image with which a server starts.
 const FIRST_VERSION: u64 = 1;
 
-/// The line that a session replies over the image as version 1.
+/// The line that a session replies, with the image as version 1.
 pub fn reply_line<C: Told>(
     alloc: Global,
     form: PointForm,

@@ -1,22 +1,22 @@
-//! What is between the things that a line lists.
+//! What separates the items that a line lists.
 
 ghost use Rattle.std.specs.Prelude.{◌≡◌, ◌↔◌, codes, None, Some, IsSome, IsTrue, MatchOption};
 
-/// What is ahead of the next thing that a line lists: ahead of the first one a text of its own, then a comma.
+/// The text before the next item that a line lists: a given text before the first item, `, ` before each further one.
 #[derive(Drop)]
 pub struct Separator {
     first: Option<&'static str>,
 }
 
 impl Separator {
-    /// Nothing is listed yet; this text is ahead of the first thing.
+    /// The separator of a list without items; `first` comes before the first one.
     pub fn new(first: &'static str) -> Separator
         ensures { result.first ≡ Some first.entry }
     {
         Separator { first: Some(first) }
     }
 
-    /// What is ahead of a thing that is listed now.
+    /// Returns the text before the item that is listed now.
     pub fn next(&mut self) -> &'static str
         ensures text { MatchOption self.old.first (result.now ≡ codes ", ") (λ first. result ≡ first) }
         ensures used { self.new.first ≡ None }
@@ -27,7 +27,7 @@ impl Separator {
         }
     }
 
-    /// Whether nothing was listed.
+    /// Whether no item was listed.
     pub fn is_unused(&self) -> bool
         ensures { IsTrue result ↔ IsSome self.now.first }
     {

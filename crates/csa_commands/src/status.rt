@@ -1,4 +1,4 @@
-//! Exit statuses, and what is written with them.
+//! Exit statuses, and the texts and reports that they come with.
 
 ghost use Rattle.std.specs.Prelude.{◌≡◌, ◌≢◌, ◌⊎◌, IfErr, IfOk, string_bytes, true};
 ghost use Rattle.std.specs.declared.io.ErrorKind.TheVariants.{OutOfMemory as WasOutOfMemory};
@@ -17,7 +17,8 @@ use std::alloc::{AllocError, Global};
 use std::io::{ErrorKind, Write};
 use std::rt::Files;
 
-/// Writes the text; the status that is given, or that of a failed write, before which a first part of it was written.
+/// Writes the text. Returns `status`; or `INPUT_OUTPUT` if a write fails, and then a first part of the text, possibly
+/// empty, was written.
 pub fn write_text<W: Write>(writer: &mut W, text: &str, status: u8) -> u8
     ensures status { (result ≡ status) ⊎ (result ≡ INPUT_OUTPUT) }
     ensures written { result ≢ INPUT_OUTPUT → Appends (W.contents writer.old) (W.contents writer.new) text.now }
@@ -30,7 +31,8 @@ pub fn write_text<W: Write>(writer: &mut W, text: &str, status: u8) -> u8
     }
 }
 
-// Writes the bytes, and returns whether all were written; the first ones were in any case, and no others.
+// Writes the bytes, and returns whether all were written. If not, a first part of them was, possibly empty, and nothing
+// else.
 fn write_bytes<W: Write>(writer: &mut W, bytes: &[u8]) -> bool
     ensures whole { result ≡ true → Appends (W.contents writer.old) (W.contents writer.new) bytes.now }
     ensures begun { IsBegun (W.contents writer.old) (W.contents writer.new) bytes.now }
@@ -53,8 +55,8 @@ fn write_bytes<W: Write>(writer: &mut W, bytes: &[u8]) -> bool
     false
 }
 
-/// Writes a line that may have found no memory: the status that is given, or that of a failed write; or, if there is
-/// no line, that of memory that ran out, and nothing is written.
+/// Writes a line, if there was memory for it. Returns `status`, or `INPUT_OUTPUT` if a write fails; or `OUT_OF_MEMORY`
+/// if there is no line, and then writes nothing.
 pub fn write_line<W: Write>(writer: &mut W, line: Result<String, AllocError>, status: u8) -> u8
     ensures status { (result ≡ status) ⊎ (result ≡ INPUT_OUTPUT) ⊎ (result ≡ OUT_OF_MEMORY) }
     ensures kept { IfOk line (λ _. (result ≡ status) ⊎ (result ≡ INPUT_OUTPUT)) }
@@ -71,7 +73,7 @@ pub fn write_line<W: Write>(writer: &mut W, line: Result<String, AllocError>, st
     }
 }
 
-/// Prints the line of a refusal. The status is that of a refusal, or as of `print_refusal_as`.
+/// Prints the line of a refusal. Returns `REFUSED`, or another status as `print_refusal_as` does.
 pub(crate) fn print_refusal<O: Write>(alloc: Global, output: &mut O, refusal: Refusal) -> u8
     ensures status { EndsUndone result }
     ensures printed { result ≡ REFUSED
@@ -83,8 +85,8 @@ pub(crate) fn print_refusal<O: Write>(alloc: Global, output: &mut O, refusal: Re
     print_refusal_as(alloc, output, refusal, REFUSED)
 }
 
-/// Prints the line of a refusal; the status that is given, or that of a failed write, before which a first part of the
-/// line was written, or of memory that ran out, and then nothing is written.
+/// Prints the line of a refusal. Returns `status`; or `INPUT_OUTPUT` if a write fails, and then a first part of the
+/// line, possibly empty, was written; or `OUT_OF_MEMORY` if memory runs out, and then nothing was written.
 pub(crate) fn print_refusal_as<O: Write>(
     alloc: Global,
     output: &mut O,
@@ -105,7 +107,7 @@ pub(crate) fn print_refusal_as<O: Write>(
     }
 }
 
-/// Reports a file that can't be read, with the system's reason; the status of that.
+/// Reports a file that can't be read, with the system's reason. Returns `INPUT_OUTPUT`.
 pub fn report_unreadable<H: Files, E: Write>(rt: &H, errors: &mut E, path: &str) -> u8
     ensures { result ≡ INPUT_OUTPUT }
 {
@@ -113,7 +115,8 @@ pub fn report_unreadable<H: Files, E: Write>(rt: &H, errors: &mut E, path: &str)
     report_failed_file(errors, path, "read", reason)
 }
 
-/// Reports a zone's file that can't be read, and how that zone is spelled if the system has a file of this name.
+/// Reports a zone's file that can't be read; and if the system has a zone of this name, how to write that zone. Returns
+/// `INPUT_OUTPUT`.
 pub fn report_unread_zone<H: Files + AllocGlobal, E: Write>(
     rt: &H,
     errors: &mut E,
@@ -126,8 +129,8 @@ pub fn report_unread_zone<H: Files + AllocGlobal, E: Write>(
     status
 }
 
-/// Reports a file that can't be written, with the system's reason. The status is that of such a file; or, if the error
-/// is that memory ran out, the status of that, and nothing is said.
+/// Reports a file that can't be written, with the system's reason, and returns `INPUT_OUTPUT`. If the error is that
+/// memory ran out, reports nothing, and returns `OUT_OF_MEMORY`.
 pub(crate) fn report_unwritten<E: Write>(errors: &mut E, path: &str, kind: ErrorKind) -> u8
     ensures memory { kind ≡ WasOutOfMemory → result ≡ OUT_OF_MEMORY }
     ensures unwritten { kind ≢ WasOutOfMemory → result ≡ INPUT_OUTPUT }
@@ -139,7 +142,7 @@ pub(crate) fn report_unwritten<E: Write>(errors: &mut E, path: &str, kind: Error
     }
 }
 
-// Reports what can't be done to a file, and why. It takes no memory.
+// Reports that a file can't be read or written (`what`), and why. Takes no memory.
 fn report_failed_file<'a, E: Write>(
     errors: &mut E,
     path: &'a str,

@@ -14,8 +14,8 @@ use std::alloc::{AllocError, Global};
 use std::io::Write;
 use text_pieces::{put_number, put_text, put_word};
 
-/// Prints number and name of each stop whose name has the text in it, in order; if there is none, standard error says
-/// so. It refuses nothing.
+/// Prints the number and the name of each stop whose name contains the text, in order. If there is none, says so in
+/// `errors`. Never returns `REFUSED`.
 pub fn run<O: Write, E: Write>(
     alloc: Global,
     image: &Verified,
@@ -38,7 +38,7 @@ pub fn run<O: Write, E: Write>(
     }
 }
 
-// Says that no stop_id has the text in it, if there is no line of one.
+// Says that no stop_id contains the text, if there are no lines.
 fn explain_none<E: Write>(alloc: Global, lines: &str, text: &str, errors: &mut E) {
     if !lines.is_empty() {
         return;
@@ -60,7 +60,7 @@ fn lines_of(alloc: Global, image: &Verified, text: &str) -> Result<String, Alloc
     Ok(lines)
 }
 
-// Adds the line of the next stop, if its name has the text in it.
+// Adds the line of the next stop, if its name contains the text.
 fn append_next(
     lines: &mut String,
     alloc: Global,
@@ -76,7 +76,7 @@ fn append_next(
     Ok(())
 }
 
-// Adds the line of a stop, if its name has the text in it.
+// Adds the line of a stop, if its name contains the text.
 fn append_if_found(lines: &mut String, stop: u32, name: &str, text: &str) -> Result<(), AllocError>
     ensures { OnOk result ((part : List ℕ) × IsFound text.now (stop, name.now) part
         × (string_bytes lines.new ≡ string_bytes lines.old ++ part)) }

@@ -1,4 +1,4 @@
-//! Which columns of a record can be at fault, by the kind of fault, and what is said of their values.
+//! Which columns of a record can be at fault, by the kind of fault, and what a message says about their values.
 
 use gtfs_rows::values::number;
 use gtfs_rows::{FaultKind, Table, TableFault};
@@ -14,16 +14,16 @@ pub enum Form {
     Weekday,
     /// 1 or 2.
     Exception,
-    /// The id of a record: its file, and the column there.
+    /// The id of a record: the file of that record, and the column that has its id.
     Id(&'static str, &'static str),
     /// The stop_id of a stop or a station.
     End,
-    /// Any text: what is wrong lies in other records.
+    /// Anything: the column is at fault whatever its text is.
     Other,
 }
 
 impl Form {
-    /// Whether an id that one of two columns names is looked up as that of the other one is.
+    /// Whether the ids in two columns, of this form and of the other, are looked up alike.
     pub fn is_looked_up_as(self, other: Form) -> bool {
         match (self, other) {
             (Form::Id(file, _), Form::Id(other_file, _)) => file == other_file,
@@ -33,7 +33,7 @@ impl Form {
     }
 }
 
-/// A column that can be at fault, what it must be, and what is said if it isn't.
+/// A column that can be at fault, what its text must be, and the message if it isn't.
 #[derive(Clone, Copy)]
 pub struct Suspect(pub &'static str, pub Form, pub &'static str);
 
@@ -155,7 +155,7 @@ const STATION: &[Suspect] = &[Suspect("stop_id", Form::Other, NOT_A_STOP)];
 
 const NO_HEADWAY: &[Suspect] = &[Suspect("headway_secs", Form::Other, "must not be 0")];
 
-/// The columns that can be at fault, of which the first one that isn't as it must be is meant.
+/// The columns that can be at fault, in order: the first whose text isn't as it must be is the one that is at fault.
 pub fn suspects_of(fault: &TableFault) -> &'static [Suspect] {
     match fault.kind {
         FaultKind::BadTime | FaultKind::BadDate | FaultKind::BadNumber => {
@@ -225,7 +225,8 @@ impl KeyColumn {
     }
 }
 
-/// The columns of which no two records of a table may have the same values; none if its records may be alike.
+/// The columns of a table's key: no two of its records may have the same values in all of them. Empty if there is no
+/// key.
 pub fn key_columns(table: Table) -> &'static [KeyColumn] {
     match table {
         Table::Stops => &[KeyColumn::Text("stop_id")],

@@ -78,7 +78,7 @@ and 400000000 bytes of names: try fewer days"
     format!(in alloc; "{name}: {most}").ok()
 }
 
-/// The line of the first record that isn't UTF-8.
+/// The message about the first record with a field that isn't UTF-8.
 fn not_utf8<H: Files + AllocGlobal>(rt: &H, folder: &str, table: Table) -> Option<String> {
     let file = table.file_name();
     let found = found_in(rt, folder, file, Wanted::NotUtf8)?;
@@ -88,7 +88,7 @@ fn not_utf8<H: Files + AllocGlobal>(rt: &H, folder: &str, table: Table) -> Optio
     format!(in rt.alloc(); "{file}, line {line}: {shown} isn't UTF-8").ok()
 }
 
-/// The required columns that the header doesn't have, and the header.
+/// The message about the required columns that the header lacks; it shows the header.
 fn missing_column<H: Files + AllocGlobal>(rt: &H, folder: &str, table: Table) -> Option<String> {
     let file = table.file_name();
     let Some(found) = record_in(rt, folder, file, Wanted::Number(0)).ok()? else {
@@ -108,7 +108,7 @@ fn missing_column<H: Files + AllocGlobal>(rt: &H, folder: &str, table: Table) ->
     Some(text)
 }
 
-/// A header as it is shown: its fields with commas between.
+/// A header as it is shown: its fields with commas between them.
 fn shown_header(alloc: Global, header: &Record) -> Result<String, AllocError> {
     let mut text = Vec::new(alloc);
     for index in 0..header.fields() {
@@ -120,13 +120,13 @@ fn shown_header(alloc: Global, header: &Record) -> Result<String, AllocError> {
     quoted(alloc, &text)
 }
 
-/// Appends a column that the header lacks, behind what is between it and the one before.
+/// Appends a column that the header lacks, after what separates it from the one before.
 fn append_column(text: &mut String, between: &str, column: &str) -> Option<()> {
     text.push_str(between).ok()?;
     text.push_str(column).ok()
 }
 
-/// The line of the record, and what is wrong there, if that can be found.
+/// The message about a record: its line, and what is wrong there, if that can be found.
 fn line_of_record<H: Files + AllocGlobal>(
     rt: &H,
     folder: &str,
@@ -151,7 +151,7 @@ fn row_length(alloc: Global, found: &Records) -> Option<String> {
     format!(in alloc; "the number of fields is {fields}, in the header {columns}").ok()
 }
 
-/// The column that isn't as it must be, and its value.
+/// The column that isn't as it must be, its value, and what is wrong with it.
 fn wrong_value<H: Files + AllocGlobal>(
     rt: &H,
     folder: &str,
@@ -173,8 +173,8 @@ fn wrong_value<H: Files + AllocGlobal>(
     None
 }
 
-/// The column, its value and what is wrong with it; of a key that is there twice also the line of the first record
-/// that has it, and of an id that isn't found how many rows behind name it.
+/// The column and its value; for a key that is there twice also the line of the first record that has it; for any other
+/// fault what is wrong, and for an id that isn't found also how many further rows name it.
 fn what_is_wrong<H: Files + AllocGlobal>(
     rt: &H,
     folder: &str,
@@ -202,7 +202,7 @@ fn what_is_wrong<H: Files + AllocGlobal>(
     }
 }
 
-/// Whose id, date or stop_sequence is there twice.
+/// The words that say whose id, date or stop_sequence is there twice.
 fn whose_key(table: Table) -> &'static str {
     match table {
         Table::StopTimes => " of this trip",
@@ -211,7 +211,7 @@ fn whose_key(table: Table) -> &'static str {
     }
 }
 
-/// The line of the first record that has the key of a later one; none for another fault, or if it can't be found.
+/// The line of the first record that has the key of a later one; `None` for another fault, or if it can't be found.
 fn earlier_line<H: Files + AllocGlobal>(
     rt: &H,
     folder: &str,
@@ -232,7 +232,7 @@ fn earlier_line<H: Files + AllocGlobal>(
     }
 }
 
-/// How many rows behind the fault name the same id that isn't found; 0 for another fault, or if they can't be read.
+/// How many rows after the faulty one name the same id that isn't found; 0 for another fault, or if they can't be read.
 fn further_rows<H: Files + AllocGlobal>(
     rt: &H,
     folder: &str,
@@ -295,7 +295,7 @@ fn is_inside<H: Files + AllocGlobal>(rt: &H, folder: &str, stop: &[u8]) -> Resul
     }
 }
 
-/// A record of a file of the folder, if it can be found.
+/// The wanted record of a file in the folder, with the header; `None` if there is none, or the file can't be searched.
 pub fn found_in<H: Files + AllocGlobal>(
     rt: &H,
     folder: &str,
@@ -305,7 +305,7 @@ pub fn found_in<H: Files + AllocGlobal>(
     record_in(rt, folder, file, wanted).ok()?
 }
 
-/// A record of a file of the folder, if it has one.
+/// The wanted record of a file in the folder, with the header, if there is one.
 fn record_in<H: Files + AllocGlobal>(
     rt: &H,
     folder: &str,
@@ -315,7 +315,7 @@ fn record_in<H: Files + AllocGlobal>(
     search_in(rt, folder, file, &mut wanted)
 }
 
-/// Searches the records of a file of the folder. What isn't a plain file, as a pipe, isn't opened again.
+/// Searches the records of a file in the folder. Anything but a plain file, such as a pipe, isn't opened again.
 pub fn search_in<H: Files + AllocGlobal, S: Search>(
     rt: &H,
     folder: &str,

@@ -36,9 +36,9 @@ struct Counts {
     transfers: usize,
 }
 
-/// Reads and joins the tables of the folder's files, and prints to `output` how many records each has, or the first
-/// thing that is wrong, which `errors` explains. The status is that of an accepted request, of a refused one, of a file
-/// or a line that can't be read or written, or of memory that ran out.
+/// Reads and joins the tables of the folder's files, and prints to `output` how many records each has; or the first
+/// fault, which it explains in `errors`. Returns `ACCEPTED`, `REFUSED`, `INPUT_OUTPUT` if a file or a line can't be
+/// read or written, or `OUT_OF_MEMORY`, with nothing printed to `output`.
 pub fn run<H: Files + Disk + AllocGlobal, O: Write, E: Write>(
     rt: &H,
     folder: &str,
@@ -62,7 +62,7 @@ pub fn run<H: Files + Disk + AllocGlobal, O: Write, E: Write>(
     }
 }
 
-// How many records there are, if the tables can be read and joined.
+// Counts the records of the folder's tables, if they can be read and joined; or returns their first fault.
 fn count_records<H: Disk + AllocGlobal>(rt: &H, folder: &str) -> Result<Counts, LoadFault>
     ensures counts { IfOk result (AreCountsOf H.gives folder.now) }
     ensures refused { IfErr result (λ fault. ¬ (IsWantOfMemory fault)
@@ -73,7 +73,7 @@ fn count_records<H: Disk + AllocGlobal>(rt: &H, folder: &str) -> Result<Counts, 
     Ok(counts)
 }
 
-// How many records there are in tables that can be joined.
+// Counts the records of tables, if they can be joined; or returns their first fault.
 fn count_joined(alloc: Global, tables: Tables) -> Result<Counts, TableFault>
     ensures counts { IfOk result (AreCountsOfJoined tables) }
     ensures refused { IfErr result (λ fault. fault.kind ≢ FaultKind.OutOfMemory → IsFirstFault false tables fault) }
@@ -97,7 +97,7 @@ fn counts_of(tables: &Tables) -> Counts
     }
 }
 
-// Prints the line of counts. It refuses nothing.
+// Prints the line of counts. Never returns `REFUSED`.
 fn print_counts<O: Write>(alloc: Global, counts: Counts, output: &mut O) -> u8
     ensures status { Ends result }
     ensures refused { result ≢ REFUSED }

@@ -18,7 +18,7 @@ use std::alloc::{AllocError, Global};
 use std::io::Write;
 use std::rt::Files;
 
-/// Writes the image in the layout that is written today, and prints its counts as `verify` does. It refuses nothing.
+/// Writes the image in the current layout, and prints its counts as `verify` does. Never returns `REFUSED`.
 pub fn run<H: Files + AllocGlobal, O: Write, E: Write>(
     rt: &H,
     image: &Verified,
@@ -41,7 +41,7 @@ pub fn run<H: Files + AllocGlobal, O: Write, E: Write>(
     }
 }
 
-/// The image of the same timetable and names in the layout that is written. Running out of memory is the only error.
+/// Returns the image of the same timetable and names in the current layout. Running out of memory is the only error.
 fn upgraded(alloc: Global, image: &Verified) -> Result<Vec<u32>, AllocError>
     ensures image { IfOk result (λ words. IsImage words.items image.now.timetable image.now.names) }
     ensures layout { IfOk result (λ words. layout_of words.items ≡ LAYOUT) }

@@ -12,7 +12,7 @@ use std::alloc::{AllocError, Global};
 use std::io::Write;
 use text_pieces::{put_number, put_text};
 
-/// Prints the counts of an image, which was judged when it was opened. It refuses nothing.
+/// Prints the counts of an image. The image was verified when it was opened. Never returns `REFUSED`.
 pub fn run<O: Write>(alloc: Global, image: &Verified, output: &mut O) -> u8
     ensures status { Ends result }
     ensures refused { result ≢ REFUSED }
@@ -26,7 +26,7 @@ pub fn run<O: Write>(alloc: Global, image: &Verified, output: &mut O) -> u8
     }
 }
 
-// What is printed of an accepted image.
+// The line of an image's counts.
 fn counts(alloc: Global, image: &Verified) -> Result<String, AllocError>
     ensures { IfOk result (λ line. string_bytes line ≡ counts_line image.now) }
 {

@@ -1,4 +1,4 @@
-//! The stops of which departures are wanted: all, or those that a file names.
+//! The stops from which departures are wanted: all, or those that a file names.
 
 ghost use Rattle.std.specs.Prelude.{◌≢◌, None, IfErr, IfOk, MatchResult};
 ghost use Rattle.std.specs.Str.Lines.{lines};
@@ -13,10 +13,10 @@ use std::fs;
 use std::io::{ErrorKind, Write};
 use std::rt::Files;
 
-/// Why it isn't known of which stops departures are wanted.
+/// Why it isn't known from which stops departures are wanted.
 #[derive(Drop)]
 pub enum NoList {
-    /// The line of this number, from 1 on, is no stop_id of the image.
+    /// The line with this number, counted from 1, is no stop_id of the image.
     UnknownStop(usize),
     Unreadable,
     /// The file isn't UTF-8.
@@ -24,8 +24,8 @@ pub enum NoList {
     OutOfMemory,
 }
 
-/// All stops, or those that the file at the path names. A line of it that is no stop_id is shown in `errors`, and its
-/// number is returned.
+/// All stops, or those that the file at the path names. If a line of the file is no stop_id, the first such line is
+/// shown in `errors`, and the error has its number.
 pub fn wanted_from<H: Files + AllocGlobal, E: Write>(
     rt: &H,
     image: &Verified,
@@ -61,7 +61,7 @@ fn read_list<H: Files + AllocGlobal, E: Write>(
     }
 }
 
-// Shows the line of a list that is no stop_id, if there is one.
+// Shows the first line of a list that is no stop_id, if there is one.
 fn explain_unknown<E: Write>(
     alloc: Global,
     path: &str,

@@ -1,4 +1,4 @@
-//! Warnings of an image that is built, but may not be what was wanted. They are lines on standard error.
+//! Warnings on standard error that an image which was built may not be what was wanted.
 
 ghost use Rattle.std.specs.Prelude.{◌≡◌, true, IfSome};
 ghost use Rattle.gtfs_rows.specs.Values.{is_civil};
@@ -22,10 +22,10 @@ use std::rt::Files;
 /// Where systems have their time zone files.
 pub const ZONES: &str = "/usr/share/zoneinfo";
 
-/// How many bytes a time zone file may have.
+/// How many bytes a time zone file may have at most.
 const LONGEST_ZONE: u64 = 1_000_000;
 
-/// An image, what it was made by, and what is counted of it.
+/// An image, the plan by which it was made, and its counts.
 #[derive(Drop)]
 pub struct Built {
     pub image: Verified,
@@ -60,7 +60,7 @@ fn warn_of<E: Write>(errors: &mut E, line: &str) {
     explain(errors, &["csa: warning: ", line]);
 }
 
-/// The days of the plan on which no trip runs, if there are any.
+/// The warning of the days of the plan on which no trip runs; `None` if there are none.
 fn idle_days(alloc: Global, built: &Built) -> Option<String> {
     let mut text = format!(in alloc; "no trip runs on").ok()?;
     let mut separator = Separator::new(" ");
@@ -76,7 +76,8 @@ fn idle_days(alloc: Global, built: &Built) -> Option<String> {
     }
 }
 
-/// Appends a day on which no trip runs. None if it is no day of the calendar.
+/// Appends the day, if no trip runs on it. `None` if it is no day of the calendar or has no start in the zone, or if
+/// memory runs out.
 fn append_if_idle(
     text: &mut String,
     separator: &mut Separator,
@@ -94,7 +95,7 @@ fn append_if_idle(
     write!(text, "{between}{number:08}").ok()
 }
 
-/// Whether a trip of the image runs on a day, which is a number YYYYMMDD.
+/// Whether a trip of the image runs on a day, given as the number YYYYMMDD.
 fn has_trip_on(image: &Verified, day: u32) -> bool {
     for trip in 0..image.trips() {
         if image.trip_day(trip as usize) == day {
@@ -124,7 +125,7 @@ impl Rows {
         self.count = self.count.saturating_add(1);
     }
 
-    /// Appends how many they are and where the first one is, if there are any.
+    /// Appends how many rows there are, why they are left out, and the line of the first, if there are any.
     fn append(
         &self,
         text: &mut String,
@@ -149,14 +150,14 @@ impl Rows {
     }
 }
 
-/// Which transfers are left out, by why.
+/// The transfers that are left out, by reason.
 #[derive(Drop)]
 struct LeftOut {
     between_trips: Rows,
     of_other_types: Rows,
 }
 
-/// The columns of `transfers.txt` by which a row is of trips or routes.
+/// The columns of `transfers.txt` that restrict a row to trips or routes.
 const TRIPS_AND_ROUTES: [&str; 4] = ["from_route_id", "to_route_id", "from_trip_id", "to_trip_id"];
 
 impl Search for LeftOut {
@@ -207,8 +208,8 @@ fn transfers_line(alloc: Global, left_out: &LeftOut) -> Result<String, AllocErro
     Ok(text)
 }
 
-/// What is said if days begin at other instants in the feed's own zone, by the system's file of it. A file that has the
-/// name of that zone may be a newer one.
+/// The warning that days begin at other instants in the feed's own zone, by the system's file of that zone. There is
+/// none if the zone that is asked for is a file of that name, which may be newer than the system's.
 fn other_zone<H: Files + AllocGlobal>(
     rt: &H,
     folder: &str,
@@ -231,7 +232,7 @@ fn other_zone<H: Files + AllocGlobal>(
     ).ok()
 }
 
-/// Whether a zone is a file that has this name, in whatever folder.
+/// Whether a zone is a file with this name, in whatever folder.
 fn is_file_of(asked: &ZoneText<'_>, name: &str) -> bool {
     match asked {
         ZoneText::File(path) => match path.strip_suffix(name) {
@@ -243,7 +244,7 @@ fn is_file_of(asked: &ZoneText<'_>, name: &str) -> bool {
     }
 }
 
-/// The system's file of a zone, if it has one.
+/// The path of the system's file of a zone, if it has one.
 pub fn zone_path<H: Files + AllocGlobal>(rt: &H, name: &str) -> Option<String> {
     if !is_zone_name(name) {
         return None;
@@ -267,7 +268,8 @@ fn is_short<H: Files>(rt: &H, path: &str) -> bool {
     }
 }
 
-/// Whether each day of the plan begins at the same instant in another zone. A day that has no start counts as the same.
+/// Whether the days of the plan begin at the same instants in another zone. From the first day that has no start in
+/// either zone, none is compared.
 fn is_same_on_days(zone: &Zone, plan: &Plan) -> bool {
     let mut day = plan.first_day;
     for _ in 0..plan.days {

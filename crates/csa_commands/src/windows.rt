@@ -1,4 +1,4 @@
-//! Warnings of a window of departures that goes beyond those of the image's connections. They take no memory.
+//! Warnings of a window of departures that goes beyond the departures of the image's connections. They take no memory.
 
 use crate::explaining::explain;
 use image_verifier::Verified;
@@ -21,7 +21,7 @@ pub fn warn_of_window<E: Write>(image: &Verified, asked: Departures, errors: &mu
     }
 }
 
-/// When the image's first and last connection depart, none if it has none.
+/// When the image's first and last connection depart; `None` if it has no connections.
 fn departures_of(image: &Verified) -> Option<Departures> {
     let last = image.len().checked_sub(1)?;
     Some(Departures {
@@ -42,7 +42,7 @@ fn warn_beyond<E: Write>(asked: Departures, all: Departures, errors: &mut E) {
     }
 }
 
-/// What is wrong with the window that is asked for, if it isn't within all departures.
+/// How the window that is asked for relates to all departures; `None` if it is within them.
 fn reason_of(asked: Departures, all: Departures) -> Option<&'static str> {
     if asked.last < all.first || all.last < asked.first {
         Some("is outside")

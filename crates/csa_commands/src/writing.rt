@@ -1,4 +1,4 @@
-//! An image's words into a file.
+//! Writes an image's words to a path.
 
 ghost use Rattle.std.specs.Prelude.{OnOk};
 ghost use Rattle.std.specs.Io.KnownBytes.{Appends};
@@ -21,9 +21,9 @@ fn is_special<H: Files>(rt: &H, path: &str) -> bool {
     }
 }
 
-/// Puts an image's words at the path. A plain file is replaced by a whole one, made beside it: so
-/// it is never half an image, also where it is the one that was read. Into anything else the words
-/// are written.
+/// Writes an image's words to the path. If there is a plain file or nothing, the words are written to `PATH.part`,
+/// which is then renamed: so the file is never half an image, not even if it is the one that was read. If there is
+/// anything else, such as a pipe, the words are written into it.
 pub fn put_image<H: Files + AllocGlobal>(rt: &H, path: &str, words: &[u32]) -> io::Result<()>
     requires { IsWholeImage words.now }
 {
@@ -32,7 +32,7 @@ pub fn put_image<H: Files + AllocGlobal>(rt: &H, path: &str, words: &[u32]) -> i
         return write_words(rt.alloc(), &mut file, words);
     }
     let beside = format!(in rt.alloc(); "{path}.part")?;
-    // What a run that was ended left there goes; so does a link, which then isn't followed.
+    // Removes what an interrupted run left there, or a link, which then isn't followed.
     let _ = fs::remove_file(rt, beside.as_str());
     let outcome = put_by_way_of(rt, beside.as_str(), path, words);
     if outcome.is_err() {
@@ -54,7 +54,7 @@ fn put_by_way_of<H: Files + AllocGlobal>(
     fs::rename(rt, beside, path)
 }
 
-// Writes the bytes of all the words, by pieces, so that they aren't held as bytes beside the words.
+// Writes the bytes of all words piece by piece, so that memory never holds all of them beside the words.
 fn write_words<W: Write>(alloc: Global, file: &mut W, words: &[u32]) -> io::Result<()>
     requires { IsWholeImage words.now }
     ensures { OnOk result (Appends (W.contents file.old) (W.contents file.new) (bytes_of words.now)) }

@@ -24,7 +24,7 @@ const BY_WALKING: &str =
 const BY_ARRIVAL: &str =
     "{\"do\":\"profile\",\"from\":\"A\",\"to\":\"C\",\"after\":\"07:00:00\",\"until\":\"09:00:00\",\"by\":\"10:00:00\",\"criterion\":\"arrival\"}";
 
-// Serves a session whose profiles are replied in this form: what was written.
+// Serves a session whose profiles are replied to in this form, and returns what was written.
 fn replied_at<B: Named>(alloc: Global, solo: Solo, form: PointForm, requests: &[u8]) -> Vec<u8>
     requires { (solo.shelves ≡ B.table) × (solo.loader.table ≡ B.table) × (solo.seat.table ≡ B.table) }
 {
@@ -58,7 +58,7 @@ const BARE_REPLIES: &str =
 const LEGGED_REPLIES: &str =
     "{\"base\":1705276800,\"ok\":\"pin\",\"version\":1}\n{\"ok\":\"profile\",\"points\":[{\"arr\":\"08:20:00\",\"dep\":\"08:00:00\",\"journey\":\"ride 0 0 walk 1 1 0 ride 2 2\",\"legs\":[{\"arr\":\"08:10:00\",\"day\":20240115,\"dep\":\"08:00:00\",\"from\":\"A\",\"to\":\"B\",\"trip\":\"T1\"},{\"from\":\"B\",\"secs\":0,\"to\":\"B\"},{\"arr\":\"08:20:00\",\"day\":20240115,\"dep\":\"08:12:00\",\"from\":\"B\",\"to\":\"C\",\"trip\":\"T2\"}],\"trips\":2,\"walked\":0},{\"arr\":\"08:30:00\",\"dep\":\"08:00:00\",\"journey\":\"ride 0 1\",\"legs\":[{\"arr\":\"08:30:00\",\"day\":20240115,\"dep\":\"08:00:00\",\"from\":\"A\",\"to\":\"C\",\"trip\":\"T1\"}],\"trips\":1,\"walked\":0}],\"version\":1,\"walk\":null}\n";
 
-// What is replied over the sample.
+// The replies over the sample.
 fn of_sample(alloc: Global, form: PointForm) -> Result<Vec<u8>, Fail> {
     replied(alloc, image(alloc, 0)?, form, BY_WALKING)
 }
@@ -67,7 +67,7 @@ fn assert_text(rt: &impl Abort, replies: &[u8], wanted: &str) {
     assert_eq!(rt; str::from_utf8(replies).unwrap_or("?"), wanted);
 }
 
-/// Each ride by its trip and each walk by its stops, and nothing else changes.
+/// With legs, each ride is told by its trip and each walk by its stops; nothing else changes.
 #[test]
 fn legs_are_replied_where_they_are_wanted(rt: HostRuntime) -> Result<(), Fail> {
     assert_text(&rt, &of_sample(rt.alloc(), PointForm::Bare)?, BARE_REPLIES);
@@ -79,8 +79,7 @@ fn legs_are_replied_where_they_are_wanted(rt: HostRuntime) -> Result<(), Fail> {
     Ok(())
 }
 
-/// The sample with a footpath of 60 seconds from A to the stop that is called B there and `"` here; its second trip is
-/// repeat 3.
+/// The sample with a footpath of 60 seconds from A to B, whose name here is `"`; its second trip is repeat 3.
 fn image_of_a_quote(alloc: Global) -> Result<Arc<Verified, Global>, Fail> {
     let sample = second_sample_words();
     let (front, back) = sample.split_at(33);
@@ -143,7 +142,7 @@ fn line_of(alloc: Global, legs: JourneyLegs) -> Result<String, AllocError> {
 const FRONT: &str =
     "{\"ok\":\"profile\",\"points\":[{\"arr\":\"24:00:00\",\"dep\":\"08:00:00\",\"journey\":\"\",\"legs\":[";
 
-// The reply with a walk and a ride of such names.
+// The reply with a walk and a ride of odd names.
 fn odd_line(alloc: Global) -> Result<String, AllocError> {
     let mut legs = JourneyLegs::new(alloc);
     legs.add_walk(alloc, walk_of(alloc, "", "\\\"")?)?;
@@ -151,7 +150,7 @@ fn odd_line(alloc: Global) -> Result<String, AllocError> {
     line_of(alloc, legs)
 }
 
-/// Names are JSON as any text: none, quotation marks, control characters.
+/// Any name is a JSON text: empty ones, quotation marks, control characters.
 #[test]
 fn odd_names_are_texts(rt: HostRuntime) -> Result<(), Fail> {
     let line = odd_line(rt.alloc())?;

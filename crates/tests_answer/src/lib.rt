@@ -1,4 +1,4 @@
-//! What clients and users are answered: lines, replies, whole sessions and pictures. Tests alone.
+//! What clients and users are answered: lines, replies, whole sessions and pictures. Nothing but tests.
 #![tactic(auto)]
 
 #[cfg(test)]

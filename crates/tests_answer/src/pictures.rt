@@ -51,7 +51,7 @@ fn small_line(alloc: Global, note: &str) -> Result<JourneyLine, AllocError> {
     })
 }
 
-/// The picture of one journey, and of a direct walk of 1500 seconds.
+/// The picture of one journey and of a direct walk of 1500 seconds.
 fn small_picture(alloc: Global, from: &str, note: &str) -> Result<String, AllocError> {
     let mut lines = Vec::new(alloc);
     let line = small_line(alloc, note)?;
@@ -81,13 +81,13 @@ fn a_journey_is_drawn(rt: HostRuntime) -> Result<(), Fail> {
     Ok(())
 }
 
-/// A picture of which the name and the note have 150 letters.
+/// A picture whose name and note have 150 letters each.
 fn long_picture(alloc: Global) -> Result<String, AllocError> {
     let long = "0123456789".repeat(alloc, 15)?;
     small_picture(alloc, &long, &long)
 }
 
-/// The title of such a note, and the note that is seen.
+/// The title with such a note, and the part of the note that is seen.
 fn long_title(alloc: Global) -> Result<String, AllocError> {
     let long = "0123456789".repeat(alloc, 15)?;
     let cut = "0123456789".repeat(alloc, 12)?;
@@ -100,7 +100,7 @@ fn assert_cut(rt: &impl Abort, text: &str, title: &str) {
     assert!(rt; text.contains("<rect class=\"paper\" width=\"100%\" height=\"100%\"/>"));
 }
 
-/// A note of 150 letters is cut behind 120, and whole in its title; a name is cut behind 38.
+/// A note of 150 letters is cut after 120, and whole in its title; a name is cut after 38.
 #[test]
 fn long_texts_are_cut(rt: HostRuntime) -> Result<(), Fail> {
     let title = long_title(rt.alloc())?;
@@ -108,7 +108,7 @@ fn long_texts_are_cut(rt: HostRuntime) -> Result<(), Fail> {
     Ok(())
 }
 
-/// A picture without a journey, of which so many aren't drawn.
+/// A picture without a journey, which says that so many aren't drawn.
 fn empty_picture(alloc: Global, left_out: usize) -> Result<String, AllocError> {
     picture(
         alloc,
@@ -126,7 +126,7 @@ fn assert_none(rt: &impl Abort, text: &str) {
     assert!(rt; !text.contains("direct walk"));
 }
 
-/// Without a journey the picture says so, where it is seen and where it is heard.
+/// A picture without a journey says so, both where it is seen and where it is read aloud.
 #[test]
 fn no_journey_is_said(rt: HostRuntime) -> Result<(), Fail> {
     assert_none(&rt, empty_picture(rt.alloc(), 0)?.as_str());
@@ -187,7 +187,7 @@ fn changing(alloc: Global) -> Result<Journey, AllocError> {
     Ok(Journey { start: None, rides })
 }
 
-/// Its line.
+/// The line of that journey.
 fn changing_line(alloc: Global, image: &Verified) -> Result<JourneyLine, Fail> {
     let told = ToldValue {
         arrival: 30000,
@@ -197,7 +197,7 @@ fn changing_line(alloc: Global, image: &Verified) -> Result<JourneyLine, Fail> {
     Ok(journey_line(alloc, image, 28800, told, &changing(alloc)?)?)
 }
 
-/// From A to C between 08:00 and 09:00, by 10:00.
+/// From A to C, departing between 08:00 and 09:00, by 10:00.
 const ASKED: Query = Query {
     source: 0,
     target: 2,

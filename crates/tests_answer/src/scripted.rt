@@ -1,4 +1,4 @@
-//! Sessions whose replies a plain model tells.
+//! Sessions whose replies are predicted by a plain model.
 
 ghost use Rattle.std.specs.Prelude.{◌≡◌};
 
@@ -61,7 +61,7 @@ const SHORT: [Asked; 11] = [
 /// A line that is too long, between two pins.
 const LONG: [Asked; 3] = [Asked::Pin, Asked::Long, Asked::Pin];
 
-// The feeds that may be ordered, each once, in order.
+// The feeds that may be ordered, each entry once, in this order.
 const FEEDS: [&str; 3] = ["slow", "fast", "slow"];
 
 const PROFILE: &str =
@@ -72,8 +72,8 @@ const FAST: &str =
 
 const SLOW: &str = "{\"arr\":\"08:30:00\",\"dep\":\"08:00:00\",\"journey\":\"ride 0 1\"}";
 
-// What the model knows: the version that is held, the feeds of all versions so far, those that may
-// still be ordered, and whether an order publishes one.
+// What the model knows: the version that is held, the feeds of all versions so far, the feeds that may still be
+// ordered, and whether an order publishes one.
 #[derive(Drop)]
 struct Shown {
     held: Option<usize>,
@@ -94,7 +94,7 @@ impl Shown {
         })
     }
 
-    // Adds the reply to what is asked.
+    // Adds the reply to a line.
     fn answer(&mut self, asked: Asked, replies: &mut String) -> Result<(), AllocError> {
         match asked {
             Asked::Pin => self.pin(replies),
@@ -167,7 +167,7 @@ fn refuse(number: u32, name: &str, replies: &mut String) -> Result<(), AllocErro
     write!(replies, "{{\"error\":{number},\"name\":\"{name}\"}}\n")
 }
 
-// The line that asks so.
+// Adds the line that asks this.
 fn ask(asked: Asked, requests: &mut String) -> Result<(), AllocError> {
     match asked {
         Asked::Pin => requests.push_str("{\"do\":\"pin\"}\n"),
@@ -184,7 +184,7 @@ fn ask(asked: Asked, requests: &mut String) -> Result<(), AllocError> {
     }
 }
 
-// A line of one byte more than may be read.
+// Adds a line with one byte more than may be read.
 fn add_long(requests: &mut String) -> Result<(), AllocError> {
     for _ in 0..65_537 {
         requests.push('x')?;
@@ -192,7 +192,7 @@ fn add_long(requests: &mut String) -> Result<(), AllocError> {
     requests.push('\n')
 }
 
-// A session: its requests, and the replies that the model tells.
+// A session: its requests, and the replies that the model predicts.
 #[derive(Drop)]
 struct Script {
     shown: Shown,
@@ -223,7 +223,7 @@ fn script_of(alloc: Global, lines: &[Asked]) -> Result<Script, AllocError> {
     Ok(script)
 }
 
-// The sample, and the feeds with theirs.
+// The feeds, each with its image.
 fn feeds(alloc: Global) -> Result<Vec<FeedImage>, Fail> {
     let mut feeds = Vec::new(alloc);
     for name in FEEDS {
@@ -233,7 +233,7 @@ fn feeds(alloc: Global) -> Result<Vec<FeedImage>, Fail> {
     Ok(feeds)
 }
 
-// What comes of a session over new shelves, and what is written.
+// The outcome of a session over new shelves, and what is written.
 fn told<In: Read + Drop>(
     alloc: Global,
     reader: In,
@@ -249,7 +249,7 @@ fn told<In: Read + Drop>(
     )
 }
 
-// Numbers that look drawn: the same ones each time.
+// Pseudorandom numbers, the same in each run.
 #[derive(Drop)]
 struct Dice {
     state: u64,
@@ -270,7 +270,7 @@ fn drawn(alloc: Global, dice: &mut Dice) -> Result<Script, AllocError> {
     Ok(script)
 }
 
-// Whether a session ended, and wrote the replies that the model tells.
+// Whether a session ended, and wrote the replies that the model predicts.
 fn is_answered(script: &Script, told: &(Result<Ended, SessionFault>, Taker)) -> bool {
     let (ended, taker) = told;
     *ended == Ok(Ended) && taker.taken.as_slice() == script.replies.as_bytes()
@@ -312,7 +312,7 @@ impl Read for Halves<'_> {
     }
 }
 
-// The requests are answered in two reads, of which the first ends at a place.
+// Asserts that the requests are answered if they come in two reads, the first of which ends at this byte.
 fn cut_at<R: Abort>(rt: &R, alloc: Global, script: &Script, place: usize) -> Result<(), Fail> {
     let bytes = script.requests.as_bytes();
     let (front, back) = bytes.split_at(bytes.len().min(place));
@@ -342,19 +342,19 @@ fn a_long_line_may_be_cut(rt: HostRuntime) -> Result<(), Fail> {
     Ok(())
 }
 
-// How many lines of the text are whole.
+// How many lines of a text have an end.
 fn whole_lines(text: &[u8]) -> usize {
     text.iter().filter(|byte| **byte == b'\n').count()
 }
 
-// Whether these are the replies to the lines that are whole in the bytes that were read.
+// Whether these are the replies to the whole lines among the bytes that were read.
 fn answers_whole_lines(script: &Script, taken: &[u8], read: &[u8]) -> bool {
     script.replies.as_bytes().starts_with(taken)
         && whole_lines(taken) == whole_lines(read)
         && (taken.is_empty() || taken.ends_with(b"\n"))
 }
 
-/// The reader of a session fails after so many bytes: each line that was whole is answered, and the session fails.
+/// The reader of a session fails after so many bytes: each whole line before is answered, and the session fails.
 fn fails_at<R: Abort>(rt: &R, alloc: Global, script: &Script, place: usize) -> Result<(), Fail> {
     let bytes = script.requests.as_bytes();
     let (front, _) = bytes.split_at(bytes.len().min(place));
@@ -381,7 +381,8 @@ fn a_read_may_fail_anywhere(rt: HostRuntime) -> Result<(), Fail> {
     Ok(())
 }
 
-/// So it may around a line that is too long: before it, in it, where it becomes too long, at its end and behind it.
+/// A read may also fail around a line that is too long: before it, in it, where it becomes too long, at its end and
+/// after it.
 #[test]
 fn a_read_may_fail_in_a_long_line(rt: HostRuntime) -> Result<(), Fail> {
     let script = script_of(rt.alloc(), &LONG)?;
@@ -391,7 +392,7 @@ fn a_read_may_fail_in_a_long_line(rt: HostRuntime) -> Result<(), Fail> {
     Ok(())
 }
 
-// How many scans are open.
+// A gate that counts how many scans are open.
 #[derive(Drop)]
 struct Scans {
     open: AtomicU64,
@@ -428,7 +429,7 @@ impl Write for Notes<'_> {
     }
 }
 
-// What comes of a session, and what is noted of its scans.
+// The outcome of a session, and what is noted about its scans.
 fn noted(
     alloc: Global,
     script: &Script,
@@ -448,7 +449,7 @@ fn noted(
     Ok((ended, notes.noted))
 }
 
-/// A scan is left once its reply was written.
+/// A scan is left only after its reply was written.
 #[test]
 fn scans_are_left_behind_their_replies(rt: HostRuntime) -> Result<(), Fail> {
     let script = script_of(rt.alloc(), &SHORT)?;
@@ -470,8 +471,8 @@ const GROWING: [Asked; 6] = [
     Asked::Release,
 ];
 
-// What is told where memory is wanting at this line: nothing comes of the line. A second version
-// was there before, and no order publishes one.
+// The script in which memory is wanting for this line, so that the line has no effect. A second version is there from
+// the beginning, and no order publishes one.
 fn wanting_at(alloc: Global, line: usize) -> Result<Script, AllocError> {
     let mut script = Script::new(alloc)?;
     script.shown.published.push("slow")?;
@@ -493,8 +494,8 @@ fn is_told_by_one(scripts: &[Script], replies: &[u8]) -> bool {
         .any(|script| script.replies.as_bytes() == replies)
 }
 
-// Orders that take no memory. Each that nobody waits for is counted; who waits is told of a version
-// that was there before.
+// Orders that take no memory. Those that nobody waits for are counted; an order that is waited for is answered with a
+// version that was there before.
 #[derive(Drop)]
 struct OrderCount<B: Named> {
     count: usize,
@@ -527,8 +528,8 @@ impl<B: Named> Orders for OrderCount<B> {
     }
 }
 
-// Publishes a second version at these shelves and serves the requests: what came of it, what was
-// written, and how many orders nobody waited for.
+// Publishes a second version at these shelves and serves the requests: the outcome, what was written, and how many
+// orders nobody waited for.
 fn counting_at<B: Named>(
     alloc: Global,
     solo: Solo,
@@ -556,7 +557,7 @@ fn counting_at<B: Named>(
     Ok((ended, streams.writer.into_inner(), orders.count))
 }
 
-// The same at new shelves.
+// The same over new shelves.
 fn counting(
     alloc: Global,
     requests: &[u8],
@@ -567,7 +568,7 @@ fn counting(
     counting_at::<Brand>(alloc, solo, requests, taker)
 }
 
-// How many loads are told of which nobody waits for a version.
+// How many replies tell of a load for which nobody waits.
 fn loads_told(replies: &[u8]) -> usize {
     str::from_utf8(replies)
         .unwrap_or("?")
@@ -576,7 +577,7 @@ fn loads_told(replies: &[u8]) -> usize {
         .count()
 }
 
-// A script for each line at which memory may be wanting.
+// For each line, the script in which memory is wanting for that line.
 fn all_wanting(alloc: Global) -> Result<Vec<Script>, AllocError> {
     let mut wanting = Vec::new(alloc);
     for line in 0..GROWING.len() {
@@ -585,7 +586,7 @@ fn all_wanting(alloc: Global) -> Result<Vec<Script>, AllocError> {
     Ok(wanting)
 }
 
-// The session is answered as the whole script tells, or as one at which memory is wanting.
+// Asserts that the session is answered as the whole script says, or as one in which memory is wanting.
 fn answers_or_wants<R: Abort>(
     rt: &R,
     alloc: Global,
@@ -601,9 +602,9 @@ fn answers_or_wants<R: Abort>(
     Ok(())
 }
 
-/// Whichever growth is refused while a line is answered, that line's reply tells want of memory,
-/// the others are as ever, a pin that can't be told is given back, and a load that can't be told
-/// isn't ordered. A refused growth ends the test with `AllocError`.
+/// Whichever growth is refused while a line is answered, the reply to that line tells want of memory, the others are as
+/// ever, a pin that can't be told is given back, and a load that can't be told isn't ordered. A refused growth ends the
+/// test with `AllocError`.
 #[test]
 fn refused_growth_is_told_by_a_reply(rt: HostRuntime) -> Result<(), Fail> {
     let whole = wanting_at(rt.alloc(), GROWING.len())?;

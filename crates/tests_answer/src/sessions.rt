@@ -22,10 +22,10 @@ use std::sync::Arc;
 use std::test::Fail;
 use timetable::Trace;
 
-// What a line is answered that is no JSON, 31 bytes.
+// The reply to a line that isn't JSON, 31 bytes.
 const BAD_JSON: &[u8] = b"{\"error\":111,\"name\":\"BadJson\"}\n";
 
-// A writer that takes replies to lines that are no JSON, and counts them. It fails at any other.
+// A writer that takes replies to lines that aren't JSON, and counts them. It fails at any other.
 #[derive(Drop)]
 struct Tally {
     replies: u64,
@@ -45,7 +45,7 @@ impl Write for Tally {
     }
 }
 
-/// The sample, in which changing at B takes so many seconds.
+/// The sample, in which a change at B takes so many seconds.
 pub(crate) fn image(alloc: Global, change: u32) -> Result<Arc<Verified, Global>, Fail> {
     let mut words = sample_words().to_vec(alloc)?;
     if let Some(word) = words.get_mut(34) {
@@ -108,7 +108,7 @@ pub(crate) fn lines_of(alloc: Global, lines: &[&str]) -> Result<Vec<u8>, AllocEr
     Ok(bytes)
 }
 
-/// The requests of a session: pins, an order, profiles, and lines that are none, one of them too long.
+/// The requests of a session: pins, an order, profiles, and lines that are no requests, one of them too long.
 fn requests(alloc: Global) -> Result<Vec<u8>, AllocError> {
     let front = [
         PIN,
@@ -131,11 +131,11 @@ fn requests(alloc: Global) -> Result<Vec<u8>, AllocError> {
     Ok(bytes)
 }
 
-/// Their replies.
+/// The replies to them.
 const REPLIES: &str =
     "{\"base\":1705276800,\"ok\":\"pin\",\"version\":1}\n{\"feed\":\"slow\",\"ok\":\"load\"}\n{\"ok\":\"profile\",\"points\":[{\"arr\":\"08:20:00\",\"dep\":\"08:00:00\",\"journey\":\"ride 0 0 walk 1 1 0 ride 2 2\"}],\"version\":1,\"walk\":null}\n{\"ok\":\"release\"}\n{\"ok\":\"profile\",\"points\":[{\"arr\":\"08:30:00\",\"dep\":\"08:00:00\",\"journey\":\"ride 0 1\"}],\"version\":2,\"walk\":null}\n{\"error\":111,\"name\":\"BadJson\"}\n{\"base\":1705276800,\"ok\":\"pin\",\"version\":2}\n{\"error\":92,\"name\":\"AlreadyPinned\"}\n{\"error\":113,\"name\":\"LineTooLong\"}\n{\"error\":114,\"name\":\"UnknownFeed\"}\n{\"ok\":\"release\"}\n{\"error\":93,\"name\":\"NotPinned\"}\n";
 
-// Serves these bytes on new shelves: what came of it, and what was written.
+// Serves these bytes over new shelves: the outcome, and what was written.
 fn served(
     alloc: Global,
     reader: Pieces<'_>,
@@ -146,7 +146,7 @@ fn served(
     served_from(alloc, first, slow, reader, room, is_failing)
 }
 
-// The same on shelves with a first image, beside the one of a feed.
+// The same over shelves with a first image, with another image for the feed.
 fn served_from(
     alloc: Global,
     first: Arc<Verified, Global>,
@@ -171,7 +171,7 @@ pub(crate) fn feed_of(
     Ok(FeedImage { name, image })
 }
 
-/// Shelves, the loader's seat and one worker's.
+/// Shelves, the loader's seat and one worker's seat.
 #[derive(Drop)]
 pub(crate) struct Solo {
     pub(crate) shelves: Shelves,
@@ -196,7 +196,7 @@ pub(crate) fn solo_of(alloc: Global, first: Arc<Verified, Global>) -> Result<Sol
     })
 }
 
-/// Serves a reader and a writer on new shelves: what came of it, and the writer.
+/// Serves a reader and a writer over new shelves: the outcome, and the writer.
 pub(crate) fn talked<In: Read + Drop, Out: Write + Drop, G: Gate>(
     alloc: Global,
     first: Arc<Verified, Global>,
@@ -209,7 +209,7 @@ pub(crate) fn talked<In: Read + Drop, Out: Write + Drop, G: Gate>(
     Ok(talked_at::<Brand, _, _, _>(alloc, solo, feeds, reader, writer, gate))
 }
 
-// The same at these shelves.
+// The same over these shelves.
 fn talked_at<B: Named, In: Read + Drop, Out: Write + Drop, G: Gate>(
     alloc: Global,
     solo: Solo,
@@ -228,7 +228,7 @@ fn talked_at<B: Named, In: Read + Drop, Out: Write + Drop, G: Gate>(
     (ended, streams.writer.into_inner())
 }
 
-// The session ended, and wrote these replies.
+// Asserts that the session ended, and wrote these replies.
 fn assert_replies(rt: &impl Abort, told: &(Result<Ended, SessionFault>, Vec<u8>), replies: &str) {
     let (ended, written) = told;
     assert!(rt; *ended == Ok(Ended));
@@ -249,14 +249,14 @@ fn any_reads_give_the_same_replies(rt: HostRuntime) -> Result<(), Fail> {
     Ok(())
 }
 
-// Whether the session failed at a write behind so many bytes of the replies.
+// Whether the session failed at a write after so many bytes of the replies.
 fn is_cut(told: &(Result<Ended, SessionFault>, Vec<u8>), room: usize) -> bool {
     let (ended, written) = told;
     let is_front = REPLIES.as_bytes().starts_with(written) && written.len() == room;
     is_front && *ended == Err(SessionFault::WriteFailed)
 }
 
-/// A writer that takes so many bytes and then fails, or takes no more.
+/// A session ends if its writer takes so many bytes and then fails, or takes no more.
 #[test]
 fn a_writer_that_fails_ends_the_session(rt: HostRuntime) -> Result<(), Fail> {
     let bytes = requests(rt.alloc())?;
@@ -268,13 +268,13 @@ fn a_writer_that_fails_ends_the_session(rt: HostRuntime) -> Result<(), Fail> {
     Ok(())
 }
 
-// Which byte is served over and over, how the session fails, and how many lines are replied to.
+// Which byte is sent over and over, how the session fails, and how many lines are answered.
 const LIMITS: [(u8, SessionFault, u64); 2] = [
     (b'\n', SessionFault::TooManyRequests, 1_000_000),
     (b'x', SessionFault::ReadFailed, 0),
 ];
 
-/// A million requests are answered, and no line without an end.
+/// A million requests are answered, but no line that has no end.
 #[test]
 fn requests_have_limits(rt: HostRuntime) -> Result<(), Fail> {
     for (byte, fault, answered) in LIMITS.iter() {
@@ -283,7 +283,7 @@ fn requests_have_limits(rt: HostRuntime) -> Result<(), Fail> {
     Ok(())
 }
 
-// Serves this byte over and over: what came of it, and how many lines were told to be no JSON.
+// Serves a reader that gives this byte over and over: the outcome, and how many lines were refused as no JSON.
 fn tallied(alloc: Global, byte: u8) -> Result<(Result<Ended, SessionFault>, u64), Fail> {
     let (ended, tally) = talked(
         alloc,
@@ -296,7 +296,7 @@ fn tallied(alloc: Global, byte: u8) -> Result<(Result<Ended, SessionFault>, u64)
     Ok((ended, tally.replies))
 }
 
-// What comes of a session whose first read fails, and how many lines were replied to.
+// The outcome of a session whose first read fails, and how many lines were answered.
 fn reading_fails(alloc: Global) -> Result<(Result<Ended, SessionFault>, u64), Fail> {
     let (ended, tally) = talked(
         alloc,
@@ -309,7 +309,7 @@ fn reading_fails(alloc: Global) -> Result<(Result<Ended, SessionFault>, u64), Fa
     Ok((ended, tally.replies))
 }
 
-// What comes of a session whose first flush fails, and how many calls of the writer there were.
+// The outcome of a session whose first flush fails, and how many calls of the writer there were.
 fn flushing_fails(alloc: Global) -> Result<(Result<Ended, SessionFault>, u64), Fail> {
     let (ended, writer) = talked(
         alloc,
@@ -322,8 +322,8 @@ fn flushing_fails(alloc: Global) -> Result<(Result<Ended, SessionFault>, u64), F
     Ok((ended, writer.calls))
 }
 
-/// A session ends at the first read or flush that fails, though the next one would succeed. Nothing
-/// is replied behind it.
+/// A session ends at the first read or flush that fails, although the next one would succeed. Nothing is replied after
+/// it.
 #[test]
 fn one_failure_ends_the_session(rt: HostRuntime) -> Result<(), Fail> {
     let alloc: Global = rt.alloc();
@@ -362,13 +362,13 @@ const BY_WALKING: &str =
 const WALKED_REPLIES: &str =
     "{\"ok\":\"profile\",\"points\":[{\"arr\":\"08:20:00\",\"dep\":\"08:00:00\",\"journey\":\"ride 0 0 walk 1 1 0 ride 2 2\",\"trips\":2,\"walked\":0},{\"arr\":\"08:25:00\",\"dep\":\"08:00:00\",\"journey\":\"ride 0 0 walk 1 2 900\",\"trips\":1,\"walked\":900},{\"arr\":\"08:30:00\",\"dep\":\"08:00:00\",\"journey\":\"ride 0 1\",\"trips\":1,\"walked\":0}],\"version\":1,\"walk\":null}\n{\"feed\":\"slow\",\"ok\":\"load\"}\n{\"ok\":\"profile\",\"points\":[{\"arr\":\"08:20:00\",\"dep\":\"08:00:00\",\"journey\":\"ride 0 0 walk 1 1 60 ride 2 2\",\"trips\":2,\"walked\":60},{\"arr\":\"08:30:00\",\"dep\":\"08:00:00\",\"journey\":\"ride 0 1\",\"trips\":1,\"walked\":0}],\"version\":2,\"walk\":null}\n";
 
-// Serves these bytes where one may walk from B to C, and then where a change at B takes a minute.
+// Serves these bytes over an image where one may walk from B to C; the feed has one where a change at B takes a minute.
 fn walked(alloc: Global, bytes: &[u8]) -> Result<(Result<Ended, SessionFault>, Vec<u8>), Fail> {
     let (first, slow) = (image_with_a_footpath(alloc)?, image(alloc, 60)?);
     served_from(alloc, first, slow, whole(bytes), 10_000, true)
 }
 
-/// What is walked is told where the criterion counts it: behind the last ride, and by a loop on the way.
+/// Walked seconds are told if the criterion counts them: after the last ride, and for a loop on the way.
 #[test]
 fn walked_seconds_are_told(rt: HostRuntime) -> Result<(), Fail> {
     let alloc: Global = rt.alloc();
@@ -382,7 +382,8 @@ const WAIT: &str = "{\"do\":\"load\",\"feed\":\"slow\",\"wait\":true}";
 const WAITED_REPLIES: &str =
     "{\"base\":1705276800,\"ok\":\"pin\",\"version\":1}\n{\"feed\":\"slow\",\"ok\":\"load\",\"version\":2}\n{\"error\":92,\"name\":\"AlreadyPinned\"}\n{\"ok\":\"release\"}\n{\"base\":1705276800,\"ok\":\"pin\",\"version\":2}\n{\"error\":114,\"name\":\"UnknownFeed\"}\n{\"error\":112,\"name\":\"BadRequest\"}\n";
 
-/// Who waits for a load is told its version, and pins that once what it holds is released.
+/// A client that waits for a load is told its version, and pins that version once it has released the one that it
+/// holds.
 #[test]
 fn a_load_is_waited_for(rt: HostRuntime) -> Result<(), Fail> {
     let alloc: Global = rt.alloc();
@@ -396,8 +397,8 @@ fn a_load_is_waited_for(rt: HostRuntime) -> Result<(), Fail> {
     Ok(())
 }
 
-// Orders of which each that is waited for is overtaken by two others before it is answered; its
-// version may be kept back behind a fault.
+// Orders. Each that is waited for is overtaken by two others before it is answered; instead of its version a fault may
+// be told.
 #[derive(Drop)]
 struct Overtaken<O> {
     orders: O,
@@ -430,7 +431,7 @@ impl<N: Drop, O: Orders<Notice = N>> Orders for Overtaken<O> {
     }
 }
 
-// What is told, or this fault.
+// What is told; or instead this fault, if there is one.
 fn kept_back<N: Drop>(
     told: Result<(u64, N), OrderFault>,
     fault: Option<OrderFault>,
@@ -472,7 +473,7 @@ fn overtaken_at<B: Named>(
     writer.into_inner()
 }
 
-// Waits for a load of the feed, of which there are so many, and pins: what is replied.
+// Waits for a load of the feed, which can be loaded so many times, and pins: the replies.
 fn waited_and_pinned(
     alloc: Global,
     count: usize,
@@ -488,7 +489,7 @@ fn waited_and_pinned(
     Ok(taker.taken)
 }
 
-/// A notice that two versions overtook is told all the same, and the newest version is pinned.
+/// A version that two others overtook is told all the same, and the newest one is pinned.
 #[test]
 fn an_overtaken_notice_is_joined(rt: HostRuntime) -> Result<(), Fail> {
     let replies = waited_and_pinned(rt.alloc(), 3, None)?;
@@ -499,7 +500,7 @@ fn an_overtaken_notice_is_joined(rt: HostRuntime) -> Result<(), Fail> {
     Ok(())
 }
 
-// Whether the replies are this line and that version 2 was pinned.
+// Whether the replies are this line, and one that says that version 2 was pinned.
 fn tells_and_pins(replies: &[u8], line: &str) -> bool {
     match str::from_utf8(replies).unwrap_or("?").strip_prefix(line) {
         Some(rest) => rest == "\n{\"base\":1705276800,\"ok\":\"pin\",\"version\":2}\n",
@@ -507,7 +508,7 @@ fn tells_and_pins(replies: &[u8], line: &str) -> bool {
     }
 }
 
-// Why no version is told, each with its line.
+// Faults for which no version is told, each with its reply.
 const FAULTS: [(OrderFault, &str); 5] = [
     (
         OrderFault::LoaderGone,
@@ -531,7 +532,7 @@ const FAULTS: [(OrderFault, &str); 5] = [
     ),
 ];
 
-/// Each fault is told. A version may have been published all the same, and is pinned then.
+/// Each fault is told. A version may still have been published, and is pinned then.
 #[test]
 fn faults_are_told_to_who_waits(rt: HostRuntime) -> Result<(), Fail> {
     for (fault, line) in FAULTS.iter() {

@@ -1,11 +1,11 @@
-//! Readers and writers of which a test says how much they give and take, and where they fail.
+//! Readers and writers for which a test says how much they give and take, and where they fail.
 
 use std::alloc::Global;
 use std::cell::Cell;
 use std::io;
 use std::io::{Read, Write};
 
-/// A reader that gives so many bytes at once at most, and behind the last of them fails or is at its end.
+/// A reader that gives at most so many bytes at once, and after the last of them fails or ends.
 #[derive(Drop)]
 pub(crate) struct Pieces<'a> {
     pub(crate) rest: &'a [u8],
@@ -35,7 +35,7 @@ impl Read for Pieces<'_> {
     }
 }
 
-/// A reader of one byte, over and over; it counts the bytes that it gave.
+/// A reader that gives one byte over and over, and counts the bytes that it gave.
 #[derive(Drop)]
 pub(crate) struct Endless {
     pub(crate) byte: u8,
@@ -50,7 +50,7 @@ impl Read for Endless {
     }
 }
 
-/// A writer that takes so many bytes at once at most, and so many in all; it fails behind them, or takes none.
+/// A writer that takes at most so many bytes at once, and so many in all; then it fails, or takes none.
 #[derive(Drop)]
 pub(crate) struct Taker {
     pub(crate) taken: Vec<u8>,
@@ -88,8 +88,8 @@ pub(crate) fn taker_of(alloc: Global, room: usize, is_failing: bool) -> Taker {
     }
 }
 
-/// A stream that gives line ends without end, and takes all that is written. Its call of one
-/// number, from 1 on, fails, or takes none; those behind it succeed.
+/// A stream that gives line ends forever, and takes all that is written. One call, counted from 1, fails or takes none;
+/// the calls after it succeed.
 #[derive(Drop)]
 pub(crate) struct FailsOnce {
     pub(crate) calls: u64,
@@ -107,7 +107,7 @@ pub(crate) fn failing_at(fails_at: u64) -> FailsOnce {
 }
 
 impl FailsOnce {
-    // Counts a call; whether it is the one that fails.
+    // Counts a call, and returns whether it is the one that fails.
     fn fails_now(&mut self) -> bool {
         self.calls = self.calls.saturating_add(1);
         self.calls == self.fails_at
@@ -143,7 +143,7 @@ impl Write for FailsOnce {
     }
 }
 
-/// A reader of so many line ends, each of which it gives only once all before it are answered; else it fails.
+/// A reader of so many line ends. It gives each of them only after all before it were answered; otherwise it fails.
 #[derive(Drop)]
 pub(crate) struct Asker<'a> {
     pub(crate) answered: &'a Cell<u64>,

@@ -1,5 +1,5 @@
-//! From a feed's files to its image: tests alone, of the crates that no other test stands in, so
-//! that these are proved once.
+//! From a feed's files to its image: nothing but tests. The crates that they test have none of their own, so that they
+//! are proved only once.
 #![tactic(auto)]
 
 #[cfg(test)]

@@ -1,8 +1,7 @@
-//! Of `gtfs_rows` are `values`, `rows`, `random_tables`, `row_faults` and `rows_memory`, of `gtfs_tables` `joining`
-//! and `joining_memory`, of `feed_files` `files`, of `service_days` `days`, of `clock_days`
-//! `clocks`, of `transfers` `listing`, of `connections` `runs`, of `footpaths` `closing`, and of
-//! `feed_loader` `loading`. Files that fail, which two of them read, are in `failing`, and cases as
-//! texts in `texts`.
+//! `values`, `rows`, `random_tables`, `row_faults` and `rows_memory` test `gtfs_rows`; `joining` and `joining_memory`
+//! test `gtfs_tables`; `files` tests `feed_files`, `days` `service_days`, `clocks` `clock_days`, `listing` `transfers`,
+//! `runs` `connections`, `closing` `footpaths`, and `loading` `feed_loader`. `failing` has files of which a read fails,
+//! which two of these use, and `texts` has cases as texts.
 
 mod clocks;
 mod closing;

@@ -1,4 +1,5 @@
-//! Timetables and their images: tests alone, of crates in which no other test stands, so that these are proved once.
+//! Timetables and their images: nothing but tests. The crates that they test have none of their own, so that they are
+//! proved only once.
 #![tactic(auto)]
 
 #[cfg(test)]

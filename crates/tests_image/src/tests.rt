@@ -1,5 +1,5 @@
-//! Of `timetable` are `clock_texts` and `queries`, of `image_layout` is `layouts`, of `image_verifier` `verifying`, of
-//! `image_writer` `writing`.
+//! `clock_texts` and `queries` test `timetable`, `layouts` tests `image_layout`, `verifying` `image_verifier`, and
+//! `writing` `image_writer`.
 
 mod clock_texts;
 mod layouts;

@@ -1,4 +1,4 @@
-//! The program's commands as a user runs them: tests alone, most of them transcripts.
+//! The program's commands as a user runs them: nothing but tests, most of them transcripts.
 #![tactic(auto)]
 
 #[cfg(test)]

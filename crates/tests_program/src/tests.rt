@@ -1,5 +1,5 @@
-//! `transcript` has the forms of transcripts, `running` runs a command for them, and `base_feed` is
-//! the feed that most of them change.
+//! `transcript` reads and runs transcripts, `running` runs a command for them, and `base_feed` has the feed that most
+//! of them change.
 
 mod base_feed;
 mod building;

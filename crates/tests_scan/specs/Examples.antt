@@ -1,5 +1,5 @@
--- Worked examples: three stops A, B and C (0, 1, 2) and two trips, one from A over B to C, and a faster one from B to C
--- that leaves two minutes after the first has come.
+-- Worked examples: three stops A, B and C (0, 1, 2) and two trips, one from A through B to C, and a faster one from B to C that leaves two minutes after the
+-- first has arrived there
 use Rattle.std.specs.Prelude.{ℕ, true, false, List, [], ◌∷◌, Option, Some, None}
 use Rattle.timetable.specs.declared.network.Connection.{Connection}
 use Rattle.timetable.specs.declared.network.Footpath.{Footpath}
@@ -22,7 +22,7 @@ with_footpaths footpaths = record {
   footpaths = footpaths;
 }
 
--- loops at A and B that take so long, and one of 0 s at C
+-- loops at A and B of this many seconds, and one of 0 s at C
 abbrev pub with_loops : ℕ → ℕ → TimetableValue
 with_loops at_a at_b = with_footpaths (footpath 0 0 at_a ∷ footpath 1 1 at_b ∷ footpath 2 2 0 ∷ [])
 
@@ -30,11 +30,11 @@ with_loops at_a at_b = with_footpaths (footpath 0 0 at_a ∷ footpath 1 1 at_b �
 abbrev pub with_walk : TimetableValue
 with_walk = with_footpaths (footpath 0 0 0 ∷ footpath 0 1 120 ∷ footpath 1 1 0 ∷ footpath 2 2 0 ∷ [])
 
--- loops of 0 s, footpaths of a minute from A to B and from B to C, and of two from A to C
+-- loops of 0 s, footpaths of one minute from A to B and from B to C, and of two minutes from A to C
 abbrev pub with_chain : TimetableValue
 with_chain = with_footpaths (footpath 0 0 0 ∷ footpath 0 1 60 ∷ footpath 1 1 0 ∷ footpath 0 2 120 ∷ footpath 1 2 60 ∷ footpath 2 2 0 ∷ [])
 
--- from A to C, departing from 07:00:00 until a time, by a time
+-- from A to C, departing from 07:00:00 until a time, and arriving by a time
 abbrev pub asked : ℕ → ℕ → Query
 asked until by = record { source = 0; target = 2; from = 25200; until = until; by = by }
 
@@ -49,7 +49,7 @@ from_start start rides = record { start = start; rides = rides }
 abbrev pub direct : JourneyValue
 direct = from_start None (ride 0 1 [] ∷ [])
 
--- to B, there a change that takes so long, and the second trip
+-- the first trip to B, a change there of this many seconds, and the second trip
 abbrev pub by_change : ℕ → JourneyValue
 by_change secs = from_start None (ride 0 0 (footpath 1 1 secs ∷ []) ∷ ride 2 2 [] ∷ [])
 
@@ -61,11 +61,11 @@ on_foot secs connection = from_start (Some (footpath 0 1 secs)) (ride connection
 abbrev pub one_hop : TimetableValue
 one_hop = record { stops = 2; trips = 1; connections = hop 0 1 100 200 0 ∷ []; footpaths = footpath 0 0 60 ∷ footpath 1 1 0 ∷ [] }
 
--- over it, departing until a time
+-- a query over it, departing until a time
 abbrev pub over_one_hop : ℕ → Query
 over_one_hop until = record { source = 0; target = 1; from = 0; until = until; by = 1000 }
 
--- the same stops and footpaths, and one trip that stays at its first stop for a hop: there nobody gets off, and nobody boards after it
+-- the same stops and footpaths, and one trip whose first hop ends at its own stop: nobody gets off after that hop, and nobody boards for the second
 abbrev pub two_hops : TimetableValue
 two_hops = record one_hop {
   connections =

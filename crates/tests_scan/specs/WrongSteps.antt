@@ -1,4 +1,4 @@
--- Definitions that are close to the right ones, and wrong: the laws tell them apart.
+-- Definitions that are close to the right ones, but wrong: the laws tell them apart.
 use Rattle.std.specs.Prelude.{◌≡◌, ◌≢◌, ℕ, ◌-◌, ◌<◌, ◌≤◌, true, List, [], ◌∷◌, Contains, Option, Some, None, All}
 use Rattle.criteria.specs.Laws.{Rules}
 use Rattle.bags.specs.declared.point.Point.{Point}
@@ -25,7 +25,7 @@ pub record IsStepWith {V A B : Type 0} (rules : Rules V) (t : TimetableValue) (q
       (to_bag (from_to between tags.later) stop (new.labels (connection_at t i).trip)) (old.bag stop) (new.bag stop)
   pub sets_out : TakesIn rules (to_found (from_to between tags.later) (new.labels (connection_at t i).trip)) old.found new.found
 
--- the source's bag is cut at the latest departure: who comes back to the source later can't leave it again
+-- the source's bag is cut at the latest departure: passengers who come back to the source later can't leave it again
 abbrev pub cut_boardings : {V : Type 0} → Rules V → TimetableValue → Query → Spellings → ℕ → ℕ → List (Point V) → Offer (Boarding V) V
 cut_boardings rules t q tags i stop labels = record (boardings rules t tags i stop labels) {
   is_open = λ way. MayBoard t i stop labels way × (stop ≡ q.source → (connection_at t i).dep - way.walk.secs ≤ q.until);
@@ -34,7 +34,7 @@ cut_boardings rules t q tags i stop labels = record (boardings rules t tags i st
 abbrev pub IsStepWithBagCut : {V : Type 0} → Rules V → TimetableValue → Query → Spellings → ℕ → ScanValue V → ScanValue V → Type 0
 IsStepWithBagCut rules t q tags i = IsStepWith rules t q tags i (λ now. cut_boardings rules t q now i) (λ now. settings_out rules t q now i)
 
--- any footpath from the source is taken as a start, its loop too
+-- any footpath from the source is taken as a start, even its loop
 abbrev pub LeavesSource : TimetableValue → ℕ → Option Footpath → Type 0
 LeavesSource t source None = Unit {0}
 LeavesSource t source (Some f) = Contains t.footpaths f × (f.from ≡ source)
@@ -45,7 +45,7 @@ loop_starts rules t q tags i labels = record (settings_out rules t q tags i labe
 abbrev pub IsStepWithLoopStart : {V : Type 0} → Rules V → TimetableValue → Query → Spellings → ℕ → ScanValue V → ScanValue V → Type 0
 IsStepWithLoopStart rules t q tags i = IsStepWith rules t q tags i (λ now. boardings rules t now i) (λ now. loop_starts rules t q now i)
 
--- who leaves a trip at a stop boards the next one there at once, without the change time: a bag is offered a label after no footpath too
+-- passengers who leave a trip at a stop board the next one there at once, without the change time: a bag is also offered labels after no footpath
 pub data Unchanged (V : Type 0) : Type 0 where
   on_foot : Boarding V → Unchanged V
   at_once : Point V → Unchanged V
@@ -75,7 +75,7 @@ module _ {V : Type 0} (rules : Rules V) (t : TimetableValue) (tags : Spellings) 
 abbrev pub IsStepWithoutChange : {V : Type 0} → Rules V → TimetableValue → Query → Spellings → ℕ → ScanValue V → ScanValue V → Type 0
 IsStepWithoutChange rules t q tags i = IsStepWith rules t q tags i (λ now. at_once_boardings rules t now i) (λ now. settings_out rules t q now i)
 
--- the labels that the trip had are forgotten: who stays seated past the connection isn't known any more
+-- the labels that the trip had are forgotten: that passengers stay seated past the connection isn't known any more
 pub record IsStepWithoutLabels {V : Type 0} (rules : Rules V) (t : TimetableValue) (q : Query) (tags : Spellings) (i : ℕ) (old new : ScanValue V) : Type 0 where
   pub between : Spelling
   pub kept_first : Keeps tags.earlier between
@@ -87,7 +87,7 @@ pub record IsStepWithoutLabels {V : Type 0} (rules : Rules V) (t : TimetableValu
       (new.bag stop)
   pub sets_out : TakesIn rules (settings_out rules t q (from_to between tags.later) i (new.labels (connection_at t i).trip)) old.found new.found
 
--- each leg, and not the journey alone, has to depart by the latest departure
+-- each leg, and not only the journey, has to depart by the latest departure
 pub record CountsLegByLeg (t : TimetableValue) (q : Query) (departure : ℕ) (j : JourneyValue) : Type 0 where
   pub counts : Counts t q departure j
   pub legs : All (λ (ride : RideValue). (connection_at t ride.leg.first).dep ≤ q.until) j.rides

@@ -1,5 +1,5 @@
-//! The scan, and what it stands on, as others call it: tests alone, of crates in which no other
-//! test stands, so that these are proved once.
+//! The scan and the crates below it, called as others call them: nothing but tests. The crates that they test have none
+//! of their own, so that they are proved only once.
 #![tactic(auto)]
 
 #[cfg(test)]

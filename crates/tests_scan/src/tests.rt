@@ -1,5 +1,5 @@
-//! The scan's crates, called from outside; images, examples and sources that several of them use
-//! are in `images`, `examples` and `in_turn`.
+//! The scan's crates, called from outside. `images`, `examples` and `in_turn` have the images, examples and sources
+//! that several tests use.
 
 mod answering;
 mod bonus;

@@ -1,4 +1,4 @@
--- What would be wrong: to open a shelf by a store, which writes over the count in its word.
+-- It would be wrong to open a shelf by a store, which would overwrite the count in its word.
 use Rattle.std.specs.Prelude.{◌≡◌, ℕ, ◌+◌, ◌*◌, true, Some, slice_get, slice_index}
 use mathlib.Core.Option.{some}
 use lib.ListN.{get_elem?}
@@ -10,8 +10,8 @@ use Rattle.shelf_steps.specs.declared.views.View.{View}
 use Rattle.shelf_steps.specs.Ruled.{Ruled}
 use Rattle.shelf_steps.specs.Laws.{Shelved, IsLoader}
 
--- a worker is at the shelf that the loader has opened with the version, so one that came late is; and the word is as a store of open and version
--- would leave it. Then the rule doesn't hold
+-- if a worker is at the shelf that the loader has opened with the version, as one that came late is, and the word is what a store of this version as open would
+-- leave, then the rule doesn't hold
 abbrev pub NoStoreOpens : Type 0
 NoStoreOpens =
     (table : Shelved) (l : LoaderView) (i k version : ℕ) (v : WorkerView)

@@ -1,4 +1,4 @@
--- What a seat remembers of itself, so that its steps may be asked for at any time.
+-- What a seat remembers about itself, so that its steps may be asked for at any time.
 use Rattle.std.specs.Prelude.{◌≡◌, ℕ, ◌+◌, ◌*◌, ◌<◌, ◌≤◌, List, [], ◌∷◌, length, Option, Some, None}
 use Rattle.version_core.specs.declared.state.Shelf.{Shelf}
 use Rattle.version_core.specs.declared.state.Worker.{Worker}
@@ -8,7 +8,7 @@ use Rattle.shelf_steps.specs.declared.views.WorkerView.{WorkerView}
 use Rattle.shelf_steps.specs.declared.views.LoaderView.{LoaderView}
 use Rattle.shelf_steps.specs.Plays.{Mine, OfWorker, OfLoader, newest_of}
 
--- the slots that are out with a worker: its own of the shelf that it holds, with the edition in it
+-- the slots that are out with a worker: none, or if it holds a shelf its own slot there, with the edition in it
 abbrev pub CarriesSo : Worker → WorkerView → List (ℕ × Option Edition) → Type 0
 CarriesSo Worker.Idle v c = c ≡ []
 CarriesSo (Worker.Looked version k) v c = (k < 8) × (c ≡ [])
@@ -18,7 +18,7 @@ CarriesSo (Worker.Holding k version) v c = (k < 8) × (c ≡ (16 * k + v.number,
 abbrev pub DoesSo : Worker → Mine → Type 0
 DoesSo now m = OfWorker m.0 (λ v. (v.now ≡ now) × CarriesSo now v m.1)
 
--- the loader between two steps, with no slot out, by what its view has in its hand, as the current version, as the newest, and on the shelves
+-- what the loader remembers between two steps, with nothing in its hand, is what its view knows: the current version, the newest version and the shelves
 pub record RemembersBy (current newest : ℕ) (shelves : List Shelf) (hand : Option ℕ) (now top : ℕ) (standing : List Shelf) : Type 0 where
   pub empty : hand ≡ None
   pub current_is : now ≡ current

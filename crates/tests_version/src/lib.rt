@@ -1,4 +1,4 @@
-//! Versions of timetables, from the machine of versions to the shelves that it is run on: tests alone.
+//! Versions of timetables, from the state machine to the shelves that follow it: nothing but tests.
 #![tactic(auto)]
 
 #[cfg(test)]

@@ -1,5 +1,5 @@
-//! Of `version_core` is `machine`, of `shelf_steps` are `steps` and `plain_store`, of `epochs` is
-//! `shelves`. The images that they publish are in `images`.
+//! `machine` tests `version_core`, `steps` and `plain_store` test `shelf_steps`, and `shelves` tests `epochs`. `images`
+//! has the images that they publish.
 
 mod images;
 mod machine;

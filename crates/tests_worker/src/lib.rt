@@ -1,5 +1,5 @@
-//! Workers, the loader and the orders between them: tests alone. Of `orders` is `ordering`, of
-//! `load_orders` `queueing`, of `workers` `serving`.
+//! Workers, the loader and the orders between them: nothing but tests. `ordering` tests `orders`, `queueing` tests
+//! `load_orders`, and `serving` tests `workers`.
 #![tactic(auto)]
 
 #[cfg(test)]

@@ -1,4 +1,4 @@
-//! Why an order isn't taken, and a gate that lets everybody in.
+//! Why an order isn't taken, and a gate that lets everyone in.
 
 use orders::{Gate, OpenGate, OrderFault, Ordered};
 

@@ -1,4 +1,4 @@
-//! The queue of load orders, and the way back to who waits.
+//! The queue of load orders, and the way back to a client that waits.
 
 ghost use Rattle.std.specs.Prelude.{◌≡◌, []};
 ghost use Rattle.load_orders.specs.Telling.{AllAnswered};
@@ -83,7 +83,7 @@ fn two_names(alloc: Global) -> Result<Vec<String>, AllocError> {
 
 type Worker<'a, R> = WorkerOrders<'a, R, u64, Numbers<'a, R>>;
 
-/// The loader's end of a queue, at which each order that was taken was answered.
+/// The loader's end of a queue. Each order that was taken from it was answered.
 #[derive(Drop)]
 struct Loader {
     orders: LoaderOrders<u64>,
@@ -100,14 +100,15 @@ impl Model for Loader {
 }
 
 impl Loader {
-    /// The end of a new queue.
+    /// The loader's end of a new queue.
     fn new(orders: LoaderOrders<u64>) -> Loader
         requires { (orders.taken ≡ []) × (orders.answered ≡ []) }
     {
         Loader { orders }
     }
 
-    /// Takes the next order, and answers it so, or not at all: then it takes no other.
+    /// Takes the next order, and answers it, if there is an answer; without one it takes no other order. Returns the
+    /// index of the order's feed.
     fn answer_next<R: Wait>(self, rt: &R, answer: Option<LoadAnswer<u64>>) -> Option<usize> {
         let mut orders = self.orders;
         let order = orders.next(rt)?;
@@ -118,13 +119,13 @@ impl Loader {
         Some(feed)
     }
 
-    /// The name of the next order's feed.
+    /// Takes the next order and answers it; the name of its feed.
     fn next_words<R: Wait>(&mut self, rt: &R) -> &'static str {
         take_and_answer(rt, &mut self.orders)
     }
 }
 
-/// Takes the next order and answers it: the name of its feed.
+/// Takes the next order and answers it; the name of its feed.
 fn take_and_answer<R: Wait>(rt: &R, orders: &mut LoaderOrders<u64>) -> &'static str
     requires answered { AllAnswered orders.old }
     ensures answered { AllAnswered orders.new }
@@ -142,7 +143,7 @@ fn take_and_answer<R: Wait>(rt: &R, orders: &mut LoaderOrders<u64>) -> &'static 
     }
 }
 
-/// The end that keeps a queue, two workers' and the loader's, while they are there.
+/// The end that keeps a queue, two workers' ends and the loader's, while they are there.
 #[derive(Drop)]
 struct Ends<'a, R: Wait> {
     keeper: Option<OrderKeeper<u64>>,
@@ -170,7 +171,7 @@ fn new_ends<'a, R: Wait>(
     })
 }
 
-/// What an order is answered.
+/// The answer to an order.
 fn order_words<R: Wait>(worker: &mut Worker<'_, R>, order: &str) -> &'static str {
     let (word, feed) = order.split_once(' ').unwrap_or((order, ""));
     let answer = match word {
@@ -191,14 +192,14 @@ fn awaits<R: Wait>(worker: &mut Worker<'_, R>, feed: &str) -> Result<(), OrderFa
 }
 
 impl<'a, R: Wait> Ends<'a, R> {
-    /// Does what a line of a script says, and tells what is answered.
+    /// Does what a line of a script says, and tells the answer.
     ///
     /// | line | what is done |
     /// |---|---|
     /// | `one orders FEED`, `other orders FEED` | the worker orders the feed |
     /// | `one awaits FEED`, `other awaits FEED` | the worker orders it and waits |
-    /// | `loader takes` | the loader takes an order and answers it: its feed |
-    /// | `loader goes`, `workers go` | their ends are let go, those of the workers with the one that keeps the queue |
+    /// | `loader takes` | the loader takes an order and answers it; tells its feed |
+    /// | `loader goes`, `workers go` | drops the ends of these; with the workers, also the end that keeps the queue |
     fn answer(&mut self, rt: &R, deed: &str) -> &'static str {
         match deed {
             "loader goes" => {
@@ -246,7 +247,8 @@ fn play<R: Wait + Abort>(rt: &R, ends: &mut Ends<'_, R>, script: &str) {
     }
 }
 
-/// Four orders wait, the fifth is refused, also for whoever would wait, and one that is taken makes room again.
+/// Four orders wait; a fifth is refused, even if its client would wait for it; and an order that is taken makes room
+/// again.
 const FOUR_WAIT: &str = "\
 one orders fast: ok
 one orders none: UnknownFeed
@@ -293,7 +295,7 @@ fn play_at_new_ends<R: Wait + Abort>(
     Ok(())
 }
 
-/// What whoever waits for the feed `fast` is told, where the loader answers so; and which feed the loader was told.
+/// What a client that waits for the feed `fast` is told if the loader answers this, and which feed the loader was told.
 fn told<R: Threads + Wait + Sync>(
     rt: &R,
     worker: &mut Worker<'_, R>,
@@ -307,7 +309,7 @@ fn told<R: Threads + Wait + Sync>(
     )
 }
 
-/// Asserts what is told of the load where the loader answers so, and that the loader was told of the feed `fast`.
+/// Asserts what is told about the load if the loader answers this, and that the loader was told of the feed `fast`.
 fn tells<'a, R: Threads + Wait + Sync + Abort>(
     alloc: Global,
     names: &'a [String],
@@ -346,14 +348,15 @@ fn each_answer<R: Threads + Wait + Sync + Abort>(
     tells(alloc, names, &shelves, None, Err(OrderFault::LoaderGone))
 }
 
-/// Each answer of the loader reaches whoever waits for it; where none came, the loader is gone.
+/// Each answer of the loader reaches the client that waits for it; if there is none, the client is told that the loader
+/// is gone.
 #[test]
 fn answers_are_told(rt: HostRuntime) -> Result<(), Fail> {
     let names = two_names(rt.alloc())?;
     each_answer(&rt, rt.alloc(), &names)
 }
 
-/// What the loader takes of a queue that was closed behind one order, and whether all that was put was taken.
+/// What the loader takes from a queue that was closed after one order, and whether all orders that were put were taken.
 fn taken_of_closed<'a, R: Wait>(
     alloc: Global,
     names: &'a [String],
@@ -373,7 +376,7 @@ fn taken_of_closed<'a, R: Wait>(
     Ok((words, keeper.finish(orders).is_some()))
 }
 
-/// A queue that is closed gives the order that was put before, and no more, though the end that keeps it is there.
+/// A closed queue gives the order that was put before, and no more, although the end that keeps it is still there.
 #[test]
 fn a_closed_queue_gives_no_more(rt: HostRuntime) -> Result<(), Fail> {
     let names = two_names(rt.alloc())?;
@@ -383,14 +386,14 @@ fn a_closed_queue_gives_no_more(rt: HostRuntime) -> Result<(), Fail> {
     Ok(())
 }
 
-/// Four orders wait.
+/// Four orders that fill the queue.
 const FILLED: &str = "\
 one orders slow: ok
 other orders fast: ok
 one orders fast: ok
 other orders slow: ok";
 
-/// The same four wait, and no other does.
+/// Shows that these four orders wait, and no other.
 const STILL_FILLED: &str = "\
 one orders slow: OrdersFull
 one awaits none: UnknownFeed
@@ -403,8 +406,8 @@ loader takes: slow
 loader takes: slow
 loader takes: nothing";
 
-/// An order for which its worker would wait isn't put: the queue is full, or there was no memory
-/// for a way back. Neither changes the queue.
+/// An order for which its worker would wait isn't put, since the queue is full, or there is no memory for a way back.
+/// Neither changes the queue.
 fn awaits_at_a_full_queue<R: Wait + Abort>(rt: &R, ends: &mut Ends<'_, R>) -> Result<(), Fail> {
     play(rt, ends, FILLED);
     let answer = ends.answer(rt, "other awaits slow");
@@ -416,8 +419,8 @@ fn awaits_at_a_full_queue<R: Wait + Abort>(rt: &R, ends: &mut Ends<'_, R>) -> Re
     Ok(())
 }
 
-/// A growth that is refused before the ends stand makes no queue; one of the way back leaves the
-/// orders that wait as they are. Either ends the test with `AllocError`.
+/// If a growth is refused before the ends are made, there is no queue; if one of a way back is refused, the orders that
+/// wait stay as they are. Either ends the test with `AllocError`.
 #[test]
 fn refused_growth_makes_no_queue(rt: HostRuntime) -> Result<(), Fail> {
     let names = two_names(rt.alloc())?;

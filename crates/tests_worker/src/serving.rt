@@ -1,4 +1,4 @@
-//! Clients over memory, served by threads.
+//! Clients in memory, served by threads.
 
 mod collecting;
 mod holding;
@@ -50,7 +50,7 @@ const FILES: [(&str, &[u8]); 6] = [
     ),
 ];
 
-/// The same without its stops and its transfers.
+/// The files of a feed with agencies and trips alone.
 const BAD_FILES: [(&str, &[u8]); 2] = [
     ("agency.txt", b"agency_timezone\nEtc/UTC\n"),
     ("trips.txt", b"service_id,trip_id\nS,T1\nS,T2\n"),
@@ -59,28 +59,28 @@ const BAD_FILES: [(&str, &[u8]); 2] = [
 const PROFILE: &str =
     "{\"do\":\"profile\",\"from\":\"A\",\"to\":\"C\",\"after\":\"07:00:00\",\"until\":\"09:00:00\",\"by\":\"10:00:00\",\"criterion\":\"arrival\"}\n";
 
-/// The reply to that, with legs.
+/// The reply to that profile, with legs.
 const WITH_LEGS: &str =
     "{\"ok\":\"profile\",\"points\":[{\"arr\":\"08:20:00\",\"dep\":\"08:00:00\",\"journey\":\"ride 0 0 walk 1 1 0 ride 2 2\",\"legs\":[{\"arr\":\"08:10:00\",\"day\":20240115,\"dep\":\"08:00:00\",\"from\":\"A\",\"to\":\"B\",\"trip\":\"T1\"},{\"from\":\"B\",\"secs\":0,\"to\":\"B\"},{\"arr\":\"08:20:00\",\"day\":20240115,\"dep\":\"08:12:00\",\"from\":\"B\",\"to\":\"C\",\"trip\":\"T2\"}]}],\"version\":1,\"walk\":null}\n";
 
-/// What a session that orders a load asks, and its replies.
+/// The requests of a session that orders a load, and the replies.
 const LOADING: (&str, &str) = (
     "{\"do\":\"pin\"}\n{\"do\":\"load\",\"feed\":\"slow\"}\n{\"do\":\"profile\",\"from\":\"A\",\"to\":\"C\",\"after\":\"07:00:00\",\"until\":\"09:00:00\",\"by\":\"10:00:00\",\"criterion\":\"arrival\"}\n",
     "{\"base\":1705276800,\"ok\":\"pin\",\"version\":1}\n{\"feed\":\"slow\",\"ok\":\"load\"}\n{\"ok\":\"profile\",\"points\":[{\"arr\":\"08:20:00\",\"dep\":\"08:00:00\",\"journey\":\"ride 0 0 walk 1 1 0 ride 2 2\"}],\"version\":1,\"walk\":null}\n",
 );
 
-/// What a session that waits for loads asks, and its replies. The third load is for the third day, 20240117.
+/// The requests of a session that waits for loads, and the replies. The third load is for the third day, 20240117.
 const WAITING: (&str, &str) = (
     "{\"do\":\"pin\"}\n{\"do\":\"load\",\"feed\":\"slow\",\"wait\":true}\n{\"do\":\"pin\"}\n{\"do\":\"release\"}\n{\"do\":\"pin\"}\n{\"do\":\"load\",\"feed\":\"bad\",\"wait\":true}\n{\"do\":\"load\",\"feed\":\"none\",\"wait\":true}\n{\"do\":\"load\",\"feed\":\"slow\",\"wait\":true}\n{\"do\":\"release\"}\n{\"do\":\"pin\"}\n",
     "{\"base\":1705276800,\"ok\":\"pin\",\"version\":1}\n{\"feed\":\"slow\",\"ok\":\"load\",\"version\":2}\n{\"error\":92,\"name\":\"AlreadyPinned\"}\n{\"ok\":\"release\"}\n{\"base\":1705276800,\"ok\":\"pin\",\"version\":2}\n{\"error\":120,\"name\":\"LoadRefused\",\"refusal\":1}\n{\"error\":114,\"name\":\"UnknownFeed\"}\n{\"feed\":\"slow\",\"ok\":\"load\",\"version\":3}\n{\"ok\":\"release\"}\n{\"base\":1705449600,\"ok\":\"pin\",\"version\":3}\n",
 );
 
-/// What the loader tells of the second.
+/// What the loader tells about the loads of the session that waits.
 const LOADED: &str =
     "loaded slow version 2\n0: 2 3 2 3\nload bad refused 1 MissingFile stops.txt 0\n1: 1\n\
 loaded slow version 3\n0: 3 3 0 0\n";
 
-/// A writer to bytes that several threads may share, or one that nobody reads any more.
+/// A writer to bytes that several threads may share; or one whose reader is gone, so that writes fail.
 #[derive(Drop)]
 struct Shared<'a, R> {
     rt: &'a R,
@@ -102,7 +102,7 @@ impl<'a, R: Wait> Write for Shared<'a, R> {
     }
 }
 
-/// A client whose requests lie in memory. One without a writer can't be opened.
+/// A client whose requests are in memory. One without a writer can't be opened.
 #[derive(Drop)]
 struct Visitor<'a, R> {
     requests: &'static [u8],
@@ -130,7 +130,7 @@ impl<'a, R: Wait + Sync> Client for Visitor<'a, R> {
     }
 }
 
-/// Visitors who wait in a row: the last comes first.
+/// Visitors who wait in a row: the last one is served first.
 #[derive(Drop)]
 struct Row<C> {
     visitors: Vec<C>,
@@ -251,7 +251,7 @@ impl<'a, R: Clock> Gate for Meeting<'a, R> {
     }
 }
 
-/// The shelves with the sample, the loader's seat, and as many workers' seats, one or two.
+/// Shelves with the sample, the loader's seat, and one or two workers' seats.
 fn shelves_for(alloc: Global, two: bool) -> Result<(Shelves, ShelfLoader, Vec<ShelfSeat>), Fail>
     ensures loader { IfOk result (λ made. made.1.table ≡ made.0) }
     ensures seats { IfOk result (λ made. All (λ seat. seat.table ≡ made.0) made.2.items) }
@@ -278,7 +278,7 @@ struct Counts {
     spent: u64,
 }
 
-/// Serves clients at these shelves, under a name, with the two feeds; how their sessions ended.
+/// Serves clients over these shelves, under a name, with the two feeds: how their sessions ended.
 fn count_ends<
     B: Named + Send + Sync,
     C: Client + Drop + Send,
@@ -319,7 +319,7 @@ fn count_ends<
     })
 }
 
-/// Serves the visitors; how their sessions ended, and what was written to the errors.
+/// Serves the visitors: how their sessions ended, and what was written to the errors.
 fn serve_all<R: Threads + Wait + Sync + Abort, G: Gate + Sync>(
     rt: &R,
     alloc: Global,
@@ -354,8 +354,8 @@ enum Manner {
     IsShut,
 }
 
-/// Serves visitors who ask so, the last first; how their sessions ended, what was replied, and what
-/// was written to the errors.
+/// Serves visitors with these requests and manners, the last first: how their sessions ended, what was replied, and
+/// what was written to the errors.
 fn serve_asking<R: Threads + Wait + Sync + Abort, G: Gate + Sync>(
     rt: &R,
     alloc: Global,
@@ -366,7 +366,7 @@ fn serve_asking<R: Threads + Wait + Sync + Abort, G: Gate + Sync>(
     serve_in(rt, alloc, asking, two, gate, PointForm::Bare)
 }
 
-/// The same, with profiles that are replied in this form.
+/// The same, with the form in which profiles are replied to.
 fn serve_in<R: Threads + Wait + Sync + Abort, G: Gate + Sync>(
     rt: &R,
     alloc: Global,
@@ -405,7 +405,7 @@ fn visitor_of<'a, R>(
     }
 }
 
-/// What came of sessions, with the replies and the errors, is this.
+/// Asserts how sessions ended, the replies, and what was written to the errors.
 fn assert_served(
     rt: &impl Abort,
     served: &(Counts, Vec<u8>, Vec<u8>),
@@ -426,10 +426,11 @@ fn assert_served(
     assert_eq!(rt; str::from_utf8(told).unwrap_or("?"), errors);
 }
 
-/// What the loader tells of one load.
+/// What the loader tells about one load.
 const LOADED_ONCE: &str = "loaded slow version 2\n0: 2 3 2 3\n";
 
-/// A session pins, orders a load, and goes on with what it holds; the loader tells of the version that it published.
+/// A session pins, orders a load, and goes on with the version that it holds; the loader tells which version it
+/// published.
 #[test]
 fn a_client_is_served(rt: HostRuntime) -> Result<(), Fail> {
     let (requests, expected) = LOADING;
@@ -449,7 +450,8 @@ fn legs_are_replied(rt: HostRuntime) -> Result<(), Fail> {
     Ok(())
 }
 
-/// Whoever waits for a load is told its version, and pins it; or it is told the number with which the load was refused.
+/// A client that waits for a load is told its version, and pins it; or it is told the number with which the load was
+/// refused.
 #[test]
 fn loads_are_waited_for(rt: HostRuntime) -> Result<(), Fail> {
     let (requests, expected) = WAITING;
@@ -459,11 +461,11 @@ fn loads_are_waited_for(rt: HostRuntime) -> Result<(), Fail> {
     Ok(())
 }
 
-/// The reply to the one client of these who reads on.
+/// The reply to the only one of these clients that goes on reading.
 const PINNED: &str = "{\"base\":1705276800,\"ok\":\"pin\",\"version\":2}\n";
 
-/// A client that waits and goes away: its load is carried out, its session fails, and its worker
-/// serves the next client. One that goes away with a version pinned leaves its seat idle.
+/// If a client waits for a load and goes away, its load is carried out, its session fails, and its worker serves the
+/// next client. One that goes away with a version pinned leaves its seat idle.
 #[test]
 fn whoever_waits_may_go_away(rt: HostRuntime) -> Result<(), Fail> {
     let pin = "{\"do\":\"pin\"}\n";
@@ -489,7 +491,7 @@ fn full_shelves_are_reported(rt: HostRuntime) -> Result<(), Fail> {
     Ok(())
 }
 
-/// Whether the first of two scans met the second, within so many sleeps.
+/// Whether the second of two scans was over before the first had waited for so many milliseconds.
 fn scans_meet<R: Threads + Wait + Sync + Clock + Abort>(
     rt: &R,
     alloc: Global,
@@ -517,7 +519,7 @@ fn two_scans_at_once(rt: HostRuntime) -> Result<(), Fail> {
     Ok(())
 }
 
-/// Whichever growth is refused, what was started ends, and the test ends with `AllocError`.
+/// Whichever growth is refused, every thread that was started ends, and the test ends with `AllocError`.
 #[test]
 fn refused_growth_serves_nobody(rt: HostRuntime) -> Result<(), Fail> {
     let alloc: Global = rt.alloc();

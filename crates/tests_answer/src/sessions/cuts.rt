@@ -1,4 +1,4 @@
-//! Requests that come in two reads, cut at each place: a session that has a line too long, and that line by itself.
+//! Requests that come in two reads, cut at each byte: a session with a line that is too long, and that line by itself.
 
 use super::{REPLIES, feed_of, image, requests, talked};
 use crate::scripted::Halves;
@@ -11,7 +11,7 @@ use std::io::{Read, Write};
 use std::sync::Arc;
 use std::test::Fail;
 
-// How many bytes the line that is too long has before its end.
+// How many bytes a line that is too long has before its LF.
 const LONG: usize = 65_537;
 
 // The reply to it.
@@ -24,7 +24,7 @@ fn feeds_of(alloc: Global, slow: &Arc<Verified, Global>) -> Result<Vec<FeedImage
     Ok(feeds)
 }
 
-// Whether the requests have these replies where they come in two reads, the first of so many bytes.
+// Whether the requests have these replies if they come in two reads, the first of so many bytes.
 fn is_answered(
     alloc: Global,
     first: &Arc<Verified, Global>,
@@ -44,12 +44,12 @@ fn is_answered(
     Ok(ended == Ok(Ended) && taker.taken.as_slice() == REPLIES.as_bytes())
 }
 
-// Whether a place is in the long line that begins there, and not near one of its ends.
+// Whether an offset is in the long line that begins at `begin`, and not near one of its ends.
 fn is_deep(begin: usize, place: usize) -> bool {
     place > begin.saturating_add(50) && place < begin.saturating_add(LONG - 50)
 }
 
-/// Each place of the session's lines, but for those deep in the long line.
+/// Cuts at each byte of the session's lines, except those deep in the long line.
 #[test]
 fn a_session_with_a_long_line_may_be_cut(rt: HostRuntime) -> Result<(), Fail> {
     let alloc: Global = rt.alloc();
@@ -70,8 +70,8 @@ fn a_session_with_a_long_line_may_be_cut(rt: HostRuntime) -> Result<(), Fail> {
 // How far apart the cuts of one line are, in bytes.
 const STRIDE: usize = 1_024;
 
-// A reader of lines that are too long. The first comes in reads that end at each `STRIDE`th byte, and each further one
-// is cut one byte behind the one before: so together they are cut at each place.
+// A reader of lines that are too long. The reads of the first end after each `STRIDE` bytes, and those of each further
+// line one byte later: so together they are cut at each byte.
 #[derive(Drop)]
 struct LongLines {
     lines: usize,
@@ -79,7 +79,7 @@ struct LongLines {
 }
 
 impl LongLines {
-    // Where the read ends that begins behind the bytes given.
+    // Where the read ends that begins after the bytes given so far.
     fn next_cut(&self) -> usize {
         if self.given < self.lines {
             return self.lines;
@@ -129,7 +129,7 @@ impl Write for Tally {
     }
 }
 
-/// Each place of the long line, by a session of such lines, each cut at other places.
+/// Cuts at each byte of the long line, by a session of such lines, each cut elsewhere.
 #[test]
 fn a_long_line_may_be_cut_anywhere(rt: HostRuntime) -> Result<(), Fail> {
     let alloc: Global = rt.alloc();

@@ -1,4 +1,4 @@
-//! The days that clocks show: by other calendars, and of a clock that is handed in.
+//! The days that clocks show: compared with other calendars, and by a clock that is passed in.
 
 ghost use Rattle.std.specs.Prelude.{◌≡◌};
 
@@ -14,7 +14,7 @@ use std::process::Abort;
 use std::test::Fail;
 use std::time::{Clock, Duration};
 
-/// A clock that shows so many seconds after 1970-01-01T00:00:00Z and a part of a second, or can't be read.
+/// A clock that shows this many seconds after 1970-01-01T00:00:00Z and a fraction of a second, or can't be read.
 #[derive(Drop)]
 struct Stopped(Option<u64>);
 
@@ -31,8 +31,8 @@ impl Clock for Stopped {
     }
 }
 
-// Zones, and what their clocks show at instants: the day, and the day before. The days by `date` of
-// GNU; 253402207200 is the last second of the calendar, -62135596800 the first of the year 1.
+// Zones, and what their clocks show at instants: the day, and the day before it. The days were found with GNU `date`;
+// 253402207200 is the last second of the calendar, -62135596800 the first second of the year 1.
 const SHOWN: &str = "
 = CET-1CEST,M3.5.0,M10.5.0/3
 > 1711839599 20240330 20240329
@@ -70,7 +70,7 @@ const SHOWN: &str = "
 > 86398 19691231 19691230
 > 86399 19700101 19691231";
 
-// The instant of each line, and the days that the zone's clocks show then.
+// Reads the instant of each line, and adds the days that the zone's clocks show then.
 struct Shown;
 
 impl Telling for Shown {
@@ -103,7 +103,7 @@ fn add_days(told: &mut String, zone: &Zone, text: &str) -> Result<(), Fail> {
     Ok(())
 }
 
-// A day as one number, or that there is none.
+// Adds a day as one number, or that there is none.
 fn add_day(told: &mut String, day: Result<Day, DayFault>) -> Result<(), AllocError> {
     match day {
         Ok(day) => {

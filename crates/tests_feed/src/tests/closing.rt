@@ -11,7 +11,7 @@ use std::process::Abort;
 use std::test::Fail;
 use timetable::Footpath;
 
-// Whether each footpath joins two of so many stops.
+// Whether each footpath joins two stops below `stops`.
 fn are_in_range(listed: &[Footpath], stops: u32) -> bool
     ensures { result ≡ true → AreInRange listed.now stops }
 {
@@ -47,7 +47,7 @@ fn has_loops(listed: &[Footpath], stops: u32) -> bool
     true
 }
 
-// The closure of footpaths that can be closed.
+// The closure of footpaths, if they can be closed.
 fn closed(
     rt: &impl Abort,
     alloc: Global,
@@ -59,7 +59,7 @@ fn closed(
     close(alloc, stops, listed)
 }
 
-// The closure of at most so many footpaths, of 100 s at most.
+// The closure within limits: at most `most` footpaths, each of at most 100 s.
 fn closed_within(
     rt: &impl Abort,
     alloc: Global,
@@ -80,7 +80,8 @@ fn told(alloc: Global, answer: Result<Vec<Footpath>, FootFault>) -> Result<Strin
     }
 }
 
-// What is told of listed footpaths, of so many stops, as `3`, or within a bound, as `3 within 2`.
+// The closure of listed footpaths as a text, or its fault. The head has the number of stops, as `3`, or also a bound,
+// as `3 within 2`.
 fn told_of(
     rt: &impl Abort,
     alloc: Global,
@@ -97,9 +98,8 @@ fn told_of(
     Ok(told(alloc, answer)?)
 }
 
-// Each number of stops with footpaths that are listed, and their closure: walks of a million
-// seconds, of one more, and where a sum of 32 bits would begin again. Within a bound, that there
-// are too many is told first.
+// Numbers of stops with listed footpaths and their closures: among them walks of a million seconds, of one second more,
+// and of so many that a 32-bit sum would overflow. If there is a bound, too many footpaths are the first fault.
 const CLOSURES: &str = "
 = 3
 0 0 0, 1 1 0, 2 2 0, 0 1 60, 1 2 60
@@ -166,8 +166,8 @@ fn faults_are_told(rt: HostRuntime) -> Result<(), Fail> {
     Ok(())
 }
 
-// Whichever growth is refused, the fault is that memory ran out; else the closure comes.
-// A refused growth ends the test with `AllocError`.
+// Whichever growth is refused, the fault is that memory ran out; otherwise the closure is returned. A refused growth
+// ends the test with `AllocError`.
 #[test]
 fn refused_growth_is_told(rt: HostRuntime) -> Result<(), Fail> {
     let listed = paths_of(rt.alloc(), "0 0 0, 1 1 0, 2 2 0, 0 1 60, 1 2 60")?;

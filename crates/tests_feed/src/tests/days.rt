@@ -1,4 +1,4 @@
-//! Day starts by other calendars, which services run on a day, and what is refused.
+//! Day starts, compared with other calendars; which services run on a day; and what is refused.
 
 ghost use Rattle.std.specs.Prelude.{◌≡◌};
 
@@ -24,9 +24,9 @@ fn add_line(told: &mut String) -> Result<(), AllocError> {
     }
 }
 
-// Zones, with days and the seconds at which they start there. 08:00:00 of the first day of summer
-// time is 1711864800, and that day starts eight hours earlier. In the second zone the clocks skip
-// noon in March, and in October they show it twice.
+// Zones, with days and the seconds at which they start there. 08:00:00 of the first day of summer time is 1711864800,
+// and the day starts eight hours before that. In the second zone the clocks skip noon in March, and show it twice in
+// October.
 const STARTS: &str = "
 = CET-1CEST,M3.5.0,M10.5.0/3
 > 20240330 1711753200
@@ -54,7 +54,7 @@ const STARTS: &str = "
 > 20241027 1729983600
 > 20241201 1733007600";
 
-// The day of each line, and the second at which it starts in the zone that the head names.
+// Reads the day of each line, and tells the second at which it starts in the zone that the head names.
 struct Starts;
 
 impl Telling for Starts {
@@ -133,7 +133,7 @@ fn numbers(rt: HostRuntime) {
     assert!(rt; DayFault::OutOfMemory.number() == 23);
 }
 
-// Services by their weeks, and by days that are added and removed; and on which days they run. 2024-01-15 is a Monday.
+// Services by weekdays, and by days that are added and removed; and the days on which they run. 2024-01-15 is a Monday.
 const SERVICES: &str = "
 = dates alone
 calendar.txt service_id,monday,tuesday,wednesday,thursday,friday,saturday,sunday,start_date,end_date
@@ -214,7 +214,7 @@ fn dates_of(alloc: Global, text: &str) -> Result<Vec<CalendarDateRow>, Fail> {
     Ok(dates)
 }
 
-// The services of a file in a line, and of the days in the next one.
+// The services of a calendar file in the first line, and of added and removed days in the second.
 fn services_of(alloc: Global, lines: &str) -> Result<Services, Fail> {
     let (weeks, dates) = lines.split_once('\n').unwrap_or((lines, "none"));
     let (_, weeks) = file_of(alloc, weeks)?;
@@ -223,7 +223,7 @@ fn services_of(alloc: Global, lines: &str) -> Result<Services, Fail> {
     Ok(Services::new(alloc, IdHash::of_key(1), &rows, &dates)?)
 }
 
-// Adds whether a service runs on each of some days, each behind a space.
+// Adds whether a service runs on each of some days, each answer after a space.
 fn add_answers(
     told: &mut String,
     services: &Services,
@@ -237,7 +237,7 @@ fn add_answers(
     Ok(())
 }
 
-// Adds the services and the days of lines, with whether each runs.
+// Adds the services and the days of the lines, with whether each service runs on them.
 fn add_runs(told: &mut String, services: &Services, lines: &str) -> Result<(), Fail> {
     for line in lines.split("\n> ") {
         let (asked, _) = line.split_once(": ").unwrap_or((line, ""));
@@ -249,7 +249,7 @@ fn add_runs(told: &mut String, services: &Services, lines: &str) -> Result<(), F
     Ok(())
 }
 
-// The service and the days of each line, and whether it runs on them.
+// Reads the service and the days of each line, and tells whether it runs on them.
 struct Runs;
 
 impl Telling for Runs {
@@ -271,7 +271,7 @@ const ADDED_AND_REMOVED: &str = "\
 calendar.txt service_id,monday,tuesday,wednesday,thursday,friday,saturday,sunday,start_date,end_date
 X +20240115, Z -20240115";
 
-// A service that is asked for again is told as before.
+// A service gives the same answers when it is asked for again.
 #[test]
 fn services_asked_for_twice(rt: HostRuntime) -> Result<(), Fail> {
     let services = services_of(rt.alloc(), ADDED_AND_REMOVED)?;
@@ -284,7 +284,7 @@ fn services_asked_for_twice(rt: HostRuntime) -> Result<(), Fail> {
     Ok(())
 }
 
-// A service of each day but one.
+// A service on every day but one.
 const ONE_DAY_OUT: &str = "\
 calendar.txt: S,1,1,1,1,1,1,1,20240110,20240220
 S -20240112";

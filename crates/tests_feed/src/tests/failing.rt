@@ -18,7 +18,7 @@ pub const ORDER: [Table; 8] = [
     Table::Frequencies,
 ];
 
-/// Files in memory: once so many were read, each further read ends with the fault.
+/// Files in memory: once so many of them were read, each further read fails with the given fault.
 #[derive(Drop)]
 pub struct Failing<'a> {
     files: MemoryFiles<'a>,
@@ -30,7 +30,7 @@ pub struct Failing<'a> {
 }
 
 impl<'a> Failing<'a> {
-    /// Files of which so many can be read.
+    /// Files of which this many can be read.
     pub fn after(left: usize, files: &'a [(&'a str, &'a [u8])], fault: FileFault) -> Failing<'a>
         ensures { result.failures ≡ 0 }
     {

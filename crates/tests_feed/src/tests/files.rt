@@ -1,4 +1,4 @@
-//! A small feed in memory and in a folder, and what stops its reading.
+//! A small feed in memory and in a folder, and what stops it from being read.
 
 ghost use Rattle.std.specs.Prelude.{◌<◌};
 
@@ -40,7 +40,7 @@ fn feed() -> [(&'static str, &'static [u8]); 6] {
     ]
 }
 
-// The feed without the file at a place.
+// The feed without the file at an index.
 fn without(place: usize) -> [(&'static str, &'static [u8]); 6]
     requires { place < 6 }
 {
@@ -72,13 +72,13 @@ fn sizes(answer: Result<Tables, ReadFault>) -> Result<RowCounts, ReadFault> {
     }
 }
 
-// What is read of files in memory.
+// Reads files in memory, and counts their rows.
 fn read(alloc: Global, files: &[(&str, &[u8])]) -> Result<RowCounts, ReadFault> {
     let mut files = MemoryFiles::of(files);
     sizes(read_tables(alloc, &mut files))
 }
 
-// What is read of files of which so many can be read, and how many reads failed.
+// Reads files of which only so many can be read: the counts of rows or the fault, and how many reads failed.
 fn read_after(
     alloc: Global,
     left: usize,
@@ -139,7 +139,8 @@ fn the_first_file_at_fault_is_told(rt: HostRuntime) {
     assert!(rt; told == refused(Table::Agency, 0, FaultKind::MissingFile));
 }
 
-// Whichever read fails, the fault names that file; so too where memory runs out for it, which is no failure.
+// Whichever read fails, the fault names that file. It also names the file if memory runs out for it, which doesn't
+// count as a failed read.
 #[test]
 fn a_read_that_fails_is_told(rt: HostRuntime) {
     let feed = feed();
@@ -151,7 +152,7 @@ fn a_read_that_fails_is_told(rt: HostRuntime) {
     }
 }
 
-// Where a file before the one that can't be read is at fault, that one isn't read, and the count stays.
+// If a file before the one that can't be read is at fault, that one isn't read, and no read has failed.
 #[test]
 fn a_fault_before_a_read_that_fails_is_told(rt: HostRuntime) {
     let mut feed = feed();
@@ -160,14 +161,14 @@ fn a_fault_before_a_read_that_fails_is_told(rt: HostRuntime) {
     assert!(rt; told == refused(Table::Stops, 2, FaultKind::IdTwice) && failures == 0);
 }
 
-// That both calendars are missing is a fault only once both were read.
+// That both calendars are missing is a fault only after both were asked for.
 #[test]
 fn a_read_that_fails_behind_a_missing_calendar_is_told(rt: HostRuntime) {
     let (told, failures) = read_after(rt.alloc(), 5, &without(4), FileFault::Failed);
     assert!(rt; told == Err(ReadFault::FileFailed(Table::CalendarDates)) && failures == 1);
 }
 
-// Whether so much of a file is read, and it has this text.
+// Whether a file of at most `limit` bytes is read, and has this text.
 fn is_read(
     rt: &HostRuntime,
     limit: u32,
@@ -181,7 +182,7 @@ fn is_read(
     }
 }
 
-// A file as long as the limit is read, a longer one isn't; files of `/proc` are longer than their size says.
+// A file as long as the limit is read, a longer one isn't. Files of `/proc` are longer than the size that they report.
 #[test]
 fn longer_files_are_refused(rt: HostRuntime) -> Result<(), Fail> {
     fs::create_dir(&rt, "long_files")?;
@@ -201,7 +202,7 @@ fn read_folder(rt: &HostRuntime, folder: &str) -> Result<RowCounts, ReadFault> {
     sizes(read_tables(rt.alloc(), &mut files))
 }
 
-// How long a file of a folder is, if it is there.
+// How many bytes a file of a folder has, if it is there.
 fn length_of(rt: &HostRuntime, folder: &str, name: &str) -> Result<Option<usize>, FileFault> {
     let mut files = FolderFiles::new(rt, folder);
     match files.read(rt.alloc(), name)? {
@@ -230,7 +231,7 @@ fn a_link_that_leads_nowhere_is_refused(rt: HostRuntime) -> Result<(), Fail> {
     Ok(())
 }
 
-// A file of so many lines, the first of them its header.
+// A header, and so many lines after it.
 fn long_file(alloc: Global, lines: usize) -> Result<String, AllocError> {
     let mut text = String::from_str(alloc, "service_id,date,exception_type\n")?;
     for line in 0..lines {
@@ -244,7 +245,7 @@ fn are_of_one_key(first: &IdHash, second: &IdHash) -> bool {
     first.hash_one("A") == second.hash_one("A")
 }
 
-// A stranger who knows the key of one folder knows that of no other.
+// Each folder draws its own key, so a stranger who knows one key knows no other.
 #[test]
 fn folders_draw_their_keys(rt: HostRuntime) {
     let first = FolderFiles::new(&rt, "no_such_folder");
@@ -277,7 +278,7 @@ const TRANSFERS: &[u8] = b"from_stop_id,to_stop_id\nA,B\nB,A\n";
 
 const FREQUENCIES: &[u8] = b"trip_id,start_time,end_time,headway_secs\nT1,9:00:00,10:00:00,1200\n";
 
-// All eight files of a feed, of which one has so many rows.
+// Writes all eight files of a feed, one of which has so many rows.
 fn write_whole_feed(rt: &HostRuntime, folder: &str, rows: usize) -> Result<(), Fail> {
     let dates = long_file(rt.alloc(), rows)?;
     let files = [
@@ -293,7 +294,7 @@ fn write_whole_feed(rt: &HostRuntime, folder: &str, rows: usize) -> Result<(), F
     write_folder(rt, folder, &files)
 }
 
-// Whether the ids of tables, and those of the feed that they are joined to, are hashed by this key.
+// Whether the ids of tables, and those of the feed joined from them, are hashed with this key.
 fn are_hashed(alloc: Global, tables: Tables, hash: &IdHash) -> Result<bool, TableFault> {
     let trips = are_of_one_key(tables.stop_times.trips.hasher(), hash);
     let stops = are_of_one_key(tables.stop_times.stops.hasher(), hash);
@@ -301,7 +302,7 @@ fn are_hashed(alloc: Global, tables: Tables, hash: &IdHash) -> Result<bool, Tabl
     Ok(trips && stops && are_of_one_key(&feed.hash, hash))
 }
 
-// What a folder has, and whether its ids are hashed by the key that the folder drew.
+// How many rows the files of a folder have, and whether their ids are hashed with the key that the folder drew.
 fn read_with_key(rt: &HostRuntime, folder: &str) -> Result<(RowCounts, bool), Fail> {
     let mut files = FolderFiles::new(rt, folder);
     let tables = read_tables(rt.alloc(), &mut files)?;
@@ -309,7 +310,7 @@ fn read_with_key(rt: &HostRuntime, folder: &str) -> Result<(RowCounts, bool), Fa
     Ok((sizes, are_hashed(rt.alloc(), tables, &files.id_hash())?))
 }
 
-// All eight files of a feed in a folder, one of them longer than is read at once.
+// All eight files of a feed in a folder are read, one of them longer than a single read.
 #[test]
 fn a_folder_is_read_whole(rt: HostRuntime) -> Result<(), Fail> {
     write_whole_feed(&rt, "whole_feed", 9000)?;

@@ -6,7 +6,7 @@ use std::alloc::{AllocError, Global};
 use std::process::Abort;
 use std::test::Fail;
 
-// The files that a case doesn't have.
+// The files that stand in where a case has none.
 const BASE: &str = "\
 agency.txt: UTC
 stops.txt: A,0,|B,0,|C,0,
@@ -14,7 +14,7 @@ trips.txt: S,first|S,second
 stop_times.txt: first,08:00:00,,A,1|first,08:10:00,,B,2|first,08:30:00,,C,3|second,08:12:00,,B,1|second,08:20:00,,C,2
 calendar.txt: S,1,1,1,1,1,1,1,20240101,20241231";
 
-// The rows of two trips stand by trip and then by stop_sequence, whatever their order was.
+// The rows of two trips are ordered by trip and then by stop_sequence, whatever their order in the file.
 const JOINED: &str = "
 = strict stops trips rows frequencies transfers: the base
 > skipped 0, services 1
@@ -100,7 +100,7 @@ stop_times.txt: first,08:10:00,08:09:00,A,1|first,08:20:00,,B,2
 stop_times.txt: first,08:00:00,,A,1|first,,,B,2|first,08:00:01,,C,3
 > 14 HopWithoutDuration stop_times.txt 2";
 
-// Where two things are wrong.
+// Feeds with two faults, of which the first is told.
 const FIRST_FAULTS: &str = "
 = loose: the sequence of a trip before its times
 stop_times.txt: first,08:10:00,,A,1|first,08:00:00,,B,2|first,08:30:00,,C,2
@@ -136,7 +136,7 @@ fn feed_text(alloc: Global, feed: &Feed, parts: &str) -> Result<String, AllocErr
     Ok(text)
 }
 
-// Files that are joined, strictly or loosely, and the parts of the feed that the head names.
+// Joins the files of a case, strictly or loosely, and tells the parts of the feed that the head names.
 struct Joins;
 
 impl Telling for Joins {

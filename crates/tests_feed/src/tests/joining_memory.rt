@@ -10,7 +10,7 @@ use gtfs_tables::{
 use indexmap::IndexSet;
 use std::alloc::{AllocError, Global};
 
-// A row of the one trip, at its one stop.
+// A row of the only trip, at the only stop.
 fn row(sequence: u32, time: Option<u32>) -> StopTimeRow
     ensures { result.arrival ≡ time }
 {
@@ -25,14 +25,14 @@ fn row(sequence: u32, time: Option<u32>) -> StopTimeRow
     }
 }
 
-// The set of the blank id.
+// A set with the blank id alone.
 fn blank_id(alloc: Global) -> Result<IndexSet<String, IdHash>, AllocError> {
     let mut ids = IndexSet::with_hasher(alloc, IdHash::of_key(1));
     ids.insert_full(String::new(alloc))?;
     Ok(ids)
 }
 
-// The stop times of the one trip, the later one first.
+// The stop times of the only trip, the later one first.
 fn stop_times(alloc: Global) -> Result<StopTimes, AllocError> {
     Ok(StopTimes {
         trips: blank_id(alloc)?,
@@ -41,8 +41,8 @@ fn stop_times(alloc: Global) -> Result<StopTimes, AllocError> {
     })
 }
 
-// A stop, a trip, a transfer and a row of frequencies, each in a list of its own. Their ids are
-// blank, so that they take little memory.
+// A stop, a trip, a transfer and a row of frequencies, each in a list of its own. Their ids are blank, and so take
+// little memory.
 fn a_stop(alloc: Global) -> Result<Vec<StopRow>, AllocError> {
     let row = StopRow {
         id: String::new(alloc),

@@ -8,7 +8,7 @@ use std::process::Abort;
 use std::test::Fail;
 use transfers::{ListingFault, listed, listed_within};
 
-// A stop without a station, A, and two of the station S, B and C. The station H has no stops, and nothing runs.
+// A is a stop without a station, B and C are stops of the station S, and the station H has no stops. Nothing runs.
 const BASE: &str = "\
 agency.txt: UTC
 stops.txt: A,0,|B,0,S|C,0,S|H,1,|S,1,
@@ -16,13 +16,13 @@ trips.txt service_id,trip_id
 stop_times.txt trip_id,arrival_time,departure_time,stop_id,stop_sequence
 calendar_dates.txt service_id,date,exception_type";
 
-// The feed of these files with rows of transfers, behind which lines with other files may stand.
+// The feed of these files with rows of transfers, after which there may be lines with other files.
 fn feed_with(alloc: Global, transfers: &str) -> Result<Feed, Fail> {
     let files = format!(in alloc; "transfers.txt: {transfers}")?;
     Ok(joined(alloc, files.as_str(), BASE, true)?)
 }
 
-// Transfers behind what they show, and the footpaths that are listed.
+// Transfers, each case with what it shows, and the footpaths that are listed.
 const TRANSFERS: &str = "
 = stops of a station are siblings
 > 0 0 0, 1 1 0, 2 1 120, 1 2 120, 2 2 0
@@ -81,14 +81,14 @@ fn footpaths_are_listed(rt: HostRuntime) -> Result<(), Fail> {
     try_cases(&rt, rt.alloc(), TRANSFERS, &Transfers)
 }
 
-// How many footpaths may be listed, and how many are.
+// Bounds, each with how many footpaths are listed within it, or the fault.
 const BOUNDS: &str = "\
 6: 5
 5: 5
 4: TooMany
 0: TooMany";
 
-// How many footpaths are listed if they may be so many.
+// How many footpaths are listed within a bound.
 fn listed_in(alloc: Global, feed: &Feed, bound: &str) -> Result<Result<usize, ListingFault>, Fail> {
     match listed_within(alloc, feed, number(bound)? as usize) {
         Ok(paths) => Ok(Ok(paths.len())),
@@ -130,7 +130,7 @@ fn station(alloc: Global, count: u32, transfers: &str) -> Result<Feed, Fail> {
     Ok(joined(alloc, files.as_str(), BASE, true)?)
 }
 
-// How many footpaths it lists, if they may be as many as its platforms.
+// How many footpaths such a station lists, if there may be as many as it has platforms.
 fn listed_at(alloc: Global, count: u32, transfers: &str) -> Result<Option<usize>, Fail> {
     let feed = station(alloc, count, transfers)?;
     match listed_within(alloc, &feed, count as usize) {
@@ -139,7 +139,7 @@ fn listed_at(alloc: Global, count: u32, transfers: &str) -> Result<Option<usize>
     }
 }
 
-// Its pairs are never gone through: there are 400,000,000 of them.
+// The pairs of such a station aren't gone through: there are 400,000,000 of them.
 #[test]
 fn a_station_that_forbids_lists_loops(rt: HostRuntime) -> Result<(), Fail> {
     assert_eq!(rt; listed_at(rt.alloc(), 20_000, "S,S,3,")?, Some(20_000));

@@ -43,7 +43,7 @@ fn one_day() -> Plan
     }
 }
 
-/// What files in memory make, or why they make nothing.
+/// Loads files in memory: the image and the counts, or the fault.
 fn made(
     alloc: Global,
     files: &[(&str, &[u8])],
@@ -55,7 +55,7 @@ fn made(
     load(alloc, &mut files, plan)
 }
 
-/// The image of the small feed with some other files, and what was counted.
+/// The image of the small feed with some files changed, and its counts.
 fn loaded(alloc: Global, changed: &str, plan: &Plan) -> Result<(Verified, Report), Fail>
     requires { plan.now.days ≡ 1 }
 {
@@ -67,14 +67,14 @@ fn loaded(alloc: Global, changed: &str, plan: &Plan) -> Result<(Verified, Report
     }
 }
 
-/// Why the small feed with some other files is refused, if it is.
+/// Why the small feed with some files changed is refused, if it is.
 fn refusal(alloc: Global, changed: &str) -> Result<Option<LoadFault>, Fail> {
     let feed = feed_of(alloc, changed, FILES)?;
     let files = files_of(alloc, feed.as_str())?;
     Ok(made(alloc, &files, &one_day()).err())
 }
 
-/// What is counted of the small feed with some other files, if its image has these words.
+/// The counts of the small feed with some files changed, if its image has these words.
 fn counted(alloc: Global, changed: &str, words: &[u32]) -> Result<Option<Report>, Fail> {
     let (image, report) = loaded(alloc, changed, &one_day())?;
     if image.words() == words {
@@ -84,7 +84,7 @@ fn counted(alloc: Global, changed: &str, words: &[u32]) -> Result<Option<Report>
     }
 }
 
-/// What is counted of the small feed.
+/// The counts of the small feed.
 const COUNTED: Report = Report {
     stops: 3,
     runs: 2,
@@ -103,7 +103,7 @@ fn a_feed_makes_its_image(rt: HostRuntime) -> Result<(), Fail> {
     Ok(())
 }
 
-/// Files whose ids are looked up by this hash.
+/// Files whose ids are looked up with this hash.
 #[derive(Drop)]
 struct Hashed<F> {
     files: F,
@@ -130,7 +130,7 @@ impl<F: FeedFiles> FeedFiles for Hashed<F> {
     }
 }
 
-/// Whether files whose ids have this hash make the sample.
+/// Whether files whose ids are looked up with this hash make the sample.
 fn make_the_sample(alloc: Global, files: &[(&str, &[u8])], hash: IdHash) -> bool {
     let mut hashed = Hashed {
         files: MemoryFiles::of(files),
@@ -142,7 +142,7 @@ fn make_the_sample(alloc: Global, files: &[(&str, &[u8])], hash: IdHash) -> bool
     }
 }
 
-/// Whatever the key of the hash, the image has the same words.
+/// Whatever the key of the hash is, the image has the same words.
 #[test]
 fn an_image_has_no_trace_of_a_key(rt: HostRuntime) -> Result<(), Fail> {
     let feed = feed_of(rt.alloc(), "", FILES)?;
@@ -156,8 +156,8 @@ fn an_image_has_no_trace_of_a_key(rt: HostRuntime) -> Result<(), Fail> {
 /// The first trip leaves at 09:00:00, 09:20:00 and 09:40:00.
 const THREE_STARTS: &str = "frequencies.txt: T1,09:00:00,10:00:00,1200";
 
-/// The image of these starts, worked out by hand: its days are followed by the
-/// repeats 0, 1, 2 of these runs and 0 of the second trip's.
+/// The image of these starts, worked out by hand: after its days it has the repeats 0, 1, 2 of these runs and 0 of the
+/// second trip's.
 const REPEATED: [u32; 80] = [
     0x50415343, 2, 3, 4, 7, 3, 11, 1705276800, 0, 1, 2, 29520, 30000, 3, 3, 0, 1, 32400, 33000, 0,
     3, 1, 2, 33000, 34200, 0, 3, 0, 1, 33600, 34200, 1, 3, 1, 2, 34200, 35400, 1, 3, 0, 1, 34800,
@@ -165,7 +165,7 @@ const REPEATED: [u32; 80] = [
     20240115, 20240115, 20240115, 20240115, 0, 1, 2, 0, 0x54434241, 0x54315431, 0x00325431,
 ];
 
-/// Whether trips 1, 2 and 3 of four are these repeats.
+/// Whether an image has four trips, and trips 1, 2 and 3 are these repeats.
 fn are_repeats(image: &Verified, repeats: [u32; 3]) -> bool {
     if image.trips() != 4 {
         return false;
@@ -177,7 +177,7 @@ fn are_repeats(image: &Verified, repeats: [u32; 3]) -> bool {
     ] == repeats
 }
 
-/// A trip that repeats runs once for each of its starts, and the image has the runs' numbers.
+/// A trip that repeats runs once for each of its starts, and the image has the number of each run.
 #[test]
 fn repeats_are_numbered(rt: HostRuntime) -> Result<(), Fail> {
     let (image, report) = loaded(rt.alloc(), THREE_STARTS, &one_day())?;
@@ -186,13 +186,13 @@ fn repeats_are_numbered(rt: HostRuntime) -> Result<(), Fail> {
     Ok(())
 }
 
-// The image of what an image holds.
+// Unpacks an image, and writes it again.
 fn written_anew(alloc: Global, image: &Verified) -> Result<Vec<u32>, AllocError> {
     let (timetable, names) = image.to_timetable(alloc)?;
     write(alloc, &timetable, &names)
 }
 
-/// Whether words are an image that, unpacked and written again, has the words expected.
+/// Whether the words are an image that has the expected words once it is unpacked and written again.
 fn are_written_anew(alloc: Global, words: &[u32], expected: &[u32]) -> Result<bool, AllocError> {
     match verify(alloc, words.to_vec(alloc)?) {
         Ok(image) => {
@@ -203,8 +203,7 @@ fn are_written_anew(alloc: Global, words: &[u32], expected: &[u32]) -> Result<bo
     }
 }
 
-/// Words that are judged, unpacked and written again are the same words; those of the first layout
-/// come out in the second.
+/// Words that are verified, unpacked and written again are the same; words of the first layout come out in the second.
 #[test]
 fn an_image_is_written_anew(rt: HostRuntime) -> Result<(), AllocError> {
     let second = second_sample_words();
@@ -214,12 +213,12 @@ fn an_image_is_written_anew(rt: HostRuntime) -> Result<(), AllocError> {
     Ok(())
 }
 
-/// The last of two starts lies before the end time.
+/// Two starts, of which the last is before the end time.
 const TWO_STARTS: &str = "frequencies.txt: T1,09:00:00,09:40:00,1200";
 
 const NO_HEADWAY: &str = "frequencies.txt: T1,09:00:00,10:00:00,0";
 
-/// What is counted of the small feed with some other files.
+/// The counts of the small feed with some files changed.
 fn report_of(alloc: Global, changed: &str) -> Result<Report, Fail> {
     let (_image, report) = loaded(alloc, changed, &one_day())?;
     Ok(report)
@@ -265,20 +264,20 @@ stops.txt: S,1,|P,0,S|Q,0,S
 trips.txt service_id,trip_id
 stop_times.txt trip_id,arrival_time,departure_time,stop_id,stop_sequence";
 
-/// Its image without transfers, worked out by hand: 120 s lead from either stop to the other, and
-/// changing at one takes no time.
+/// Its image without transfers, worked out by hand: footpaths of 120 s between the two stops in either direction, and
+/// changes at a stop that take no time.
 const FREE_LOOPS: [u32; 24] = [
     0x50415343, 2, 2, 0, 0, 4, 2, 1705276800, 0, 0, 2, 4, 0, 0, 1, 120, 0, 120, 1, 0, 0, 1, 2,
     0x5150,
 ];
 
-/// The same with 180 s within the station: from either stop to the other, and for changing at one.
+/// The same with 180 s within the station: between the two stops in either direction, and for a change at a stop.
 const SLOW_LOOPS: [u32; 24] = [
     0x50415343, 2, 2, 0, 0, 4, 2, 1705276800, 0, 0, 2, 4, 0, 180, 1, 180, 0, 180, 1, 180, 0, 1, 2,
     0x5150,
 ];
 
-/// The same without a way from the first stop to the second.
+/// The same without a footpath from the first stop to the second.
 const ONE_WAY: [u32; 22] = [
     0x50415343, 2, 2, 0, 0, 3, 2, 1705276800, 0, 0, 2, 3, 0, 180, 1, 180, 1, 180, 0, 1, 2, 0x5150,
 ];
@@ -289,7 +288,7 @@ fn station_makes(alloc: Global, transfers: &str, words: &[u32]) -> Result<bool, 
     Ok(counted(alloc, changed.as_str(), words)?.is_some())
 }
 
-/// The ways within a station, and the loops of its stops.
+/// The footpaths within a station, and the loops of its stops.
 #[test]
 fn a_station_has_ways_and_loops(rt: HostRuntime) -> Result<(), Fail> {
     let slow = "transfers.txt: S,S,2,180";
@@ -337,7 +336,7 @@ fn faults_are_told(rt: HostRuntime) -> Result<(), Fail> {
     Ok(())
 }
 
-/// Why files of which so many can be read aren't loaded, and how many reads failed.
+/// Why files of which only so many can be read aren't loaded, and how many reads failed.
 fn failed_after(alloc: Global, left: usize, files: &[(&str, &[u8])]) -> (Option<LoadFault>, u64) {
     let mut failing = Failing::after(left, files, FileFault::Failed);
     let fault = load(alloc, &mut failing, &one_day()).err();
@@ -356,7 +355,7 @@ fn a_read_that_fails_is_told(rt: HostRuntime) -> Result<(), Fail> {
     Ok(())
 }
 
-/// What was loaded, unless a growth was refused: then the fault is that memory ran out.
+/// Returns what was loaded, unless a growth was refused: then the fault must be that memory ran out.
 fn loaded_or_refused(
     rt: &impl Abort,
     answer: Result<(Verified, Report), LoadFault>,
@@ -381,9 +380,9 @@ fn refused_growth_is_told(rt: HostRuntime) -> Result<(), AllocError> {
     Ok(())
 }
 
-/// All files: a station with two stops, a quoted id, a blank row, a day that is taken out, and ways
-/// between a station's stops. One trip repeats by one row, the other by five that overlap: at the
-/// seconds 0, 1, 5, 10, 15, 20, 25 and 29.
+/// A feed with all files: a station with two stops, a quoted id, a blank row, a day that is removed, and footpaths
+/// between a station's stops. One trip repeats by one row, the other by five rows that overlap, at the seconds 0, 1, 5,
+/// 10, 15, 20, 25 and 29.
 const ALL_FILES: &str = "\
 agency.txt: Etc/UTC
 stops.txt: S,1,|\"A\",0,S|B,0,S|C,0,
@@ -395,7 +394,7 @@ frequencies.txt: T2,09:00:00,09:40:00,1200|T1,00:00:00,00:00:30,10|T1,00:00:05,0
     T1,00:00:01,00:00:30,14
 transfers.txt: S,S,2,180";
 
-/// What is counted of it.
+/// The counts of that feed.
 const ALL_COUNTED: Report = Report {
     stops: 3,
     runs: 10,
@@ -417,7 +416,7 @@ fn two_days_of(alloc: Global, files: &[(&str, &[u8])]) -> Result<(Verified, Repo
     load(alloc, &mut files, &plan)
 }
 
-/// So too over a feed with all files.
+/// The same over a feed with all files.
 #[test]
 fn refused_growth_over_all_files_is_told(rt: HostRuntime) -> Result<(), AllocError> {
     let feed = feed_of(rt.alloc(), "", ALL_FILES)?;

@@ -1,4 +1,4 @@
-//! Tables drawn at random: their records are those that the crate `csv` reads of the same bytes.
+//! Random tables: their records are those that the crate `csv` reads from the same bytes.
 
 use super::texts::fault_text;
 use csv::{ByteRecord, Reader, ReaderBuilder};
@@ -10,7 +10,7 @@ use std::test::Fail;
 
 const TABLES: u32 = 300;
 
-// What a table is made of behind its header.
+// The pieces that a table is made of after its header.
 const PIECES: [&str; 16] = [
     "A",
     "B",
@@ -30,7 +30,7 @@ const PIECES: [&str; 16] = [
     "12:00:00",
 ];
 
-// The headers, each of which has both columns that are required.
+// The headers, each of which has both required columns.
 const HEADERS: [&str; 8] = [
     "from_stop_id,to_stop_id\n",
     "from_stop_id,to_stop_id,x\r\n",
@@ -68,7 +68,7 @@ fn add_field(text: &mut String, field: &str) -> Result<(), AllocError> {
     write!(text, "[{}]", field.trim_matches(' '))
 }
 
-// A field of a record of text, blank if there is none.
+// The text of a field, blank if there is no such field.
 fn field(record: &ByteRecord, place: usize) -> &str {
     match record.get(place) {
         Some(bytes) => str::from_utf8(bytes).unwrap_or("no text"),
@@ -76,7 +76,7 @@ fn field(record: &ByteRecord, place: usize) -> &str {
     }
 }
 
-// Takes a record, if there is one.
+// Reads the next record, if there is one.
 fn take(reader: &mut Reader<&[u8]>, record: &mut ByteRecord) -> Result<bool, Fail> {
     match reader.read_byte_record(record) {
         Ok(found) => Ok(found),
@@ -84,7 +84,7 @@ fn take(reader: &mut Reader<&[u8]>, record: &mut ByteRecord) -> Result<bool, Fai
     }
 }
 
-// Adds the first two fields of each record behind the header. Returns the number of the first record of another length.
+// Adds the first two fields of each record after the header. Returns the number of the first record of another length.
 fn add_records(
     reader: &mut Reader<&[u8]>,
     record: &mut ByteRecord,
@@ -105,7 +105,7 @@ fn add_records(
     Ok(None)
 }
 
-// The first two fields of each record behind the header, by `csv`, or the first record of another length.
+// The first two fields of each record after the header, as `csv` reads them, or the first record of another length.
 fn told_by_csv(alloc: Global, bytes: &[u8]) -> Result<String, Fail> {
     let mut reader = ReaderBuilder::new()
         .has_headers(false)
@@ -119,7 +119,7 @@ fn told_by_csv(alloc: Global, bytes: &[u8]) -> Result<String, Fail> {
     }
 }
 
-// The same by the rows that are read.
+// The same, as `gtfs_rows` reads them.
 fn told(alloc: Global, answer: Result<Vec<TransferRow>, TableFault>) -> Result<String, AllocError> {
     let mut text = String::new(alloc);
     match answer {

@@ -1,4 +1,4 @@
-//! Each kind of fault in small files, and what comes first where there are two.
+//! Each kind of fault in small files, and which comes first if there are two.
 
 use super::failing::ORDER;
 use super::rows::{told_of, try_files};
@@ -60,7 +60,7 @@ fn file_names(rt: HostRuntime) {
     }
 }
 
-// Of each file with these bytes it is told that something is wrong with the file.
+// Whichever file has these bytes, it is refused with this fault of the whole file.
 fn try_all_files(rt: &impl Abort, alloc: Global, bytes: &[u8], fault: &str) -> Result<(), Fail> {
     for table in ORDER {
         let file = table.file_name();

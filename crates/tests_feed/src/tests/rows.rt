@@ -1,4 +1,4 @@
-//! The files of a feed, each read: its rows as they are printed, or what is wrong with it.
+//! Each file of a feed, read by itself: its rows as they are printed, or its fault.
 
 use super::texts::{Case, Telling, add_rows, fault_text, file_of, lines_of, number, try_cases};
 use gtfs_rows::{
@@ -13,7 +13,7 @@ use std::hash::BuildHasher;
 use std::process::Abort;
 use std::test::Fail;
 
-// A key gives one hash, two keys give two, and no two random keys are one.
+// One key gives one hash, different keys give different ones, and no two random keys are the same.
 #[test]
 fn hashes_go_by_their_keys(rt: HostRuntime) {
     let first = IdHash::of_key(1).hash_one("A");
@@ -37,7 +37,7 @@ fn told<T: Debug + Drop>(
     }
 }
 
-// Adds ids, each behind a slash.
+// Adds ids, each after a slash.
 fn add_ids(text: &mut String, ids: &IndexSet<String, IdHash>) -> Result<(), AllocError> {
     for id in ids.iter() {
         write!(text, "/{id}")?;
@@ -54,7 +54,7 @@ fn stop_times_text(alloc: Global, table: &StopTimes) -> Result<String, AllocErro
     Ok(text)
 }
 
-// The same of rows whose trips and stops have places among ids.
+// The same for rows that name trips and stops by their indices among ids.
 fn told_by_ids(alloc: Global, answer: Result<StopTimes, TableFault>) -> Result<String, AllocError> {
     match answer {
         Ok(table) => stop_times_text(alloc, &table),
@@ -62,7 +62,7 @@ fn told_by_ids(alloc: Global, answer: Result<StopTimes, TableFault>) -> Result<S
     }
 }
 
-// What is told of the bytes of a file.
+// The rows of a file with these bytes, or its fault.
 pub(crate) fn told_of(alloc: Global, file: &str, bytes: &[u8]) -> Result<String, AllocError> {
     match file {
         "agency.txt" => told(alloc, read_agency(alloc, bytes)),
@@ -76,7 +76,7 @@ pub(crate) fn told_of(alloc: Global, file: &str, bytes: &[u8]) -> Result<String,
     }
 }
 
-// What is told of them where so many stops, or trips, are allowed.
+// The same, if only so many stops, or trips, are allowed.
 fn told_within(
     alloc: Global,
     file: &str,
@@ -91,7 +91,7 @@ fn told_within(
     }
 }
 
-// What is told of a file, as `stops.txt stop_id|A|`, or as `stops.txt up to 2: stop_id|A|`.
+// The rows or the fault of a file, given as `stops.txt stop_id|A|`, or as `stops.txt up to 2: stop_id|A|`.
 fn told_of_file(alloc: Global, line: &str) -> Result<String, Fail> {
     if let Some((file, rest)) = line.split_once(" up to ") {
         let (limit, text) = rest.split_once(": ").unwrap_or((rest, ""));
@@ -103,7 +103,7 @@ fn told_of_file(alloc: Global, line: &str) -> Result<String, Fail> {
     Ok(told_of(alloc, file, text.as_bytes())?)
 }
 
-// Files, each read.
+// Reads each file by itself.
 struct Reads;
 
 impl Telling for Reads {
@@ -176,8 +176,8 @@ const ROWS: &str = "
 > FrequencyRow { trip: \"one\", start: 36000, end: 32400, headway: 60 }
 > FrequencyRow { trip: \"two\", start: 86400, end: 90001, headway: 1200 }";
 
-// Whether the starts of frequencies are exact isn't read. A row of stop times names its trip and
-// its stop by their places among the ids, which stand in the order of the records.
+// Whether the starts of frequencies are exact isn't read. A row of stop times names its trip and its stop by their
+// indices among the ids, which are in the order of the records.
 #[test]
 fn rows_are_read(rt: HostRuntime) -> Result<(), Fail> {
     try_files(&rt, rt.alloc(), ROWS)

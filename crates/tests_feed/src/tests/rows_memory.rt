@@ -8,7 +8,7 @@ use std::alloc::AllocError;
 use std::process::Abort;
 use std::test::Fail;
 
-// What was read. If nothing was, the fault is that memory ran out for this table.
+// Returns what was read. If nothing was, the fault must be that memory ran out for this table.
 fn read_or_refused<T: Drop>(
     rt: &impl Abort,
     table: Table,
@@ -23,7 +23,7 @@ fn read_or_refused<T: Drop>(
     }
 }
 
-// Whether one row was read, or memory ran out.
+// Whether one row was read. If nothing was, memory must have run out.
 fn one_or_refused<T: Drop>(
     rt: &impl Abort,
     table: Table,

@@ -1,4 +1,4 @@
-//! Small feeds and what they make.
+//! Small feeds, and the runs and connections that they make.
 
 ghost use Rattle.std.specs.Prelude.{◌≡◌};
 ghost use Rattle.connections.specs.Faults.{too_many_of};
@@ -14,7 +14,7 @@ use std::process::Abort;
 use std::test::Fail;
 use timetable::Connection;
 
-// The files that a case doesn't have: one trip on one day, with three rows at 08:00:00 and one at 08:01:00.
+// The files that stand in where a case has none: one trip on one day, with three rows at 08:00:00 and one at 08:01:00.
 const LEVEL: &str = "\
 agency.txt: Etc/UTC
 stops.txt stop_id|A|B|C|D
@@ -23,11 +23,11 @@ stop_times.txt: T,08:00:00,08:00:00,A,1|T,08:00:00,08:00:00,B,2|T,08:00:00,08:00
 calendar_dates.txt: S,20240115,1
 transfers.txt from_stop_id,to_stop_id,transfer_type|A,B,9";
 
-// Feeds behind what they show, with the first day, the number of days and the zone; and what they
-// make. In the second 25:10:00 of the first day is 1711843800, 08:00:00 of the second 1711864800,
-// and the base 1711753200, that of the first. In the third X runs on its one day, Y never; a flex
-// trip, and a trip of one row, run on no day. In the last connections stand by departure, then by
-// arrival, then by run: of two runs on each of two days.
+// Feeds, each case with what it shows, the first day, the number of days and the zone; and what they make. In the
+// second, 25:10:00 of the first day is 1711843800, 08:00:00 of the second day is 1711864800, and the base is
+// 1711753200, the start of the first. In the third, X runs on its only day and Y never; a flex trip and a trip of one
+// row run on no day. In the last, connections are ordered by departure, then by arrival, then by run; there are two
+// runs on each of two days.
 const FEEDS: &str = "
 = times are lifted: 20240115 1 fixed:0
 > Report { stops: 4, runs: 1, connections: 3, footpaths: 0, lifted: 1, flex: 0, frequencies: 0, skipped: 1 }
@@ -79,7 +79,7 @@ trips.txt: S,T|S,U
 stop_times.txt: T,07:00:00,08:00:00,A,1|T,08:10:00,08:10:00,B,2|T,08:30:00,08:30:00,C,3|U,08:12:00,08:12:00,B,1|U,08:20:00,08:20:00,C,2
 calendar_dates.txt: S,20240115,1|S,20240116,1";
 
-// Runs stand by day, trip and repeat. A repeat's first arrival isn't used: it lies before the base here.
+// Runs are ordered by day, trip and repeat. A repeat's first arrival isn't used: here it is before the base.
 const REPEATS: &str = "
 = repeats depart at their starts: 20240115 1 fixed:0
 frequencies.txt: T,00:20:00,00:20:01,7|T,00:00:00,00:40:00,1200
@@ -118,8 +118,8 @@ frequencies.txt: U,06:00:00,06:10:00,300|T,00:20:00,00:20:01,7|T,00:00:00,00:40:
 > Connection { from: 1, to: 2, dep: 194400, arr: 194880, trip: 6, board: true, alight: true }
 > Connection { from: 1, to: 2, dep: 194700, arr: 195180, trip: 7, board: true, alight: true }";
 
-// How many runs and connections two days of these trips have, whichever the starts are, exact or
-// not, in whichever order of the rows, also where so many rows overlap that seconds are marked.
+// How many runs and connections these trips make on two days, whether the starts are exact or not, in whichever order
+// the rows are, and also if so many rows overlap that seconds are marked.
 const COUNTED: &str = "
 = three starts: 20240115 2 fixed:0
 frequencies.txt: T,09:00:00,10:00:00,1200
@@ -153,7 +153,7 @@ const DAYS_WITHOUT_A_START: &str = "
 
 type Made = (Vec<Connection>, Vec<Run>, Report);
 
-// What a feed makes on some days, as `20240115 1 fixed:0`.
+// What a feed makes on some days, given as `20240115 1 fixed:0`.
 fn made_of(alloc: Global, feed: &Feed, asked: &str) -> Result<Result<Made, RunsFault>, Fail> {
     let (first, rest) = asked.split_once(' ').unwrap_or((asked, ""));
     let (days, zone) = rest.split_once(' ').unwrap_or((rest, ""));
@@ -165,7 +165,7 @@ fn made_of(alloc: Global, feed: &Feed, asked: &str) -> Result<Result<Made, RunsF
     Ok(runs_of(alloc, feed, first, days, &zone_of(alloc, zone)?))
 }
 
-// What the files of a text, with further ones, make on some days.
+// What the files of a text, together with others, make on some days.
 fn made(
     alloc: Global,
     files: &str,
@@ -177,7 +177,7 @@ fn made(
     made_of(alloc, &feed, asked)
 }
 
-// What is made, all of it or its counts alone.
+// The text of what is made: all of it, or only its counts.
 fn made_text(alloc: Global, made: &Made, is_counted: bool) -> Result<String, AllocError> {
     let (connections, runs, report) = made;
     if is_counted {
@@ -193,7 +193,7 @@ fn made_text(alloc: Global, made: &Made, is_counted: bool) -> Result<String, All
     Ok(text)
 }
 
-// Feeds with further files, of which all is told or the counts alone.
+// Feeds with further files, of which all is told, or only the counts.
 #[derive(Drop)]
 struct Feeds {
     further: &'static str,
@@ -227,7 +227,7 @@ fn feeds_make_runs(rt: HostRuntime) -> Result<(), Fail> {
     Ok(())
 }
 
-/// Where there are too many runs, trips.txt is named, and none of its records.
+/// If there are too many runs, the fault names trips.txt, and none of its records.
 fn too_many_runs()
     ensures { too_many_of Table.Trips ≡ RunsFault.Table (record {
       table = Table.Trips;

@@ -1,8 +1,8 @@
-//! Cases as texts: what is given and what is wanted, compared as texts, so that a further case costs no proof.
+//! Cases as texts: what is given and what is expected are compared as texts, so that a further case costs no proof.
 //!
-//! A text has one case behind another. Each begins with a line `= HEAD`, may have further lines of
-//! what is given, and ends with the lines that are wanted, each behind `> `. A file is a line: its
-//! name and its text, with a bar for each LF.
+//! A text has one case after another. Each begins with a line `= HEAD`, may have further lines of what is given, and
+//! ends with the lines that are expected, each after `> `. A file is one line: its name and its text, with a bar for
+//! each LF.
 
 ghost use Rattle.std.specs.Prelude.{IfOk};
 
@@ -15,8 +15,8 @@ use std::process::Abort;
 use std::test::Fail;
 use timetable::Footpath;
 
-/// A zone file: Central European Time until 2024-03-31T01:00:00Z, then Central European Summer Time, and from there on
-/// the rule.
+/// A zone file: Central European Time until 2024-03-31T01:00:00Z, then Central European Summer Time, and from then on
+/// by the rule.
 pub(crate) const CENTRAL_EUROPE: &[u8] = b"TZif2\0\0\0\0\0\0\0\0\0\0\0\0\0\0\0\
 \0\0\0\0\0\0\0\0\0\0\0\0\0\0\0\0\0\0\0\x01\0\0\0\x01\0\0\0\0\0\0\0\
 TZif2\0\0\0\0\0\0\0\0\0\0\0\0\0\0\0\
@@ -24,7 +24,7 @@ TZif2\0\0\0\0\0\0\0\0\0\0\0\0\0\0\0\
 \0\0\0\0\x66\x08\xB5\x90\x01\0\0\x0E\x10\0\0\0\0\x1C\x20\x01\x04CET\0CEST\0\
 \nCET-1CEST,M3.5.0,M10.5.0/3\n";
 
-/// What stands in a case: the words behind `= `, the lines below, and those that are wanted.
+/// The parts of a case: the words after `= `, the lines below, and the lines that are expected.
 #[derive(Clone, Copy)]
 pub(crate) struct Case<'a> {
     pub(crate) head: &'a str,
@@ -47,11 +47,11 @@ fn case_of(text: &str) -> Result<Case<'_>, Fail> {
 
 /// A kind of cases.
 pub(crate) trait Telling {
-    /// What is told of a case.
+    /// Tells what comes of a case.
     fn told<R: Abort>(&self, rt: &R, alloc: Global, case: Case<'_>) -> Result<String, Fail>;
 }
 
-/// What is told of a case is what it wants.
+/// Asserts that what is told of a case is what it expects.
 fn try_case<R: Abort, T: Telling>(
     rt: &R,
     alloc: Global,
@@ -98,7 +98,7 @@ fn three_numbers(text: &str) -> Result<(u32, u32, u32), Fail> {
     Ok((number(first)?, number(second)?, number(third)?))
 }
 
-/// The footpaths of a text, as `0 1 60, 1 2 60`.
+/// The footpaths of a text such as `0 1 60, 1 2 60`.
 pub(crate) fn paths_of(alloc: Global, text: &str) -> Result<Vec<Footpath>, Fail> {
     let mut paths = Vec::new(alloc);
     for path in text.split(", ") {
@@ -130,7 +130,7 @@ pub(crate) fn add_rows<T: Debug>(text: &mut String, rows: &[T]) -> Result<(), Al
     Ok(())
 }
 
-/// A fault as `4 RowLength stops.txt 2`.
+/// A fault as a text such as `4 RowLength stops.txt 2`.
 pub(crate) fn fault_text(alloc: Global, fault: TableFault) -> Result<String, AllocError> {
     let number = fault.kind.number();
     let name = fault.kind.name();
@@ -139,7 +139,7 @@ pub(crate) fn fault_text(alloc: Global, fault: TableFault) -> Result<String, All
     format!(in alloc; "{number} {name} {file} {row}")
 }
 
-/// The zone that is meant.
+/// The zone of a text.
 pub(crate) fn zone_of(alloc: Global, text: &str) -> Result<Zone, Fail> {
     match text {
         "fixed:0" => Ok(Zone::fixed(0)),
@@ -151,7 +151,7 @@ pub(crate) fn zone_of(alloc: Global, text: &str) -> Result<Zone, Fail> {
     }
 }
 
-/// The columns that a file has mostly.
+/// The usual columns of a file.
 fn usual_columns(file: &str) -> &'static str {
     match file {
         "agency.txt" => "agency_timezone",
@@ -181,8 +181,8 @@ pub(crate) fn lines_of(alloc: Global, text: &str) -> Result<String, AllocError> 
     Ok(lines)
 }
 
-/// The text of a file, as [`lines_of`] gives it: of `FILE: ROWS` the rows below the usual columns,
-/// of `FILE TEXT` the text.
+/// The name and the text of a file, the latter as [`lines_of`] gives it: for `FILE: ROWS` the rows below the usual
+/// columns, for `FILE TEXT` the text.
 pub(crate) fn file_of<'a>(alloc: Global, line: &'a str) -> Result<(&'a str, String), AllocError> {
     if let Some((file, rows)) = line.split_once(": ") {
         let text = format!(in alloc; "{}|{rows}", usual_columns(file))?;
@@ -192,13 +192,13 @@ pub(crate) fn file_of<'a>(alloc: Global, line: &'a str) -> Result<(&'a str, Stri
     Ok((file, lines_of(alloc, text)?))
 }
 
-/// Adds a file as [`file_of`] gives it: its name in a line, then its text, ended by a bar.
+/// Adds a file as [`file_of`] gives it: its name in a line, then its text, then a bar.
 fn add_file(alloc: Global, feed: &mut String, line: &str) -> Result<(), AllocError> {
     let (file, text) = file_of(alloc, line)?;
     write!(feed, "{file}\n{text}|")
 }
 
-/// The files of lines, as [`add_file`] adds them.
+/// The files of all lines, as [`add_file`] adds them.
 pub(crate) fn feed_of(alloc: Global, changed: &str, base: &str) -> Result<String, AllocError> {
     let mut feed = String::new(alloc);
     for line in changed.split('\n').chain(base.split('\n')) {
@@ -207,8 +207,8 @@ pub(crate) fn feed_of(alloc: Global, changed: &str, base: &str) -> Result<String
     Ok(feed)
 }
 
-/// The files of a feed by their names. Of two with one name the first counts, so those of a base
-/// stand in where there is no other.
+/// The files of a feed with their names. Of two with the same name the first counts, so those of a base stand in where
+/// there is no other.
 pub(crate) fn files_of(alloc: Global, feed: &str) -> Result<Vec<(&str, &[u8])>, AllocError> {
     let mut files = Vec::new(alloc);
     for file in feed.split('|') {
@@ -219,7 +219,7 @@ pub(crate) fn files_of(alloc: Global, feed: &str) -> Result<Vec<(&str, &[u8])>, 
     Ok(files)
 }
 
-/// Memory ran out for the files themselves: a fault of the first.
+/// The fault that memory ran out for the files themselves, told of the first file.
 fn wanting() -> TableFault {
     TableFault {
         table: Table::Agency,
@@ -243,7 +243,7 @@ fn tables_of(alloc: Global, changed: &str, base: &str) -> Result<Tables, TableFa
     }
 }
 
-/// The feed of these files, those of the base where there is no other.
+/// The feed of these files, with those of the base where there is no other.
 pub(crate) fn joined(
     alloc: Global,
     changed: &str,
@@ -255,7 +255,7 @@ pub(crate) fn joined(
     Ok(feed)
 }
 
-/// The same where no growth was refused. Else the fault is that memory ran out.
+/// The same if no growth was refused; otherwise the fault must be that memory ran out.
 pub(crate) fn joined_or_refused(
     rt: &impl Abort,
     alloc: Global,

@@ -1,4 +1,4 @@
-//! Times, dates and numbers as fields have them.
+//! Times, dates and numbers as they are written in fields.
 
 use gtfs_rows::values::number;
 use gtfs_rows::{Day, Time};
@@ -6,7 +6,7 @@ use std::alloc::{AllocError, Global};
 use std::process::Abort;
 use std::test::Fail;
 
-// Each text of a field behind the kind that it is read as, and what is read of it.
+// Texts of fields, each with the kind that it is read as before it, and what is read after it.
 const FIELDS: &str = "\
 time|8:05:09|29109
 time|0:00:00|0

@@ -1,9 +1,9 @@
-//! Clock texts that are read and written, and some that are none.
+//! Clock texts that are read and written, and texts that are no clocks.
 
 use std::test::Fail;
 use timetable::{clock_parse, clock_text};
 
-/// Texts that are read, with their seconds, and texts that aren't.
+/// Texts that are read, with their seconds, and texts that are refused.
 const READ: [(&str, Option<u32>); 22] = [
     ("00:00:00", Some(0)),
     ("00:00:59", Some(59)),
@@ -55,8 +55,8 @@ fn clocks_are_written(rt: HostRuntime) -> Result<(), Fail> {
     Ok(())
 }
 
-/// Whichever growth is refused, want of memory is told, and else the text comes. A refused growth ends the test with
-/// `AllocError`.
+/// Whichever growth is refused, the error is that memory ran out; otherwise the text is returned. A refused growth ends
+/// the test with `AllocError`.
 #[test]
 fn refused_growth_is_told(rt: HostRuntime) -> Result<(), Fail> {
     let text = clock_text(rt.alloc(), u32::MAX)?;

@@ -1,4 +1,4 @@
-//! Where fields of images stand, and words as bytes.
+//! Where the fields of an image are, and words as bytes.
 
 ghost use Rattle.std.specs.Prelude.{◌≡◌, ◌<◌, ◌+◌, length};
 ghost use Rattle.image_layout.specs.Places.{IsWhole, header_of};
@@ -11,7 +11,7 @@ use std::process::Abort;
 use std::test::*;
 use timetable::{Connection, Names, Timetable};
 
-// The words of a small image in a layout, with what it has of repeats before the text.
+// The words of a small image in a layout, with the given repeats before the text.
 macro_rules! words_in {
     ($layout:literal $(, $repeat:literal)*) => {
         [
@@ -45,7 +45,7 @@ fn early_words() -> [u32; 48]
     words_in!(1)
 }
 
-/// The same in the layout that is written, with repeats 5 and 0.
+/// The same image in the current layout, with repeats 5 and 0.
 fn repeated_words() -> [u32; 50]
     ensures whole { IsWhole result }
     ensures counts { header_of result ≡ record {
@@ -95,8 +95,8 @@ fn early_connections() -> [Connection; 3] {
     ]
 }
 
-/// The six words of a connection, each read by itself. Bit 0 of the last says that one may board,
-/// bit 1 that one may alight.
+/// The six words of a connection, each read by itself. Bit 0 of the last word says that one may board, bit 1 that one
+/// may alight.
 fn six_words(words: &[u32], i: usize) -> [u32; 6]
     requires whole { IsWhole words.now }
     requires within { i < (header_of words.now).connections }
@@ -164,7 +164,7 @@ fn other_fields_are_read(rt: HostRuntime) {
     assert!(rt; days_and_repeats(&words) == [(19691231, 0), (19700101, 0)]);
 }
 
-/// Where the footpaths into each of two stops begin, and where they end; and what each tells.
+/// Where the footpaths into each of two stops begin and end, and what each footpath is.
 #[test]
 fn footpaths_are_read(rt: HostRuntime) {
     let words = early_words();
@@ -177,7 +177,7 @@ fn footpaths_are_read(rt: HostRuntime) {
     }
 }
 
-/// Where each of four names begins, and where they end.
+/// Where each of four names begins, and where the last one ends.
 #[test]
 fn names_begin_at_their_bytes(rt: HostRuntime) {
     let words = early_words();
@@ -222,7 +222,7 @@ fn sections_stand_in_their_order(rt: HostRuntime) {
     assert!(rt; sections(&header) == [27, 30, 38, 43, 45, 47, 50]);
 }
 
-/// What bytes give: the number of words, if they begin the sample; or the number of the fault.
+/// How many words the bytes give, if these begin the sample; otherwise the number of the fault.
 fn given(alloc: Global, bytes: &[u8]) -> Result<usize, u8> {
     match Words::from_bytes(alloc, bytes) {
         Ok(words) => {
@@ -236,7 +236,7 @@ fn given(alloc: Global, bytes: &[u8]) -> Result<usize, u8> {
     }
 }
 
-/// Bytes of the sample's front give its words, and others are refused.
+/// Bytes from the beginning of the sample give its words, and other bytes are refused.
 fn assert_given(rt: &impl Abort, alloc: Global, bytes: &[u8]) {
     assert!(rt; bytes.len() == 188);
     assert!(rt; bytes.starts_with(b"CSAP\x01\x00\x00\x00"));
@@ -283,8 +283,8 @@ fn faults_have_numbers_names_and_messages(rt: HostRuntime) -> Result<(), AllocEr
     Ok(())
 }
 
-/// Whichever growth is refused, want of memory is told, and else the words come back. A refused
-/// growth ends the test with `AllocError`.
+/// Whichever growth is refused, the error is that memory ran out; otherwise the words come back. A refused growth ends
+/// the test with `AllocError`.
 #[test]
 fn refused_growth_is_told(rt: HostRuntime) -> Result<(), AllocError> {
     let bytes = Words::to_bytes(rt.alloc(), &sample_words())?;

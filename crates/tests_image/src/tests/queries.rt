@@ -1,4 +1,4 @@
-//! What is wrong with a query, first thing first.
+//! The first fault of a query.
 
 use timetable::{Query, QueryFault};
 
@@ -13,10 +13,10 @@ fn query(words: [u32; 5]) -> Query {
     }
 }
 
-/// The greatest time of a query.
+/// The latest time that a query may have.
 const LAST: u32 = 1_999_999_999;
 
-/// Queries, and what is found of each over three stops.
+/// Queries, each with its verdict over three stops.
 const QUERIES: [([u32; 5], Result<(), QueryFault>); 13] = [
     ([0, 2, 28_800, 32_400, 36_000], Ok(())),
     ([0, 2, 28_800, 28_800, 28_800], Ok(())),

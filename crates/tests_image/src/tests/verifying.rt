@@ -1,4 +1,4 @@
-//! Words that are images, and the first fault of others.
+//! Words that are images, and the first fault of words that aren't.
 
 ghost use Rattle.std.specs.Prelude.{◌<◌, ◌+◌};
 
@@ -17,7 +17,7 @@ const EARLY: [u32; 67] = [
     0x65655320, 0x32523152, 0x00000032,
 ];
 
-/// The same in the layout that is written: trips 0 and 2 are repeats 7 and 4294967295 of their days, trip 1 is a first.
+/// The same in the current layout: trips 0 and 2 are repeats 7 and 4294967295 on their days, trip 1 is a repeat 0.
 const REPEATED: [u32; 70] = [
     0x50415343, 2, 4, 3, 4, 6, 21, 4294963696, 4294967295, 0, 1, 100, 160, 0, 1, 2, 3, 100, 130, 1,
     2, 1, 2, 160, 220, 0, 3, 3, 0, 300, 400, 2, 0, 0, 2, 4, 5, 6, 0, 60, 1, 45, 0, 30, 1, 0, 2, 20,
@@ -43,7 +43,7 @@ fn connection(
     }
 }
 
-/// The image that the words are: a refusal is told as want of memory, for no other can come.
+/// The image of the words. A refusal is returned as want of memory, since no other can occur.
 fn image(alloc: Global, words: &[u32]) -> Result<Verified, AllocError> {
     match verify(alloc, words.to_vec(alloc)?) {
         Ok(image) => Ok(image),
@@ -85,7 +85,7 @@ fn assert_counts<R: Abort>(rt: &R, image: &Verified) {
     assert!(rt; image.words() == EARLY.as_slice());
 }
 
-/// Times, and the first connection that departs then or later.
+/// Times, each with the first connection that departs then or later.
 const DEPARTURES: [(u32, usize); 7] = [
     (0, 0),
     (100, 0),
@@ -191,7 +191,7 @@ fn names_are_read_back(rt: HostRuntime) -> Result<(), AllocError> {
     Ok(())
 }
 
-/// Names, and the least stop of each. A trip is no stop.
+/// Names, each with the first stop that has it. A trip is no stop.
 const FOUND: [(&str, Option<u32>); 6] = [
     ("Ham", Some(0)),
     ("", Some(1)),
@@ -241,7 +241,7 @@ fn a_fault_has_a_number_a_name_and_a_message(rt: HostRuntime) -> Result<(), Allo
     Ok(())
 }
 
-/// Whether an image has the sample's words, or they came back; and with which fault.
+/// Whether an image has the sample's words, or they came back; and the fault, if there is one.
 fn judged(answer: Result<Verified, (Vec<u32>, ImageFault)>) -> (bool, Option<ImageFault>) {
     match answer {
         Ok(image) => (image.words() == sample_words().as_slice(), None),
@@ -249,8 +249,8 @@ fn judged(answer: Result<Verified, (Vec<u32>, ImageFault)>) -> (bool, Option<Ima
     }
 }
 
-/// Whichever growth is refused, want of memory is told and nothing else, and the very same words
-/// come back. A refused growth ends the test with `AllocError`.
+/// Whichever growth is refused, the only error is that memory ran out, and the very same words come back. A refused
+/// growth ends the test with `AllocError`.
 #[test]
 fn refused_growth_gives_the_words_back(rt: HostRuntime) -> Result<(), AllocError> {
     let words = sample_words().to_vec(rt.alloc())?;
@@ -263,7 +263,7 @@ fn refused_growth_gives_the_words_back(rt: HostRuntime) -> Result<(), AllocError
     Err(AllocError)
 }
 
-/// What is asked of each of three trips: its day and its repeat.
+/// The day and the repeat of each of three trips.
 fn assert_trips<R: Abort>(rt: &R, image: &Verified, trips: [(u32, u32); 3]) {
     assert!(rt; image.trips() == 3);
     for trip in 0..3 {
@@ -324,7 +324,7 @@ fn assert_values<R: Abort>(rt: &R, image: &Verified, timetable: &Timetable, name
     assert_trip_names(rt, &names.trips);
 }
 
-/// An image comes out as values of their own.
+/// An image is unpacked into a timetable and names.
 #[test]
 fn images_are_unpacked(rt: HostRuntime) -> Result<(), AllocError> {
     let image = image(rt.alloc(), &REPEATED)?;
@@ -333,13 +333,14 @@ fn images_are_unpacked(rt: HostRuntime) -> Result<(), AllocError> {
     Ok(())
 }
 
-/// How many connections come out of an image, and how many trips have names.
+/// How many connections an unpacked image has, and how many trips have names.
 fn unpacked(alloc: Global, image: &Verified) -> Result<(usize, usize), AllocError> {
     let (timetable, names) = image.to_timetable(alloc)?;
     Ok((timetable.connections.len(), names.trips.len()))
 }
 
-/// Whichever growth of the unpacking is refused, want of memory is told, and the image is as it was.
+/// Whichever growth is refused while an image is unpacked, the error is that memory ran out, and the image is
+/// unchanged.
 #[test]
 fn refused_growth_of_unpacking_is_told(rt: HostRuntime) -> Result<(), AllocError> {
     let image = image(rt.alloc(), &second_sample_words())?;

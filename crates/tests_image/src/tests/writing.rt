@@ -21,7 +21,7 @@ fn change(stop: u32, secs: u32) -> Footpath
     }
 }
 
-/// The words of the sample, written.
+/// Writes the sample, and returns its words.
 fn written_sample(alloc: Global) -> Result<Vec<u32>, AllocError> {
     let timetable = sample_timetable(alloc)?;
     write(alloc, &timetable, &sample_names(alloc)?)
@@ -34,7 +34,7 @@ fn sample_is_written(rt: HostRuntime) -> Result<(), AllocError> {
     Ok(())
 }
 
-/// A timetable of no stop.
+/// A timetable without stops.
 fn empty(alloc: Global) -> Timetable
     ensures legal { IsLegal result }
     ensures limits { IsWithinLimits result }
@@ -48,7 +48,7 @@ fn empty(alloc: Global) -> Timetable
     }
 }
 
-/// Names of no stop and no trip.
+/// The names of no stops and no trips.
 fn no_names(alloc: Global) -> Names
     ensures { (length result.stops ≡ 0) × (length result.trips ≡ 0) × (length (text result) ≡ 0) }
 {
@@ -81,7 +81,7 @@ fn one_stop(alloc: Global) -> Result<Timetable, AllocError>
     })
 }
 
-/// Its name, and a base before 1970.
+/// The name of its stop, and a base before 1970.
 fn one_name(alloc: Global, name: &str) -> Result<Names, AllocError>
     requires { length name.now ≤ 5 }
     ensures { IfOk result (λ n. (length n.stops ≡ 1) × (length n.trips ≡ 0) × (length (text n) ≤ 5)) }
@@ -103,7 +103,7 @@ fn written(alloc: Global, name: &str) -> Result<Vec<u32>, AllocError>
     write(alloc, &timetable, &one_name(alloc, name)?)
 }
 
-/// Such an image with a name of so many bytes, which are these words.
+/// The words of such an image whose name has so many bytes, in these words.
 fn wanted(alloc: Global, bytes: u32, text: &[u32]) -> Result<Vec<u32>, AllocError> {
     let front = [
         0x50415343, 2, 1, 0, 0, 1, bytes, 4294880896, 4294967295, 0, 1, 0, 60, 0, bytes,
@@ -113,7 +113,7 @@ fn wanted(alloc: Global, bytes: u32, text: &[u32]) -> Result<Vec<u32>, AllocErro
     Ok(words)
 }
 
-/// Names of none to five bytes, and their words.
+/// Names of zero to five bytes, with their words.
 const NAMES: [(&str, &[u32]); 6] = [
     ("", &[]),
     ("A", &[0x41]),
@@ -136,8 +136,8 @@ fn names_fill_words(rt: HostRuntime) -> Result<(), AllocError> {
     Ok(())
 }
 
-/// Whichever growth is refused, want of memory is told, and else all words are there. A refused
-/// growth ends the test with `AllocError`.
+/// Whichever growth is refused, the error is that memory ran out; otherwise all words are there. A refused growth ends
+/// the test with `AllocError`.
 #[test]
 fn refused_growth_is_told(rt: HostRuntime) -> Result<(), AllocError> {
     assert!(rt; written(rt.alloc(), "Wels")?.len() == 16);

@@ -1,11 +1,11 @@
-//! The feed of examples/base in a folder `base_feed`, and the same with one record changed.
+//! The feed of examples/base in a folder `base_feed`, and that feed with one record changed.
 
 use crate::tests::running::Machine;
 use std::alloc::AllocError;
 use std::fs;
 use std::test::Fail;
 
-/// The lines of one of its files.
+/// The lines of one file of the feed.
 fn lines_of(file: &str) -> &'static str {
     match file {
         "agency.txt" =>
@@ -23,7 +23,7 @@ T2,08:20:00,08:20:00,C,2",
     }
 }
 
-/// Adds lines of which the one at a place, from 0 for the first, is another; each is ended.
+/// Adds lines, each with an LF; the one at an index (0 for the first) is replaced.
 fn add_lines(
     text: &mut String,
     lines: &str,
@@ -60,8 +60,8 @@ pub(crate) fn make<R: Machine>(rt: &R) -> Result<(), Fail> {
     Ok(())
 }
 
-/// Writes a file of it with another record: `stop_times.txt 2 T1,08:60:00,08:10:00,B,2` has this
-/// one in the place of its second.
+/// Writes a file of the feed with one record replaced: `stop_times.txt 2 T1,08:60:00,08:10:00,B,2` puts this record in
+/// the place of the second.
 pub(crate) fn change<R: Machine>(rt: &R, words: &str) -> Result<(), Fail> {
     let Some((file, rest)) = words.split_once(' ') else {
         return Err(Fail::new("a file, a number and a record"));

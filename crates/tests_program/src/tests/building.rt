@@ -243,7 +243,7 @@ ends 3
 remove unread
 ";
 
-/// A zone file of a rule of central Europe (TZif, RFC 9636).
+/// A zone file with the rule of Central Europe (TZif, RFC 9636).
 const CENTRAL_EUROPE: &[u8] = b"TZif2\0\0\0\0\0\0\0\0\0\0\0\0\0\0\0\
 \0\0\0\0\0\0\0\0\0\0\0\0\0\0\0\0\0\0\0\x01\0\0\0\x01\0\0\0\0\0\0\0\
 TZif2\0\0\0\0\0\0\0\0\0\0\0\0\0\0\0\

@@ -109,7 +109,7 @@ fn verified<R: Machine + Net<Listener = TcpListener, Stream = TcpStream>, I: Rea
     run(rt, &["csa", "verify", "-"], input, output, errors, false)
 }
 
-/// The status of `csa verify` over an image, where its lines go to a room of some bytes.
+/// The status of `csa verify` over an image, if its output has room for so many bytes.
 fn verified_into<R: Machine + Net<Listener = TcpListener, Stream = TcpStream>>(
     rt: &R,
     image: &[u8],
@@ -155,7 +155,7 @@ fn verified_unread<R: Machine + Net<Listener = TcpListener, Stream = TcpStream>>
     verified(rt, &mut input, &mut output, errors)
 }
 
-/// A line that finds no room is told by the status, and on standard error; so is standard input that can't be read,
+/// If a line can't be written, the status and standard error tell so; the same holds if standard input can't be read,
 /// which isn't called a file.
 #[test]
 fn streams_that_fail_are_told(rt: HostRuntime) -> Result<(), Fail> {
@@ -173,7 +173,7 @@ fn streams_that_fail_are_told(rt: HostRuntime) -> Result<(), Fail> {
     Ok(())
 }
 
-/// Whether the sum of the sources, printed to an output, ends with this status, and with this on standard error.
+/// Whether printing the sum of the sources to an output gives this status, and this text on standard error.
 fn is_told_of_sources<O: Write>(alloc: Global, output: &mut O, status: u8, told: &str) -> bool {
     let mut errors: Vec<u8> = Vec::new(alloc);
     let ended = print_sources("0123", output, &mut errors);
@@ -182,7 +182,8 @@ fn is_told_of_sources<O: Write>(alloc: Global, output: &mut O, status: u8, told:
 
 const FULL: &str = "csa: standard output can't be written: no space left on the device\n";
 
-/// The line of the sources is printed, or standard error says why it isn't, but not of a pipe that nobody reads.
+/// The line of the sources is printed, or standard error says why it isn't; but nothing is said if nobody reads the
+/// pipe.
 #[test]
 fn the_sum_of_the_sources_is_printed(rt: HostRuntime) {
     let alloc = rt.alloc();

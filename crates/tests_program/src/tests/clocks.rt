@@ -1,4 +1,4 @@
-//! Which days a feed is loaded for, by a clock that is handed in.
+//! For which days a feed is loaded, by a clock that is passed in.
 
 use clock_days::instant;
 use command_line::read;
@@ -12,7 +12,7 @@ use std::process::Abort;
 use std::test::Fail;
 use std::time::{Clock, Duration};
 
-/// A clock that shows so many seconds after 1970-01-01T00:00:00Z, or can't be read.
+/// A clock that shows this many seconds after 1970-01-01T00:00:00Z, or can't be read.
 #[derive(Drop)]
 struct Stopped(Option<u64>);
 
@@ -32,9 +32,9 @@ impl Clock for Stopped {
 /// The rule of Central Europe.
 const ZONE: &str = "CET-1CEST,M3.5.0,M10.5.0/3";
 
-/// What is asked for, what the clock shows at a load, and the second from which the image counts.
-/// 1705273200 is the start of 20240115, 1711836000 that of 20240331, an hour before its midnight. A
-/// day that the clock doesn't give, or beyond the calendar, has no start.
+/// The first day that is asked for, what the clock shows at a load, and the second from which the image counts.
+/// 1705273200 is the start of 20240115, 1711836000 that of 20240331, an hour before its midnight. If the clock gives no
+/// day, or one beyond the calendar, there is no start.
 const LOADS: [(&str, Option<u64>, Option<i64>); 11] = [
     ("today", Some(1_705_273_199), Some(1_705_186_800)),
     ("today", Some(1_705_273_200), Some(1_705_273_200)),
@@ -49,7 +49,7 @@ const LOADS: [(&str, Option<u64>, Option<i64>); 11] = [
     ("today-1", Some(253_402_300_800), None),
 ];
 
-/// The second from which the image of a feed counts that is loaded while the clock shows this.
+/// The second from which the image counts if a feed is loaded while the clock shows this.
 fn base_at(alloc: Global, word: &str, clock: &Stopped) -> Result<Option<i64>, Fail> {
     let Some(first) = FirstDay::of(word) else {
         return Err(Fail::new("a first day"));

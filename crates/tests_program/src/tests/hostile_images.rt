@@ -1,4 +1,4 @@
-//! Images with one thing wrong, and with several: the first fault is told.
+//! Images with one fault, and with several: the first fault is told.
 
 use crate::tests::transcript::try_transcripts;
 use std::test::Fail;

@@ -222,7 +222,8 @@ asks profile - --from A --to C --after 07:00:00 --until 09:00:00 --by 10:00:00 -
 complains 64
 ";
 
-/// The answer is drawn beside its lines; a picture that can't be written is told, and nothing is printed.
+/// The answer is drawn as well as printed. If the picture can't be written, standard error says so, and nothing is
+/// printed.
 #[test]
 fn an_answer_is_drawn(rt: HostRuntime) -> Result<(), Fail> {
     try_transcripts(&rt, &[DRAWN])?;

@@ -1,5 +1,5 @@
-//! `csa serve`: what is told of wrong words. How it serves is tried over the built program
-//! (`.ci/server`), and over workers.
+//! `csa serve`: what is told about wrong words. How it serves is tested with the built program (`.ci/server`), and in
+//! the tests of workers.
 
 use crate::tests::transcript::try_transcripts;
 use std::alloc::{AllocError, Global};
@@ -51,8 +51,8 @@ run serve --image - --port 0 --workers 2 --sessions 1 --first 20240115 --days 1 
 answers refused 51 OddLength
 ";
 
-/// A port that is taken, PORT, is reported, and before it that clocks of a feed would count from
-/// another base than the image's, and each feed that has no folder.
+/// A port that is taken, PORT, is reported; before that, that clocks of a feed would count from another base than the
+/// image's, and each feed that has no folder.
 const TAKEN: &str = "
 sample
 folder fast_feed

@@ -13,7 +13,7 @@ use std::test::Fail;
 use std::time::Duration;
 use std::{fs, io, thread};
 
-/// What a client asks: the profile is answered over the version that is pinned, whatever is loaded meanwhile.
+/// The requests of a client: the profile is answered over the version that is pinned, whatever is loaded meanwhile.
 const ASKED: &str = "{\"do\":\"pin\"}
 {\"do\":\"load\",\"feed\":\"slow\",\"wait\":true}
 {\"do\":\"profile\",\"from\":\"A\",\"to\":\"C\",\"after\":\"07:00:00\",\
@@ -26,7 +26,8 @@ const REPLIES: &str = "{\"base\":1705276800,\"ok\":\"pin\",\"version\":1}
 \"journey\":\"ride 0 0 walk 1 1 0 ride 2 2\"}],\"version\":1,\"walk\":null}
 ";
 
-/// The sample, from the standard input, to one session, beside the feed `slow` of a folder.
+/// The words of the server: it serves the sample, from standard input, to one session, and has the feed `slow` in a
+/// folder.
 const WORDS: [&str; 17] = [
     "csa",
     "serve",
@@ -50,7 +51,7 @@ const WORDS: [&str; 17] = [
 /// How often a client looks whether the server listens, a millisecond apart.
 const LOOKS: u32 = 20_000;
 
-/// What one thread writes and another reads.
+/// A writer whose bytes another thread reads.
 #[derive(Drop)]
 struct Heard<'a, R> {
     rt: &'a R,
@@ -75,7 +76,7 @@ fn port_in(printed: &[u8]) -> Option<u16> {
     port.parse::<u16>().ok()
 }
 
-/// Waits until the server listens.
+/// Waits until the server listens, and returns its port.
 fn port_of<R: Machine>(rt: &R, printed: &Mutex<Vec<u8>>) -> Option<u16> {
     for _ in 0..LOOKS {
         let port = port_in(&printed.lock(rt));
@@ -100,7 +101,7 @@ fn replies_at<R: Machine + Net<Listener = TcpListener, Stream = TcpStream>>(
     Ok(replies)
 }
 
-/// What the server printed and told, its status, and what the client read.
+/// Asserts what the server wrote to the output and the errors, its status, and what the client read.
 fn expect_served<R: Machine + Abort>(
     rt: &R,
     status: u8,

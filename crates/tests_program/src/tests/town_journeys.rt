@@ -1,4 +1,4 @@
-//! Journeys over a town of four stops, with one thing wrong and with two: the first fault is told.
+//! Journeys over a town of four stops, with one fault and with two: the first fault is told.
 
 use crate::tests::transcript::try_transcripts;
 use std::test::Fail;

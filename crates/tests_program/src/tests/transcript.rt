@@ -1,38 +1,38 @@
-//! Transcripts: what stands in files, what a user types, and what the program answers, line after
-//! line. The first word of a line says what it is.
+//! Transcripts: what files have, what a user types, and what the program answers, line after line. The first word of a
+//! line says what it is.
 //!
 //! | line | meaning |
 //! |---|---|
-//! | `# TEXT`, or none | nothing: it tells what the lines below show |
+//! | `# TEXT`, or an empty line | nothing; the text says what the lines below show |
 //! | `image WORD ..` | the input is an image of these words |
-//! | `sample` | the input is the sample image; `sample 2` in the layout that is written |
+//! | `sample` | the input is the sample image; `sample 2`: in the current layout |
 //! | `name BYTES` | the input is the image of one stop, whose name has so many bytes, a multiple of four |
-//! | `set PLACE WORD` | the input's word at this place is another |
-//! | `word PLACE WORD | TEXT` | the input is the sample with this word there, and the command answers so |
-//! | `cut BYTES` | of the input so many bytes alone |
+//! | `set PLACE WORD` | the input's word at this offset becomes this word |
+//! | `word PLACE WORD | TEXT` | `sample`, `set PLACE WORD` and `answers TEXT` |
+//! | `cut BYTES` | the input is cut after so many bytes |
 //! | `zeros WORDS` | the input is so many words of 0 |
 //! | `folder PATH`, `file PATH` | makes a folder, or an empty file |
-//! | `link PATH TARGET` | makes a link at a path that leads to another |
-//! | `has TEXT`, `crlf TEXT` | the file has one more line, ended by LF, or by CR LF |
-//! | `rows PATH LINE | LINE ..` | a file of these lines |
-//! | `remove PATH` | takes a file or a folder away, with all that is in it |
+//! | `link PATH TARGET` | makes a link at a path, to a target |
+//! | `has TEXT`, `crlf TEXT` | adds a line to the file that was made last, ended by LF, or by CR LF |
+//! | `rows PATH LINE | LINE ..` | makes a file of these lines |
+//! | `remove PATH` | removes a file, or a folder with all that is in it |
 //! | `base` | makes the feed of examples/base, in a folder `base_feed` |
-//! | `with FILE PLACE RECORD` | that file of it is as it was made, but for the record at this place, from 1 behind its header |
-//! | `run WORD ..` | the words of the next command behind the program's name; one in single quotes may have spaces |
-//! | `asks WORD ..` | the same, and behind them `--no-warnings` |
-//! | `profile FROM TO AFTER UNTIL BY CRITERION` | asks the query by `csa profile` over the input |
-//! | `judge FROM TO AFTER UNTIL BY LEG .. | TEXT` | the words are those of `csa journey` over the input, with this query and these legs, and it answers so |
-//! | `prints TEXT`, `tells TEXT` | one more line that it must print, or tell among its errors, seconds being `#` |
-//! | `ends STATUS` | runs it: it prints and tells these lines alone, and ends with this status |
-//! | `answers TEXT` | one more line that it must print, and `ends 0`, or `ends 2` where the line begins with `refused` |
-//! | `complains STATUS` | runs it: it prints nothing, tells something of its own, and ends with this status |
-//! | `helps` | runs it: it prints something of its own, tells nothing, and ends with status 0 |
-//! | `saves PATH` | puts the bytes of the input into a file |
-//! | `holds PATH` | the file has the bytes of the input |
-//! | `lacks PATH` | there is no such file |
+//! | `with FILE PLACE RECORD` | writes a file of that feed anew, its record of this number (from 1) replaced |
+//! | `run WORD ..` | the words of the next command after the program's name; a word in single quotes may have spaces |
+//! | `asks WORD ..` | the same, followed by `--no-warnings` |
+//! | `profile FROM TO AFTER UNTIL BY CRITERION` | the next command is `csa profile` over the input, without warnings |
+//! | `judge FROM TO AFTER UNTIL BY LEG .. | TEXT` | `csa journey` over the input, and then `answers TEXT` |
+//! | `prints TEXT`, `tells TEXT` | one more line that must go to the output, or to the errors with `#` for seconds |
+//! | `ends STATUS` | runs it: it must write these lines and no others, and end with this status |
+//! | `answers TEXT` | `prints TEXT` and `ends 0`, or `ends 2` if the text begins with `refused` |
+//! | `complains STATUS` | runs it: it must print nothing, write some errors, and end with this status |
+//! | `helps` | runs it: it must print something, write no errors, and end with status 0 |
+//! | `saves PATH` | writes the bytes of the input to a file |
+//! | `holds PATH` | the file must have the bytes of the input |
+//! | `lacks PATH` | there must be no such file |
 //!
-//! Each command is tried before the next one and before the end, and so is each `prints` and
-//! `tells`: one that nothing ran is refused.
+//! Each command must be run before the next one and before the end, and each line of `prints` or `tells` must have been
+//! compared by then; otherwise the transcript fails.
 
 use crate::tests::base_feed;
 use crate::tests::running::{Machine, Outcome, outcome_of};
@@ -44,18 +44,18 @@ use std::os::unix::fs::symlink;
 use std::process::Abort;
 use std::test::Fail;
 
-/// What the next command finds, and what it is to print.
+/// What the next command finds, and what it must print.
 #[derive(Drop)]
 struct Stage<'a> {
     /// The words of the image on its input.
     image: Vec<u32>,
-    /// How many bytes of them are there at most.
+    /// How many bytes of them the input has at most.
     bytes: usize,
-    /// The file that is being written, and what it has.
+    /// The path of the file that is being written, and its text so far.
     path: &'a str,
     text: String,
     words: Vec<&'a str>,
-    /// Whether the words were tried.
+    /// Whether the command with these words was run.
     is_tried: bool,
     printed: String,
     told: String,
@@ -81,7 +81,7 @@ impl<'a> Stage<'a> {
         Ok(bytes)
     }
 
-    /// Takes the words of the next command, once those before it were tried.
+    /// Takes the words of the next command. The command before it must have been run.
     fn take_words(&mut self, words: Vec<&'a str>) -> Result<(), Fail> {
         self.ended()?;
         self.words = words;
@@ -89,7 +89,7 @@ impl<'a> Stage<'a> {
         Ok(())
     }
 
-    /// Nothing waits to be tried.
+    /// Fails if a command wasn't run, or a line wasn't compared.
     fn ended(&self) -> Result<(), Fail> {
         if !self.is_tried {
             return Err(Fail::new("a command that was never tried"));
@@ -97,7 +97,7 @@ impl<'a> Stage<'a> {
         self.all_compared()
     }
 
-    /// No line stands ready.
+    /// Fails if a line wasn't compared.
     fn all_compared(&self) -> Result<(), Fail> {
         if self.printed.is_empty() && self.told.is_empty() {
             Ok(())
@@ -106,12 +106,12 @@ impl<'a> Stage<'a> {
         }
     }
 
-    /// One more line stands ready that is to be printed.
+    /// Adds a line that the command must print.
     fn prints(&mut self, line: &str) -> Result<(), Fail> {
         Ok(add_line(&mut self.printed, line, "\n")?)
     }
 
-    /// One more line stands ready that is to be told among the errors.
+    /// Adds a line that the command must write to the errors.
     fn tells(&mut self, line: &str) -> Result<(), Fail> {
         Ok(add_line(&mut self.told, line, "\n")?)
     }
@@ -191,7 +191,7 @@ fn image_of(alloc: Global, kind: &str, text: &str) -> Result<Vec<u32>, Fail> {
     }
 }
 
-/// Puts a word at a place.
+/// Puts a word at an offset.
 fn set(image: &mut [u32], text: &str) -> Result<(), Fail> {
     let Some((place, word)) = text.split_once(' ') else {
         return Err(Fail::new("a place and a word"));
@@ -215,7 +215,7 @@ fn add_plain<'a>(words: &mut Vec<&'a str>, text: &'a str) -> Result<(), AllocErr
     Ok(())
 }
 
-/// The words of a command: those between quotes, and the others between spaces.
+/// The words of a command: texts between quotes, and others between spaces.
 fn words_of<'a>(alloc: Global, text: &'a str) -> Result<Vec<&'a str>, AllocError> {
     let mut words = vec![in alloc; "csa"]?;
     let mut is_quoted = false;
@@ -237,8 +237,7 @@ fn words_without_warnings<'a>(alloc: Global, text: &'a str) -> Result<Vec<&'a st
     Ok(words)
 }
 
-/// The words of a command over the input with a query: its ends, its clocks, and behind them the
-/// criterion, or the legs.
+/// The words of a command over the input with a query: its ends, its clocks, and then the criterion or the legs.
 fn asked<'a>(alloc: Global, command: &'a str, text: &'a str) -> Result<Vec<&'a str>, Fail> {
     let mut words = vec![in alloc; "csa", command, "-"]?;
     add_query(&mut words, text, command == "profile")?;
@@ -247,7 +246,7 @@ fn asked<'a>(alloc: Global, command: &'a str, text: &'a str) -> Result<Vec<&'a s
 
 const QUERY: [&str; 5] = ["--from", "--to", "--after", "--until", "--by"];
 
-/// Adds the words of a query, and what is asked.
+/// Adds the words of a query, and then the criterion or the journey.
 fn add_query<'a>(words: &mut Vec<&'a str>, text: &'a str, is_profile: bool) -> Result<(), Fail> {
     let mut rest = text;
     for flag in QUERY.iter() {
@@ -285,7 +284,7 @@ fn add_line(text: &mut String, line: &str, end: &str) -> Result<(), AllocError> 
     text.push_str(end)
 }
 
-/// Takes a file or a folder away.
+/// Removes a file or a folder.
 fn remove<R: Machine>(rt: &R, path: &str) -> Result<(), Fail> {
     match fs::remove_file(rt, path) {
         Ok(()) => Ok(()),
@@ -344,7 +343,7 @@ fn write_rows<R: Machine>(rt: &R, text: &str) -> Result<(), Fail> {
     write(rt, path, rows.as_bytes())
 }
 
-/// Puts the bytes of the input into a file.
+/// Writes the bytes of the input to a file.
 fn save<R: Machine>(rt: &R, stage: &Stage<'_>, path: &str) -> Result<(), Fail> {
     let input = stage.input(rt.alloc())?;
     write(rt, path, &input)
@@ -360,8 +359,8 @@ fn run_on_stage<R: Machine + Net<Listener = TcpListener, Stream = TcpStream>>(
     Ok(outcome_of(rt, &stage.words, &input))
 }
 
-/// Whether these are the errors that stand ready, but for seconds. Where none are, a refused image
-/// or journey is explained in some words.
+/// Whether these are the expected errors, apart from seconds. If none are expected, a refused image or journey must be
+/// explained in some words.
 fn is_told(alloc: Global, printed: &str, told: &str, errors: &[u8]) -> Result<bool, Fail> {
     if told.is_empty() && is_of_image(printed) {
         return Ok(errors.starts_with(b"csa: "));
@@ -383,7 +382,7 @@ fn first_word(text: &str) -> Option<&str> {
     Some(word)
 }
 
-/// Adds what stands behind the word `seconds`: a number that ends its line is `#`.
+/// Adds what follows the word `seconds`; up to the end of its line it becomes `#`, if it has a point.
 fn add_masked(masked: &mut String, piece: &str) -> Result<(), AllocError> {
     masked.push_str(" seconds ")?;
     match piece.split_once('\n') {
@@ -408,19 +407,19 @@ fn mask(masked: &mut String, text: &str) -> Result<(), AllocError> {
     Ok(())
 }
 
-/// A text in which the seconds at the ends of lines are `#`.
+/// A text in which the seconds at the ends of lines became `#`.
 fn masked(alloc: Global, text: &str) -> Result<String, AllocError> {
     let mut masked = String::new(alloc);
     mask(&mut masked, text)?;
     Ok(masked)
 }
 
-/// Something of a command is as it is to be.
+/// Asserts that something about a command is right.
 fn demand<R: Abort>(rt: &R, words: &[&str], is_right: bool, what: &str) {
     assert!(rt; is_right, "{what} of {words:?}");
 }
 
-/// The command printed and told the lines that stand ready, and ended with a status.
+/// Asserts that the command wrote the expected lines to the output and the errors, and ended with a status.
 fn compare<R: Machine + Abort>(
     rt: &R,
     stage: &Stage<'_>,
@@ -437,7 +436,7 @@ fn compare<R: Machine + Abort>(
     Ok(())
 }
 
-/// The command prints and tells the lines that stand ready, and ends with a status.
+/// Runs the command, which must write the expected lines to the output and the errors, and end with a status.
 fn expect_lines<R: Machine + Net<Listener = TcpListener, Stream = TcpStream> + Abort>(
     rt: &R,
     stage: &mut Stage<'_>,
@@ -450,8 +449,8 @@ fn expect_lines<R: Machine + Net<Listener = TcpListener, Stream = TcpStream> + A
     Ok(())
 }
 
-/// The command prints one more line than stand ready, its last one, and ends well, or with a
-/// refusal where the line is one.
+/// Runs the command, which must print the expected lines and then this one, and end with 0, or with 2 if this line is a
+/// refusal.
 fn expect_last<R: Machine + Net<Listener = TcpListener, Stream = TcpStream> + Abort>(
     rt: &R,
     stage: &mut Stage<'_>,
@@ -462,7 +461,7 @@ fn expect_last<R: Machine + Net<Listener = TcpListener, Stream = TcpStream> + Ab
     expect_lines(rt, stage, if is_refused { "2" } else { "0" })
 }
 
-/// The command answers so on the sample with a word in the place of another.
+/// Runs the command on the sample with another word at an offset, and compares its answer.
 fn answer_changed<R: Machine + Net<Listener = TcpListener, Stream = TcpStream> + Abort>(
     rt: &R,
     stage: &mut Stage<'_>,
@@ -476,7 +475,7 @@ fn answer_changed<R: Machine + Net<Listener = TcpListener, Stream = TcpStream> +
     expect_last(rt, stage, answer)
 }
 
-/// A journey is judged so: its query, its legs and behind them the answer.
+/// Has a journey judged, and compares the answer: the text has its query, its legs and then the answer.
 fn judge<'a, R: Machine + Net<Listener = TcpListener, Stream = TcpStream> + Abort>(
     rt: &R,
     stage: &mut Stage<'a>,
@@ -489,14 +488,16 @@ fn judge<'a, R: Machine + Net<Listener = TcpListener, Stream = TcpStream> + Abor
     expect_last(rt, stage, answer)
 }
 
-/// The command printed something, or told something, and not both, and ended with a status.
+/// Asserts that the command wrote something to the output if `prints` is set, otherwise to the errors, and nothing to
+/// the other; and that it ended with a status.
 fn compare_any<R: Abort>(rt: &R, words: &[&str], outcome: &Outcome, prints: bool, status: u32) {
     demand(rt, words, outcome.output.is_empty() != prints, "the output");
     demand(rt, words, outcome.errors.is_empty() == prints, "the errors");
     demand(rt, words, u32::from(outcome.status) == status, "the status");
 }
 
-/// The command prints something, or tells something, and not both, and ends with a status.
+/// Runs the command, which must write something to the output if `prints` is set, otherwise to the errors, and nothing
+/// to the other; and end with a status.
 fn expect_any<R: Machine + Net<Listener = TcpListener, Stream = TcpStream> + Abort>(
     rt: &R,
     stage: &mut Stage<'_>,
@@ -537,7 +538,7 @@ fn take_input(alloc: Global, stage: &mut Stage<'_>, kind: &str, rest: &str) -> R
     }
 }
 
-/// Makes files and folders, takes them away, or looks at one.
+/// Makes or removes files and folders, or looks at one.
 fn follow_files<'a, R: Machine + Abort>(
     rt: &R,
     stage: &mut Stage<'a>,
@@ -589,7 +590,7 @@ fn follow<'a, R: Machine + Net<Listener = TcpListener, Stream = TcpStream> + Abo
     }
 }
 
-/// Tries each line of a transcript in turn.
+/// Does what each line of a transcript says, in order.
 fn follow_all<'a, R: Machine + Net<Listener = TcpListener, Stream = TcpStream> + Abort>(
     rt: &R,
     stage: &mut Stage<'a>,
@@ -601,7 +602,7 @@ fn follow_all<'a, R: Machine + Net<Listener = TcpListener, Stream = TcpStream> +
     stage.ended()
 }
 
-/// Tries a transcript, with nothing left of those before it.
+/// Runs a transcript, with nothing left of those before it.
 fn try_one<R: Machine + Net<Listener = TcpListener, Stream = TcpStream> + Abort>(
     rt: &R,
     transcript: &str,
@@ -610,8 +611,8 @@ fn try_one<R: Machine + Net<Listener = TcpListener, Stream = TcpStream> + Abort>
     follow_all(rt, &mut stage, transcript)
 }
 
-/// Tries transcripts one after another. A test of its own for each costs a proof that the machine
-/// has all that the program needs, each time.
+/// Runs transcripts one after another. If each had a test of its own, each would cost a proof that the machine has all
+/// that the program needs.
 pub(crate) fn try_transcripts<R: Machine + Net<Listener = TcpListener, Stream = TcpStream> + Abort>(
     rt: &R,
     transcripts: &[&str],

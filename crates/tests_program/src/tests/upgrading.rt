@@ -1,4 +1,4 @@
-//! `csa upgrade`: what is written, and what stays as it was.
+//! `csa upgrade`: what is written, and what stays unchanged.
 
 use crate::tests::transcript::try_transcripts;
 use std::test::Fail;

@@ -1,5 +1,5 @@
-//! Worked queries from stop 0 to stop 2, over images read in place and decoded: points and journeys
-//! were worked out by hand, and each journey is judged again.
+//! Worked queries from stop 0 to stop 2, over images read in place and decoded. Points and journeys were worked out by
+//! hand, and each journey is checked against the image.
 
 mod rows;
 
@@ -41,15 +41,15 @@ pub const WITH_WALK: [u32; 49] = [
     20240115, 0x54434241, 0x00325431,
 ];
 
-/// The sample with footpaths of a minute from stop 0 to stop 1 and from there to stop 2, and of two
-/// minutes from stop 0 to stop 2.
+/// The sample with footpaths of one minute from stop 0 to stop 1 and from stop 1 to stop 2, and of two minutes from
+/// stop 0 to stop 2.
 pub const WITH_CHAIN: [u32; 53] = [
     0x50415343, 1, 3, 2, 3, 6, 7, 1705276800, 0, 0, 1, 28800, 29400, 0, 3, 1, 2, 29400, 30600, 0,
     3, 1, 2, 29520, 30000, 1, 3, 0, 1, 3, 6, 0, 0, 0, 60, 1, 0, 0, 120, 1, 60, 2, 0, 0, 1, 2, 3, 5,
     7, 20240115, 20240115, 0x54434241, 0x00325431,
 ];
 
-/// The sample with a third trip from stop 0 to stop 2, as fast as the change.
+/// The sample with a third trip from stop 0 to stop 2, which is as fast as the change.
 pub const WITH_DIRECT_TRIP: [u32; 56] = [
     0x50415343, 1, 3, 3, 4, 3, 9, 1705276800, 0, 0, 1, 28800, 29400, 0, 3, 0, 2, 28800, 30000, 2,
     3, 1, 2, 29400, 30600, 0, 3, 1, 2, 29520, 30000, 1, 3, 0, 1, 2, 3, 0, 0, 1, 0, 2, 0, 0, 1, 2,
@@ -59,14 +59,14 @@ pub const WITH_DIRECT_TRIP: [u32; 56] = [
 /// By a change at stop 1.
 const CHANGE: &str = "ride 0 0 walk 1 1 0 ride 2 2";
 
-/// The journey of the point at a place.
+/// The journey of the point at an index.
 fn journey_at<C: Criterion>(alloc: Global, found: &Found<C>, place: usize) -> Result<Journey, Fail>
     requires { place < length (listed found.now) }
 {
     Ok(extract(alloc, found, place)?)
 }
 
-/// When a journey departs and is over, which counts for a query.
+/// When a journey that counts for a query departs and arrives.
 fn times_of(image: &Verified, query: &Query, journey: &Journey) -> Result<Times, Fail> {
     let times = check(image, query, journey)
         .ok()
@@ -74,7 +74,7 @@ fn times_of(image: &Verified, query: &Query, journey: &Journey) -> Result<Times,
     Ok(times)
 }
 
-/// When a point departs, and what is told of its value.
+/// When the point at an index departs, and what is told of its value.
 fn told_at<C: Told>(criterion: &C, found: &Found<C>, place: usize) -> (u32, ToldValue)
     requires { place < length (listed found.now) }
 {
@@ -82,7 +82,7 @@ fn told_at<C: Told>(criterion: &C, found: &Found<C>, place: usize) -> (u32, Told
     (point.departure, criterion.tell(&point.value))
 }
 
-/// Whether a journey with so many rides that arrives then has this value: trips are told where they are counted.
+/// Whether a journey that arrives at this time has this value: its trips, if they are told, are its rides.
 pub fn is_worth(journey: &Journey, arrival: u32, told: ToldValue) -> bool {
     let are_told = match told.trips {
         Some(trips) => trips as usize == journey.rides.len(),
@@ -91,7 +91,7 @@ pub fn is_worth(journey: &Journey, arrival: u32, told: ToldValue) -> bool {
     told.arrival == arrival && are_told
 }
 
-/// A journey departs and is over so, and has this text.
+/// Asserts that a journey departs and arrives at these times, and has this text.
 fn assert_journey(
     rt: &impl Abort,
     alloc: Global,
@@ -108,8 +108,8 @@ fn assert_journey(
     Ok(())
 }
 
-/// The point at a place departs and arrives so, and its journey, which counts for the query and is
-/// worth as much, has this text.
+/// Asserts that the point at an index departs and arrives at these times, and that its journey counts for the query, is
+/// worth as much, and has this text.
 fn assert_point<C: Told>(
     rt: &impl Abort,
     alloc: Global,
@@ -129,7 +129,7 @@ fn assert_point<C: Told>(
     assert_journey(rt, alloc, &journey, times, expected)
 }
 
-/// A query has these points: of each its departure, its arrival and its journey.
+/// Asserts that the query has these points, each with its departure, its arrival and the text of its journey.
 fn assert_answer<S: ConnSource, C: Told>(
     rt: &impl Abort,
     alloc: Global,
@@ -149,7 +149,7 @@ fn assert_answer<S: ConnSource, C: Told>(
     Ok(())
 }
 
-/// Over an image in place, and over its lists decoded.
+/// Asserts the same over an image in place, and over its lists decoded.
 fn assert_answers<C: Told>(
     rt: &impl Abort,
     alloc: Global,
@@ -165,7 +165,7 @@ fn assert_answers<C: Told>(
     assert_answer(rt, alloc, &image, &mut decoded, criterion, query, expected)
 }
 
-/// The same of the earliest arrival alone.
+/// The same under earliest arrival alone.
 fn assert_arrivals(
     rt: &impl Abort,
     alloc: Global,
@@ -184,7 +184,7 @@ fn by(by: u32) -> Query {
     Query { by, ..ASKED }
 }
 
-/// A change is faster, and takes more trips. An image of the second layout is asked as one of the first is.
+/// A change is faster, and takes more trips. An image of the second layout gives the same answer as one of the first.
 #[test]
 fn by_a_change(rt: HostRuntime) -> Result<(), Fail> {
     let alloc = rt.alloc();
@@ -196,8 +196,8 @@ fn by_a_change(rt: HostRuntime) -> Result<(), Fail> {
     assert_answers(&rt, alloc, &second, &ArrivalTrips, &ASKED, &both)
 }
 
-/// Each repeat is a trip of its own: from 09:00:00 until 10:00:00 one leaves three times, and none
-/// but the last where one leaves after the second.
+/// Each repeat is a trip of its own: from 09:00:00 until 10:00:00 there are three departures, and from a second after
+/// the second of them only the last.
 #[test]
 fn by_repeats(rt: HostRuntime) -> Result<(), Fail> {
     let alloc = rt.alloc();
@@ -292,7 +292,7 @@ fn on_foot_from_the_last_trip(rt: HostRuntime) -> Result<(), Fail> {
     assert_arrivals(&rt, rt.alloc(), &WITH_CHAIN, &ASKED, &walks)
 }
 
-/// Whether both answers have two points, each with the same departure.
+/// Whether both answers have two points, and these have the same departures.
 fn depart_together(found: &Found<ArrivalTrips>, others: &Found<ArrivalTrips>) -> bool {
     let (points, others) = (found.points(), others.points());
     if points.len() != 2 || others.len() != 2 {
@@ -301,7 +301,7 @@ fn depart_together(found: &Found<ArrivalTrips>, others: &Found<ArrivalTrips>) ->
     points[0].departure == others[0].departure && points[1].departure == others[1].departure
 }
 
-/// Whether an image in place and its lists decoded do.
+/// Whether an image in place and its lists decoded give such answers.
 fn give_one_answer(alloc: Global, words: &[u32]) -> Result<bool, Fail> {
     let image = image(alloc, words)?;
     if ASKED.check(image.stops()).is_err() {
@@ -320,7 +320,7 @@ fn give_one_answer(alloc: Global, words: &[u32]) -> Result<bool, Fail> {
     Ok(depart_together(&found, &again))
 }
 
-/// The image in place and its lists decoded: as many points, each with the same departure.
+/// The image in place and its lists decoded give as many points, with the same departures.
 #[test]
 fn both_sources_give_one_answer(rt: HostRuntime) -> Result<(), Fail> {
     assert!(rt; give_one_answer(rt.alloc(), &sample_words())?);
@@ -328,7 +328,7 @@ fn both_sources_give_one_answer(rt: HostRuntime) -> Result<(), Fail> {
     Ok(())
 }
 
-/// The answer at one call.
+/// The answer of the one call that finds it.
 fn answered<S: ConnSource, C: Criterion>(
     alloc: Global,
     source: &mut S,
@@ -382,9 +382,9 @@ fn is_answered(alloc: Global, answer: &Answer<ArrivalTrips>) -> Result<bool, All
     Ok(direct.time == 28800 && is_worth && text.as_slice() == b"ride 0 1".as_slice())
 }
 
-/// The answer at one call: each departure with its value and its journey, and how many connections
-/// were read. Whichever growth is refused, want of memory is told: then the test ends with
-/// `AllocError`. Either way connections were asked for from the last one on, each in its turn.
+/// The one call answers with each departure, its value and its journey, and how many connections were read. Whichever
+/// growth is refused, the error is that memory ran out: then the test ends with `AllocError`. Either way connections
+/// were asked for in turn, from the last one on.
 #[test]
 fn refused_growth_is_told(rt: HostRuntime) -> Result<(), Fail> {
     let alloc = rt.alloc();

@@ -1,5 +1,5 @@
-//! A criterion of one's own by which riding makes a value better: so a scan may leave nothing out
-//! by what it found, and must find what it would leave out otherwise.
+//! A criterion that a test defines, by which riding makes a value better: so a scan may leave nothing out because of
+//! the points found, and must find journeys that it would otherwise leave out.
 
 ghost use Rattle.std.specs.Prelude.{◌-◌, nat_le, nat_lt};
 ghost use Rattle.std.specs.Ordering.{nat_cmp};
@@ -79,8 +79,7 @@ impl Criterion for WithBonus {
     } };
 }
 
-/// From stop 0 to stop 2 by a change at stop 1, there at 08:20:30, or a trip that leaves later and
-/// is there at 08:20:00.
+/// From stop 0 to stop 2: a change at stop 1 arrives at 08:20:30, and a trip that leaves later arrives at 08:20:00.
 const LATER_AND_EARLIER: [u32; 56] = [
     0x50415343, 1, 3, 3, 4, 3, 9, 1705276800, 0, 0, 1, 28800, 29400, 0, 3, 1, 2, 29400, 30600, 0,
     3, 1, 2, 29520, 30030, 1, 3, 0, 2, 29600, 30000, 2, 3, 0, 1, 2, 3, 0, 0, 1, 0, 2, 0, 0, 1, 2,
@@ -96,7 +95,8 @@ const ASKED: Query = Query {
     by: 36000,
 };
 
-/// An answer has these departures: of each the time, the value and the journey. Every connection was read.
+/// Asserts that an answer has these departures, each with its time, its value and its journey, and that every
+/// connection was read.
 fn assert_departures<C: Criterion<V = u32>>(
     rt: &impl Abort,
     alloc: Global,
@@ -115,7 +115,7 @@ fn assert_departures<C: Criterion<V = u32>>(
     Ok(())
 }
 
-/// A source answers so.
+/// Asserts that a source gives this answer.
 fn assert_answer<S: ConnSource, C: Criterion<V = u32>>(
     rt: &impl Abort,
     alloc: Global,
@@ -129,7 +129,7 @@ fn assert_answer<S: ConnSource, C: Criterion<V = u32>>(
     assert_departures(rt, alloc, &answer, expected)
 }
 
-/// So does the image in place, and so do its lists decoded.
+/// Asserts that the image in place gives this answer, and that its lists decoded do.
 fn assert_answers<C: Criterion<V = u32>>(
     rt: &impl Abort,
     alloc: Global,
@@ -147,9 +147,9 @@ fn assert_answers<C: Criterion<V = u32>>(
     )
 }
 
-/// Who rides twice is there half a minute later, and gets a minute more off. When the trips of that
-/// journey are read, the later departure was found already, and it betters each of them as long as
-/// the first ride isn't counted.
+/// Riding twice arrives half a minute later, but gets one more minute off. When the scan reads the trips of that
+/// journey, it has already found the later departure, which betters each of them as long as the first ride isn't
+/// counted.
 #[test]
 fn riding_may_better_a_value(rt: HostRuntime) -> Result<(), Fail> {
     let alloc = rt.alloc();

@@ -1,4 +1,4 @@
-//! Bags of points, against what a long history of points leaves.
+//! Bags of points, compared with what should be left of a long history of points.
 
 ghost use Rattle.std.specs.Prelude.{◌<◌, ◌≤◌};
 
@@ -8,7 +8,7 @@ use std::alloc::{AllocError, Global};
 use std::process::Abort;
 use std::test::Fail;
 
-// A number below a limit, from a generator that goes on from its last number.
+// Draws a number below a limit, and moves the generator on.
 fn draw(state: &mut u32, limit: u32) -> u32
     requires { 0 < limit }
     ensures { result < limit }
@@ -17,7 +17,7 @@ fn draw(state: &mut u32, limit: u32) -> u32
     (*state >> 16) % limit
 }
 
-// A point of few departures, times and numbers of trips, so that many tie.
+// Draws a point from few departures, times and numbers of trips, so that many tie.
 fn draw_point(state: &mut u32, tag: usize) -> Point<TimeTrips>
     ensures time { result.value.time < 12 }
     ensures trips { result.value.trips < 4 }
@@ -39,7 +39,8 @@ fn covers(point: &Point<TimeTrips>, other: &Point<TimeTrips>) -> bool {
         && point.value.trips <= other.value.trips
 }
 
-// Whether the last point of a history stands at its end: no other covers it.
+// Whether a point is left of a history: no other point covers it, except that of equal points the one with the least
+// tag is left.
 fn stands(history: &[Point<TimeTrips>], point: &Point<TimeTrips>) -> bool {
     history.iter().all(|other| {
         !covers(other, point) || (covers(point, other) && other.tag >= point.tag)
@@ -61,7 +62,7 @@ fn count(bag: &Bag<ArrivalTrips>, point: &Point<TimeTrips>) -> usize {
     count
 }
 
-// A bag lists what stands of a history, each once, and nothing else.
+// Asserts that a bag lists each point that is left of a history once, and nothing else.
 fn assert_stands(rt: &impl Abort, bag: &Bag<ArrivalTrips>, history: &[Point<TimeTrips>]) {
     let mut standing = 0usize;
     for point in history {
@@ -76,7 +77,7 @@ fn assert_stands(rt: &impl Abort, bag: &Bag<ArrivalTrips>, history: &[Point<Time
     assert!(rt; bag.len() == standing, "after {} points", history.len());
 }
 
-// Whether the point at a place departs at a time or later, and no such point of the bag is better.
+// Whether the point at an index departs at a time or later, and no such point of the bag is better.
 fn is_best(bag: &Bag<ArrivalTrips>, place: usize, time: u32) -> bool {
     if place >= bag.len() {
         return false;
@@ -95,7 +96,7 @@ fn is_best(bag: &Bag<ArrivalTrips>, place: usize, time: u32) -> bool {
     bag.point(place).departure >= time
 }
 
-// A bag gives the places of its best points, rising, each once.
+// Asserts that a bag gives the indices of its best points, rising, each once.
 fn assert_best(rt: &impl Abort, bag: &Bag<ArrivalTrips>, time: u32) {
     let mut next = 0usize;
     for place in bag.best_from(time) {
@@ -113,7 +114,8 @@ fn assert_best(rt: &impl Abort, bag: &Bag<ArrivalTrips>, time: u32) {
     }
 }
 
-// A bag's points stand by falling departure, and of equal departures by arrival and number of trips.
+// Asserts that a bag's points are ordered by falling departure, and those of equal departures by arrival and number of
+// trips.
 fn assert_order(rt: &impl Abort, bag: &Bag<ArrivalTrips>) {
     for place in 1..bag.len() {
         let before = bag.point(place - 1);
@@ -126,7 +128,7 @@ fn assert_order(rt: &impl Abort, bag: &Bag<ArrivalTrips>) {
     }
 }
 
-// What a bag keeps of a history, in which order, and what is best of it at each time.
+// Asserts which points a bag keeps of a history, in which order, and which are best at each time.
 fn assert_bag(rt: &impl Abort, bag: &Bag<ArrivalTrips>, history: &[Point<TimeTrips>]) {
     assert_stands(rt, bag, history);
     assert_order(rt, bag);
@@ -179,8 +181,8 @@ fn of_two_equal_points_the_first_keeps_its_tag(rt: HostRuntime) -> Result<(), Fa
     Ok(())
 }
 
-// Whether the points of a departure are new, the first only once: one that takes 50 minutes, and one that takes 10, but
-// two trips.
+// Whether two points of a departure are new, the first of them only once: one takes 50 minutes, the other 10 minutes,
+// but two trips.
 fn are_new(bag: &mut Bag<ArrivalTrips>, departure: u32, tag: usize) -> Result<bool, AllocError>
     requires { departure ≤ 36000 }
 {
@@ -198,7 +200,7 @@ fn are_new(bag: &mut Bag<ArrivalTrips>, departure: u32, tag: usize) -> Result<bo
     Ok(is_new && is_other && !is_again)
 }
 
-// Where the first two points that are best from a time on stand, and that there is no third.
+// Whether the points that are best from a time on are the two at these indices.
 fn are_two_best(bag: &Bag<ArrivalTrips>, time: u32, first: usize, second: usize) -> bool {
     let mut best = bag.best_from(time);
     best.next() == Some(first) && best.next() == Some(second) && best.next().is_none()

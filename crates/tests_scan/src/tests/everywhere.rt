@@ -1,4 +1,4 @@
-//! All sources of a target by one scan, beside the query from each of them: over worked images and over random ones.
+//! One scan for all sources of a target, compared with the query from each of them, over worked images and random ones.
 
 ghost use Rattle.std.specs.Prelude.{◌≢◌, ◌<◌, IfOk, length};
 ghost use Rattle.profile_scan.specs.Found.{listed};
@@ -28,7 +28,8 @@ const ASKED: Destination = Destination {
     by: 36000,
 };
 
-/// The journey of the point at a place is one of the image, departs when the point does, and is worth as much.
+/// Asserts that the journey of the point at an index is one of the image, departs when the point does, and is worth as
+/// much.
 fn assert_attained<C: Told>(
     rt: &impl Abort,
     alloc: Global,
@@ -56,7 +57,8 @@ fn are_alike<C: Told>(criterion: &C, point: &Point<C::V>, other: &Point<C::V>) -
         && criterion.tell(&point.value) == criterion.tell(&other.value)
 }
 
-/// Two answers have the same points, tags aside, and the same walk; each point of the first has a journey.
+/// Asserts that two answers have the same points, apart from tags, and the same walk; and that each point of the first
+/// has a journey.
 fn assert_same<C: Told>(
     rt: &impl Abort,
     alloc: Global,
@@ -75,7 +77,7 @@ fn assert_same<C: Told>(
     Ok(())
 }
 
-/// The points and the walk that one scan for all has of a stop are those of the answer from there.
+/// Asserts that the points and the walk that the one scan has for a stop are those of the answer from there.
 fn assert_listed<C: Told>(
     rt: &impl Abort,
     image: &Verified,
@@ -95,7 +97,7 @@ fn assert_listed<C: Told>(
     assert!(rt; profiles.direct_walk(stop) == alone.direct_walk());
 }
 
-/// What one scan for all finds from a stop, with its journeys, is what the query from there finds.
+/// Asserts that what the one scan finds from a stop, with its journeys, is what the query from there finds.
 fn assert_found<C: Told>(
     rt: &impl Abort,
     alloc: Global,
@@ -125,8 +127,8 @@ fn answer_from<S: ConnSource, C: Told>(
     Ok(profile(alloc, source, criterion, asked)?)
 }
 
-/// What one scan for all says of a stop is what the query from there says, which reads as many connections, each in its
-/// turn.
+/// Asserts that what the one scan says of a stop is what the query from there says, and that this query reads as many
+/// connections, each in turn.
 fn assert_stop<C: Told>(
     rt: &impl Abort,
     alloc: Global,
@@ -148,7 +150,7 @@ fn assert_stop<C: Told>(
     assert_found(rt, alloc, image, criterion, profiles, &alone, &asked)
 }
 
-/// The same of every stop but the target.
+/// Runs `assert_stop` for every stop except the target.
 fn assert_stops<C: Told>(
     rt: &impl Abort,
     alloc: Global,
@@ -182,7 +184,7 @@ fn answers_to<S: ConnSource, C: Told>(
     Ok(profiles_to(alloc, source, criterion, asked)?)
 }
 
-/// What one scan says of all stops is what each alone says; the scan reads each connection in its turn.
+/// Finds the answers from all stops by one scan, which reads each connection in turn, and runs `assert_stops` on them.
 fn assert_answers<C: Told>(
     rt: &impl Abort,
     alloc: Global,
@@ -196,7 +198,7 @@ fn assert_answers<C: Told>(
     assert_stops(rt, alloc, image, criterion, &profiles, source.left)
 }
 
-/// The same of every criterion.
+/// Runs `assert_answers` under every criterion.
 fn assert_criteria(
     rt: &impl Abort,
     alloc: Global,
@@ -208,7 +210,7 @@ fn assert_criteria(
     assert_answers(rt, alloc, image, &ArrivalTripsWalk, asked)
 }
 
-/// The same of every target.
+/// Runs `assert_criteria` for every target.
 fn assert_targets(
     rt: &impl Abort,
     alloc: Global,
@@ -239,8 +241,8 @@ fn as_each_stop_alone(rt: HostRuntime) -> Result<(), Fail> {
     assert_targets(&rt, alloc, &REPEATED, later)
 }
 
-/// Whichever growth is refused, the test ends with `AllocError`. Either way connections were asked for from the last
-/// on, each in its turn, and once for all stops.
+/// Whichever growth is refused, the test ends with `AllocError`. Either way connections were asked for in turn, from
+/// the last one on, and once for all stops.
 #[test]
 fn refused_growth_is_told_of_all_stops(rt: HostRuntime) -> Result<(), Fail> {
     let alloc = rt.alloc();
@@ -253,7 +255,8 @@ fn refused_growth_is_told_of_all_stops(rt: HostRuntime) -> Result<(), Fail> {
     assert_stops(&rt, alloc, &image, &ArrivalTrips, &profiles, 0)
 }
 
-/// A window that begins within 20 minutes from 08:00:00 and takes up to half an hour; one arrives within 90 minutes.
+/// A window that begins within 20 minutes after 08:00:00 and takes up to half an hour; the latest arrival is within 90
+/// minutes.
 fn random_window(dice: &mut Dice) -> Destination {
     let from = 28800 + 60 * dice.roll(20);
     let until = from + 60 * dice.roll(30);

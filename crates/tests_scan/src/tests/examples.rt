@@ -1,4 +1,4 @@
-//! The definitions of `profile_scan` at worked examples.
+//! The definitions of `profile_scan`, at worked examples.
 
 ghost use Rattle.std.specs.Prelude.{◌≡◌, ℕ, [], ◌∷◌, None, Some, reverse};
 ghost use Rattle.bags.specs.Dominance.{Apart, Dominates};
@@ -14,7 +14,7 @@ ghost use Rattle.tests_scan.specs.Examples.{with_chain, with_loops, with_walk};
 
 use criteria::{Arrival, ArrivalTrips, ArrivalTripsWalk, Criterion};
 
-// from A by a change at B or without one
+// from A with a change at B, or without one
 fn both_ways_count()
     ensures by_change { Counts (with_loops 0 0) (asked 32400 36000) 28800 (by_change 0) }
     ensures direct { Counts (with_loops 0 0) (asked 32400 36000) 28800 direct }
@@ -63,7 +63,7 @@ pub(crate) fn a_start_on_foot_counts(arrival: &Arrival, walking: &ArrivalTripsWa
         ≡ record { time = 30600; trips = 1; walked = 120 } }
 {}
 
-// a walk after the last leg, and one before the first; a chain may stand after a leg, and is no start
+// a walk counts after the last leg and before the first, and a chain of footpaths after a leg
 fn walks_count()
     ensures after { Counts with_chain (asked 32400 36000) 28800
         (from_start None (ride 0 0 (footpath 1 2 60 ∷ []) ∷ [])) }
@@ -78,7 +78,7 @@ fn windows_are_computed()
     ensures backward { reverse (window (with_loops 0 0) (asked 32400 36000)) ≡ falling 0 3 }
 {}
 
-// with two criteria: the same two points, one of them dominated or none
+// the same two points under two criteria: by arrival alone one dominates the other, with trips neither does
 fn one_dominates_by_arrival_alone(arrival: &Arrival, trips: &ArrivalTrips)
     ensures arrival { Dominates (⟦<Arrival as Criterion>⟧.rules arrival.now)
         (record { departure = 28800; value = 30000; tag = 0 })
@@ -88,15 +88,15 @@ fn one_dominates_by_arrival_alone(arrival: &Arrival, trips: &ArrivalTrips)
         (record { departure = 28800; value = record { time = 30600; trips = 1 }; tag = 0 }) }
 {}
 
-// over all journeys, chains of any length included
+// answers over all journeys, including chains of any length
 fn answers_are_computed(arrival: &Arrival)
     ensures one { (tag : ℕ) → IsAnswer (⟦<Arrival as Criterion>⟧.rules arrival.now) (with_loops 0 0) (asked 32400 36000)
         (record { departure = 28800; value = 30000; tag = tag } ∷ []) }
     ensures none { IsAnswer (⟦<Arrival as Criterion>⟧.rules arrival.now) (with_loops 60 0) (asked 28799 36000) [] }
 {}
 
-// a change by one footpath is plain, and so is one footpath to the target; a chain isn't, nor a
-// loop at the target, nor a change by none
+// a change by one footpath is plain, and so is one footpath to the target; a chain isn't, nor is a loop at the target,
+// nor a change without a footpath
 fn some_are_plain()
     ensures change { IsPlain (with_loops 0 0) 2 (by_change 0) }
     ensures direct { IsPlain (with_loops 0 0) 2 direct }
@@ -106,7 +106,7 @@ fn some_are_plain()
     ensures no_change { IsPlain (with_loops 0 0) 2 (from_start None (ride 0 0 [] ∷ ride 2 2 [] ∷ [])) → ⊥ }
 {}
 
-// nodes spell by the ones before them, and by no others
+// what a node spells depends on the nodes before it, and on no others
 #[tactic(auto, unfolding(profile_scan::specs::Nodes::spelled_on))]
 fn nodes_spell()
     ensures change { (spelling (Ends 2 None ∷ Boards (footpath 1 1 0) 2 0 ∷ Changes 0 1 ∷ SetsOut None 0 2

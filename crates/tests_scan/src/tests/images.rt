@@ -3,12 +3,13 @@
 use image_verifier::{Verified, verify};
 use std::alloc::{AllocError, Global};
 
-/// Words that are an image: a refusal is told as want of memory, for no other can come.
+/// The image of these words. A refusal is returned as want of memory, since no other can occur.
 pub fn image(alloc: Global, words: &[u32]) -> Result<Verified, AllocError> {
     verify(alloc, words.to_vec(alloc)?).map_err(|_refused| AllocError)
 }
 
-/// The sample in the second layout, its first trip three times: at 09:00:00, 09:20:00 and 09:40:00, repeats 0, 1 and 2.
+/// The sample in the second layout, with its first trip three times: at 09:00:00, 09:20:00 and 09:40:00, as repeats 0,
+/// 1 and 2.
 pub const REPEATED: [u32; 80] = [
     0x50415343, 2, 3, 4, 7, 3, 11, 1705276800, 0, 1, 2, 29520, 30000, 3, 3, 0, 1, 32400, 33000, 0,
     3, 1, 2, 33000, 34200, 0, 3, 0, 1, 33600, 34200, 1, 3, 1, 2, 34200, 35400, 1, 3, 0, 1, 34800,

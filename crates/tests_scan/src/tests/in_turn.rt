@@ -7,7 +7,7 @@ use timetable::{Connection, Footpath};
 #[derive(Drop)]
 pub struct InTurn<S> {
     source: S,
-    /// How many weren't asked for yet.
+    /// How many connections weren't asked for yet.
     pub left: usize,
     pub in_turn: bool,
 }
@@ -15,7 +15,7 @@ pub struct InTurn<S> {
 impl<S: ConnSource> InTurn<S> {
     ghost use Rattle.std.specs.Prelude.{◌≡◌};
 
-    /// The source, of which no connection was asked for.
+    /// The source, before any connection was asked for.
     pub fn of(source: S) -> InTurn<S>
         ensures { S.timetable result.source ≡ S.timetable source }
     {
@@ -26,7 +26,7 @@ impl<S: ConnSource> InTurn<S> {
         }
     }
 
-    /// The source, of which no connection was asked for, to be read from the last one that departs before a time.
+    /// The source, before any connection was asked for, to be read from the last one that departs before a time.
     pub fn before(source: S, time: u32) -> InTurn<S>
         ensures { S.timetable result.source ≡ S.timetable source }
     {

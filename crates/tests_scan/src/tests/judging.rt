@@ -1,4 +1,4 @@
-//! Journeys as texts, judged against images. More of them are judged by transcripts of the whole program.
+//! Journeys as texts, judged against images. Transcripts of the whole program judge more of them.
 
 use super::images::{REPEATED, image};
 use image_verifier::Verified;
@@ -38,7 +38,7 @@ const TOWN: [u32; 83] = [
     0, 0,
 ];
 
-/// In a window that ends before it begins each fault comes before those of the window, as in any other.
+/// In a window that ends before it begins, each fault comes before those of the window, as in any other.
 #[test]
 fn windows_that_end_before_they_begin(rt: HostRuntime) -> Result<(), Fail> {
     let image = image(rt.alloc(), &TOWN)?;
@@ -54,7 +54,7 @@ fn windows_that_end_before_they_begin(rt: HostRuntime) -> Result<(), Fail> {
     Ok(())
 }
 
-/// A leg stays within one repeat; from one to the next is a change.
+/// A leg stays within one repeat; going on with the next repeat is a change.
 #[test]
 fn from_repeat_to_repeat(rt: HostRuntime) -> Result<(), Fail> {
     let image = image(rt.alloc(), &REPEATED)?;
@@ -84,13 +84,13 @@ fn no_leg_at_all(rt: HostRuntime) -> Result<(), Fail> {
     Ok(())
 }
 
-/// From A to B at once, and from B to C at the end of time. A change at B takes 1,000,000 s.
+/// From A to B in the first second, and from B to C up to the last one. A change at B takes 1,000,000 s.
 const FAR: [u32; 39] = [
     0x50415343, 1, 3, 2, 2, 3, 0, 0, 0, 0, 1, 0, 1, 0, 3, 1, 2, 1999999000, 1999999999, 1, 3, 0, 1,
     2, 3, 0, 0, 1, 1000000, 2, 0, 0, 0, 0, 0, 0, 0, 0, 0,
 ];
 
-/// The text of a ride to B, so many loops there, and what comes after them.
+/// The text of a ride to B, so many loops there, and `last`.
 fn loops(alloc: Global, count: u32, last: &[u8]) -> Result<Vec<u8>, Fail> {
     let mut text = Vec::from_slice(alloc, b"ride 0 0")?;
     for _ in 0..count {
@@ -100,7 +100,7 @@ fn loops(alloc: Global, count: u32, last: &[u8]) -> Result<Vec<u8>, Fail> {
     Ok(text)
 }
 
-/// What is told of rides with so many loops, in each row.
+/// Asserts the verdict of each row on rides with so many loops.
 fn assert_loops(
     rt: &impl Abort,
     alloc: Global,
@@ -116,12 +116,12 @@ fn assert_loops(
     Ok(())
 }
 
-/// From the beginning to a time.
+/// The times of a journey from second 0 to this arrival.
 fn until(arr: u32) -> Result<Times, JourneyFault> {
     Ok(Times { dep: 0, arr })
 }
 
-/// Where a sum of 32 bits would begin again, the walks aren't short.
+/// Walks whose sum would overflow 32 bits aren't taken for short ones.
 #[test]
 fn long_walks(rt: HostRuntime) -> Result<(), Fail> {
     let onward = [0, 2, 0, 4294967295, 4294967295];
@@ -158,7 +158,7 @@ fn a_text_has_no_end_of_a_line(rt: HostRuntime) {
     assert_eq!(rt; fault, Some(TextFault::BadText));
 }
 
-/// Where a growth is refused, want of memory is told and nothing else: then the test ends with `AllocError`.
+/// If a growth is refused, the only error is that memory ran out: then the test ends with `AllocError`.
 #[test]
 fn refused_growth_of_a_text(rt: HostRuntime) -> Result<(), Fail> {
     match journey_parse(rt.alloc(), b"ride 0 0 walk 1 1 0 ride 2 2") {

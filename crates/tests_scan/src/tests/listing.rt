@@ -8,7 +8,7 @@ use criteria::{ArrivalTrips, Criterion, TimeTrips};
 use fronts::{FrontLists, Ridden};
 use std::alloc::{AllocError, Global};
 
-// Takes one value in, after no walk.
+// Takes in one value, without a walk.
 fn take(
     lists: &mut FrontLists<ArrivalTrips>,
     head: u32,
@@ -31,7 +31,7 @@ fn take(
     lists.insert(head, departure, 7, 0, 0, &ridden)
 }
 
-// Takes two values in at once, after no walk.
+// Takes in two values at once, without a walk.
 fn take_two(
     lists: &mut FrontLists<ArrivalTrips>,
     head: u32,
@@ -68,7 +68,7 @@ fn count(lists: &FrontLists<ArrivalTrips>, head: u32, time: u32) -> usize
     lists.front_len(lists.front_from(head, time))
 }
 
-// The same of the times from 37,000 back to 34,000.
+// The same for the times from 37,000 down to 34,000.
 fn counts(lists: &FrontLists<ArrivalTrips>, head: u32) -> [usize; 4]
     requires sound { IsSound ⟦<ArrivalTrips as Criterion>⟧.rules lists.now }
     requires head { head < length (entries_of lists.now) }

@@ -1,10 +1,10 @@
-//! Random images: some stops, trips over them, and walks within groups of stops.
+//! Random images: some stops, trips between them, and footpaths within groups of stops.
 
 ghost use Rattle.std.specs.Prelude.{◌<◌};
 
 use std::alloc::{AllocError, Global};
 
-/// Numbers that seem random, the same in each run.
+/// Pseudorandom numbers, the same in each run.
 #[derive(Drop)]
 pub struct Dice(pub u32);
 
@@ -21,14 +21,15 @@ impl Dice {
     }
 }
 
-/// Where a trip is, and from when on it may go further.
+/// Where a trip is, and the earliest time at which it may go on.
 #[derive(Clone, Copy)]
 struct Vehicle {
     stop: u32,
     free: u32,
 }
 
-/// Adds the words of a connection of a trip if it can depart at a time, and returns how many were added: one or none.
+/// Adds the words of a connection of a trip, if the trip can depart at this time, and returns how many connections were
+/// added: one or none.
 fn drive(
     dice: &mut Dice,
     vehicle: &mut Vehicle,
@@ -94,7 +95,7 @@ fn add_connections(
     Ok(count)
 }
 
-/// Walks within groups of stops, all of which are as far from one another.
+/// Footpaths within groups of stops: any two stops of a group are equally far apart.
 #[derive(Clone, Copy)]
 struct Walks {
     groups: u32,
@@ -122,8 +123,8 @@ fn add_footpaths_into(
     Ok(count)
 }
 
-/// Adds the words of the foot index to the one list, those of the footpaths to the other, and returns how many
-/// footpaths there are.
+/// Adds the words of the foot index to one list and those of the footpaths to another, and returns how many footpaths
+/// there are.
 fn add_footpaths(
     walks: Walks,
     stops: u32,

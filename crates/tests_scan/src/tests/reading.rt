@@ -1,4 +1,4 @@
-//! Both sources over two small images: what they answer was worked out by hand.
+//! Both sources over two small images; their answers were worked out by hand.
 
 ghost use Rattle.std.specs.Prelude.{◌<◌};
 
@@ -56,7 +56,7 @@ fn seconds<S: ConnSource>(source: &S, from: u32, to: usize) -> Option<u32>
     None
 }
 
-// The sample, as a source tells of it.
+// Asserts that a source has the sample.
 fn assert_sample<S: ConnSource>(rt: &impl Abort, source: &mut S) {
     assert!(rt; source.stops() == 3);
     assert!(rt; source.trips() == 2);
@@ -85,7 +85,8 @@ fn a_log_takes_no_bytes(rt: HostRuntime) {
     );
 }
 
-// The footpaths between two stops, and the first places from which on connections depart at a time or later.
+// Asserts the footpaths between two stops, and for some times the index of the first connection that departs then or
+// later.
 fn assert_early<S: ConnSource>(rt: &impl Abort, source: &S) {
     assert!(rt; source.stops() == 2);
     assert!(rt; source.walks_into(0) == (0, 2));
@@ -104,8 +105,8 @@ fn footpaths_and_departures(rt: HostRuntime) -> Result<(), Fail> {
     Ok(())
 }
 
-/// Whichever growth is refused, want of memory is told, and else the lists come. A refused growth ends the test with
-/// `AllocError`.
+/// Whichever growth is refused, the error is that memory ran out; otherwise the lists are returned. A refused growth
+/// ends the test with `AllocError`.
 #[test]
 fn refused_growth_is_told(rt: HostRuntime) -> Result<(), Fail> {
     let image = image(rt.alloc(), &EARLY)?;

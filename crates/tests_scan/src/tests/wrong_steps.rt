@@ -1,4 +1,5 @@
-//! Definitions that are close to the right ones, for which a law is false; and that the right ones lead to an answer.
+//! Definitions that are close to the right ones, but for which a law is false; and that the right ones lead to an
+//! answer.
 
 ghost use Rattle.std.specs.Prelude.{[], ◌∷◌};
 ghost use Rattle.timetable.specs.Journeys.{Counts};
@@ -23,8 +24,8 @@ fn no_leg_is_cut()
     ensures { CutIsTheSources CountsLegByLeg → ⊥ }
 {}
 
-// Were later departures let in to dominate, and left out at the end, nothing would be left here:
-// the trip at 08:12 is the best, but the walk to it begins too late.
+// If later departures could dominate, and were only left out at the end, there would be no point here: the trip at
+// 08:12 is the best, but the walk to it begins too late.
 fn late_departures_dominate_nothing<C: Criterion>(_criterion: &C)
     ensures { IsAnswer (C.rules _criterion.now) with_walk (asked 29399 36000) [] → ⊥ }
 {

@@ -5,7 +5,7 @@ use image_verifier::{Verified, verify};
 use std::alloc::{AllocError, Global};
 use std::sync::Arc;
 
-/// The sample, begun at another second.
+/// The sample with another base, in seconds.
 pub(crate) fn image(alloc: Global, base: u32) -> Result<Arc<Verified, Global>, AllocError> {
     let mut words = sample_words().to_vec(alloc)?;
     if let Some(word) = words.get_mut(7) {

@@ -1,4 +1,4 @@
-//! The machine of versions: courses of events with their replies.
+//! The state machine of versions: courses of events with their replies.
 
 use std::alloc::{AllocError, Global};
 use std::process::Abort;
@@ -12,9 +12,9 @@ open 1: Opened { version: 2, shelf: 1 }
 publish: Published { version: 2 }
 close 0: Closing";
 
-/// Events with their replies, from the start on: a block for each course of events, under a title.
-/// A line `outdated` stands for those of `OUTDATED`, and `load 2..8` for an opening and a publish
-/// of each of these versions, on the shelf before its number.
+/// Events with their replies, from the initial state on: a block for each course of events, under a title. A line
+/// `outdated` stands for the lines of `OUTDATED`, and `load 2..8` for an opening and a publish of each of these
+/// versions, on the shelf before its number.
 const COURSES: &str = "\
 # a late take and a new look
 outdated
@@ -96,7 +96,7 @@ join 4 2: Joined { seen: 2 }
 join 4 1: Joined { seen: 2 }
 join 5 1: NotNow";
 
-/// What has no place, and changes nothing.
+/// Events that are refused, and change nothing.
 const REFUSALS: &str = "\
 # at the start
 look 16: NotNow
@@ -184,14 +184,14 @@ fn event_of(word: &str, first: u64, second: u64) -> Event {
     }
 }
 
-/// The event that is written, as `join 3 1`.
+/// The event of a text such as `join 3 1`.
 fn read_event(text: &str) -> Result<Event, Fail> {
     let (word, rest) = text.split_once(' ').unwrap_or((text, "0"));
     let (first, second) = rest.split_once(' ').unwrap_or((rest, "0"));
     Ok(event_of(word, number(first)?, number(second)?))
 }
 
-/// An event and its reply; or a title.
+/// Plays an event and asserts its reply; passes over a title.
 fn play_event<R: Abort>(rt: &R, alloc: Global, core: &mut Core, line: &str) -> Result<(), Fail> {
     let Some((event, expected)) = line.split_once(": ") else {
         return Ok(());
@@ -202,14 +202,14 @@ fn play_event<R: Abort>(rt: &R, alloc: Global, core: &mut Core, line: &str) -> R
     Ok(())
 }
 
-/// Whether a version is opened, on the shelf before its number, and published.
+/// Opens a version on the shelf before its number and publishes it; whether both succeed.
 fn loads(core: &mut Core, version: u64) -> Result<bool, AllocError> {
     let shelf = version.saturating_sub(1) as usize;
     let is_opened = core.open(version)? == Reply::Opened { version, shelf };
     Ok(is_opened && core.publish() == Reply::Published { version })
 }
 
-/// Each of these versions is loaded.
+/// Loads each of these versions.
 fn load_each<R: Abort>(rt: &R, core: &mut Core, versions: &str) -> Result<(), Fail> {
     let (first, last) = versions.split_once("..").unwrap_or((versions, ""));
     for version in number(first)?..number(last)?.saturating_add(1) {
@@ -259,7 +259,8 @@ fn what_has_no_place_is_refused(rt: HostRuntime) -> Result<(), Fail> {
     play_all(&rt, rt.alloc(), REFUSALS)
 }
 
-/// What the table tells once worker 1 came late to shelf 0, and worker 15 holds version 2 on shelf 1.
+/// Asserts what the state machine tells after worker 1 came late to shelf 0, while worker 15 holds version 2 on shelf
+/// 1.
 fn tells_where<R: Abort>(rt: &R, core: &Core) {
     assert!(rt; core.current() == (2, 1) && core.may_open());
     assert!(rt; core.free_shelf() == Some(2) && core.shelf(8).is_none());

@@ -1,4 +1,4 @@
-//! The rule tells an opening that adds to a shelf's word from one that stores it.
+//! The rule tells an opening that adds to a shelf's word from one that stores the word.
 
 ghost use Rattle.tests_version.specs.PlainStore.{NoStoreOpens};
 

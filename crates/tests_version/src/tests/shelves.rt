@@ -1,5 +1,5 @@
-//! Shelves, and the table of versions behind a lock and without one: what their calls answer, and
-//! which refusals have which numbers.
+//! Shelves, and the table of versions under a lock and without one: what their calls answer, and which numbers refusals
+//! have.
 
 mod scripts;
 mod stages;
@@ -17,7 +17,7 @@ use std::process::Abort;
 use std::sync::{Arc, Wait};
 use std::test::*;
 
-/// Publishes: the version, or the fault and the second of the image that came back.
+/// Publishes an image: the version, or the fault and the second of the image that came back.
 fn publish<R: Wait>(
     rt: &R,
     shelves: &LockedShelves,
@@ -30,7 +30,7 @@ fn publish<R: Wait>(
     }
 }
 
-/// Pins, reads the version, and releases.
+/// Pins, reads the version, and releases it.
 fn current_version<R: Wait>(
     rt: &R,
     shelves: &LockedShelves,
@@ -45,7 +45,7 @@ fn current_version<R: Wait>(
     Ok(version)
 }
 
-/// Whether each call of a new table does what it is to do once.
+/// Whether each call of a new table succeeds once.
 fn calls_succeed(
     table: &mut VersionTable,
     seat: &mut WorkerSeat,
@@ -61,7 +61,7 @@ fn calls_succeed(
     is_pinned && is_published && is_seen && is_released
 }
 
-/// The loader's seat and a worker's, of shelves that are let go.
+/// The loader's seat and a worker's, of shelves that are dropped.
 fn new_seats(alloc: Global) -> Result<(LoaderSeat, WorkerSeat), Fail> {
     match LockedShelves::new(alloc, image(alloc, 1)?) {
         Ok((_, loader, mut seats)) => match seats.pop() {
@@ -79,14 +79,14 @@ fn new_table(alloc: Global) -> Result<VersionTable, Fail> {
     }
 }
 
-/// Whether each call does so with new seats, and the image that begins at second 2.
+/// Whether each call succeeds with new seats, and the image that begins at second 2.
 fn calls_of_seats_succeed(alloc: Global, table: &mut VersionTable) -> Result<bool, Fail> {
     let second = image(alloc, 2)?;
     let (mut loader, mut seat) = new_seats(alloc)?;
     Ok(calls_succeed(table, &mut seat, &mut loader, second))
 }
 
-/// The table itself, whose calls the lock hands on.
+/// The table itself, to which the lock passes its calls on.
 #[test]
 fn the_table_without_a_lock(rt: HostRuntime) -> Result<(), Fail> {
     let mut table = new_table(rt.alloc())?;
@@ -94,7 +94,8 @@ fn the_table_without_a_lock(rt: HostRuntime) -> Result<(), Fail> {
     Ok(())
 }
 
-/// Why no shelves were made, of which version 1 begins at second 1: for want of memory, and the image comes back.
+/// Why no shelves were made whose version 1 begins at second 1: it must be want of memory, and the image must come
+/// back.
 fn unmade(refused: (Arc<Verified, Global>, PublishFault)) -> Fail {
     let (first, fault) = refused;
     if first.base() == 1 && fault == PublishFault::OutOfMemory {
@@ -104,7 +105,7 @@ fn unmade(refused: (Arc<Verified, Global>, PublishFault)) -> Fail {
     }
 }
 
-/// New shelves, the loader's seat and the workers'. The image of version 1 begins at second 1.
+/// New shelves, the loader's seat and the workers' seats. The image of version 1 begins at second 1.
 fn new_shelves(alloc: Global) -> Result<(Shelves, ShelfLoader, Vec<ShelfSeat>), Fail>
     ensures loader { IfOk result (λ made. made.1.table ≡ made.0) }
     ensures seats { IfOk result (λ made. All (λ seat. seat.table ≡ made.0) made.2.items) }
@@ -159,7 +160,7 @@ impl Solo {
         }
     }
 
-    /// Publishes: the version, or the fault and the second of the image that came back.
+    /// Publishes an image: the version, or the fault and the second of the image that came back.
     fn publish(&mut self, image: Arc<Verified, Global>) -> Result<u64, (i64, PublishFault)> {
         match self.shelves.publish(&mut self.loader, image) {
             Ok((version, _)) => Ok(version),
@@ -167,7 +168,7 @@ impl Solo {
         }
     }
 
-    /// Pins: the version that is held.
+    /// Pins, and returns the version that is held.
     fn pin(&mut self) -> Option<u64> {
         self.shelves.pin(&mut self.seat).ok()?;
         match self.seat.edition() {
@@ -176,7 +177,7 @@ impl Solo {
         }
     }
 
-    /// The word of the current version, and that of shelf 0.
+    /// The word of the current version, and the word of shelf 0.
     fn two_words(&self) -> (u64, u64) {
         (self.shelves.word(0), self.shelves.word(1))
     }
@@ -189,7 +190,7 @@ fn words_change<R: Abort>(rt: &R, solo: &mut Solo, image: Arc<Verified, Global>)
     assert!(rt; solo.two_words() == (17, 66049));
 }
 
-/// The current version on its shelf, and shelf 0 with its count, before a version is published and after.
+/// The current version with its shelf, and shelf 0 with its count, before and after a version is published.
 #[test]
 fn words_of_shelves(rt: HostRuntime) -> Result<(), Fail> {
     let image = image(rt.alloc(), 2)?;
@@ -228,8 +229,8 @@ fn faults_have_numbers_and_names(rt: HostRuntime) {
     }
 }
 
-/// Whether the image of the next second became the next version. Else it came back for want of
-/// memory, and the version that was current stays so.
+/// Whether the image of the next second became the next version. Otherwise it must have come back for want of memory,
+/// and the version that was current must stay so.
 fn publishes_next<R: Wait + Abort>(
     rt: &R,
     shelves: &LockedShelves,
@@ -278,7 +279,7 @@ fn refused_growth_gives_the_image_back(rt: HostRuntime) -> Result<(), Fail> {
     }
 }
 
-/// The same of a publish without a lock.
+/// The same for a publish without a lock.
 fn publishes_openly<R: Abort>(
     rt: &R,
     solo: &mut Solo,

@@ -1,4 +1,4 @@
-//! Steps at shelves: by scripts, and at random beside the machine of versions.
+//! Steps at shelves: by scripts, and at random, compared with the state machine of versions.
 
 mod stepping;
 
@@ -15,7 +15,8 @@ use std::test::*;
 use stepping::{LoaderSteps, NoticeSteps, WorkerSteps};
 use version_core::{Core, Reply, Shelf, Worker};
 
-/// Shelves with the loader's seat and those of two workers, the notices that are out, and the image that is published.
+/// Shelves with the loader's seat and those of two workers, the notices that no worker took in, and the image that is
+/// published.
 #[derive(Drop)]
 struct Scene {
     table: ShelfTable,
@@ -35,7 +36,7 @@ impl Model for Scene {
 
     ghost view = { λ s. s.table };
 
-    // Each seat and each notice is of these shelves.
+    // Each seat and each notice belongs to these shelves.
     ghost invariant = { λ s. (s.loader ≡ s.table) × (s.first ≡ s.table) × (s.second ≡ s.table)
         × All (λ notice. notice ≡ s.table) s.notices.items };
 }
@@ -77,7 +78,8 @@ impl Scene {
         }
     }
 
-    /// The worker takes in the notice that went out last: its version, and whether it did. Else the notice stays out.
+    /// The worker takes in the notice that was given last, if there is one. Returns the notice's version, and whether
+    /// it was taken in; otherwise the notice is kept.
     fn join(&mut self, number: usize) -> Result<Option<(u64, bool)>, AllocError> {
         let Some(notice) = self.notices.pop() else {
             return Ok(None);
@@ -94,7 +96,7 @@ impl Scene {
         Ok(Some((version, false)))
     }
 
-    /// A notice goes out: its version.
+    /// The loader gives a notice, whose version is returned.
     fn note(&mut self) -> Result<u64, AllocError> {
         let notice = self.loader.note(&self.table);
         let version = notice.version();
@@ -143,7 +145,7 @@ fn number(text: &str) -> Result<usize, Fail> {
     }
 }
 
-/// An answer as it is printed.
+/// The debug text of an answer.
 fn words<T: Debug + Drop>(alloc: Global, answer: T) -> Result<String, AllocError> {
     format!(in alloc; "{answer:?}")
 }
@@ -159,7 +161,7 @@ impl Scene {
         }
     }
 
-    /// What a step of the loader at a shelf tells; or `word`, of which the number is below 8 too.
+    /// What a step of the loader at a shelf tells; or for `word` the word with this number, which is below 8 too.
     fn loader_tells(&mut self, step: &str, shelf: usize) -> Result<String, AllocError>
         requires { shelf < 8 }
     {
@@ -225,7 +227,7 @@ struct Rare {
 }
 
 impl Rare {
-    /// The worker came late: what became of its shelf is counted.
+    /// Counts what became of the shelf to which the worker came late.
     fn came_late(&mut self, core: &Core, number: usize) {
         let Some(Worker::Late { shelf }) = core.worker(number) else {
             return;
@@ -237,7 +239,7 @@ impl Rare {
         }
     }
 
-    /// The worker, which had seen so much, takes in a notice of this version.
+    /// Counts that the worker, which had seen version `seen`, took in a notice of this version.
     fn joins(&mut self, core: &Core, number: usize, seen: u64, version: u64) {
         if version > seen {
             self.joined_newer = self.joined_newer.wrapping_add(1);
@@ -251,7 +253,7 @@ impl Rare {
     }
 }
 
-/// The state machine beside the shelves, and how often something rare came about.
+/// The state machine that is compared with the shelves, and how often something rare came about.
 #[derive(Drop)]
 struct Beside {
     core: Core,
@@ -259,7 +261,7 @@ struct Beside {
 }
 
 impl Beside {
-    /// A worker took in a notice of this version, or couldn't: whether the state machine does so too.
+    /// Whether the state machine lets the worker take in a notice of this version exactly if it did.
     fn joins(&mut self, number: usize, version: u64, is_joined: bool) -> bool {
         let before = self.core.seen(number).unwrap_or(0);
         match (is_joined, self.core.join(number, version)) {
@@ -276,7 +278,7 @@ impl Beside {
     }
 }
 
-/// A look of a worker, here and in the state machine: whether both tell the same.
+/// A look of a worker at the shelves and in the state machine; whether both tell the same.
 fn looks(scene: &mut Scene, beside: &mut Beside, number: usize) -> bool {
     match (scene.look(number), beside.core.look(number)) {
         (Some(word), Reply::Looked { version, shelf }) => {
@@ -287,7 +289,7 @@ fn looks(scene: &mut Scene, beside: &mut Beside, number: usize) -> bool {
     }
 }
 
-/// The same of a take.
+/// The same for a take.
 fn takes(scene: &mut Scene, beside: &mut Beside, number: usize) -> bool {
     match (scene.take(number), beside.core.take(number)) {
         (Some(Some(held)), Reply::Holds { version }) => held == version,
@@ -300,7 +302,7 @@ fn takes(scene: &mut Scene, beside: &mut Beside, number: usize) -> bool {
     }
 }
 
-/// The same of any step of a worker.
+/// The same for any step of a worker.
 fn worker_steps(
     scene: &mut Scene,
     beside: &mut Beside,
@@ -319,8 +321,8 @@ fn worker_steps(
 }
 
 impl Scene {
-    /// One step of the loader, here and in the state machine, which opens the least free shelf and
-    /// knows which one to publish. A version that is published comes with a notice.
+    /// One step of the loader at the shelves and in the state machine, which opens the least free shelf and knows which
+    /// shelf to publish. A version that is published comes with a notice.
     fn loader_steps(
         &mut self,
         beside: &mut Beside,
@@ -384,7 +386,7 @@ impl Scene {
     }
 }
 
-/// Publishes the version that isn't yet: whether there was one.
+/// Publishes the version that isn't published yet, if there is one, and returns whether there was.
 fn publish_any(table: &ShelfTable, loader: &mut LoaderSteps) -> bool
     requires { loader.old ≡ table.now }
     ensures { loader.new ≡ loader.old }
@@ -396,7 +398,7 @@ fn publish_any(table: &ShelfTable, loader: &mut LoaderSteps) -> bool
     published
 }
 
-/// Whether the state machine has the worker at the shelf: 1, or 0.
+/// 1 if the worker is at the shelf in the state machine, otherwise 0.
 fn at_shelf(core: &Core, number: usize, shelf: usize) -> u64
     ensures { result ≤ 1 }
 {
@@ -412,7 +414,7 @@ fn at_shelf(core: &Core, number: usize, shelf: usize) -> u64
     }
 }
 
-/// Whether each word says what the state machine does.
+/// Whether each word says what the state machine says.
 fn words_agree(table: &ShelfTable, core: &Core) -> bool {
     let (version, shelf) = core.current();
     let word = table.word(0);
@@ -431,7 +433,7 @@ fn words_agree(table: &ShelfTable, core: &Core) -> bool {
 }
 
 impl Rare {
-    /// Whether each of it came about often enough.
+    /// Whether each of these came about often enough.
     fn is_seen(&self) -> bool {
         let late = self.late_at_free > 3 && self.late_at_open > 3 && self.opened_over_late > 3;
         let joined = self.joined_newer > 3 && self.joined_older > 3;
@@ -440,7 +442,8 @@ impl Rare {
     }
 }
 
-/// A step of either worker or of the loader, as the number says: whether it told what the state machine does.
+/// A step of either worker or of the loader, chosen by the number; whether the shelves and the state machine told the
+/// same.
 fn one_step(scene: &mut Scene, beside: &mut Beside, random: u64) -> Result<bool, AllocError> {
     let choice = random / 8589934592 % 4;
     let shelf = (random / 1099511627776 % 4) as usize;
@@ -451,7 +454,8 @@ fn one_step(scene: &mut Scene, beside: &mut Beside, random: u64) -> Result<bool,
     }
 }
 
-/// Two workers that leave seldom and take in notices, and a loader that closes and collects the first four shelves.
+/// Random steps of two workers that seldom leave and take in notices, and of a loader that closes and collects the
+/// first four shelves.
 fn random_steps<R: Abort>(rt: &R, scene: &mut Scene, beside: &mut Beside) -> Result<(), Fail> {
     let mut random = 19u64;
     for _round in 0..2000u32 {

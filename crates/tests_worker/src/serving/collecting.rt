@@ -19,7 +19,7 @@ use std::test::Fail;
 use std::thread::Threads;
 use workers::*;
 
-/// A writer that takes all, and keeps what the first shelf's word was at its last reply.
+/// A writer that takes everything, and keeps the first shelf's word as it was at the last reply.
 #[derive(Drop)]
 struct Looking<'a, B: Named> {
     shelves: &'a SoloShelves<B>,
@@ -37,7 +37,7 @@ impl<'a, B: Named> Write for Looking<'a, B> {
     }
 }
 
-/// What a client asks that waits for a load.
+/// The request of a client that waits for a load.
 const WAIT: &str = "{\"do\":\"load\",\"feed\":\"slow\",\"wait\":true}\n";
 
 /// A client that waits for a load, and looks at the first shelf when it has its reply.
@@ -67,7 +67,7 @@ fn waiter_at<'a, B: Named>(shelves: &'a SoloShelves<B>, word: &'a AtomicU64) -> 
     }
 }
 
-/// Serves the client at these shelves.
+/// Serves the client over these shelves.
 fn serve_waiter<B: Named + Send + Sync, R: Threads + Wait + Sync>(
     rt: &R,
     alloc: Global,
@@ -102,7 +102,7 @@ fn serve_waiter<B: Named + Send + Sync, R: Threads + Wait + Sync>(
     }
 }
 
-/// Serves a client that waits for a load, at these shelves, under a name: the first shelf's word at its reply.
+/// Serves a client that waits for a load, over these shelves under a name: the first shelf's word at its reply.
 fn word_at<B: Named + Send + Sync, R: Threads + Wait + Sync>(
     rt: &R,
     alloc: Global,
@@ -119,7 +119,7 @@ fn word_at<B: Named + Send + Sync, R: Threads + Wait + Sync>(
     Ok(word.load(Ordering::SeqCst))
 }
 
-/// A client that waited for a load finds the first shelf free: nobody was at the version before, and that was
+/// A client that waited for a load finds the first shelf free: no worker was at the version before, and its shelf was
 /// collected before the reply.
 #[test]
 fn shelves_are_collected_before_the_reply(rt: HostRuntime) -> Result<(), Fail> {

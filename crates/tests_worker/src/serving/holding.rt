@@ -1,5 +1,5 @@
-//! A server at whose shelves other seats hold versions: what its loader finds no shelf for, and what a client that went
-//! away gave back.
+//! A server whose versions are held by other seats too: what happens when the loader finds no free shelf, and that a
+//! client that goes away gives its version back.
 
 ghost use Rattle.std.specs.Prelude.{◌≡◌, All, IfOk};
 
@@ -50,7 +50,7 @@ pub(super) fn stage_of(alloc: Global) -> Result<Stage, AllocError>
     }
 }
 
-/// The seat pins the version that is current, and the sample becomes the next one: whether both went well.
+/// The seat pins the current version, and the sample becomes the next one; whether both succeeded.
 fn hold(
     shelves: &Shelves,
     loader: &mut ShelfLoader,
@@ -65,7 +65,7 @@ fn hold(
     is_pinned && is_published
 }
 
-/// These seats hold a version each, from the first on: whether all went well.
+/// Each of these seats holds a version of its own, in order, and goes to `held`; whether all succeeded.
 fn hold_all(
     alloc: Global,
     shelves: &Shelves,
@@ -85,7 +85,7 @@ fn hold_all(
     Ok(is_held)
 }
 
-/// Serves visitors, the last first, at one seat; how their sessions ended, and what was written to the errors.
+/// Serves visitors, the last first, at one seat: how their sessions ended, and what was written to the errors.
 fn serve_at<R: Threads + Wait + Sync + Abort>(
     rt: &R,
     alloc: Global,
@@ -121,7 +121,7 @@ fn serve_at<R: Threads + Wait + Sync + Abort>(
     Ok((counts, told.into_inner()))
 }
 
-/// The same while so many other seats hold a version each, the first ones in turn.
+/// The same while so many other seats each hold a version of their own, from version 1 on.
 fn serve_beside<R: Threads + Wait + Sync + Abort>(
     rt: &R,
     alloc: Global,
@@ -142,8 +142,8 @@ fn serve_beside<R: Threads + Wait + Sync + Abort>(
     serve_at(rt, alloc, visitors, shelves, loader, seat)
 }
 
-/// Serves clients who ask so, the last first, beside so many holders: how their sessions ended, what was replied, and
-/// what was written to the errors.
+/// Serves clients with these requests and manners, the last first, while so many seats hold versions: how their
+/// sessions ended, what was replied, and what was written to the errors.
 fn asking_beside<R: Threads + Wait + Sync + Abort>(
     rt: &R,
     alloc: Global,
@@ -168,14 +168,14 @@ const LOADS: &str = "\
 {\"do\":\"pin\"}
 ";
 
-/// The replies where no shelf is free: version 8 stays current, with the image that it had.
+/// The replies if no shelf is free: version 8 stays current, with the image that it had.
 const REFUSED: &str = "\
 {\"error\":120,\"name\":\"LoadRefused\",\"refusal\":94}
 {\"error\":120,\"name\":\"LoadRefused\",\"refusal\":94}
 {\"base\":1705276800,\"ok\":\"pin\",\"version\":8}
 ";
 
-/// What the loader writes of that, and behind each line the feed and the number.
+/// What the loader writes about that: after each of its lines one with the feed's index and the number.
 const FULL: &str = "\
 load slow refused 94 ShelvesFull 1 1 1 1 1 1 1 0
 0: 94
@@ -183,8 +183,8 @@ load slow refused 94 ShelvesFull 1 1 1 1 1 1 1 0
 0: 94
 ";
 
-/// Versions 1 to 7 are held by seven seats, and version 8 is current: a load finds no shelf. Its image isn't
-/// published, and a seat that pins then has version 8 as before.
+/// Versions 1 to 7 are held by seven seats, and version 8 is current: a load finds no free shelf. Its image isn't
+/// published, and a seat that pins then gets version 8 as before.
 #[test]
 fn a_load_meets_full_shelves(rt: HostRuntime) -> Result<(), Fail> {
     let asking = [(LOADS, Manner::Reads)];
@@ -195,15 +195,16 @@ fn a_load_meets_full_shelves(rt: HostRuntime) -> Result<(), Fail> {
     Ok(())
 }
 
-/// The replies where one shelf is free, and one more once nobody is at version 7. The second load is for 20240116.
+/// The replies if one shelf is free, and another once nobody is at version 7. The second load is for 20240116.
 const LOADED_TWICE: &str = "\
 {\"feed\":\"slow\",\"ok\":\"load\",\"version\":8}
 {\"feed\":\"slow\",\"ok\":\"load\",\"version\":9}
 {\"base\":1705363200,\"ok\":\"pin\",\"version\":9}
 ";
 
-/// Versions 1 to 6 are held by six seats. A client pins version 7 and goes away: its session fails, and nobody is at
-/// that version any more. So its shelf is freed once version 8 took the last free one, and version 9 has it.
+/// Versions 1 to 6 are held by six seats. A client pins version 7 and goes away: its session fails, and no worker is at
+/// that version any more. So the shelf of version 7 is freed after version 8 took the last free one, and version 9 gets
+/// it.
 #[test]
 fn a_client_that_went_away_holds_nothing(rt: HostRuntime) -> Result<(), Fail> {
     let asking = [(LOADS, Manner::Reads), (PIN, Manner::GoesAway)];

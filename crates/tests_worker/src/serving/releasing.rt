@@ -1,4 +1,4 @@
-//! When a seat gives a version back: behind the scan, and before the reply is written.
+//! When a seat gives a version back: after the scan, and before the reply is written.
 
 ghost use Rattle.std.specs.Prelude.{◌≡◌};
 
@@ -14,7 +14,7 @@ use std::process::Abort;
 use std::sync::atomic::{AtomicU64, Ordering};
 use std::test::Fail;
 
-/// A writer that takes all, and looks how many workers are at the first shelf whenever it does.
+/// A writer that takes everything, and at each write looks how many workers are at the first shelf.
 #[derive(Drop)]
 struct Looking<'a, B: Named> {
     shelves: &'a SoloShelves<B>,
@@ -33,7 +33,7 @@ impl<'a, B: Named> Write for Looking<'a, B> {
     }
 }
 
-/// A gate that looks how many workers are at the first shelf when a scan begins, and adds them up.
+/// A gate that looks how many workers are at the first shelf when a scan begins, and adds these numbers up.
 #[derive(Drop)]
 struct Watching<'a, B: Named> {
     shelves: &'a SoloShelves<B>,
@@ -49,7 +49,7 @@ impl<'a, B: Named> Gate for Watching<'a, B> {
     fn leave(&self) {}
 }
 
-/// Serves a session at these shelves: how many workers are at the first one at each reply, how many were there when
+/// Serves a session over these shelves: how many workers are at the first shelf at each reply, how many were there when
 /// scans began, and whether the session ended.
 fn counts_at<B: Named>(
     alloc: Global,
@@ -77,7 +77,7 @@ fn counts_at<B: Named>(
     (streams.writer.into_inner().counts, scanned, ended)
 }
 
-/// What a session is asked: a profile, which pins and releases by itself, and then two pins, each with its release.
+/// The requests of a session: a profile, which pins and releases by itself, and then two pins, each with its release.
 const TWICE: &str = "\
 {\"do\":\"profile\",\"from\":\"A\",\"to\":\"C\",\
 \"after\":\"07:00:00\",\"until\":\"09:00:00\",\"by\":\"10:00:00\",\"criterion\":\"arrival\"}
@@ -87,11 +87,11 @@ const TWICE: &str = "\
 {\"do\":\"release\"}
 ";
 
-/// How many workers are at the first shelf at each of its replies.
+/// How many workers are at the first shelf at each of the replies.
 const COUNTS: &[u64] = &[0, 1, 0, 1, 0];
 
-/// A client that reads that a version is released can count on it: nobody is at its shelf then. So can one that reads
-/// the reply to a profile without a pin; when the scan for it began, one worker was there.
+/// When a client reads that its version is released, no worker is at its shelf any more. The same holds when it reads
+/// the reply to a profile without a pin; when the scan for that began, one worker was there.
 #[test]
 fn a_release_is_done_before_its_reply(rt: HostRuntime) -> Result<(), Fail> {
     let Stage {

@@ -28,7 +28,7 @@ impl Read for LineEnds {
     }
 }
 
-/// A writer that takes all and keeps nothing.
+/// A writer that takes everything and keeps nothing.
 #[derive(Drop)]
 pub(super) struct Sink;
 
@@ -62,7 +62,7 @@ impl Client for Sender {
     fn close(_reader: LineEnds, _writer: Sink, _end: End) {}
 }
 
-/// Serves senders at one seat, the last first: how their sessions ended.
+/// Serves senders at one seat, the last first, and returns how their sessions ended.
 fn serve_senders<R: Threads + Wait + Sync + Abort>(
     rt: &R,
     alloc: Global,

@@ -1,4 +1,4 @@
--- The image is that of the folder's files, and so is the first thing that is wrong with them.
+-- The image is that of the folder's files, and the fault is their first one.
 use Rattle.std.proofs.Common.{◌≡◌, [], rules}
 use Rattle.std.proofs.lemmas.Result.{IfOk-weaker}
 use Rattle.csa_commands.proofs.OfFolder.{build_refused, built_of}

@@ -1,4 +1,4 @@
--- All files were read by then, and none after that; what is written is the image that was made.
+-- All files were read before the image was made, and none after that; what is written is the image that was made.
 use Rattle.std.proofs.Common.{◌∙◌}
 use Rattle.feed_files.specs.Reads.{all_tables}
 use Rattle.feed_loader.specs.Refused.{IsLoaded}

@@ -1,4 +1,4 @@
--- The feed is that of the folder, and so is the first thing that is wrong with it.
+-- The feed is that of the folder, and the fault is its first one.
 use Rattle.std.proofs.Common.{inl, inr, refl}
 use Rattle.std.proofs.lemmas.Result.{err_from_is_err_and}
 use Rattle.feed_files.specs.Reading.{HoldsTables, NoTables}

@@ -1,4 +1,4 @@
--- What was read is of the folder.
+-- What was read is what the folder's files may give.
 use Rattle.csa_commands.proofs.OfFolder.{held_known, refused_known, tables_known}
 use Rattle.csa_commands.proofs.reading.tables_in.Goals as goal
 

@@ -2,7 +2,7 @@ use Rattle.std.proofs.Common.{◌≤◌, length, take}
 use Rattle.std.specs.Io.KnownBytes.{Appends}
 use Rattle.csa_commands.proofs.status.write_bytes.Given as goal
 
--- the first bytes are written
+-- the first `done` bytes are written
 abbrev pub invariant-loop : goal.invariant-loop
 invariant-loop g l =
     (l.done ≤ length l.fn.bytes)

@@ -47,7 +47,7 @@ dep 08:00:00 arr 08:20:00 trips 2 : ride 0 0 walk 1 1 0 ride 2 2
 dep 08:00:00 arr 08:30:00 trips 1 : ride 0 1
 points 2 read 3 walk none";
 
-/// A trip is as fast as the change.
+/// A trip that is as fast as the change.
 const FAST_TRIP: &str = "\
 dep 08:00:00 arr 08:20:00 trips 1 : ride 1 1
 points 1 read 4 walk none";
@@ -81,7 +81,7 @@ const LATER: Query = Query {
     by: 39600,
 };
 
-/// The sample with another word at a place.
+/// The sample with another word at an offset.
 fn changed(place: usize, word: u32) -> [u32; 47] {
     let mut words = sample_words();
     if let Some(at) = words.get_mut(place) {
@@ -90,7 +90,7 @@ fn changed(place: usize, word: u32) -> [u32; 47] {
     words
 }
 
-/// A line of a point: when it departs, what the criterion counts, and its journey.
+/// Adds the line of a point: when it departs, what the criterion counts, and its journey.
 fn add_point<C: Told>(
     alloc: Global,
     criterion: &C,
@@ -163,7 +163,7 @@ fn both_texts<C: Told>(
     Ok((in_place, decoded))
 }
 
-/// Each query has its answer, over both.
+/// Asserts that each query has its answer over both.
 fn try_rows<C: Told>(
     rt: &impl Abort,
     alloc: Global,
@@ -215,14 +215,14 @@ fn rows_by_walking(rt: HostRuntime) -> Result<(), Fail> {
     try_rows(&rt, rt.alloc(), &ArrivalTripsWalk, &rows)
 }
 
-/// Whether the text has one point, at 08:00:00 and 08:20:00, whatever its journey.
+/// Whether the text has one point, which departs at 08:00:00 and arrives at 08:20:00, whatever its journey is.
 fn is_one_point(text: &str) -> bool {
     text.starts_with("dep 08:00:00 arr 08:20:00 : ride ")
         && text.ends_with("\npoints 1 read 4 walk none")
         && text.bytes().filter(|byte| *byte == b'\n').count() == 1
 }
 
-/// Where a trip is as fast as a change, arrival alone has one point of the two journeys.
+/// If a trip is as fast as a change, the two journeys are one point by arrival alone.
 #[test]
 fn equal_journeys_are_one_point(rt: HostRuntime) -> Result<(), Fail> {
     let (in_place, decoded) = both_texts(rt.alloc(), &WITH_DIRECT_TRIP, &Arrival, &ASKED)?;

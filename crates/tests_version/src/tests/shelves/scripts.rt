@@ -1,14 +1,14 @@
-//! Scripts: what is done at shelves, line after line, and behind a colon what is answered.
+//! Scripts: what is done at shelves, line by line, and after a colon the answer.
 //!
 //! | line | what is done |
 //! |---|---|
 //! | `pin SEAT` | the seat pins |
-//! | `release SEAT` | the seat gives back what it holds |
+//! | `release SEAT` | the seat releases what it holds |
 //! | `publish SECOND` | the image that begins at this second becomes the next version |
-//! | `join SEAT` | the seat takes in the oldest notice that is out |
+//! | `join SEAT` | the seat takes in the oldest notice that no seat took in |
 //! | `collect` | each closing shelf is tried |
-//! | `round SECOND` | seat 0 gives back, the image becomes the next version, each closing shelf is tried, and seat 0 takes in the notice and pins |
-//! | `each 0..6` | each of these seats pins, and the image that begins two seconds after its number is published: each version has the second of its number |
+//! | `round SECOND` | `release 0`, `publish SECOND`, `collect`, `join 0` and `pin 0` |
+//! | `each 0..6` | each of these seats pins, and then `publish SEAT + 2`, which makes version SEAT + 2 |
 //!
 //! Version 1 is the image that begins at second 1.
 
@@ -24,7 +24,7 @@ use std::process::Abort;
 use std::sync::Wait;
 use std::test::*;
 
-/// Seven versions are held, and an eighth is current: no ninth comes before one of them is given back.
+/// Seven versions are held, and an eighth is current: no ninth can be published before one of the seven is given back.
 const EIGHT_VERSIONS: &str = "\
 each 0..6
 pin 7: ok, 8 at 8
@@ -48,8 +48,8 @@ collect: freed [true, false, false, false, false, false, false, false], busy [0,
 collect: freed [false, false, false, false, false, false, false, false], busy [0, 0, 0, 0, 0, 0, 0, 0]
 pin 3: ok, 2 at 7";
 
-/// Two seats take in a notice each, one while it holds an older version, and each notice is
-/// overtaken by later publishes.
+/// Two seats take in one notice each, one of them while it holds an older version, and each notice is overtaken by
+/// later publishes.
 const NOTICES: &str = "\
 pin 1: ok, 1 at 1
 publish 2: 2
@@ -69,13 +69,13 @@ notice of 2; ok, nothing; ok, 2 at 2
 round 3: ok, nothing; 3; freed [false, true, false, false, false, false, false, false], busy [0, 0, 0, 0, 0, 0, 0, 0]; \
 notice of 3; ok, nothing; ok, 3 at 3";
 
-/// A seat that pinned elsewhere.
+/// A seat that pinned at other shelves.
 const OTHER_SHELVES: &str = "\
 release 0: SeatLost, nothing
 pin 0: SeatLost, nothing
 pin 1: ok, 1 at 1";
 
-/// What is played at shelves without a lock.
+/// Which script is played at shelves without a lock.
 #[derive(Clone, Copy)]
 enum Course {
     EightVersions,
@@ -100,7 +100,7 @@ fn number(text: &str) -> Result<u32, Fail> {
     }
 }
 
-/// Adds an answer behind those before it.
+/// Adds an answer after those before it.
 fn add(told: &mut String, answer: Result<String, AllocError>) -> Result<(), AllocError> {
     let answer = answer?;
     if !told.is_empty() {
@@ -109,7 +109,7 @@ fn add(told: &mut String, answer: Result<String, AllocError>) -> Result<(), Allo
     told.push_str(answer.as_str())
 }
 
-/// Adds what is told of a round, one answer behind another.
+/// Adds what is told of a round, one answer after another.
 fn add_round<S: Stage, R: Wait>(
     rt: &R,
     stage: &mut S,
@@ -129,7 +129,7 @@ fn round<S: Stage, R: Wait>(rt: &R, stage: &mut S, second: u32) -> Result<String
     Ok(told)
 }
 
-/// Does what stands before the colon.
+/// Does what the text before the colon says, and tells the answer.
 fn answer_of<S: Stage, R: Wait>(rt: &R, stage: &mut S, deed: &str) -> Result<String, Fail> {
     let (word, rest) = deed.split_once(' ').unwrap_or((deed, "0"));
     let number = number(rest)?;
@@ -151,20 +151,20 @@ fn play_deed<S: Stage, R: Wait + Abort>(rt: &R, stage: &mut S, line: &str) -> Re
     Ok(())
 }
 
-/// The seat pins the version after its number.
+/// The seat pins, and must get the version after its number.
 fn play_pin<S: Stage, R: Wait + Abort>(rt: &R, stage: &mut S, seat: u32) -> Result<(), Fail> {
     let version = seat.saturating_add(1);
     let line = format!(in stage.alloc(); "pin {seat}: ok, {version} at {version}")?;
     play_deed(rt, stage, line.as_str())
 }
 
-/// This version is published.
+/// Publishes this version.
 fn play_publish<S: Stage, R: Wait + Abort>(rt: &R, stage: &mut S, next: u32) -> Result<(), Fail> {
     let line = format!(in stage.alloc(); "publish {next}: {next}")?;
     play_deed(rt, stage, line.as_str())
 }
 
-/// Each of these seats pins the version after its number, and the next version is published.
+/// Each of these seats pins the version after its number, and then the next version is published.
 fn play_each<S: Stage, R: Wait + Abort>(rt: &R, stage: &mut S, seats: &str) -> Result<(), Fail> {
     let (first, last) = seats.split_once("..").unwrap_or((seats, ""));
     for seat in number(first)?..number(last)?.saturating_add(1) {
@@ -277,7 +277,7 @@ fn play_at_others<R: Wait + Abort>(
     play(rt, first, OTHER_SHELVES)
 }
 
-/// Other shelves know the worker of a seat otherwise than the seat does.
+/// At other shelves, the worker of a seat is in another state than the seat knows.
 #[test]
 fn a_seat_of_other_shelves(rt: HostRuntime) -> Result<(), Fail> {
     let (mut first, mut second) = two_stages(rt.alloc())?;

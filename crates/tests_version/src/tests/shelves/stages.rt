@@ -1,4 +1,4 @@
-//! Shelves of both kinds with all their seats, which tell in words what they are answered.
+//! Shelves of both kinds with all their seats, whose answers are told in words.
 
 ghost use Rattle.std.specs.Prelude.{◌≡◌};
 ghost use Rattle.std.specs.List.{All};
@@ -19,20 +19,21 @@ pub(crate) enum Deed {
     Release,
 }
 
-/// Shelves with all their seats. The call of a seat tells the answer and what the seat holds then,
-/// as `ok, 2 at 7`: version 2, whose image begins at second 7.
+/// Shelves with all their seats. A call of a seat tells the answer and what the seat holds afterwards, such as `ok, 2
+/// at 7`: version 2, whose image begins at second 7.
 pub(crate) trait Stage {
     fn alloc(&self) -> Global;
 
     fn call<R: Wait>(&mut self, rt: &R, deed: Deed, seat: usize) -> Result<String, AllocError>;
 
-    /// The seat takes in the oldest notice that is out.
+    /// The seat takes in the oldest notice that no seat took in.
     fn join<R: Wait>(&mut self, rt: &R, seat: usize) -> Result<String, AllocError>;
 
-    /// Publishes the image of a second: tells its version, or the fault and the second of the image that came back.
+    /// Publishes an image that begins at this second: tells its version, or the fault and the second of the image that
+    /// came back.
     fn publish<R: Wait>(&mut self, rt: &R, second: u32) -> Result<String, AllocError>;
 
-    /// Tells which shelves were freed, and the counts of the others.
+    /// Collects, and tells which shelves were freed, and the counts of the others.
     fn collect<R: Wait>(&mut self, rt: &R) -> Result<String, AllocError>;
 }
 
@@ -47,7 +48,7 @@ fn held(alloc: Global, edition: Option<&Edition>) -> Result<String, AllocError> 
     }
 }
 
-/// The answer of a pin or a release, and what the seat holds.
+/// The answer to a pin or a release, and what the seat holds.
 pub(crate) fn seat_words(
     alloc: Global,
     answer: Result<(), PinFault>,
@@ -98,7 +99,7 @@ impl LockedStage {
         }
     }
 
-    /// The seats of each are at the shelves of the other from now on.
+    /// Swaps the shelves of two stages: from now on the seats of each are at the shelves of the other.
     pub(crate) fn change_shelves(&mut self, other: &mut LockedStage) {
         swap(&mut self.shelves, &mut other.shelves);
     }
@@ -176,7 +177,7 @@ impl<B: Named, K> NamedStage<B, K> {
         }
     }
 
-    /// What the seat was answered, and what it holds.
+    /// The answer to a seat, and what it holds.
     fn words(&self, answer: Result<(), PinFault>, seat: usize) -> Result<String, AllocError> {
         match self.seats.get(seat) {
             Some(seat) => {

@@ -17,7 +17,7 @@ use std::test::*;
 use std::thread;
 use std::thread::Threads;
 
-/// Images that begin at seconds from 2 on.
+/// Images whose bases are the seconds from 2 on.
 fn images(alloc: Global, count: u32) -> Result<Vec<Arc<Verified, Global>>, Fail> {
     let mut images = Vec::new(alloc);
     for place in 0..count {
@@ -26,7 +26,7 @@ fn images(alloc: Global, count: u32) -> Result<Vec<Arc<Verified, Global>>, Fail>
     Ok(images)
 }
 
-/// Whether a hundred pins gave versions that never fell.
+/// Whether the versions of a hundred pins never fell.
 fn versions_rise<R: Wait>(rt: &R, shelves: &LockedShelves, seat: &mut WorkerSeat) -> bool {
     let mut rising = true;
     let mut last = 0;
@@ -64,7 +64,7 @@ fn publishes_in_turn<R: Wait>(
     all
 }
 
-/// Each seat pins in turn, while images are published.
+/// One thread pins at each seat in turn, while another publishes images.
 fn pin_and_publish<R: Threads + Wait + Sync>(
     rt: &R,
     shelves: &LockedShelves,
@@ -94,7 +94,7 @@ fn workers_beside_a_loader_under_a_lock(rt: HostRuntime) -> Result<(), Fail> {
     play(&rt, &mut stage, "pin 0: ok, 11 at 11")
 }
 
-/// Whether the image that begins at this second is that of the version.
+/// Whether an edition's image is that of its version: its base is the version's number.
 fn goes_with(edition: &Edition) -> bool {
     match i64::try_from(edition.version) {
         Ok(second) => second == edition.image.base(),
@@ -111,7 +111,7 @@ fn holds_well<B: Named>(seat: &NamedSeat<B>) -> bool {
     }
 }
 
-/// Whether a pin holds the image of its version, which is given back.
+/// Whether a pin gives the image of its version, and gives it back.
 fn pins_well<B: Named>(shelves: &NamedShelves<B>, seat: &mut NamedSeat<B>) -> bool {
     let pinned = shelves.pin(seat);
     let well = holds_well(seat) && pinned.is_ok();
@@ -119,7 +119,7 @@ fn pins_well<B: Named>(shelves: &NamedShelves<B>, seat: &mut NamedSeat<B>) -> bo
     released.is_ok() && well
 }
 
-/// How many of a thousand pins held the image of their version.
+/// How many of a thousand pins gave the image of their version.
 fn pins_of<B: Named>(shelves: &NamedShelves<B>, seat: &mut NamedSeat<B>) -> u32 {
     let mut held = 0u32;
     for _ in 0..1000u32 {
@@ -146,7 +146,7 @@ fn publishes_of<B: Named>(
     published
 }
 
-/// Two seats pin beside one another.
+/// Two seats pin in parallel.
 fn two_pin<B: Named + Send + Sync, R: Threads + Wait + Sync>(
     rt: &R,
     shelves: &NamedShelves<B>,
@@ -156,7 +156,7 @@ fn two_pin<B: Named + Send + Sync, R: Threads + Wait + Sync>(
     thread::join(rt, || pins_of(shelves, first), || pins_of(shelves, second))
 }
 
-/// A loader publishes beside them.
+/// A loader publishes while two seats pin.
 fn pin_beside_a_loader<B: Named + Send + Sync, R: Threads + Wait + Sync>(
     rt: &R,
     shelves: &NamedShelves<B>,
@@ -181,7 +181,7 @@ fn two_seats<B: Named>(
     }
 }
 
-/// After one more publish the version that was current is tried too: nobody is left at it.
+/// After one more publish the version that was current is collected too: no worker is left at it.
 fn publishes_the_last<B: Named, R: Abort>(
     rt: &R,
     stage: &mut NamedStage<B, ManySeats>,
@@ -193,8 +193,8 @@ fn publishes_the_last<B: Named, R: Abort>(
     assert!(rt; found.busy == [0; 8]);
 }
 
-/// A refused pin found four versions that were gone, each newer than those before: with fifty that
-/// go, that is at most twelve times.
+/// A pin is refused only after it found four versions that were gone, each newer than those before: with fifty versions
+/// that go, that is at most twelve times.
 fn try_two_workers<B: Named + Send + Sync, R: Threads + Wait + Sync + Abort>(
     rt: &R,
     stage: &mut NamedStage<B, ManySeats>,

@@ -1,4 +1,4 @@
-//! Seats whose steps may be asked for at any time: a step that has no place is not made.
+//! Seats whose steps may be asked for at any time: a step that isn't allowed now isn't made.
 
 ghost use Rattle.std.specs.Prelude.{◌≡◌, ℕ, ◌<◌, [], IfSome};
 ghost use Rattle.image_layout.specs.Image.{ImageValue};
@@ -15,11 +15,11 @@ use std::alloc::AllocError;
 use std::marker::Model;
 use version_core::{MOST_VERSIONS, Shelf, Worker};
 
-/// What a seat remembers of itself, so that its steps may be asked for at any time.
+/// What a seat remembers about itself, so that its steps may be asked for at any time.
 pub(crate) trait Memory {
     ghost use Rattle.shelf_steps.specs.Plays.{Mine};
 
-    // The seat knows it so, with these slots out.
+    // What the seat remembers is what its view knows, with these slots out.
     ghost is_so: { Self → Mine → Type 0 };
 }
 
@@ -56,7 +56,7 @@ impl Memory for Loaded {
     ghost is_so = { λ loaded. RemembersSo loaded.current loaded.newest loaded.shelves };
 }
 
-/// A seat, and what it remembers. Contracts see the table.
+/// A seat, and what it remembers. Contracts see only the table.
 #[derive(Drop)]
 pub(crate) struct Steps<M: Memory + Drop> {
     place: Place,
@@ -91,7 +91,7 @@ impl WorkerSteps {
         }
     }
 
-    /// The word that was found, where the worker was idle.
+    /// Looks, if the worker is idle, and returns the word that was found.
     #[tactic(auto, using(crate::proofs::Stepping::idle_now, crate::proofs::Stepping::looked_so))]
     pub(crate) fn look(&mut self, shelves: &ShelfTable) -> Option<u64>
         requires { self.old ≡ shelves.now }
@@ -110,7 +110,8 @@ impl WorkerSteps {
         }
     }
 
-    /// The version that the worker holds, or none where it is late, where it had looked at one.
+    /// Takes the version that the worker had looked at, if it had looked at one: `Some` of the version that it holds
+    /// now, or of `None` if it came late.
     #[tactic(auto, using(crate::proofs::Stepping::looked_now, crate::proofs::Stepping::held_so, crate::proofs::Stepping::late_so))]
     pub(crate) fn take(&mut self, shelves: &ShelfTable) -> Option<Option<u64>>
         requires { self.old ≡ shelves.now }
@@ -131,7 +132,7 @@ impl WorkerSteps {
         }
     }
 
-    /// Whether the worker was at a shelf, which it has left.
+    /// Leaves the shelf, if the worker is at one, and returns whether it was.
     #[tactic(auto, using(crate::proofs::Stepping::late_now, crate::proofs::Stepping::left_so, crate::proofs::Stepping::holding_now, crate::proofs::Stepping::given_so))]
     pub(crate) fn leave(&mut self, shelves: &ShelfTable) -> bool
         requires { self.old ≡ shelves.now }
@@ -152,7 +153,7 @@ impl WorkerSteps {
         }
     }
 
-    /// A worker that is idle or holds a version takes in the notice; else it comes back.
+    /// Takes in the notice, if the worker is idle or holds a version; otherwise the notice comes back.
     #[tactic(auto, using(crate::proofs::Stepping::idle_settled, crate::proofs::Stepping::holding_settled, crate::proofs::Stepping::idle_joined, crate::proofs::Stepping::holding_joined))]
     pub(crate) fn join(&mut self, shelves: &ShelfTable, notice: NoticeSteps) -> Option<NoticeSteps>
         requires { (self.old ≡ shelves.now) × (notice ≡ shelves.now) }
@@ -174,7 +175,7 @@ impl WorkerSteps {
 }
 
 impl NoticeSteps {
-    /// The version that the notice is of.
+    /// The version of the notice.
     pub(crate) fn version(&self) -> u64 {
         self.memory.version
     }
@@ -201,7 +202,7 @@ impl LoaderSteps {
         Steps { place, memory }
     }
 
-    /// A notice of the current version.
+    /// Gives a notice of the current version.
     #[tactic(auto, using(crate::proofs::Stepping::may_note_so, crate::proofs::Stepping::notice_so, crate::proofs::Stepping::noted_so))]
     pub(crate) fn note(&mut self, table: &ShelfTable) -> NoticeSteps
         requires { self.old ≡ table.now }
@@ -215,7 +216,7 @@ impl LoaderSteps {
         }
     }
 
-    /// Whether the next version may be opened on this shelf, and was.
+    /// Opens the next version on this shelf, if that is allowed, and returns whether it did.
     pub(crate) fn open(
         &mut self,
         table: &ShelfTable,
@@ -241,7 +242,7 @@ impl LoaderSteps {
         Ok(true)
     }
 
-    /// Whether an unpublished version stood on this shelf, and is current.
+    /// Publishes the version on this shelf, if it is unpublished, and returns whether it did.
     pub(crate) fn publish(&mut self, table: &ShelfTable, shelf: usize) -> bool
         requires { (self.old ≡ table.now) × (shelf < 8) }
         ensures { self.new ≡ self.old }
@@ -256,7 +257,7 @@ impl LoaderSteps {
         }
     }
 
-    /// Whether an outdated version stood on this shelf, which is closing.
+    /// Closes this shelf, if its version is outdated, and returns whether it did.
     pub(crate) fn close(&mut self, table: &ShelfTable, shelf: usize) -> bool
         requires { (self.old ≡ table.now) × (shelf < 8) }
         ensures { self.new ≡ self.old }
@@ -271,7 +272,8 @@ impl LoaderSteps {
         }
     }
 
-    /// How many workers were found at this shelf, where it was closing. With none it is free.
+    /// Tries this shelf, if it is closing, and returns how many workers were found at it. If there were none, it is
+    /// free now.
     pub(crate) fn collect(&mut self, table: &ShelfTable, shelf: usize) -> Option<u8>
         requires { (self.old ≡ table.now) × (shelf < 8) }
         ensures { self.new ≡ self.old }
