@@ -22,13 +22,13 @@ pub struct Query {
 #[derive(Clone, Copy, Debug, PartialEq, Eq, Error)]
 pub enum QueryFault {
     /// The timetable doesn't have the source, or the target.
-    #[error("the timetable doesn't have the stop")]
+    #[error("the timetable has no such stop")]
     UnknownStop = 31,
     /// The source is the target.
-    #[error("source and target are one stop")]
+    #[error("source and target are the same stop")]
     SameStop = 32,
     /// The latest departure or the latest arrival is before the earliest departure, or a time is `TIME_END` or later.
-    #[error("the window can't be")]
+    #[error("the window ends before it begins, or a time is too late")]
     BadWindow = 33,
 }
 
