@@ -2,4 +2,4 @@
 
 /// The sum of all sources but this file, as `release/sources --program` prints it. `release/stamp` writes it, and
 /// `.ci/run` compares it with the sources.
-pub const SOURCES: &str = "58d019717f45a82e077eb62c8769a2bd72e6b9e65a354c343850bfc988222630";
+pub const SOURCES: &str = "b4de46553632bb3016b2dd210c5dbd985c02da8b870f568912cd88c72c9b02b2";

@@ -338,7 +338,7 @@ fn end_of_search<S: Search>(
     if records.end()? && search.is_found(&records) {
         return Ok(Some(records));
     }
-    if records.is_cut {
+    if records.is_cut || !records.record.is_whole() {
         return Err(Unread);
     }
     Ok(None)
