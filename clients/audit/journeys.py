@@ -66,7 +66,7 @@ class Walk:
 
 
 class Point(NamedTuple):
-    """What a criterion compares; what it doesn't count is 0."""
+    """The values that a criterion compares; those that it doesn't count are 0."""
 
     dep: int
     arr: int
@@ -79,7 +79,7 @@ class Point(NamedTuple):
 
 @dataclass
 class Journey:
-    """A line, and what is found out about it. `text` is its journey with the numbers of the image."""
+    """A line, and the findings about it. `text` is its journey with the numbers of the image."""
 
     line: int
     id: Any = None
@@ -197,7 +197,7 @@ class Spelling:
         self.rides = image.rides({trip for runs in self.runs.values() for trip, _ in runs})
 
     def spell(self, journey: Journey) -> None:
-        """Gives the journey its text, or else says which id is unknown or why no trip runs like this."""
+        """Sets the journey's text, or else its verdict: which id is unknown, or why no trip runs like this."""
         try:
             words: list[str] = []
             before: Ride | Walk | None = None
@@ -255,7 +255,7 @@ class Spelling:
         raise Impossible(f"leg {number}: trip {leg.trip} doesn't reach {leg.target} at {clock_of(leg.arrival)}" + self.times(left, 3))
 
     def times(self, places: list[tuple[list[tuple[int, Connection]], int]], which: int) -> str:
-        """The first few times at which the trip does."""
+        """The first few times at which the trip does so."""
         seen = sorted({ride[place][1][which] for ride, place in places})
         return f", but at {', '.join(map(clock_of, seen[:5]))}{' ..' if len(seen) > 5 else ''}" if seen else ", nor at another time"
 

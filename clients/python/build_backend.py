@@ -31,7 +31,7 @@ def build_wheel(wheel_directory: str, config_settings: dict[str, object] | None 
 
 
 def build_sdist(sdist_directory: str, config_settings: dict[str, object] | None = None) -> str:
-    """Writes an archive of what the wheel is made of, and returns its name."""
+    """Writes an archive of the sources of the wheel, and returns its name."""
     name = f"{STEM}.tar.gz"
     with tarfile.open(Path(sdist_directory, name), "w:gz", format=tarfile.PAX_FORMAT) as archive:
         for path in ("pyproject.toml", "README.md", "build_backend.py", *package()):

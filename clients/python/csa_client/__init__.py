@@ -1,4 +1,4 @@
-"""Clients for a csa server, with the standard library only. A client is one session over one connection.
+"""Clients for a csa server, which need only the standard library. A client is one session over one connection.
 
     with CsaClient(port=7077) as csa, csa.pinned() as pinned:
         for point in csa.profile("A", "C", after="07:00:00", until="09:00:00", by="10:00:00").points:

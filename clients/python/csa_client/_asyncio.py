@@ -21,9 +21,9 @@ class AsyncCsaClient:
     """
 
     def __init__(self, host: str = "127.0.0.1", port: int = DEFAULT_PORT, timeout: float = 30.0) -> None:
-        """`timeout`, in seconds, is for connecting, which `async with` does, and then for each request. TimeoutError closes the session.
+        """`timeout`, in seconds, applies to connecting, which `async with` does, and then to each request. TimeoutError closes the session.
 
-        If all workers of the server are taken, one can connect but gets no reply: the first request raises TimeoutError.
+        If all workers of the server are taken, connecting succeeds but no reply comes: the first request raises TimeoutError.
         """
         self._address = host, port
         self._timeout = timeout
@@ -31,11 +31,11 @@ class AsyncCsaClient:
         self._turn = asyncio.Lock()
 
     async def pin(self) -> Pinned:
-        """Pins the current version: profiles are answered from it until it is released. Refused 92 if the session holds a pin."""
+        """Pins the current version: profiles are answered from it until it is released. Raises Refused 92 if the session holds a pin."""
         return await self._ask(_protocol.pin())
 
     async def release(self) -> None:
-        """Releases the pinned version. Refused 93 if there is none."""
+        """Releases the pinned version. Raises Refused 93 if there is none."""
         await self._ask(_protocol.release())
 
     @asynccontextmanager
@@ -51,31 +51,31 @@ class AsyncCsaClient:
     async def profile(
         self, source: str, target: str, *, after: str, until: str, by: str, criterion: Criterion = "arrival"
     ) -> Profile:
-        """Every best departure from `after` to `until` that arrives no later than `by`, in the pinned version or else in the current one.
+        """Returns every best departure from `after` to `until` that arrives no later than `by`, in the pinned version or else in the current one.
 
             csa.profile("A", "C", after="07:00:00", until="09:00:00", by="10:00:00", criterion="arrival+trips").points
 
-        Refused 31 if one of the stops is unknown. To see which, ask for a profile from a stop to itself: 32 if it is known, else 31.
+        Raises Refused 31 if one of the stops is unknown. To see which, ask for a profile from a stop to itself: 32 if it is known, else 31.
         """
         return await self._ask(_protocol.profile(source, target, after, until, by, criterion))
 
     async def load(self, feed: str) -> None:
-        """Orders the server to load the feed of this name and publish it. Returns once the order is queued, not when it is done.
+        """Orders the server to load the feed of this name and publish it. Returns once the order is queued, not once the load is done.
 
-        Refused 114 if the server wasn't started with a feed of this name, 115 if four orders are waiting already.
+        Raises Refused 114 if the server wasn't started with a feed of this name, 115 if four orders are waiting already.
         """
         await self._ask(_protocol.load(feed))
 
     async def load_and_wait(self, feed: str, timeout: float | None = None) -> int:
-        """Orders the server to load the feed, waits until it is published, and returns its version. This session then pins it or a newer one.
+        """Orders the server to load the feed, waits until it is published, and returns its version. The session's next pin holds it or a newer one.
 
-        A worker of the server is occupied meanwhile. A load may take minutes: `timeout`, in seconds, is for this request, instead of the
-        session's own. Refused 120 if the load was refused; its `refusal` is the number of that.
+        A worker of the server is occupied meanwhile. A load may take minutes: `timeout`, in seconds, applies to this request instead of the
+        session's own. Raises Refused 120 if the load was refused; its `refusal` says with which number.
         """
         return await self._ask(_protocol.load_and_wait(feed), timeout)
 
     def close(self) -> None:
-        """Ends the session; the server then releases what it pinned."""
+        """Ends the session; the server then releases its pin."""
         if self._streams is not None:
             self._streams[1].close()
             self._streams = None
@@ -88,7 +88,7 @@ class AsyncCsaClient:
         self.close()
 
     async def _ask(self, request: Request[Result], timeout: float | None = None) -> Result:
-        """Sends a request, and returns what its reply says or raises it."""
+        """Sends a request, and returns the content of its reply or raises its refusal."""
         async with self._turn:
             if self._streams is None:
                 raise SessionEnded("the session is not open: use `async with`, or open another one")
@@ -98,7 +98,7 @@ class AsyncCsaClient:
             except Refused:
                 raise
             except BaseException:
-                # also if the task is cancelled: what comes next on the connection could be the reply to this request
+                # also if the task is cancelled: the next line of the connection could be the reply to this request
                 self.close()
                 raise
 
@@ -116,7 +116,7 @@ async def _exchange(reader: asyncio.StreamReader, writer: asyncio.StreamWriter, 
 
 
 async def _bounded(awaited: Awaitable[Value], timeout: float) -> Value:
-    """The awaited value, or the built-in TimeoutError; before Python 3.11 asyncio has one of its own."""
+    """Returns the awaited value, or raises the built-in TimeoutError; before Python 3.11 asyncio has a TimeoutError of its own."""
     try:
         return await asyncio.wait_for(awaited, timeout)
     except asyncio.TimeoutError as error:

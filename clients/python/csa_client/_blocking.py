@@ -19,9 +19,9 @@ class CsaClient:
     """
 
     def __init__(self, host: str = "127.0.0.1", port: int = DEFAULT_PORT, timeout: float = 30.0) -> None:
-        """Connects. `timeout`, in seconds, is for connecting, and then for each request. TimeoutError closes the session.
+        """Connects. `timeout`, in seconds, applies to connecting, and then to each request. TimeoutError closes the session.
 
-        If all workers of the server are taken, one can connect but gets no reply: the first request raises TimeoutError.
+        If all workers of the server are taken, connecting succeeds but no reply comes: the first request raises TimeoutError.
         """
         self._socket: socket.socket | None = socket.create_connection((host, port), timeout)
         self._timeout = timeout
@@ -29,11 +29,11 @@ class CsaClient:
         self._received = bytearray()
 
     def pin(self) -> Pinned:
-        """Pins the current version: profiles are answered from it until it is released. Refused 92 if the session holds a pin."""
+        """Pins the current version: profiles are answered from it until it is released. Raises Refused 92 if the session holds a pin."""
         return self._ask(_protocol.pin())
 
     def release(self) -> None:
-        """Releases the pinned version. Refused 93 if there is none."""
+        """Releases the pinned version. Raises Refused 93 if there is none."""
         self._ask(_protocol.release())
 
     @contextmanager
@@ -49,31 +49,31 @@ class CsaClient:
     def profile(
         self, source: str, target: str, *, after: str, until: str, by: str, criterion: Criterion = "arrival"
     ) -> Profile:
-        """Every best departure from `after` to `until` that arrives no later than `by`, in the pinned version or else in the current one.
+        """Returns every best departure from `after` to `until` that arrives no later than `by`, in the pinned version or else in the current one.
 
             csa.profile("A", "C", after="07:00:00", until="09:00:00", by="10:00:00", criterion="arrival+trips").points
 
-        Refused 31 if one of the stops is unknown. To see which, ask for a profile from a stop to itself: 32 if it is known, else 31.
+        Raises Refused 31 if one of the stops is unknown. To see which, ask for a profile from a stop to itself: 32 if it is known, else 31.
         """
         return self._ask(_protocol.profile(source, target, after, until, by, criterion))
 
     def load(self, feed: str) -> None:
-        """Orders the server to load the feed of this name and publish it. Returns once the order is queued, not when it is done.
+        """Orders the server to load the feed of this name and publish it. Returns once the order is queued, not once the load is done.
 
-        Refused 114 if the server wasn't started with a feed of this name, 115 if four orders are waiting already.
+        Raises Refused 114 if the server wasn't started with a feed of this name, 115 if four orders are waiting already.
         """
         self._ask(_protocol.load(feed))
 
     def load_and_wait(self, feed: str, timeout: float | None = None) -> int:
-        """Orders the server to load the feed, waits until it is published, and returns its version. This session then pins it or a newer one.
+        """Orders the server to load the feed, waits until it is published, and returns its version. The session's next pin holds it or a newer one.
 
-        A worker of the server is occupied meanwhile. A load may take minutes: `timeout`, in seconds, is for this request, instead of the
-        session's own. Refused 120 if the load was refused; its `refusal` is the number of that.
+        A worker of the server is occupied meanwhile. A load may take minutes: `timeout`, in seconds, applies to this request instead of the
+        session's own. Raises Refused 120 if the load was refused; its `refusal` says with which number.
         """
         return self._ask(_protocol.load_and_wait(feed), timeout)
 
     def close(self) -> None:
-        """Ends the session; the server then releases what it pinned."""
+        """Ends the session; the server then releases its pin."""
         if self._socket is not None:
             self._socket.close()
             self._socket = None
@@ -85,7 +85,7 @@ class CsaClient:
         self.close()
 
     def _ask(self, request: Request[Result], timeout: float | None = None) -> Result:
-        """Sends a request, and returns what its reply says or raises it."""
+        """Sends a request, and returns the content of its reply or raises its refusal."""
         if self._socket is None:
             raise SessionEnded("the session is closed: open another one")
         deadline = time.monotonic() + (self._timeout if timeout is None else timeout)
@@ -94,7 +94,7 @@ class CsaClient:
         except Refused:
             raise
         except BaseException:
-            # what comes next on the connection could be the reply to this request
+            # the next line of the connection could be the reply to this request
             self.close()
             raise
 
@@ -108,7 +108,7 @@ class CsaClient:
             raise SessionEnded("the server ended the session") from error
 
     def _read_line(self, connection: socket.socket, deadline: float) -> bytes:
-        """The next line of the server, without its line end; TimeoutError if the deadline passes before it is complete."""
+        """Returns the server's next line, without its line end; raises TimeoutError if the deadline passes before it is complete."""
         searched = 0
         while (end := self._received.find(b"\n", searched)) < 0:
             searched = len(self._received)

@@ -1,4 +1,4 @@
-"""The lines of a session: what is sent for each request, and what its reply says. Both clients read and write them by this."""
+"""The lines of a session: the line that each request sends, and the content of its reply. Both clients use this module."""
 
 from __future__ import annotations
 
@@ -16,7 +16,7 @@ Result = TypeVar("Result")
 
 DEFAULT_PORT = 7077
 
-# the longest reply that is read, in bytes
+# the longest reply that a client reads, in bytes
 LONGEST_REPLY = 256 * 1024 * 1024
 
 NUMBER = "([0-9]{1,10})"
@@ -36,7 +36,7 @@ class Refused(CsaError):
         super().__init__(f"{number} {name}" if refusal is None else f"{number} {name} {refusal}")
         self.number = number
         self.name = name
-        #: With 91 Moved only: the newest version that was seen.
+        #: With 91 Moved only: the newest version that the server saw.
         self.newest = newest
         #: With 120 LoadRefused only: the number with which the load was refused.
         self.refusal = refusal
@@ -54,12 +54,12 @@ class Pinned:
     base: int
 
     def instant(self, clock: str, zone: tzinfo | str = timezone.utc) -> datetime:
-        """The instant of a clock text in this version, in a zone such as `"Europe/Berlin"`, or any tzinfo. ValueError if it isn't a clock."""
+        """Returns the instant of a clock text in this version, in a zone such as `"Europe/Berlin"`, or any tzinfo. Raises ValueError if it isn't a clock."""
         start = datetime.fromtimestamp(self.base, timezone.utc)
         return (start + timedelta(seconds=seconds_of(clock))).astimezone(_zone(zone))
 
     def clock(self, instant: datetime) -> str:
-        """The clock text of an instant in this version, in whole seconds. ValueError if it is before the base or has no zone."""
+        """Returns the clock text of an instant in this version, in whole seconds. Raises ValueError if it is before the base or has no zone."""
         if instant.tzinfo is None:
             raise ValueError("the instant has no zone: give it a tzinfo")
         seconds = int(instant.timestamp() // 1) - self.base
@@ -140,14 +140,14 @@ class Profile:
 
 
 def parse_journey(text: str) -> tuple[Ride | Walk, ...]:
-    """The legs of a journey's text: `ride FIRST LAST` and `walk FROM TO SECONDS`, separated by spaces. ValueError if the text isn't that."""
+    """Returns the legs of a journey's text: `ride FIRST LAST` and `walk FROM TO SECONDS`, separated by spaces. Raises ValueError for other texts."""
     if JOURNEY.fullmatch(text) is None:
         raise ValueError(f"not a journey: {text[:80]!r}")
     return tuple(_leg(*numbers) for numbers in LEG.findall(text))
 
 
 def seconds_of(clock: str) -> int:
-    """The seconds of a clock text `HH:MM:SS`, whose hours may pass 24. ValueError if the text isn't a clock."""
+    """Returns the seconds of a clock text `HH:MM:SS`, whose hours may pass 24. Raises ValueError if the text isn't a clock."""
     matched = CLOCK.fullmatch(clock)
     if matched is None:
         raise ValueError(f"not a clock, HH:MM:SS: {clock[:80]!r}")
@@ -157,17 +157,17 @@ def seconds_of(clock: str) -> int:
 
 @dataclass(frozen=True)
 class Request(Generic[Result]):
-    """A line of the session, and how its reply is read."""
+    """A request's fields, and how its reply is read."""
 
     fields: dict[str, Any]
     read: Callable[[Reply], Result]
 
     def line(self) -> bytes:
-        """The line that is sent."""
+        """Returns the line to send."""
         return json.dumps(self.fields, ensure_ascii=False).encode() + b"\n"
 
     def result(self, line: bytes) -> Result:
-        """What the reply says. Raises Refused if the server refused the request, SessionEnded if the line isn't a reply to it."""
+        """Returns the content of the reply. Raises Refused if the server refused the request, SessionEnded if the line isn't a reply to it."""
         try:
             reply = json.loads(line)
             if "error" in reply:

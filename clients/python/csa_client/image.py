@@ -1,4 +1,4 @@
-"""Reads images, as docs/IMAGE.md of csa describes them. It doesn't verify the file: it relies on `csa verify` to accept it.
+"""Reads images, as docs/IMAGE.md of csa describes them. This module doesn't verify the file: it relies on `csa verify` to accept it.
 
     image = Image.open("city.csa")
     connection = image.connection(26854)
@@ -23,7 +23,7 @@ FOOTPATH = struct.Struct("<2I")
 
 
 class Connection(NamedTuple):
-    """One hop of a trip, from a stop to the next. Times are seconds after the image's base; stops and the trip are numbers in the image."""
+    """One hop of a trip, from one stop to the next. Times are seconds after the image's base; stops and the trip are numbers in the image."""
 
     source: int
     target: int
@@ -36,12 +36,12 @@ class Connection(NamedTuple):
 class Image:
     """An image file, mapped into memory. The file may then be closed, and replacing it under its name doesn't change this image.
 
-    `base` is the instant from which its times count, in seconds since 1970; `stops`, `trips` and `connections` are counts. Each of them is
-    numbered from 0.
+    `base` is the instant from which its times count, in seconds since 1970-01-01T00:00:00Z; `stops`, `trips` and `connections` are counts.
+    Stops, trips and connections are numbered from 0.
     """
 
     def __init__(self, file: BinaryIO) -> None:
-        """Maps the file. ValueError if it isn't an image of layout 1 or 2, or has another length than its counts give."""
+        """Maps the file. Raises ValueError if it isn't an image of layout 1 or 2, or its length doesn't fit its counts."""
         # an empty file can't be mapped
         if os.fstat(file.fileno()).st_size < HEADER.size:
             raise ValueError(f"{file.name} isn't an image: it is too short")
@@ -60,7 +60,7 @@ class Image:
 
     @classmethod
     def open(cls, path: str | Path) -> Image:
-        """Opens the image in this file. OSError if the file can't be opened, ValueError as for `Image`."""
+        """Opens the image in this file. Raises OSError if the file can't be opened, ValueError as `Image` does."""
         with open(path, "rb") as file:
             return cls(file)
 
@@ -81,7 +81,7 @@ class Image:
 
     @cached_property
     def stop_numbers(self) -> dict[str, int]:
-        """The number of each stop_id; if two stops have the same one, that of the first, as in csa."""
+        """The number of each stop_id; if two stops have the same stop_id, the number of the first, as in csa."""
         return {self._text_of(stop): stop for stop in reversed(range(self.stops))}
 
     @cached_property
@@ -110,7 +110,7 @@ class Image:
         return found
 
     def rides(self, trips: set[int]) -> dict[int, list[tuple[int, Connection]]]:
-        """The connections of each of these trips with their numbers, in the order in which the trip makes them."""
+        """The connections of each of these trips with their numbers, in the trip's order."""
         found: dict[int, list[tuple[int, Connection]]] = {trip: [] for trip in trips}
         rows = CONNECTION.iter_unpack(memoryview(self._bytes)[HEADER.size : HEADER.size + CONNECTION.size * self.connections])
         for number, row in enumerate(rows):
@@ -121,7 +121,7 @@ class Image:
     def footpath(self, source: int, target: int) -> int | None:
         """The seconds of the footpath from one stop to another, or None if there is none; from a stop to itself, the change time there.
 
-        IndexError if there is no stop with one of these numbers.
+        IndexError if one of the numbers isn't that of a stop.
         """
         _check("stop", source, self.stops)
         _check("stop", target, self.stops)
