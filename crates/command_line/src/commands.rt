@@ -69,7 +69,11 @@ const DESTINATION: [Argument; 4] = [
     Argument::Option("by", "CLOCK", "The latest arrival"),
 ];
 
-const CRITERION: [Argument; 1] = [Argument::Criterion("criterion", "NAME", "What is best")];
+const CRITERION: [Argument; 1] = [Argument::Criterion(
+    "criterion",
+    "NAME",
+    "What makes a journey better",
+)];
 
 const DEPARTURES: [Argument; 4] = [
     Argument::MaybeOption(

@@ -65,7 +65,7 @@ Example: csa upgrade examples/base.csa base.csa";
 
 pub(crate) const JOURNEY: &str =
     "Standard output has one line, `ok dep CLOCK arr CLOCK`, or the refusal.\n\
-A journey rides at least once. Its numbers are those of the image, as `csa profile` prints them without\n\
+A journey has at least one ride. Its numbers are those of the image, as `csa profile` prints them without\n\
 --names:\n\
 \x20 ride FIRST LAST    from the first to the last of these connections, which are of one trip\n\
 \x20 walk FROM TO SECS  from one stop to another\n\
@@ -80,7 +80,7 @@ pub(crate) const PROFILE: &str =
     "Each line `dep CLOCK arr CLOCK [trips N] [walked SECS] : JOURNEY` is a best departure: no journey is at least\n\
 as good in departure, arrival and whatever else the criterion counts, and better in one of them.\n\
 The last line `points N read N walk SECS` has the number of these departures, the number of connections that\n\
-were read, and the seconds of the direct walk, or `none`. A journey rides at least once, so this walk is not\n\
+were read, and the seconds of the direct walk, or `none`. A journey has at least one ride, so this walk is not\n\
 among the departures, and may be quicker than some of them.\n\
 Clocks are HH:MM:SS after the image's base, the start of its first service day: 55:00:00 is 07:00 on the\n\
 third day. A warning says if the window begins before the image's first connection departs or ends after the last\n\
@@ -99,7 +99,7 @@ except the one where journeys end; a stop without departures has no line. Stops 
 `csa stops` prints them. The last line `stops N points N read N` has the number of stops that have a line, the number\n\
 of their departures, and the number of connections that were read.\n\
 Journeys have the image's numbers; `csa profile --names` prints those from one stop with ids.\n\
-A journey rides at least once, so a direct walk is not among the departures: --summary and --json give its seconds\n\
+A journey has at least one ride, so a direct walk is not among the departures: --summary and --json give its seconds\n\
 for the stops that have a line.\n\
 If a line of FILE is not a stop_id of the image, nothing is printed, standard error has its number and its text, and\n\
 the status is 2; if FILE cannot be read, it is 3.\n\

@@ -32,7 +32,7 @@ pub fn reason_of(kind: ErrorKind) -> &'static str {
     match kind {
         ErrorKind::NotFound => "no such file or folder",
         ErrorKind::PermissionDenied => "permission denied",
-        ErrorKind::BrokenPipe => "nobody reads it any more",
+        ErrorKind::BrokenPipe => "the reader has closed the pipe",
         ErrorKind::FilesystemLoop => "its links lead in a circle",
         ErrorKind::IsADirectory => "it is a folder",
         ErrorKind::NotADirectory => "a part of its path is not a folder",
@@ -64,11 +64,11 @@ pub fn unread_reason<H: Files>(rt: &H, path: &str) -> &'static str {
     }
 }
 
-/// Why nothing is found at a path: there may be a link that leads nowhere; otherwise by the kind of the error.
+/// Why nothing is found at a path: there may be a broken link; otherwise by the kind of the error.
 pub fn missing_reason<H: Files>(rt: &H, path: &str, kind: ErrorKind) -> &'static str {
     let is_missing = matches!(kind, ErrorKind::NotFound | ErrorKind::NotADirectory);
     if is_missing && Path::new(path).is_symlink(rt) {
-        "it is a link that leads nowhere"
+        "it is a broken link"
     } else {
         reason_of(kind)
     }
@@ -153,7 +153,8 @@ pub fn explain_load<E: Write>(fault: &LoadFault, errors: &mut E) {
         21 =>
             "--zone: file:PATH must be a time zone file (TZif), posix:TEXT a rule such as CET-1CEST,M3.5.0,M10.5.0/3",
         22 =>
-            "--first, --days: a day is outside the years 1 to 9999, or a trip has a time that no image can have",
+            "--first, --days: a day is outside the years 1 to 9999 or has no noon in the zone, the clock can't be read, \
+or a trip has a time that no image can have",
         41 => "transfers.txt: walks that follow one another take more than 1000000 seconds",
         42 =>
             "transfers.txt, stops.txt: there are more than 5000000 footpaths, counting those that follow from others",

@@ -110,12 +110,12 @@ fn explain_fault<E: Write>(fault: JourneyFault, errors: &mut E) {
         | JourneyFault::NoBoarding(leg)
         | JourneyFault::NoAlighting(leg)
         | JourneyFault::TooEarly(leg) => {
-            write!(errors, "csa: ride {leg}, counted from 0: {reason}\n")
+            write!(errors, "csa: ride {leg} (the first is ride 0): {reason}\n")
         }
         JourneyFault::NoFootpath(walk) | JourneyFault::WalkBroken(walk) => {
             write!(
                 errors,
-                "csa: walk {walk}, walk 0 being the one before the first ride: {reason}\n"
+                "csa: walk {walk} (walk 0 is the one before the first ride): {reason}\n"
             )
         }
         JourneyFault::WrongEnds | JourneyFault::OutsideWindow => write!(errors, "csa: {reason}\n"),
@@ -128,8 +128,8 @@ fn reason_of(fault: JourneyFault) -> &'static str {
             "there is no such ride, or the image has no such connections, or the first is after the last"
         }
         JourneyFault::TwoTrips(_) => "its first and its last connection are of different trips",
-        JourneyFault::NoBoarding(_) => "nobody may get on where it departs",
-        JourneyFault::NoAlighting(_) => "nobody may get off where it ends",
+        JourneyFault::NoBoarding(_) => "boarding isn't allowed where it departs",
+        JourneyFault::NoAlighting(_) => "alighting isn't allowed where it ends",
         JourneyFault::NoFootpath(_) =>
             "the image has no footpath from the one stop to the other with so many seconds",
         JourneyFault::WalkBroken(_) => {

@@ -53,7 +53,8 @@ const NO_STOP: &str = "isn't in stops.txt";
 
 const NOT_A_STOP: &str = "isn't a stop or platform: its location_type in stops.txt is 1 to 4";
 
-const NOT_AN_END: &str = "is no stop and no station: its location_type in stops.txt is 2 to 4";
+const NOT_AN_END: &str =
+    "is neither a stop nor a station: its location_type in stops.txt is 2 to 4";
 
 const ARRIVAL_OR_DEPARTURE: &[Suspect] = &[
     Suspect("arrival_time", Form::TimeOrBlank, BAD_TIME),

@@ -26,7 +26,7 @@ impl<H: Files + AllocGlobal> Explains for H {
 fn explain_unpublished<E: Write>(fault: PublishFault, errors: &mut E) {
     let reason = match fault {
         PublishFault::ShelvesFull { .. } => {
-            "sessions hold all eight versions that there can be: one is free once all who pinned it release it or end"
+            "sessions still hold seven older versions, which is the most: one is free once each session that holds it releases it or ends"
         }
         PublishFault::VersionsSpent => "the numbers of versions are used up: restart the server",
         PublishFault::OutOfMemory => return,

@@ -298,10 +298,10 @@ answers refused 74 NotClosed 2 1 0
 # What is wrong with a journey, and in which ride or walk.
 sample
 run journey - 'ride 0 2' --from A --to C --after 07:00:00 --until 09:00:00 --by 10:00:00
-tells csa: ride 0, counted from 0: its first and its last connection are of different trips
+tells csa: ride 0 (the first is ride 0): its first and its last connection are of different trips
 answers refused 82 TwoTrips 0
 run journey - 'ride 0 0 ride 2 2' --from A --to C --after 07:00:00 --until 09:00:00 --by 10:00:00
-tells csa: walk 1, walk 0 being the one before the first ride: it doesn't lead from where the ride before it ends to where \
+tells csa: walk 1 (walk 0 is the one before the first ride): it doesn't lead from where the ride before it ends to where \
 the next departs; a change is a walk, even at one stop and of 0 seconds
 answers refused 85 WalkBroken 1
 run journey - 'walk 0 0 0' --from A --to C --after 07:00:00 --until 09:00:00 --by 10:00:00

@@ -168,7 +168,7 @@ tells csa: stop_times.txt, line 3: stop_id \"B\" isn't a stop or platform: its l
 answers refused 15 NotAStop stop_times.txt 2
 rows base_feed/stops.txt stop_id,location_type | A, | B, | C, | E,2
 rows base_feed/transfers.txt from_stop_id,to_stop_id | A,B | E,B
-tells csa: transfers.txt, line 3: from_stop_id \"E\" is no stop and no station: its location_type in stops.txt is 2 to 4
+tells csa: transfers.txt, line 3: from_stop_id \"E\" is neither a stop nor a station: its location_type in stops.txt is 2 to 4
 answers refused 15 NotAStop transfers.txt 2
 rows base_feed/transfers.txt from_stop_id,to_stop_id | E,Q
 tells csa: transfers.txt, line 2: to_stop_id \"Q\" isn't in stops.txt

@@ -64,10 +64,10 @@ ends 3
 lacks unread.csa
 remove base_feed/frequencies.txt
 
-# A link that leads nowhere isn't taken for an absent file, whether or not a feed may lack that file.
+# A broken link isn't taken for an absent file, whether or not a feed may lack that file.
 remove base_feed/stops.txt
 link base_feed/stops.txt no_such_folder/stops.txt
-tells csa: base_feed/stops.txt can't be read: it is a link that leads nowhere
+tells csa: base_feed/stops.txt can't be read: it is a broken link
 prints refused 101 FileFailed stops.txt
 ends 3
 lacks unread.csa
@@ -75,23 +75,23 @@ remove base_feed/stops.txt
 with stops.txt 1 A,A
 remove base_feed/calendar.txt
 link base_feed/calendar_dates.txt agency.txt/calendar_dates.txt
-tells csa: base_feed/calendar_dates.txt can't be read: it is a link that leads nowhere
+tells csa: base_feed/calendar_dates.txt can't be read: it is a broken link
 prints refused 101 FileFailed calendar_dates.txt
 ends 3
 lacks unread.csa
 remove base_feed/calendar_dates.txt
 with calendar.txt 1 S,1,1,1,1,1,1,1,20240115,20240115
 link base_feed/transfers.txt no_such_file
-tells csa: base_feed/transfers.txt can't be read: it is a link that leads nowhere
+tells csa: base_feed/transfers.txt can't be read: it is a broken link
 prints refused 101 FileFailed transfers.txt
 ends 3
 lacks unread.csa
 run tables base_feed
-tells csa: base_feed/transfers.txt can't be read: it is a link that leads nowhere
+tells csa: base_feed/transfers.txt can't be read: it is a broken link
 prints refused 101 FileFailed transfers.txt
 ends 3
 run days base_feed
-tells csa: base_feed/transfers.txt can't be read: it is a link that leads nowhere
+tells csa: base_feed/transfers.txt can't be read: it is a broken link
 prints refused 101 FileFailed transfers.txt
 ends 3
 remove base_feed/transfers.txt
@@ -114,13 +114,13 @@ ends 3
 lacks unread.csa
 remove base_feed
 
-# An image, and a folder, by a link that leads nowhere.
+# An image, and a folder, by a broken link.
 link unread.csa no_such_file
 run verify unread.csa
-tells csa: unread.csa can't be read: it is a link that leads nowhere
+tells csa: unread.csa can't be read: it is a broken link
 ends 3
 run tables unread.csa
-tells csa: unread.csa: it is a link that leads nowhere
+tells csa: unread.csa: it is a broken link
 answers refused 1 MissingFile agency.txt 0
 remove unread.csa
 ";
