@@ -1,6 +1,6 @@
-// Loaded before a program, this refuses one growth of memory: of the calls by which the program's own code asks for memory, the one whose number is
-// in REFUSED_GROWTH, counted from 1, is answered with NULL, and "growth N is refused" is a line of standard error. All other calls are passed on, and
-// so are those of the C library for itself. A program that runs for longer than a minute is ended.
+// If this library is preloaded into a program, it refuses one growth of memory: of the calls by which the program's own code asks for memory, the one
+// whose number is in REFUSED_GROWTH, counted from 1, returns NULL, and the line "growth N is refused" goes to standard error. All other calls are
+// passed on, also those that the C library makes for itself. A program that runs for more than a minute is ended.
 #define _GNU_SOURCE
 #include <dlfcn.h>
 #include <errno.h>
@@ -17,7 +17,7 @@ static uintptr_t code_end;
 static unsigned long refused;
 static atomic_ulong asked;
 
-// The program is the first that is told; its libraries aren't asked for.
+// The program itself is listed first; its libraries aren't needed.
 static int note_code(struct dl_phdr_info *program, size_t size, void *nothing)
 {
     (void)size;
@@ -40,7 +40,7 @@ __attribute__((constructor)) static void begin(void)
     alarm(60);
 }
 
-// Counts a call that returns to the program's code, and tells whether it is the one to be refused.
+// Counts a call that returns to the program's code, and returns whether it is the one to be refused.
 static bool is_refused(const void *caller)
 {
     uintptr_t place = (uintptr_t)caller;
@@ -62,7 +62,7 @@ static bool is_refused(const void *caller)
         return is_refused(__builtin_return_address(0)) ? NULL : next arguments;    \
     }
 
-// Rattle's programs ask by the first two alone.
+// Programs in Rattle use only the first two.
 REFUSING(malloc, (size_t size), (size))
 REFUSING(realloc, (void *block, size_t size), (block, size))
 REFUSING(calloc, (size_t count, size_t size), (count, size))

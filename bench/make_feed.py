@@ -1,12 +1,12 @@
 #!/usr/bin/env python3
-"""Writes a GTFS folder of a city whose streets are a grid, for measuring csa.
+"""Writes a GTFS folder of a city whose streets form a grid, for measuring csa.
 
     bench/make_feed.py SIDE FOLDER
 
 The city has SIDE x SIDE stations, each with a platform for the line along its street and one for the line across. Each line runs
 from five in the morning to midnight in both directions, every eight to fifteen minutes; hops take one to three minutes. The same
-SIDE gives the same bytes on every machine. A side of 30 has some 400,000 connections a day (a city), one of 100 some 4,500,000
-(a metropolis).
+SIDE gives the same bytes on every machine. A side of 30 gives some 400,000 connections a day (a city), and one of 100 gives some
+4,500,000 (a metropolis).
 """
 
 import os
@@ -18,7 +18,7 @@ DWELL = 20
 
 
 def numbers(seed):
-    """Gives numbers below 2^31 without end: a linear congruence, so that no version of Python changes a feed."""
+    """Gives an endless sequence of numbers, by a linear congruential generator, so that no version of Python changes a feed."""
     state = seed
     while True:
         state = (state * 1103515245 + 12345) % 2**31
@@ -51,7 +51,7 @@ def lines(side):
 
 
 def trips(side):
-    """Each trip as its name and the list of its stops with arrival and departure."""
+    """Each trip, as its name and the list of its stops with arrival and departure."""
     drawn = numbers(side)
     for line, stops in enumerate(lines(side)):
         hops = [60 + next(drawn) % 120 for _ in stops[1:]]

@@ -1,6 +1,6 @@
-// Runs a command, and writes how it ended, as waitpid tells it, its processor seconds and the peak of its memory in KB to the open file whose number
-// comes first. It is there as it is small: a command that Python starts has Python's own memory in its peak, since that counts what stood before the
-// command was loaded.
+// Runs a command, and writes its wait status, its processor seconds and the peak of its memory in KB to the open file whose number is the first argument.
+// This program is small on purpose: the peak of a command that Python starts includes Python's own memory, since it counts the memory that the process
+// had before the command was loaded.
 #include <stdio.h>
 #include <stdlib.h>
 #include <sys/resource.h>

@@ -1,7 +1,7 @@
-/* Prints texts of a letter and 15 digits that all begin their search at the first group of a table of that many ids, if the key of SipHash-1-3
-   is 0: the one that csa falls back to where a system gives no random bytes.
+/* Prints texts of a letter and 15 digits, each on a line. In a table of that many ids, the search for each of them begins at the first group if the
+   key of SipHash-1-3 is 0, which is the key that csa uses if the system gives no random bytes.
 
-   sip_ids DOUBLINGS     2 to that power texts, each a line; some 4,000 hashes are tried for each of 2^15, which takes some seconds. */
+   sip_ids DOUBLINGS     prints 2 to that power texts; for each of 2^15 texts some 4,000 are tried, which takes some seconds in all. */
 
 #include <stdint.h>
 #include <stdio.h>
@@ -33,7 +33,7 @@ static void take(struct state *s, uint64_t word) {
     s->a ^= word;
 }
 
-/* The 32 bits by which a table looks the text up: behind a key of eight zero bytes it is hashed with the byte 0xff at its end. */
+/* The 32 bits by which a table looks the text up. The bytes hashed are eight zero bytes, which are the key, the text, and the byte 0xff. */
 static uint32_t hash_of(const char text[16]) {
     struct state s = {0x736f6d6570736575, 0x646f72616e646f6d, 0x6c7967656e657261, 0x7465646279746573};
     uint64_t words[2];

@@ -1,5 +1,5 @@
-// For deploy/try and deploy/try_nightly: if it is preloaded, programs read the time of day from the file that CLOCK names, in seconds since
-// 1970-01-01T00:00:00Z. Other clocks are unchanged.
+// For deploy/try and deploy/try_nightly: if this library is preloaded, a program reads the time of day, in seconds after 1970-01-01T00:00:00Z, from
+// the file that CLOCK names. Other clocks are unchanged.
 #define _GNU_SOURCE
 #include <stdio.h>
 #include <stdlib.h>

@@ -1,5 +1,5 @@
 #!/usr/bin/env python3
-"""Writes manual pages and completions of csa into a folder, from the program's own --help.
+"""Writes the manual pages and completions of csa into a folder, from the program's own --help.
 
     release/help_pages.py PROGRAM VERSION FOLDER
 """
@@ -11,7 +11,7 @@ import sys
 
 
 class Help:
-    """What one --help says: its summary, its sections of items, and the lines after them."""
+    """One --help text: its summary, its sections of items, and the lines after them."""
 
     def __init__(self, text):
         self.text = text
@@ -31,7 +31,7 @@ class Help:
                 self.notes.append(line)
 
     def options(self):
-        """Each long option as (word, takes a value, values, what it says)."""
+        """Each long option: its word, whether it takes a value, the possible values, and its description."""
         for head, says in self.sections.get("Options", []):
             word = re.search(r"--[a-z-]+", head).group(0)
             values = re.search(r"\[possible values: (.*?)\]", says)
@@ -49,12 +49,12 @@ def roff(text):
 
 
 def is_shown(line):
-    """Whether a line is shown as it is: lists, examples and JSON, which nothing may break or hyphenate."""
+    """Whether a line is shown unchanged, as lists, examples and JSON are, which must not be broken or hyphenated."""
     return line.startswith((" ", "Example:")) or '{"' in line
 
 
 def notes(lines):
-    """The lines after the sections: filled paragraphs, and between them what is shown as it is."""
+    """The lines after the sections: filled paragraphs, and between them lines that are shown unchanged."""
     for shown, group in itertools.groupby(lines, is_shown):
         if shown:
             yield from (".PP", ".nf", *map(roff, group), ".fi")
