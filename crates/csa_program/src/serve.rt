@@ -72,9 +72,10 @@ impl<'a, H: Disk + Explains + Clock + Sync> Feeds for Folders<'a, H> {
 
     ghost named = { λ folders. folders.names.items };
 
-    // Those of the folder that goes with the feed's name.
+    // Those of the folder that goes with the feed's name, of which nothing was read yet.
     ghost are_files = { λ folders place files.
-        slice_get (map (λ feed. feed.folder.now) folders.request.now.feeds.items) place ≡ Some files.folder.now };
+        (slice_get (map (λ feed. feed.folder.now) folders.request.now.feeds.items) place ≡ Some files.folder.now)
+        × (files.reads ≡ []) };
 
     ghost is_plan = { λ folders plan. IsPlanNow folders.request.now.plan folders.zone_bytes.items plan };
 

@@ -25,12 +25,11 @@ FailedAsTold failures failed files files_then outcome =
 -- failed and of which files, and the plans by which feeds may be loaded
 module _ {N D : Type 0} (noted : N → ℕ) (are_files : ℕ → D → Type 0) (holds : D → Holds) (reads : D → List FileRead) (failures : D → ℕ)
     (failed : D → List (List ℕ)) (is_plan : Plan → Type 0) (places : ℕ) where
-  -- the files of the feed at this place, drawn when just these orders had been taken from this queue and nothing was read of them, are loaded, and
-  -- the answer is what came of that; or there is no such feed, and none are drawn
+  -- the files of the feed at this place, drawn when just these orders had been taken from this queue, are loaded, and the answer is what came of
+  -- that; or there is no such feed, and none are drawn
   abbrev pub IsLoadOf : QueueId N → List OrderMark → ℕ → Option (DrawnFiles D N) → LoadAnswer N → List LoaderAnswer → List LoaderAnswer → Type 0
   IsLoadOf queue taken feed (Some drawn) answer before after =
       (plan : Plan) × (outcome : Result (Loaded × Option N) LoadRefusal) × IsDrawnAt queue taken drawn × are_files feed drawn.first.value × is_plan plan
-      × (reads drawn.first.value ≡ [])
       × IsOutcome noted (holds drawn.first.value) (reads drawn.first.value) (reads drawn.files) plan before outcome after
       × FailedAsTold failures failed drawn.first.value drawn.files outcome × (answer ≡ load_answer outcome)
   IsLoadOf queue taken feed None answer before after =

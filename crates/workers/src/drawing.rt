@@ -1,6 +1,6 @@
 //! A feed's files are drawn for an order, and used for that one alone.
 
-ghost use Rattle.std.specs.Prelude.{◌≡◌, ◌<◌, ◌≤◌, ◌-◌, ◌^◌, [], length, MatchOption};
+ghost use Rattle.std.specs.Prelude.{◌≡◌, ◌<◌, ◌≤◌, ◌-◌, ◌^◌, length, MatchOption};
 ghost use Rattle.connections.specs.declared.days.TheConstants.{MAX_DAYS};
 ghost use Rattle.workers.specs.Carrying.{FailedAsTold};
 ghost use Rattle.workers.specs.Drawing.{IsDrawnAt};
@@ -38,8 +38,8 @@ impl<D: FeedFiles, N: Drop> DrawnFiles<D, N> {
         orders: &LoaderOrders<N>,
     ) -> Option<DrawnFiles<D, N>>
         ensures { MatchOption result (length (F.named feeds.now) ≤ place) (λ drawn. (drawn.files ≡ drawn.first.value)
-            × (D.failures drawn.files ≡ 0) × (D.reads drawn.first.value ≡ [])
-            × F.are_files feeds.now place drawn.first.value × IsDrawnAt orders.now.queue orders.now.taken drawn) }
+            × (D.failures drawn.files ≡ 0) × F.are_files feeds.now place drawn.first.value
+            × IsDrawnAt orders.now.queue orders.now.taken drawn) }
     {
         match feeds.files(place) {
             Some(files) => Some(DrawnFiles {

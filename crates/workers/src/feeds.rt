@@ -1,6 +1,6 @@
 //! The feeds that may be ordered.
 
-ghost use Rattle.std.specs.Prelude.{◌≡◌, ◌≤◌, [], ℕ, List, String, length, IfOk, IfErr, MatchOption};
+ghost use Rattle.std.specs.Prelude.{◌≡◌, ◌≤◌, ℕ, List, String, length, IfOk, IfErr, MatchOption};
 ghost use Rattle.std.specs.Global.{Global};
 ghost use Rattle.connections.specs.declared.days.TheConstants.{MAX_DAYS};
 ghost use Rattle.feed_loader.specs.declared.plan.Plan.{Plan};
@@ -37,10 +37,10 @@ pub trait Feeds {
         ensures few { IfOk result (λ plan. plan.days ≤ MAX_DAYS) }
         ensures possible { IfErr result (λ _. (plan : Plan) × is_plan self.now plan) };
 
-    /// The files of the feed at the place, of which nothing was read yet. None only where there is no such place.
+    /// The files of the feed at the place, of which no read has failed yet. None only where there is no such place.
     fn files(&self, place: usize) -> Option<Self::Files>
         ensures { MatchOption result (length (named self.now) ≤ place) (λ files. (Self.Files.failures files ≡ 0)
-            × (Self.Files.reads files ≡ []) × are_files self.now place files) };
+            × are_files self.now place files) };
 
     /// Called before the feed at the place is loaded. Returns the instant at which that is, for `finish`, or none.
     fn begin(&self, place: usize) -> Option<Instant>;
