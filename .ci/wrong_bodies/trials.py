@@ -85,6 +85,9 @@ class Trial:
         for it in sorted({self.named(it) for found in tried.values() for it in found}):
             words += ["--only", it]
         text, status, usage = run(words, room)
+        if status == -signal.SIGKILL:
+            # (memory ran out, most likely: once more)
+            text, status, usage = run(words, room)
         self.note(wave, text, usage)
         return Verdict(self.crate, text, status, tried, stubs)
 
