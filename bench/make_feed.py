@@ -1,12 +1,13 @@
 #!/usr/bin/env python3
 """Writes a GTFS folder of a city whose streets form a grid, for measuring csa.
 
-    bench/make_feed.py SIDE FOLDER
+    bench/make_feed.py SIDE FOLDER [--frequencies]
 
 The city has SIDE x SIDE stations, each with a platform for the line along its street and one for the line across. Each line runs
 from five in the morning to midnight in both directions, every eight to fifteen minutes; hops take one to three minutes. The same
 SIDE gives the same bytes on every machine. A side of 30 gives some 400,000 connections a day (a city), and one of 100 gives some
-4,500,000 (a metropolis).
+4,500,000 (a metropolis). With --frequencies the feed has the same runs, but lists only the first trip of each line and direction,
+and repeats it by a row of frequencies.txt.
 """
 
 import os
@@ -51,15 +52,15 @@ def lines(side):
 
 
 def trips(side):
-    """Each trip, as its name and the list of its stops with arrival and departure."""
+    """The trips of each line and direction: their headway, and each trip as its name and the list of its stops with arrival and departure."""
     drawn = numbers(side)
     for line, stops in enumerate(lines(side)):
         hops = [60 + next(drawn) % 120 for _ in stops[1:]]
         headway = 60 * (8 + next(drawn) % 8)
         start = FIRST_TRIP + next(drawn) % headway
         for direction, (path, times) in enumerate(((stops, hops), (stops[::-1], hops[::-1]))):
-            for count, leaves in enumerate(range(start + direction * headway // 2, LAST_TRIP, headway)):
-                yield f"L{line}-{direction}-{count}", list(stop_times(path, times, leaves))
+            leaving = range(start + direction * headway // 2, LAST_TRIP, headway)
+            yield headway, [(f"L{line}-{direction}-{count}", list(stop_times(path, times, leaves))) for count, leaves in enumerate(leaving)]
 
 
 def stop_times(stops, hops, leaves):
@@ -72,8 +73,9 @@ def stop_times(stops, hops, leaves):
 
 
 def main():
-    if len(sys.argv) != 3 or not sys.argv[1].isdigit() or int(sys.argv[1]) < 2:
-        sys.exit("usage: bench/make_feed.py SIDE FOLDER, where SIDE is 2 or more")
+    has_frequencies = sys.argv[3:] == ["--frequencies"]
+    if len(sys.argv) != 3 + has_frequencies or not sys.argv[1].isdigit() or int(sys.argv[1]) < 2:
+        sys.exit("usage: bench/make_feed.py SIDE FOLDER [--frequencies], where SIDE is 2 or more")
     side, folder = int(sys.argv[1]), sys.argv[2]
     os.makedirs(folder, exist_ok=True)
     write_file(folder, "agency.txt", "agency_id,agency_name,agency_url,agency_timezone", ["1,Grid,http://grid.example,Etc/UTC"])
@@ -84,10 +86,14 @@ def main():
             open(os.path.join(folder, "stop_times.txt"), "w", encoding="utf-8", newline="\n") as time_file:
         trip_file.write("route_id,service_id,trip_id\n")
         time_file.write("trip_id,arrival_time,departure_time,stop_id,stop_sequence\n")
-        for trip, times in trips(side):
+        listed = (trip for _, of_line in trips(side) for trip in of_line[: 1 if has_frequencies else None])
+        for trip, times in listed:
             trip_file.write(f"R,D,{trip}\n")
             time_file.writelines(
                 f"{trip},{clock(arrives)},{clock(leaves)},{stop},{place}\n" for place, (stop, arrives, leaves) in enumerate(times, 1))
+    if has_frequencies:
+        rows = (f"{of_line[0][0]},{clock(of_line[0][1][0][2])},{clock(LAST_TRIP)},{headway}" for headway, of_line in trips(side))
+        write_file(folder, "frequencies.txt", "trip_id,start_time,end_time,headway_secs", rows)
 
 
 if __name__ == "__main__":

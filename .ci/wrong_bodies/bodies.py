@@ -48,9 +48,9 @@ class Body:
         return copied
 
 
-def text_of(folder):
-    """Returns the wrong bodies of a crate as one text, with a heading for each."""
-    text, wrong = "", f"{folder}/wrong"
+def text_of(folder, part="wrong"):
+    """Returns the wrong bodies of a crate, or those that `rt ci` tries (`must-fail`), as one text, with a heading for each."""
+    text, wrong = "", f"{folder}/{part}"
     for name in sorted(os.listdir(wrong)) if os.path.isdir(wrong) else ():
         lines = (line.removeprefix("# ") for line in read(f"{wrong}/{name}").split("\n"))
         text += "\n".join(["", "## " + name.removesuffix(".edit"), *lines])

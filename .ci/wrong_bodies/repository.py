@@ -63,12 +63,13 @@ class Repository:
         words += ["--antt-project", f"{self.kit}/rattle/logic/antt-project.json", "--logic-built", f"{self.kit}/logic_built"]
         return [*words, "--jobs", "1"]
 
+    def kit_texts(self):
+        """Returns the texts that name the kit."""
+        return [read(f"{self.kit}/{it}") for it in ("KIT-ID", "WHAT")]
+
     def sum(self, crate):
         """Returns a checksum of all that a check of a crate reads, and of the part of this script that judges."""
-        sum = hashlib.sha256(repr(judge()).encode())
-        for file in (f"{self.kit}/KIT-ID", f"{self.kit}/WHAT"):
-            with open(file, "rb") as it:
-                sum.update(it.read())
+        sum = hashlib.sha256(repr([judge(), self.kit_texts()]).encode())
         for name in [*self.below(crate), crate]:
             sum.update(repr((name, self.uses[name])).encode())
             for at, it in self.files(name):
@@ -88,6 +89,10 @@ class Kept:
     def place(self, sum, body):
         key = hashlib.sha256(repr((sum, sorted(body.lines.items()), body.targets)).encode()).hexdigest()
         return f"{self.at}/{key[:2]}/{key}"
+
+    def mark(self, texts):
+        """Returns the file whose presence says that the script with these texts passed its own tests."""
+        return f"{self.at}/selftest-{hashlib.sha256(repr(texts).encode()).hexdigest()}"
 
     def look(self, sum, body):
         try:

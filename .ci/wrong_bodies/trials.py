@@ -7,10 +7,11 @@ import subprocess
 import tempfile
 import threading
 
+from wrong_bodies.bodies import Body
 from wrong_bodies.repository import PARTS
 from wrong_bodies.rooms import copy_proofs, put_stubs, text_with, tried_by
 from wrong_bodies.source_text import homes_of, read
-from wrong_bodies.verdicts import FAILED, OPEN, PROVED, Result, Verdict
+from wrong_bodies.verdicts import FAILED, FALSE, OPEN, PROVED, Result, Verdict
 
 # How many bodies are tried in copies by one check: more would make checks so long that processors wait for the last.
 MOST = 20
@@ -46,6 +47,8 @@ class Trial:
     def __init__(self, repository, crate, bodies, options, room):
         self.repository, self.crate, self.bodies, self.options, self.room = repository, crate, bodies, options, room
         self.seconds, self.checks, self.memory, self.results, self.lock = 0.0, 0, 0, [], threading.Lock()
+        # (the unchanged copies that are proved)
+        self.controls = set()
         self.homes = homes_of(repository.folder(crate))
         self.waves = self.put_together()
         self.left = len(self.waves)
@@ -121,12 +124,41 @@ class Trial:
     def settle_beside_stubs(self, wave):
         """Tries a wave beside stubs, and what isn't refused there beside the functions as they are."""
         verdict = self.check(wave, has_stubs=True)
-        results = [verdict.of_body(it) for it in wave] if verdict.stands() else []
-        settled = [it for it in results if (it.kind == PROVED if self.options.unchanged else it.is_refused())]
+        settled = [it for it in map(verdict.of_body, wave if verdict.stands() else ()) if it.is_refused()]
         self.add(settled)
         rest = [it for it in wave if it not in [one.body for one in settled]]
         if rest:
             self.settle(rest)
+
+    def control(self):
+        """Tries an unchanged copy of each function of which a body was refused otherwise than by a false goal. It must be proved, beside the same stubs
+        or at least without them: otherwise something else than its change may refuse the body, which then counts for nothing."""
+        self.controls |= self.proved_of(self.without_control(), has_stubs=True)
+        again = [it for it in self.results if not self.is_controlled(it)]
+        self.results = [it for it in self.results if it not in again]
+        if again:
+            self.settle([it.body for it in again])
+        self.controls |= self.proved_of(self.without_control(), has_stubs=False)
+        why = "an unchanged copy of its function isn't proved either, so it isn't known what refuses it"
+        self.results = [it if self.is_controlled(it) else Result(it.body, FAILED, f"{why}: {it.said}") for it in self.results]
+
+    def is_controlled(self, result):
+        """Returns whether no control is needed, or an unchanged copy of each of the functions is proved."""
+        return not result.is_refused() or result.kind == FALSE or self.controls.issuperset(result.body.targets)
+
+    def without_control(self):
+        """Returns the functions that still need a control, each once."""
+        return list(dict.fromkeys(of for it in self.results if not self.is_controlled(it) for of in it.body.targets if of not in self.controls))
+
+    def proved_of(self, functions, has_stubs):
+        """Returns those of the functions of which an unchanged copy is proved."""
+        proved = set()
+        for first in range(0, len(functions), MOST):
+            wave = [Body(self.crate, f"unchanged_{number}", number, targets=[it]) for number, it in enumerate(functions[first : first + MOST])]
+            verdict = self.check(wave, has_stubs)
+            stands = verdict.stands() if has_stubs else verdict.is_reached
+            proved |= {it.targets[0] for it in wave if stands and verdict.of_body(it).kind == PROVED}
+        return proved
 
     def settle(self, wave):
         """Tries a wave, and again what it left open: together while that settles something, and at last one by one."""

@@ -73,6 +73,10 @@ class Verdict:
         own = [said for file, line, said in self.reports if file == function.file and function.first <= line <= function.last]
         folders = tuple("/".join(["proofs", *it, ""]) for it in ways_to(path))
         written = [said for file, _, said in self.reports if file.startswith(folders)]
+        fate = self.fates.get(path)
+        if fate is not None and fate.startswith("proved"):
+            # (whatever stands beside it: a warning, or an error of what calls it)
+            return PROVED, "it is proved, so the contract lets it pass"
         if any("is false" in it for it in own):
             return FALSE, next(it for it in own if "is false" in it)
         stands = [it for it in written if not GONE.search(it)]
@@ -83,13 +87,10 @@ class Verdict:
             return (UNPROVED, ended[0]) if ended else (SEARCH, own[0])
         if written:
             return FAILED, f"its proof cites a name that is gone, which says nothing of the contract: {written[0]}"
-        fate = self.fates.get(path)
         if fate is None:
             return OPEN, "the prover didn't come to its function"
         if "`search` did not prove" in fate:
             return UNPROVED, fate
-        if fate.startswith("proved"):
-            return PROVED, "it is proved, so the contract lets it pass"
         return OPEN, f"its function has no verdict of its own: {fate}"
 
     def of_body(self, body):
