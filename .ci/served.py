@@ -11,7 +11,8 @@ import termios
 import time
 
 TOP = os.path.dirname(os.path.dirname(os.path.abspath(__file__)))
-PLAN = ["--first", "20240115", "--days", "1", "--zone", "fixed:0"]
+FIRST = "20240115"
+PLAN = ["--first", FIRST, "--days", "1", "--zone", "fixed:0"]
 # Anything that doesn't come within this time, in seconds, is reported as wrong.
 SECONDS = 60
 
@@ -23,9 +24,10 @@ def program(given=None):
     return os.path.abspath(found) if found else sys.exit("no program csa is built or released: ./csa --build")
 
 
-def serve_words(image, sessions, workers=1, feeds=(), port=0):
+def serve_words(image, sessions, workers=1, feeds=(), port=0, first=FIRST):
     """Returns the words of `csa serve` behind the program, with the feeds as NAME=FOLDER."""
-    return ["serve", "--image", image, "--port", str(port), "--workers", str(workers), "--sessions", str(sessions), *PLAN, *feeds]
+    served = ["serve", "--image", image, "--port", str(port), "--workers", str(workers), "--sessions", str(sessions)]
+    return [*served, "--first", first, *PLAN[2:], *feeds]
 
 
 class Server:
@@ -51,6 +53,11 @@ class Server:
         """Returns its resident memory, or the greatest that it had (`VmHWM`)."""
         with open(f"/proc/{self.process.pid}/status", encoding="utf-8") as status:
             return next(int(line.split()[1]) for line in status if line.startswith(which + ":")) / 1000
+
+    def stop(self):
+        self.process.terminate()
+        self.process.wait()
+        self.process.stdout.close()
 
     def opens_no_more(self):
         """From now on it may open no further file descriptor."""

@@ -48,8 +48,8 @@ class Body:
         return copied
 
 
-def text_of(folder, part="wrong"):
-    """Returns the wrong bodies of a crate, or those that `rt ci` tries (`must-fail`), as one text, with a heading for each."""
+def text_of(folder, part):
+    """Returns the wrong bodies in a folder of a crate (`wrong`, or `must-fail` for those that `rt ci` tries) as one text, with a heading for each."""
     text, wrong = "", f"{folder}/{part}"
     for name in sorted(os.listdir(wrong)) if os.path.isdir(wrong) else ():
         lines = (line.removeprefix("# ") for line in read(f"{wrong}/{name}").split("\n"))
