@@ -94,6 +94,12 @@ class Journey:
     def judged(self, verdict: str, why: str = "") -> None:
         self.verdict, self.why = verdict, why
 
+    @property
+    def asked(self) -> Query:
+        """The query of a journey that was read."""
+        assert self.query is not None
+        return self.query
+
 
 def clock_of(seconds: int) -> str:
     return f"{seconds // 3600:02}:{seconds // 60 % 60:02}:{seconds % 60:02}"
@@ -129,7 +135,8 @@ class Reader:
     def record(self, line: str) -> dict[str, Any]:
         """A line of either form, as an object of the first form."""
         if line.lstrip().startswith("{"):
-            return json.loads(line)
+            record: dict[str, Any] = json.loads(line)
+            return record
         words, legs = line.split(), []
         while words:
             kind, *rest = words
@@ -176,7 +183,7 @@ class Reader:
         return int(instant.timestamp()) - self.base
 
     def query(self, number: int, legs: list[Ride | Walk], record: dict[str, Any]) -> Query:
-        window = []
+        window: list[str] = []
         for name in ("after", "until", "by"):
             clock = record.get(name, getattr(self.asked, name))
             if clock is None:
@@ -185,7 +192,8 @@ class Reader:
         criterion = record.get("criterion", self.asked.criterion)
         if criterion not in CRITERIA:
             raise Unreadable(f"{criterion!r} isn't a criterion")
-        return Query(legs[0].source, legs[-1].target, *window, criterion)
+        after, until, by = window
+        return Query(legs[0].source, legs[-1].target, after, until, by, criterion)
 
 
 class Spelling:
