@@ -194,7 +194,8 @@ def _show(feed: Feed, fields: dict[str, str], query: Query | None, answer: Answe
         """The address of the same query, some hours later."""
         assert query is not None
         there = (query.instant + timedelta(hours=hours)).astimezone(feed.zone)
-        return url_for("page", **(asked | {"day": there.date().isoformat(), "time": there.strftime("%H:%M")}))
+        words: dict[str, Any] = asked | {"day": there.date().isoformat(), "time": there.strftime("%H:%M")}
+        return url_for("page", **words)
 
     page = render_template(
         "page.html",
