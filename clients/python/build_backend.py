@@ -1,4 +1,7 @@
-"""Builds the wheel and the source archive of this package with the standard library only (PEP 517), so that pip needs no network."""
+"""Builds the wheel and the source archive of a package with the standard library only (PEP 517), so that pip needs no network.
+
+The package is that of the folder in which it runs: its name is that of the project with `_` for `-`.
+"""
 
 from __future__ import annotations
 
@@ -9,13 +12,16 @@ import tarfile
 import zipfile
 from pathlib import Path
 
-HERE = Path(__file__).resolve().parent
+HERE = Path.cwd()
 SETTING = re.compile(r'^([a-z_-]+) = "(.*)"$', re.MULTILINE)
-PROJECT: dict[str, str] = dict(SETTING.findall((HERE / "pyproject.toml").read_text()))
-VERSION: str = dict(SETTING.findall((HERE / "csa_client/__init__.py").read_text()))["__version__"]
-STEM = f"{PROJECT['name'].replace('-', '_')}-{VERSION}"
+TABLE = (HERE / "pyproject.toml").read_text()
+PROJECT: dict[str, str] = dict(SETTING.findall(TABLE))
+NEEDED = [name for line in re.findall(r"^dependencies = \[(.*)\]$", TABLE, re.MULTILINE) for name in re.findall('"([^"]+)"', line)]
+MODULE = PROJECT["name"].replace("-", "_")
+VERSION: str = dict(SETTING.findall((HERE / MODULE / "__init__.py").read_text()))["__version__"]
+STEM = f"{MODULE}-{VERSION}"
 INFO = f"{STEM}.dist-info"
-WHEEL = "Wheel-Version: 1.0\nGenerator: csa_client build_backend\nRoot-Is-Purelib: true\nTag: py3-none-any\n"
+WHEEL = "Wheel-Version: 1.0\nGenerator: csa build_backend\nRoot-Is-Purelib: true\nTag: py3-none-any\n"
 
 
 def build_wheel(wheel_directory: str, config_settings: dict[str, object] | None = None, metadata_directory: str | None = None) -> str:
@@ -33,7 +39,7 @@ def build_wheel(wheel_directory: str, config_settings: dict[str, object] | None 
 def build_sdist(sdist_directory: str, config_settings: dict[str, object] | None = None) -> str:
     """Writes an archive of the sources of the wheel, and returns its name."""
     name = f"{STEM}.tar.gz"
-    with tarfile.open(Path(sdist_directory, name), "w:gz", format=tarfile.PAX_FORMAT) as archive:
+    with tarfile.open(Path(sdist_directory, name), "w:gz", format=tarfile.PAX_FORMAT, dereference=True) as archive:
         for path in ("pyproject.toml", "README.md", "build_backend.py", *package()):
             archive.add(HERE / path, f"{STEM}/{path}")
     return name
@@ -41,7 +47,8 @@ def build_sdist(sdist_directory: str, config_settings: dict[str, object] | None 
 
 def package() -> list[str]:
     """The package's files."""
-    return sorted(f"csa_client/{path.name}" for path in (HERE / "csa_client").iterdir() if path.suffix in (".py", ".typed"))
+    files = (path for path in (HERE / MODULE).rglob("*") if path.is_file() and path.suffix != ".pyc")
+    return sorted(str(path.relative_to(HERE)) for path in files)
 
 
 def metadata() -> str:
@@ -54,7 +61,8 @@ def metadata() -> str:
         "Requires-Python": PROJECT["requires-python"],
         "Description-Content-Type": "text/markdown",
     }
-    return "".join(f"{name}: {value}\n" for name, value in fields.items()) + "\n" + (HERE / PROJECT["readme"]).read_text()
+    needed = "".join(f"Requires-Dist: {name}\n" for name in NEEDED)
+    return "".join(f"{name}: {value}\n" for name, value in fields.items()) + needed + "\n" + (HERE / PROJECT["readme"]).read_text()
 
 
 def record_of(files: dict[str, bytes]) -> str:

@@ -5,7 +5,7 @@
             print(pinned.instant(point.dep, "Europe/Berlin"), pinned.instant(point.arr, "Europe/Berlin"), point.legs)
 
 AsyncCsaClient has the same calls for asyncio. Clocks are texts `HH:MM:SS` after the base of the version that answers, which `pin`
-returns; hours may pass 24. Stops are given by their stop_id. A session occupies one worker of the server for as long as it is open:
+returns; hours may pass 24. Stops are given by their stop_id, or a side by several of them. A session occupies one worker of the server for as long as it is open:
 close it when you don't need it.
 
 A request that the server refuses raises Refused, and the session goes on. After SessionEnded, TimeoutError or another OSError the
@@ -16,9 +16,9 @@ client is closed.
 
 from ._asyncio import AsyncCsaClient
 from ._blocking import CsaClient
-from ._protocol import Criterion, CsaError, NamedRide, NamedWalk, Pinned, Point, Profile, Refused, Ride, SessionEnded, Walk, parse_journey, seconds_of
+from ._protocol import Criterion, CsaError, NamedRide, NamedWalk, Pinned, Point, Profile, Refused, Ride, SessionEnded, Stops, Walk, parse_journey, seconds_of
 
-__version__ = "0.3.1"
+__version__ = "1.1.0"
 __all__ = [
     "AsyncCsaClient",
     "Criterion",
@@ -32,6 +32,7 @@ __all__ = [
     "Refused",
     "Ride",
     "SessionEnded",
+    "Stops",
     "Walk",
     "parse_journey",
     "seconds_of",

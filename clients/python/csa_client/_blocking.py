@@ -8,7 +8,7 @@ from collections.abc import Iterator
 from contextlib import contextmanager
 
 from . import _protocol
-from ._protocol import DEFAULT_PORT, LONGEST_REPLY, Criterion, Pinned, Profile, Refused, Request, Result, SessionEnded
+from ._protocol import ALREADY_PINNED, BAD_REQUEST, DEFAULT_PORT, LONGEST_REPLY, Criterion, Pinned, Profile, Question, Refused, Request, Result, SessionEnded, Stops
 
 
 class CsaClient:
@@ -27,6 +27,7 @@ class CsaClient:
         self._timeout = timeout
         self._socket.setsockopt(socket.IPPROTO_TCP, socket.TCP_NODELAY, 1)
         self._received = bytearray()
+        self._takes_sets = True
 
     def pin(self) -> Pinned:
         """Pins the current version: profiles are answered from it until it is released. Raises Refused 92 if the session holds a pin."""
@@ -47,15 +48,41 @@ class CsaClient:
                 self.release()
 
     def profile(
-        self, source: str, target: str, *, after: str, until: str, by: str, criterion: Criterion = "arrival"
+        self, source: Stops, target: Stops, *, after: str, until: str, by: str, criterion: Criterion = "arrival"
     ) -> Profile:
         """Returns every best departure from `after` to `until` that arrives no later than `by`, in the pinned version or else in the current one.
 
             csa.profile("A", "C", after="07:00:00", until="09:00:00", by="10:00:00", criterion="arrival+trips").points
+            csa.profile(["A1", "A2"], ["C1", "C2"], after="07:00:00", until="09:00:00", by="10:00:00").points
 
-        Raises Refused 31 if one of the stops is unknown. To see which, ask for a profile from a stop to itself: 32 if it is known, else 31.
+        Each side is a stop_id or a sequence of them, as those of a station's platforms: then the answer is that from any of these to any of
+        those. A server with `--sets` answers it by one request; another one is asked each pair, in one version, and the answers are merged.
+        Raises ValueError if a side has no stop or one twice, and Refused 31 if one of the stops is unknown. To see which, ask for a profile
+        from a stop to itself: 32 if it is known, else 31.
         """
-        return self._ask(_protocol.profile(source, target, after, until, by, criterion))
+        question = _protocol.question(source, target, after, until, by, criterion)
+        if question.is_of_one_pair or self._takes_sets:
+            try:
+                return self._ask(question.whole())
+            except Refused as refused:
+                if question.is_of_one_pair or refused.number != BAD_REQUEST:
+                    raise
+                self._takes_sets = False
+        return self._by_pairs(question)
+
+    def _by_pairs(self, question: Question) -> Profile:
+        """The answer of several pairs, all in the version that is pinned, or else in one that is pinned for them."""
+        try:
+            self.pin()
+        except Refused as refused:
+            if refused.number != ALREADY_PINNED:
+                raise
+            return _protocol.merged([self._ask(request) for request in question.pairs()])
+        try:
+            return _protocol.merged([self._ask(request) for request in question.pairs()])
+        finally:
+            if self._socket is not None:
+                self.release()
 
     def load(self, feed: str) -> None:
         """Orders the server to load the feed of this name and publish it. Returns once the order is queued, not once the load is done.

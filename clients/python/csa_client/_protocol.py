@@ -4,17 +4,25 @@ from __future__ import annotations
 
 import json
 import re
-from collections.abc import Callable
+from collections.abc import Callable, Iterable, Iterator, Sequence
 from dataclasses import dataclass
 from datetime import datetime, timedelta, timezone, tzinfo
-from typing import Any, Generic, Literal, TypeVar
+from itertools import product
+from typing import Any, Generic, Literal, TypeVar, Union
 from zoneinfo import ZoneInfo
 
 Criterion = Literal["arrival", "arrival+trips", "arrival+trips+walk"]
+
+#: One stop_id, or several, as those of a station's platforms.
+Stops = Union[str, Sequence[str]]
 Reply = dict[str, Any]
 Result = TypeVar("Result")
 
 DEFAULT_PORT = 7077
+
+# the numbers of two refusals
+ALREADY_PINNED = 92
+BAD_REQUEST = 112
 
 # the longest reply that a client reads, in bytes
 LONGEST_REPLY = 256 * 1024 * 1024
@@ -197,9 +205,58 @@ def load_and_wait(feed: str) -> Request[int]:
     return Request({"do": "load", "feed": feed, "wait": True}, lambda reply: _number(reply, "version"))
 
 
-def profile(source: str, target: str, after: str, until: str, by: str, criterion: Criterion) -> Request[Profile]:
-    fields = {"do": "profile", "from": source, "to": target, "after": after, "until": until, "by": by, "criterion": criterion}
-    return Request(fields, _profile)
+@dataclass(frozen=True)
+class Question:
+    """What a profile asks: from any of these stops to any of those, in a window, by a criterion."""
+
+    sources: tuple[str, ...]
+    targets: tuple[str, ...]
+    window: dict[str, str]
+    criterion: Criterion
+
+    @property
+    def is_of_one_pair(self) -> bool:
+        return len(self.sources) == 1 and len(self.targets) == 1
+
+    def whole(self) -> Request[Profile]:
+        """The one request; only a server with `--sets` answers it if there are several stops on a side."""
+        return self._request(_side(self.sources), _side(self.targets))
+
+    def pairs(self) -> Iterator[Request[Profile]]:
+        """A request for each pair, whose answers `merged` puts together."""
+        return (self._request(source, target) for source, target in product(self.sources, self.targets))
+
+    def _request(self, source: str | list[str], target: str | list[str]) -> Request[Profile]:
+        return Request({"do": "profile", "from": source, "to": target, **self.window, "criterion": self.criterion}, _profile)
+
+
+def _side(stops: tuple[str, ...]) -> str | list[str]:
+    return stops[0] if len(stops) == 1 else list(stops)
+
+
+def question(sources: Stops, targets: Stops, after: str, until: str, by: str, criterion: Criterion) -> Question:
+    """The question of a call of `profile`. Raises ValueError if a side has no stop, or one twice."""
+    sides = [(stops,) if isinstance(stops, str) else tuple(stops) for stops in (sources, targets)]
+    for stops in sides:
+        if not stops or len(set(stops)) < len(stops):
+            raise ValueError("there must be at least one stop on each side, and none twice")
+    return Question(sides[0], sides[1], {"after": after, "until": until, "by": by}, criterion)
+
+
+def merged(profiles: Iterable[Profile]) -> Profile:
+    """The answer of several pairs in one version: the points of all that no other of them dominates, each once, in order, and the shortest walk."""
+    answers = list(profiles)
+    points = sorted((point for answer in answers for point in answer.points), key=lambda it: (-seconds_of(it.dep), _value(it)))
+    kept: list[Point] = []
+    for point in points:
+        if not any(all(mine <= its for mine, its in zip(_value(other), _value(point))) for other in kept):
+            kept.append(point)
+    walks = [answer.walk for answer in answers if answer.walk is not None]
+    return Profile(answers[0].version, tuple(sorted(kept, key=lambda it: (seconds_of(it.dep), _value(it)))), min(walks, default=None))
+
+
+def _value(point: Point) -> tuple[int, int, int]:
+    return seconds_of(point.arr), point.trips or 0, point.walked or 0
 
 
 def _profile(reply: Reply) -> Profile:

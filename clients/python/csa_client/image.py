@@ -126,13 +126,13 @@ class Image:
         _check("stop", source, self.stops)
         _check("stop", target, self.stops)
         for path in range(self._word(self._foot_index + target), self._word(self._foot_index + target + 1)):
-            left, seconds = FOOTPATH.unpack_from(self._bytes, 4 * (self._footpaths + 2 * path))
+            left, seconds = map(int, FOOTPATH.unpack_from(self._bytes, 4 * (self._footpaths + 2 * path)))
             if left == source:
                 return seconds
         return None
 
     def _word(self, index: int) -> int:
-        return struct.unpack_from("<I", self._bytes, 4 * index)[0]
+        return int(struct.unpack_from("<I", self._bytes, 4 * index)[0])
 
     def _text_of(self, number: int) -> str:
         return next(self._names_from(number, 1)).decode(errors="replace")

@@ -9,6 +9,7 @@ from __future__ import annotations
 
 import asyncio
 import os
+import random
 import shutil
 import socket
 import struct
@@ -21,7 +22,8 @@ from dataclasses import replace
 from datetime import datetime, timezone
 from pathlib import Path
 
-from csa_client import AsyncCsaClient, CsaClient, NamedRide, NamedWalk, Pinned, Point, Profile, Refused, Ride, SessionEnded, Walk, parse_journey
+from csa_client import AsyncCsaClient, CsaClient, NamedRide, NamedWalk, Pinned, Point, Profile, Refused, Ride, SessionEnded, Walk, parse_journey, seconds_of
+from csa_client._protocol import merged
 from csa_client.image import Connection, Image
 
 TOP = Path(__file__).resolve().parents[3]
@@ -161,7 +163,53 @@ class Images(unittest.TestCase):
                 Image.open(Path(room, "another"))
 
 
+def dominates(one: Point, other: Point) -> bool:
+    """Whether a point departs no earlier than another and is no worse."""
+    values = [(seconds_of(it.arr), it.trips or 0, it.walked or 0) for it in (one, other)]
+    return seconds_of(one.dep) >= seconds_of(other.dep) and all(mine <= its for mine, its in zip(*values))
+
+
+class Merging(unittest.TestCase):
+    def test_what_stays_is_what_no_other_point_dominates(self) -> None:
+        draw = random.Random(7)
+        for _ in range(300):
+            answers = []
+            for _ in range(draw.randrange(1, 5)):
+                points = [Point(f"08:0{draw.randrange(4)}:00", f"09:0{draw.randrange(5)}:00", "ride 0 0", draw.randrange(3), draw.randrange(3)) for _ in range(draw.randrange(6))]
+                answers.append(Profile(4, tuple(points), draw.choice([None, 60, 90])))
+            every = [point for answer in answers for point in answer.points]
+            wanted = {point for point in every if not any(dominates(it, point) and it != point for it in every)}
+            found = merged(answers)
+            self.assertEqual(set(found.points), wanted)
+            self.assertEqual(len(found.points), len(wanted))
+            self.assertEqual(list(found.points), sorted(found.points, key=lambda it: (it.dep, it.arr, it.trips, it.walked)))
+            self.assertEqual(found.walk, min((it.walk for it in answers if it.walk is not None), default=None))
+
+
 class CannedReplies(unittest.TestCase):
+    def test_several_stops_are_one_request_or_a_request_for_each_pair(self) -> None:
+        window = '"after": "07:00:00", "until": "09:00:00", "by": "10:00:00", "criterion": "arrival"'
+        array = f'{{"do": "profile", "from": ["A", "B"], "to": "C", {window}}}'
+        pairs = [f'{{"do": "profile", "from": "{stop}", "to": "C", {window}}}' for stop in "AB"]
+        early = b'{"ok":"profile","points":[{"arr":"08:20:00","dep":"08:00:00","journey":"ride 0 0"}],"version":3,"walk":90}\n'
+        late = b'{"ok":"profile","points":[{"arr":"08:20:00","dep":"08:10:00","journey":"ride 1 1"}],"version":3,"walk":null}\n'
+        pin, release = ('{"do": "pin"}', b'{"base":0,"ok":"pin","version":3}\n'), ('{"do": "release"}', b'{"ok":"release"}\n')
+        refused, pinned = b'{"error":112,"name":"BadRequest"}\n', b'{"error":92,"name":"AlreadyPinned"}\n'
+        both = (pairs[0], early), (pairs[1], late)
+        wanted = Profile(3, (Point("08:10:00", "08:20:00", "ride 1 1"),), 90)
+        with self.session((array, late)) as client:
+            self.assertEqual(client.profile(["A", "B"], ["C"], **WINDOW), replace(wanted, walk=None))
+        # the second call doesn't ask again whether the server knows sets
+        with self.session((array, refused), pin, *both, release, pin, *both, release) as client:
+            for _ in range(2):
+                self.assertEqual(client.profile(["A", "B"], "C", **WINDOW), wanted)
+        with self.session((array, refused), ('{"do": "pin"}', pinned), *both) as client:
+            self.assertEqual(client.profile(("A", "B"), "C", **WINDOW), wanted)
+        with self.session() as client:
+            for sources in ([], ["A", "A"]):
+                with self.assertRaises(ValueError):
+                    client.profile(sources, "C", **WINDOW)
+
     def test_pinned_releases_at_the_end_of_its_block(self) -> None:
         talk = ('{"do": "pin"}', b'{"base":0,"ok":"pin","version":3}\n'), ('{"do": "release"}', b'{"ok":"release"}\n')
         with self.session(*talk) as client:
@@ -415,6 +463,23 @@ class RealServer(unittest.TestCase):
             while client.profile("A", "C", **WINDOW).version == 1 and time.monotonic() < deadline:
                 time.sleep(0.05)
             self.assertEqual(client.profile("A", "C", **WINDOW), Profile(2, (SLOW,), None))
+
+    def test_from_any_of_several_stops(self) -> None:
+        wanted = [("08:12:00", "08:20:00", "ride 2 2")]
+
+        async def ask() -> Profile:
+            async with AsyncCsaClient(port=self.port, timeout=10) as client:
+                return await client.profile(["A", "B"], ["C"], **WINDOW)
+
+        with CsaClient(port=self.port) as client:
+            for answer in (client.profile(("A", "B"), "C", **WINDOW), asyncio.run(ask())):
+                self.assertEqual([(point.dep, point.arr, point.journey) for point in answer.points], wanted)
+            for stop, number in (("nowhere", 31), ("C", 32)):
+                with self.assertRaises(Refused) as refused:
+                    client.profile(["A", stop], "C", **WINDOW)
+                self.assertEqual(refused.exception.number, number)
+            # the pin that was made for the pairs was given back
+            client.pin()
 
     def test_asyncio_clients_side_by_side(self) -> None:
         async def ask() -> Profile:

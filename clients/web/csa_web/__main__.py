@@ -3,12 +3,14 @@
 from __future__ import annotations
 
 import argparse
+import resource
 import sys
 from collections.abc import Callable
 from pathlib import Path
 
 from csa_client import CsaClient
 from csa_client.image import Image
+from flask import Flask
 
 from .feed import Feed
 from .gateway import Kept, create_app
@@ -19,7 +21,8 @@ Example, with the image and the server of csa's README:
 
   python3 -m csa_web --feed examples/base --image base.csa --server 7077 --port 8077
 
-A search occupies one of the server's workers while it runs. Names come from the feed's folder. Legs come from the server if it was
+A search occupies one of the server's workers while it runs; between places of several stops it asks each pair of them, unless the server was
+started with --sets. Names come from the feed's folder. Legs come from the server if it was
 started with --legs, otherwise from the image, if it is the one from which the server answers. If the feed or the image is replaced, it is
 read again. The page is served by waitress if that is installed, otherwise by Flask's own server, which isn't meant for a network.
 """
@@ -27,6 +30,32 @@ read again. The page is served by waitress if that is installed, otherwise by Fl
 
 def no_image() -> None:
     """Without an image there are no legs, unless the server sends them."""
+
+
+def bound(app: Flask, host: str, port: int, sessions: int) -> tuple[Callable[[], None], int]:
+    """What serves the page, once it listens, and the port at which it does."""
+    try:
+        from waitress import create_server
+    except ImportError:
+        from werkzeug.serving import make_server
+
+        plain = make_server(host, port, app, threaded=True)
+        return plain.serve_forever, plain.port
+    # as many connections as the system allows, up to some 2,000
+    _, hard = resource.getrlimit(resource.RLIMIT_NOFILE)
+    resource.setrlimit(resource.RLIMIT_NOFILE, (min(hard, 4096) if hard != resource.RLIM_INFINITY else 4096, hard))
+    # an address of 1 MB gets as far as the gateway, which refuses it like any other that is too long; more than 1,000 connections need poll
+    server = create_server(
+        app,
+        host=host,
+        port=port,
+        ident="csa_web",
+        threads=sessions + 4,
+        connection_limit=2000,
+        asyncore_use_poll=True,
+        max_request_header_size=1 << 21,
+    )
+    return server.run, getattr(server, "effective_port", port)
 
 
 def main() -> int:
@@ -54,17 +83,12 @@ def main() -> int:
     sessions = Sessions(lambda: CsaClient(port=words.server, timeout=words.timeout), words.sessions, words.timeout)
     app = create_app(feed, image, sessions)
     try:
-        from waitress import serve
-    except ImportError:
-        app.run(words.host, words.port, threaded=True)
-    else:
-        print(f"csa_web: listening at http://{words.host}:{words.port}", flush=True)
-        # an address of 1 MB gets as far as the gateway, which refuses it like any other that is too long
-        try:
-            serve(app, host=words.host, port=words.port, ident="csa_web", max_request_header_size=1 << 21)
-        except OSError as error:
-            print(f"csa_web: can't listen on {words.host}:{words.port}: {error.strerror}", file=sys.stderr)
-            return 1
+        run, port = bound(app, words.host, words.port, words.sessions)
+    except OSError as error:
+        print(f"csa_web: can't listen on {words.host}:{words.port}: {error.strerror}", file=sys.stderr)
+        return 1
+    print(f"csa_web: listening at http://{words.host}:{port}", flush=True)
+    run()
     return 0
 
 

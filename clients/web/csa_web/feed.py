@@ -1,11 +1,12 @@
-"""What a feed has and an image doesn't: names, colours, headsigns and platforms of its stops, routes and trips, and its zone."""
+"""What a feed has and an image doesn't: names, colours, headsigns and platforms of its stops, routes and trips, its stations and its zone."""
 
 from __future__ import annotations
 
 import csv
 import re
-from collections import Counter
-from collections.abc import Iterator
+import unicodedata
+from collections import Counter, defaultdict
+from collections.abc import Iterable, Iterator
 from dataclasses import dataclass
 from pathlib import Path
 from zoneinfo import ZoneInfo, ZoneInfoNotFoundError
@@ -21,12 +22,33 @@ csv.field_size_limit(1 << 24)
 
 @dataclass(frozen=True)
 class Stop:
-    """A place where vehicles stop. Its label is its name, with its platform or id if other stops have the same name."""
+    """A point where vehicles stop, such as one platform. Its label is its name, with its platform or id if other stops have the same name."""
 
     id: str
     name: str
     platform: str
     label: str
+    station: str
+
+    @property
+    def spot(self) -> str:
+        """The name, with the platform if there is one."""
+        return f"{self.name}, platform {self.platform}" if self.platform else self.name
+
+
+@dataclass(frozen=True)
+class Place:
+    """What a rider names: one stop, or all stops of a station, or all stops of one name. `id` is that of the stop or the station, if there is one."""
+
+    id: str
+    name: str
+    label: str
+    stops: tuple[Stop, ...]
+
+    @property
+    def ids(self) -> tuple[str, ...]:
+        """The stop_ids of its stops."""
+        return tuple(stop.id for stop in self.stops)
 
 
 @dataclass(frozen=True)
@@ -51,29 +73,52 @@ class Feed:
         """Reads the folder. OSError if a file can't be read, ValueError if it lacks a column or the system doesn't know the zone."""
         agency: dict[str, str] = next(_rows(folder / "agency.txt"), {})
         self.zone = _zone(agency.get("agency_timezone") or "UTC", folder / "agency.txt")
-        self.stops = _read_stops(folder)
+        self.stops, stations = _read_stops(folder)
         self.trips = _read_trips(folder, _read_routes(folder))
-        self._by_label: dict[str, Stop] = {}
-        for stop in self.stops.values():
-            self._by_label.setdefault(stop.label, stop)
-        self._folded = [(stop.label.casefold(), stop) for stop in sorted(self._by_label.values(), key=lambda it: it.label)]
+        self.places = _places(self.stops.values(), stations)
+        single = {stop.id: Place(stop.id, stop.name, stop.label, (stop,)) for stop in self.stops.values()}
+        self._by_id = single | {place.id: place for place in self.places if place.id}
+        self._folded = [(folded(place.label), place) for place in self.places]
 
-    def complete(self, text: str, most: int = 12) -> list[Stop]:
-        """The stops whose labels contain the text: first labels that begin with it, then labels with a word that does, then the others."""
-        wanted = text.strip().casefold()
+    def place(self, number: str) -> Place | None:
+        """The stop or station with this stop_id."""
+        return self._by_id.get(number)
+
+    def complete(self, text: str, most: int = 12) -> list[Place]:
+        """The places whose labels contain the text, whatever its case and accents: first those that are called so, all of them; then, up to `most`
+        in all, labels that begin with it, labels with a word that does, and the others."""
+        wanted = folded(text)
         word = re.compile(rf"\b{re.escape(wanted)}")
-        found = [(label, stop) for label, stop in self._folded if wanted in label]
-        ranked = sorted(found, key=lambda it: (not it[0].startswith(wanted), word.search(it[0]) is None))
-        return [stop for _, stop in ranked[:most]]
+        found = [(label, place) for label, place in self._folded if wanted in label]
 
-    def find(self, text: str) -> list[Stop]:
-        """The stop with this label or id; otherwise the stops that a part of a label may mean, several if it isn't clear which."""
-        stop = self._by_label.get(text.strip()) or self.stops.get(text)
-        if stop is not None:
-            return [stop]
+        def rank(it: tuple[str, Place]) -> tuple[bool, bool, bool, bool, str]:
+            label, place = it
+            return not _is_called(place, wanted), not label.startswith(wanted), word.search(label) is None, len(place.stops) == 1, label
+
+        found.sort(key=rank)
+        alike = sum(_is_called(place, wanted) for _, place in found)
+        return [place for _, place in found[: max(most, alike)]]
+
+    def find(self, text: str) -> list[Place]:
+        """The place with this label or id; otherwise the places that a name or a part of a label may mean: one if it has all stops of the others,
+        several if it isn't clear which."""
+        wanted = folded(text)
+        exact = self._by_id.get(text) or next((place for label, place in self._folded if label == wanted), None)
+        if exact is not None:
+            return [exact]
         found = self.complete(text)
-        alike = [stop for stop in found if text.strip().casefold() in (stop.name.casefold(), stop.label.casefold())]
-        return alike or found
+        found = [place for place in found if _is_called(place, wanted)] or found
+        return [place for place in found if all(set(it.ids) <= set(place.ids) for it in found)] or found
+
+
+def folded(text: str) -> str:
+    """The text without regard to case, accents and spaces at its ends."""
+    parts = unicodedata.normalize("NFKD", text.strip().casefold())
+    return "".join(part for part in parts if not unicodedata.combining(part))
+
+
+def _is_called(place: Place, wanted: str) -> bool:
+    return wanted in (folded(place.name), folded(place.label))
 
 
 def _zone(name: str, path: Path) -> ZoneInfo:
@@ -95,26 +140,52 @@ def _rows(path: Path, *needed: str) -> Iterator[dict[str, str]]:
             yield {name.strip(): (value or "").strip() for name, value in row.items() if name is not None}
 
 
-def _read_stops(folder: Path) -> dict[str, Stop]:
-    """The stops, and not the stations or entrances, by their ids."""
-    rows = [row for row in _rows(folder / "stops.txt", "stop_id") if row.get("location_type", "") in ("", "0")]
-    names = Counter(row.get("stop_name", "") for row in rows)
+def _read_stops(folder: Path) -> tuple[dict[str, Stop], dict[str, str]]:
+    """The stops by their ids, and the names of the stations by theirs; entrances and the like are neither."""
+    everything = list(_rows(folder / "stops.txt", "stop_id"))
+    stations = {row["stop_id"]: row.get("stop_name", "") or row["stop_id"] for row in everything if row.get("location_type") == "1"}
+    rows = [row for row in everything if row.get("location_type", "") in ("", "0")]
+    names = Counter(row.get("stop_name", "") for row in rows) + Counter(set(stations.values()))
     platforms = Counter((row.get("stop_name", ""), row.get("platform_code", "")) for row in rows)
     stops = {}
     for row in rows:
         number, name, platform = row["stop_id"], row.get("stop_name", ""), row.get("platform_code", "")
-        stops[number] = Stop(number, name or number, platform, _label(row, names[name], platforms[name, platform]))
-    return stops
+        label = _label(row, names[name], platforms[name, platform])
+        stops[number] = Stop(number, name or number, platform, label, row.get("parent_station", ""))
+    return stops, stations
 
 
 def _label(row: dict[str, str], alike: int, alike_platforms: int) -> str:
-    """A stop's name, with its platform or else its id if another stop has the same name, or if the name is cut."""
+    """A stop's name, with its platform or else its id if another stop or station has the same name, or if the name is cut."""
     name, platform = row.get("stop_name", ""), row.get("platform_code", "")
     if len(name) > LONGEST_NAME:
         return f"{name[:LONGEST_NAME]}… ({row['stop_id']})"
     if alike == 1 and name:
         return name
     return f"{name}, platform {platform}" if platform and alike_platforms == 1 else f"{name} ({row['stop_id']})".strip()
+
+
+def _places(stops: Iterable[Stop], stations: dict[str, str]) -> list[Place]:
+    """Each station with its stops, each name that several stops have and no station, and each stop, by their labels; of two with one label the first."""
+    children: dict[str, list[Stop]] = defaultdict(list)
+    named: dict[str, list[Stop]] = defaultdict(list)
+    for stop in stops:
+        children[stop.station].append(stop)
+        named[stop.name].append(stop)
+    alike = Counter(name for number, name in stations.items() if children.get(number))
+    places = []
+    for number, name in stations.items():
+        if not children.get(number):
+            continue
+        # a stop of the station's name that names no station is one of its platforms, if only one station has that name
+        beside = [stop for stop in named.get(name, ()) if not stop.station] if alike[name] == 1 else []
+        places.append(Place(number, name, name if alike[name] == 1 else f"{name} ({number})", (*children[number], *beside)))
+    for name, those in named.items():
+        if len(those) > 1 and name not in alike:
+            places.append(Place("", name, name, tuple(those)))
+    places += [Place(stop.id, stop.name, stop.label, (stop,)) for those in named.values() for stop in those]
+    first = {place.label: place for place in reversed(places)}
+    return sorted(first.values(), key=lambda place: folded(place.label))
 
 
 def _read_routes(folder: Path) -> dict[str, Route]:
@@ -160,5 +231,5 @@ def _contrast(one: str, other: str) -> float:
 
 def _luminance(colour: str) -> float:
     parts = [int(colour[index : index + 2], 16) / 255 for index in (1, 3, 5)]
-    red, green, blue = (part / 12.92 if part <= 0.04045 else ((part + 0.055) / 1.055) ** 2.4 for part in parts)
+    red, green, blue = (part / 12.92 if part <= 0.04045 else float(((part + 0.055) / 1.055) ** 2.4) for part in parts)
     return 0.2126 * red + 0.7152 * green + 0.0722 * blue

@@ -4,7 +4,7 @@ from __future__ import annotations
 
 import threading
 from collections.abc import Callable
-from datetime import date, datetime, time, timezone
+from datetime import date, datetime, time, timedelta, timezone
 from pathlib import Path
 from typing import Any, Generic, TypeVar, get_args
 from zoneinfo import ZoneInfo
@@ -13,7 +13,7 @@ from csa_client import Criterion
 from csa_client.image import Image
 from flask import Flask, Response, jsonify, render_template, request, url_for
 
-from .feed import Feed, Stop
+from .feed import Feed, Place, Stop
 from .search import Answer, Departure, Leg, Problem, Query, Sessions, search
 from .words import axis_of, changes, clock, duration
 
@@ -21,6 +21,8 @@ Value = TypeVar("Value")
 
 LONGEST_QUERY = 4096
 HOURS = (1, 2, 4, 8)
+WHEN = {"leave": "Leave after", "arrive": "Arrive by"}
+DEFAULTS = {"hours": "2", "when": "leave"}
 CRITERIA: dict[Criterion, str] = {
     "arrival": "arrival alone",
     "arrival+trips": "arrival, changes",
@@ -89,7 +91,7 @@ def create_app(feed: Callable[[], Feed], image: Callable[[], Image | None], sess
         answer = query = problem = None
         if words.get("from", "").strip() or words.get("to", "").strip():
             try:
-                query = _page_query(fields, current)
+                query = _query(fields, current)
                 answer = search(sessions, image(), query)
             except Problem as it:
                 problem = it
@@ -102,7 +104,14 @@ def create_app(feed: Callable[[], Feed], image: Callable[[], Image | None], sess
         text = request.args.get("q", "").strip()
         if not text:
             return _refuse(Problem(400, "q is missing: a part of a stop's name."))
-        return jsonify([_stop(stop) for stop in feed().complete(text)])
+        return jsonify([_place(place) for place in feed().complete(text)])
+
+    @app.get("/api/stops/<path:number>")
+    def stop(number: str) -> Response | tuple[Response, int]:
+        place = feed().place(number)
+        if place is None:
+            return _refuse(Problem(404, "No stop or station of the timetable has this stop_id."))
+        return jsonify({**_place(place), "station": feed().stops[number].station if number in feed().stops else ""})
 
     @app.get("/api/profile")
     def profile() -> Response | tuple[Response, int]:
@@ -110,6 +119,14 @@ def create_app(feed: Callable[[], Feed], image: Callable[[], Image | None], sess
         try:
             query = _api_query(request.args, current)
             return jsonify(_answer(search(sessions, image(), query), query, current))
+        except Problem as problem:
+            return _refuse(problem)
+
+    @app.get("/health")
+    def health() -> Response | tuple[Response, int]:
+        try:
+            with sessions.session() as client, client.pinned() as pinned:
+                return jsonify(status="ok", version=pinned.version)
         except Problem as problem:
             return _refuse(problem)
 
@@ -121,17 +138,21 @@ def _fields(words: Any, feed: Feed, image: Image | None) -> dict[str, str]:
     now = datetime.now(feed.zone)
     days = image.days if image else None
     day = min(max(now.date(), days[0]), days[1]) if days else now.date()
-    defaults = {"from": "", "to": "", "day": day.isoformat(), "time": now.strftime("%H:%M"), "hours": "2", "criterion": "arrival+trips"}
+    defaults = {"from": "", "to": "", "day": day.isoformat(), "time": now.strftime("%H:%M"), **DEFAULTS, "criterion": "arrival+trips"}
     fields = {name: words.get(name, default).strip() for name, default in defaults.items()}
     return fields | {"first": days[0].isoformat() if days else "", "last": days[1].isoformat() if days else ""}
 
 
-def _page_query(fields: dict[str, str], feed: Feed) -> Query:
-    return Query(_find(feed, fields["from"], "from"), _find(feed, fields["to"], "to"), *_when(fields, feed.zone))
+def _query(fields: dict[str, str], feed: Feed) -> Query:
+    source, target = (_find(feed, fields[name], name) for name in ("from", "to"))
+    instant, hours, criterion = _when(fields, feed.zone)
+    if fields["when"] not in WHEN:
+        raise Problem(400, f"when must be one of {', '.join(WHEN)}.", "when")
+    return Query(source, target, instant, hours, criterion, fields["when"] == "arrive")
 
 
-def _find(feed: Feed, text: str, field: str) -> Stop:
-    """The stop that the text means."""
+def _find(feed: Feed, text: str, field: str) -> Place:
+    """The place that the text means: a stop_id, a name or a part of one."""
     if not text:
         raise Problem(400, f"Please enter a stop in “{field.title()}”.", field)
     found = feed.find(text)
@@ -146,22 +167,14 @@ def _api_query(words: Any, feed: Feed) -> Query:
     for field in ("from", "to", "day", "time"):
         if field not in words:
             raise Problem(400, f"{field} is missing.", field)
-    source, target = (_end(feed, words, field) for field in ("from", "to"))
-    return Query(source, target, *_when({"hours": "2", "criterion": "arrival", **words.to_dict()}, feed.zone))
-
-
-def _end(feed: Feed, words: Any, field: str) -> Stop:
-    """The stop with the stop_id in this field."""
-    if words[field] not in feed.stops:
-        raise Problem(404, f"{field} isn't a stop_id of the timetable.", field)
-    return feed.stops[words[field]]
+    return _query({**DEFAULTS, "criterion": "arrival", **words.to_dict()}, feed)
 
 
 def _when(fields: dict[str, str], zone: ZoneInfo) -> tuple[datetime, int, Criterion]:
     """The instant, the hours and the criterion of the query."""
     try:
-        after = datetime.combine(date.fromisoformat(fields["day"]), time.fromisoformat(fields["time"]).replace(tzinfo=zone))
-        instant = after.astimezone(timezone.utc)
+        there = datetime.combine(date.fromisoformat(fields["day"]), time.fromisoformat(fields["time"]).replace(tzinfo=zone))
+        instant = there.astimezone(timezone.utc)
     except (ValueError, OverflowError) as error:
         raise Problem(400, "The day must be YYYY-MM-DD, and the time HH:MM.", "day") from error
     if fields["hours"] not in map(str, HOURS):
@@ -174,12 +187,21 @@ def _when(fields: dict[str, str], zone: ZoneInfo) -> tuple[datetime, int, Criter
 
 def _show(feed: Feed, fields: dict[str, str], query: Query | None, answer: Answer | None, problem: Problem | None) -> tuple[str, int]:
     """The page with its status."""
-    day = query.after.astimezone(feed.zone).date() if query else None
-    asked = {name: fields[name] for name in ("from", "to", "day", "time", "hours", "criterion")}
+    day = query.instant.astimezone(feed.zone).date() if query else None
+    asked: dict[str, Any] = {name: fields[name] for name in ("from", "to", "day", "time", "hours", "when", "criterion")}
+
+    def moved(hours: int) -> str:
+        """The address of the same query, some hours later."""
+        assert query is not None
+        there = (query.instant + timedelta(hours=hours)).astimezone(feed.zone)
+        words: dict[str, Any] = asked | {"day": there.date().isoformat(), "time": there.strftime("%H:%M")}
+        return url_for("page", **words)
+
     page = render_template(
         "page.html",
         fields=fields,
         hours=HOURS,
+        when=WHEN,
         criteria=CRITERIA,
         query=query,
         answer=answer,
@@ -188,25 +210,34 @@ def _show(feed: Feed, fields: dict[str, str], query: Query | None, answer: Answe
         feed=feed,
         clock=lambda instant: clock(instant, feed.zone, day),
         hour=lambda instant: clock(instant, feed.zone),
-        link=lambda field, meant: url_for("page", **{**asked, field: meant.label}),
-        stop=lambda number: feed.stops[number].label if number in feed.stops else number,
+        link=lambda field, meant: url_for("page", **{**asked, field: meant.id or meant.label}),
+        now=url_for("page", **{name: value for name, value in asked.items() if name not in ("day", "time", "when")}),
+        moved=moved,
+        stop=lambda number: feed.stops[number].spot if number in feed.stops else number,
     )
     return page, problem.status if problem else 200
 
 
 def _refuse(problem: Problem) -> tuple[Response, int]:
-    return jsonify(error=problem.reason, status=problem.status), problem.status
+    meant = {"candidates": [_place(place) for place in problem.candidates]} if problem.candidates else {}
+    return jsonify(error=problem.reason, status=problem.status, **meant), problem.status
 
 
-def _stop(stop: Stop) -> dict[str, str]:
-    return {"id": stop.id, "label": stop.label, "name": stop.name, "platform": stop.platform}
+def _place(place: Place) -> dict[str, Any]:
+    platform = place.stops[0].platform if len(place.stops) == 1 else ""
+    return {"id": place.id, "label": place.label, "name": place.name, "platform": platform, "stops": list(place.ids)}
+
+
+def _stop(number: str, feed: Feed) -> dict[str, str]:
+    stop = feed.stops.get(number)
+    return {"id": number, "name": stop.name if stop else number, "platform": stop.platform if stop else ""}
 
 
 def _answer(answer: Answer, query: Query, feed: Feed) -> dict[str, Any]:
     return {
         "version": answer.version,
-        "from": _stop(query.source),
-        "to": _stop(query.target),
+        "from": _place(query.source),
+        "to": _place(query.target),
         "zone": str(feed.zone),
         "walk": None if answer.walk is None else int(answer.walk.total_seconds()),
         "departures": [_departure(it, feed) for it in answer.departures],
@@ -219,11 +250,12 @@ def _departure(it: Departure, feed: Feed) -> dict[str, Any]:
 
 
 def _leg(leg: Leg, feed: Feed) -> dict[str, Any]:
-    fields = {**_times(leg, feed.zone), "from": leg.source, "to": leg.target}
+    fields: dict[str, Any] = {**_times(leg, feed.zone), "from": _stop(leg.source, feed), "to": _stop(leg.target, feed)}
     if leg.trip is None:
         return fields
     trip = feed.trips.get(leg.trip)
-    return {**fields, "trip": leg.trip, "route": trip and trip.route.name, "headsign": trip and trip.headsign}
+    route = trip and {"name": trip.route.name, "colour": trip.route.colour, "text": trip.route.text}
+    return {**fields, "trip": leg.trip, "route": route, "headsign": trip and trip.headsign}
 
 
 def _times(it: Departure | Leg, zone: ZoneInfo) -> dict[str, str]:

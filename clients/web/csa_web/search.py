@@ -6,43 +6,52 @@ All instants are in UTC: within another zone Python compares and subtracts local
 from __future__ import annotations
 
 import threading
-from collections.abc import Callable, Iterator
+from collections.abc import Callable, Collection, Iterator
 from contextlib import contextmanager
-from dataclasses import dataclass
+from dataclasses import dataclass, replace
 from datetime import datetime, timedelta, timezone
 
 from csa_client import Criterion, CsaClient, CsaError, NamedRide, NamedWalk, Pinned, Point, Profile, Refused, Ride, Walk
 from csa_client.image import Image
 
-from .feed import Stop
+from .feed import Place
 
-# how long after the latest departure the latest arrival is
+# how long after the latest departure the latest arrival is, or how long before the earliest arrival the earliest departure
 LONGEST_JOURNEY = timedelta(hours=12)
+
+# of how many pairs of stops a search may be
+MOST_PAIRS = 10_000
 STATUS_OF_REFUSAL = {31: 404, 32: 400, 33: 400, 112: 400, 113: 400}
 REASON_OF_REFUSAL = {
     31: "One of these stops isn't in the timetable.",
-    32: "Both are the same stop.",
+    32: "Both are the same place.",
     33: "This time is outside the timetable.",
 }
 
 
 class Problem(Exception):
-    """Why there is no answer: an HTTP status and a sentence, and the stops that could be meant if it isn't clear which."""
+    """Why there is no answer: an HTTP status and a sentence, and the places that could be meant if it isn't clear which."""
 
-    def __init__(self, status: int, reason: str, field: str = "", candidates: list[Stop] | None = None) -> None:
+    def __init__(self, status: int, reason: str, field: str = "", candidates: list[Place] | None = None) -> None:
         super().__init__(reason)
         self.status, self.reason, self.field, self.candidates = status, reason, field, candidates or []
 
 
 @dataclass(frozen=True)
 class Query:
-    """The best departures from one stop to another by a criterion, for some hours from an instant in UTC."""
+    """The best departures from one place to another by a criterion: those in some hours from an instant in UTC on, or, if `arrive`, those that
+    arrive in some hours before it."""
 
-    source: Stop
-    target: Stop
-    after: datetime
+    source: Place
+    target: Place
+    instant: datetime
     hours: int
     criterion: Criterion
+    arrive: bool = False
+
+    def moved(self, by: timedelta) -> Query:
+        """The same query at another instant."""
+        return replace(self, instant=self.instant + by)
 
 
 @dataclass(frozen=True)
@@ -108,18 +117,26 @@ class Sessions:
 def search(sessions: Sessions, image: Image | None, query: Query) -> Answer:
     """Asks the server. The legs are those that it sends, or else those of the image, if it is the one that answered. Problem if there is no
     answer."""
-    if query.source == query.target:
+    sources, targets = query.source.ids, query.target.ids
+    if set(sources) & set(targets):
         raise Problem(400, REASON_OF_REFUSAL[32])
+    if len(sources) * len(targets) > MOST_PAIRS:
+        raise Problem(400, "These places have too many stops: please choose a platform.")
     with sessions.session() as client, client.pinned() as pinned:
-        profile = client.profile(query.source.id, query.target.id, **_window(pinned, query), criterion=query.criterion)
+        profile = client.profile(sources, targets, **_window(pinned, query), criterion=query.criterion)
     return _answer(pinned, profile, image, query)
 
 
 def _window(pinned: Pinned, query: Query) -> dict[str, str]:
-    """The clocks of a query's window in the version that is pinned."""
+    """The clocks of a query's window in the version that is pinned. A journey may begin as early as the version does."""
+    span = timedelta(hours=query.hours)
     try:
-        until = query.after + timedelta(hours=query.hours)
-        return {"after": pinned.clock(query.after), "until": pinned.clock(until), "by": pinned.clock(until + LONGEST_JOURNEY)}
+        if query.arrive:
+            first = max(query.instant - span - LONGEST_JOURNEY, datetime.fromtimestamp(pinned.base, timezone.utc))
+            ends = first, query.instant, query.instant
+        else:
+            ends = query.instant, query.instant + span, query.instant + span + LONGEST_JOURNEY
+        return dict(zip(("after", "until", "by"), map(pinned.clock, ends)))
     except (ValueError, OverflowError) as error:
         raise Problem(400, REASON_OF_REFUSAL[33]) from error
 
@@ -127,6 +144,8 @@ def _window(pinned: Pinned, query: Query) -> dict[str, str]:
 def _answer(pinned: Pinned, profile: Profile, image: Image | None, query: Query) -> Answer:
     departures = []
     for point in profile.points:
+        if query.arrive and pinned.instant(point.arr) < query.instant - timedelta(hours=query.hours):
+            continue
         legs = _legs(point, image, pinned, query)
         rides = sum(isinstance(leg, Ride) for leg in point.legs)
         ends = pinned.instant(point.dep), pinned.instant(point.arr)
@@ -138,7 +157,7 @@ def _legs(point: Point, image: Image | None, pinned: Pinned, query: Query) -> tu
     """The legs of a point, from the server or else from the image."""
     if point.named_legs is not None:
         return named_legs_of(point.named_legs, pinned, pinned.instant(point.dep))
-    return None if image is None else legs_of(point, image, pinned, query.source.id, query.target.id)
+    return None if image is None else legs_of(point, image, pinned, query.source.ids, query.target.ids)
 
 
 def named_legs_of(parts: tuple[NamedRide | NamedWalk, ...], pinned: Pinned, now: datetime) -> tuple[Leg, ...]:
@@ -154,20 +173,20 @@ def named_legs_of(parts: tuple[NamedRide | NamedWalk, ...], pinned: Pinned, now:
     return tuple(legs)
 
 
-def legs_of(point: Point, image: Image, pinned: Pinned, source: str, target: str) -> tuple[Leg, ...] | None:
-    """The legs of a point in an image. None if they don't lead from the source to the target at its times: then it is another image."""
-    legs = []
-    here, now = source, pinned.instant(point.dep)
+def legs_of(point: Point, image: Image, pinned: Pinned, sources: Collection[str], targets: Collection[str]) -> tuple[Leg, ...] | None:
+    """The legs of a point in an image. None if they don't lead from a source to a target at its times: then it is another image."""
+    legs: list[Leg] = []
+    here, now = sources, pinned.instant(point.dep)
     try:
         for part in point.legs:
             leg = _walk(part, image, now) if isinstance(part, Walk) else _ride(part, image)
-            if leg is None or leg.source != here or leg.departure < now:
+            if leg is None or leg.source not in here or leg.departure < now:
                 return None
             legs.append(leg)
-            here, now = leg.target, leg.arrival
+            here, now = (leg.target,), leg.arrival
     except IndexError:
         return None
-    fits = image.base == pinned.base and here == target and now == pinned.instant(point.arr)
+    fits = image.base == pinned.base and now == pinned.instant(point.arr) and any(stop in targets for stop in here)
     return tuple(legs) if fits else None
 
 

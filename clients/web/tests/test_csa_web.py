@@ -9,11 +9,12 @@ import re
 import struct
 import tempfile
 import unittest
-from collections.abc import Iterator
+from collections.abc import Iterator, Sequence
 from contextlib import contextmanager
 from dataclasses import replace
 from datetime import date, datetime, timedelta, timezone
 from pathlib import Path
+from urllib.parse import unquote
 from zoneinfo import ZoneInfo
 
 from csa_client import NamedRide, NamedWalk, Pinned, Point, Profile, Refused, SessionEnded
@@ -61,8 +62,8 @@ class FakeClient:
     def pinned(self) -> Iterator[Pinned]:
         yield Pinned(1, self.base)
 
-    def profile(self, source: str, target: str, **window: str) -> Profile:
-        self.asked.append((source, target, window))
+    def profile(self, sources: Sequence[str], targets: Sequence[str], **window: str) -> Profile:
+        self.asked.append((tuple(sources), tuple(targets), window))
         if isinstance(self.answer, Exception):
             raise self.answer
         return self.answer
@@ -94,16 +95,38 @@ class Feeds(Folder):
         self.assertEqual(labels, ["x" * 120 + "… (L)", "(E)"])
 
     def test_completes(self) -> None:
-        self.assertEqual([stop.id for stop in self.feed.complete("MÜL")], ["B"])
-        # the labels that begin with it come first, then those of which a word does, then the others
-        self.assertEqual([stop.id for stop in self.feed.complete("c")], ["B", "D", "C", "C2", "A"])
-        self.assertEqual([stop.id for stop in self.feed.complete("p")], ["C", "C2", "A"])
+        for text in ("MÜL", "mul", "Muller", " cafe "):
+            self.assertEqual([place.ids for place in self.feed.complete(text)], [("B",)], text)
+        # the labels that begin with it come first, of them those of several stops, then labels of which a word begins so, then the others
+        self.assertEqual([place.ids for place in self.feed.complete("c")], [("C", "C2", "D"), ("B",), ("D",), ("C",), ("C2",), ("A",)])
+        self.assertEqual([place.ids for place in self.feed.complete("p")], [("C",), ("C2",), ("A",)])
         self.assertEqual(len(self.feed.complete("c", most=2)), 2)
         self.assertEqual(self.feed.complete("x"), [])
 
     def test_finds(self) -> None:
-        for text, found in {"Central, platform 2": ["C2"], "D": ["D"], "central": ["D", "C", "C2"], "caf": ["B"], "x": []}.items():
-            self.assertEqual([stop.id for stop in self.feed.find(text)], found, text)
+        for text, found in {"Central, platform 2": [("C2",)], "D": [("D",)], "central": [("C", "C2", "D")], "caf": [("B",)], "x": []}.items():
+            self.assertEqual([place.ids for place in self.feed.find(text)], found, text)
+
+    def stops(self, *rows: str) -> Feed:
+        (self.folder / "stops.txt").write_text("stop_id,stop_name,location_type,parent_station,platform_code\n" + "".join(f"{row}\n" for row in rows))
+        return Feed(self.folder)
+
+    def test_a_station_is_all_its_stops(self) -> None:
+        feed = self.stops("P,Zürich HB,1,,", "8503000,Zürich HB,,,", "z31,Zürich HB,,P,31", "z32,Zürich HB,,P,32", "E,Zürich HB,2,P,")
+        (place,) = feed.find("zurich hb")
+        self.assertEqual((place.id, place.label, place.ids), ("P", "Zürich HB", ("z31", "z32", "8503000")))
+        self.assertEqual([it.label for it in feed.complete("zur")], ["Zürich HB", "Zürich HB (8503000)", "Zürich HB, platform 31", "Zürich HB, platform 32"])
+        self.assertEqual([feed.find(text)[0].ids for text in ("z31", "Zürich HB, platform 31")], [("z31",), ("z31",)])
+
+    def test_a_name_is_found_beside_many_that_begin_with_it(self) -> None:
+        longer = [f"b{number},\"Bern, {number}gasse\",,," for number in range(30)]
+        feed = self.stops(*longer, "P,Bern,1,,", "8,Bern,,P,8", "9,Bern,,P,9")
+        self.assertEqual([place.ids for place in feed.find("bern")], [("8", "9")])
+        self.assertEqual([place.label for place in feed.complete("Bern")][:3], ["Bern", "Bern, platform 8", "Bern, platform 9"])
+
+    def test_two_stations_of_one_name_are_two_places(self) -> None:
+        feed = self.stops("P,Neustadt,1,,", "Q,Neustadt,1,,", "p1,Neustadt,,P,1", "q1,Neustadt,,Q,2")
+        self.assertEqual([(place.id, place.label) for place in feed.find("Neustadt")][:2], [("P", "Neustadt (P)"), ("Q", "Neustadt (Q)")])
 
     def test_text_on_a_route_can_be_read(self) -> None:
         route = self.feed.trips["T1"].route
@@ -148,7 +171,7 @@ class Images(unittest.TestCase):
     def test_legs(self) -> None:
         image, pinned = self.image(self.sample()), Pinned(1, BASE)
         at = lambda clock: pinned.instant(clock)  # noqa: E731
-        legs = legs_of(FAST, image, pinned, "A", "C")
+        legs = legs_of(FAST, image, pinned, ("B", "A"), ("C",))
         change = Leg("B", "B", at("08:10:00"), at("08:10:00"))
         self.assertEqual(legs, (Leg("A", "B", at("08:00:00"), at("08:10:00"), "T1"), change, Leg("B", "C", at("08:12:00"), at("08:20:00"), "T2")))
         self.assertEqual([leg.is_change for leg in legs], [False, True, False])
@@ -174,8 +197,8 @@ class Images(unittest.TestCase):
             (Point("08:00:00", "08:20:00", "ride 0 2"), "A", "C"),
             (Point("08:00:00", "08:20:00", "ride 0 0 ride 7 7"), "A", "C"),
         ):
-            self.assertIsNone(legs_of(point, image, pinned, source, target), point)
-        self.assertIsNone(legs_of(FAST, image, Pinned(1, BASE + 86400), "A", "C"))
+            self.assertIsNone(legs_of(point, image, pinned, (source,), (target,)), point)
+        self.assertIsNone(legs_of(FAST, image, Pinned(1, BASE + 86400), ("A",), ("C",)))
 
 
 class Words(unittest.TestCase):
@@ -246,7 +269,7 @@ class Pages(Folder):
         self.open(Profile(1, (FAST, SLOW), 1500))
         page = self.get("/", 200, **{"from": "A", "to": "Central, platform 1"}, **DAY, criterion="arrival+trips")
         window = {"after": "06:00:00", "until": "08:00:00", "by": "20:00:00", "criterion": "arrival+trips"}
-        self.assertEqual(self.client.asked, [("A", "C", window)])
+        self.assertEqual(self.client.asked, [(("A",), ("C",), window)])
         self.assertEqual(re.findall(r'"times">(\d\d:\d\d – \d\d:\d\d)</span>\n<span class="facts">([^<]*)', page), [
             ("09:00 – 09:20", "20 min, 1 change"), ("09:00 – 09:30", "30 min, direct, walking is no slower"),
         ])
@@ -279,13 +302,33 @@ class Pages(Folder):
         self.assertNotIn("another timetable", page)
         self.assertEqual((page.count('class="plain"'), page.count('class="ride"')), (0, 1))
 
+    def test_a_name_of_several_stops_is_all_of_them(self) -> None:
+        self.open(Profile(1, (FAST,), None))
+        page = self.get("/", 200, **{"from": "B", "to": "central"}, **DAY)
+        self.assertEqual([ends[:2] for ends in self.client.asked], [(("B",), ("C", "C2", "D"))])
+        self.assertIn("Café &amp; Müller&#39;s to Central</h2>", page)
+
     def test_asks_which_stop_is_meant(self) -> None:
         self.open(Profile(1, (), None))
-        page = self.get("/", 400, **{"from": "B", "to": "central"}, **DAY)
+        page = self.get("/", 400, **{"from": "B", "to": "platform"}, **DAY)
         links = re.findall(r'<li><a href="([^"]*)">([^<]*)</a>', page)
-        self.assertEqual([label for _, label in links], ["Central (D)", "Central, platform 1", "Central, platform 2"])
-        self.assertEqual(self.app.get(links[1][0].replace("&amp;", "&")).status_code, 200)
-        self.assertEqual([(source, target) for source, target, _ in self.client.asked], [("B", "C")])
+        self.assertEqual([label for _, label in links], ["Central, platform 1", "Central, platform 2"])
+        self.assertEqual(self.app.get(links[0][0].replace("&amp;", "&")).status_code, 200)
+        self.assertEqual([ends[:2] for ends in self.client.asked], [(("B",), ("C",))])
+
+    def test_arrive_by(self) -> None:
+        # from the version's base on, since twelve hours before would be earlier; only what arrives in the two hours before 10:25 in Berlin
+        self.open(Profile(1, (replace(FAST, arr="07:24:59"), FAST, SLOW), None))
+        page = self.get("/", 200, **{"from": "A", "to": "C", "day": "2024-01-15", "time": "10:25", "when": "arrive"})
+        self.assertEqual(self.client.asked[0][2] | {"criterion": ""}, {"after": "00:00:00", "until": "09:25:00", "by": "09:25:00", "criterion": ""})
+        self.assertEqual(re.findall(r'"times">(\d\d:\d\d – \d\d:\d\d)</span>\n<span class="facts">', page), ["09:00 – 09:20", "09:00 – 09:30"])
+
+    def test_earlier_now_and_later(self) -> None:
+        self.open(Profile(1, (), None))
+        page = self.get("/", 200, **{"from": "A", "to": "C", "day": "2024-01-15", "time": "23:10", "hours": "4"})
+        links = dict(re.findall(r'<a href="([^"]*)"[^>]*>(Earlier|Now|Later)</a>', page))
+        moves = {text: re.findall(r"(day|time)=([^&]*)", unquote(address).replace("&amp;", "&")) for address, text in links.items()}
+        self.assertEqual(moves, {"Earlier": [("day", "2024-01-15"), ("time", "19:10")], "Now": [], "Later": [("day", "2024-01-16"), ("time", "03:10")]})
 
     def test_what_the_page_refuses(self) -> None:
         self.open(Profile(1, (), None))
@@ -297,6 +340,8 @@ class Pages(Folder):
             (400, {"from": "A", "to": "B", "day": "2024-01-14"}),
             (400, {"from": "A", "to": "B", "day": "9999-12-31", "time": "23:30"}),
             (400, {"from": "A", "to": "B", "hours": "3"}),
+            (400, {"from": "A", "to": "B", "when": "never"}),
+            (400, {"from": "Central", "to": "C2"}),
         ):
             self.assertIn('role="alert"', self.get("/", status, **{**DAY, **words}))
         self.assertEqual(self.client.asked, [])
@@ -304,19 +349,25 @@ class Pages(Folder):
 
     def test_the_addresses_of_programs(self) -> None:
         self.open(Profile(3, (FAST,), None))
-        self.assertEqual(self.app.get("/api/stops?q=caf").json, [{"id": "B", "label": "Café & Müller's", "name": "Café & Müller's", "platform": ""}])
+        self.assertEqual(self.app.get("/api/stops?q=caf").json, [{"id": "B", "label": "Café & Müller's", "name": "Café & Müller's", "platform": "", "stops": ["B"]}])
+        self.assertEqual(self.app.get("/api/stops/C2").json, {"id": "C2", "label": "Central, platform 2", "name": "Central", "platform": "2", "stops": ["C2"], "station": ""})
         answer = self.app.get("/api/profile", query_string={"from": "A", "to": "C", **DAY}).json
         self.assertEqual((answer["version"], answer["zone"], answer["walk"], answer["from"]["id"]), (3, "Europe/Berlin", None, "A"))
         (departure,) = answer["departures"]
         self.assertEqual((departure["dep"], departure["arr"], departure["rides"]), ("2024-01-15T09:00:00+01:00", "2024-01-15T09:20:00+01:00", 2))
         self.assertEqual([leg.get("trip") for leg in departure["legs"]], ["T1", None, "T2"])
         self.assertEqual([leg.get("headsign") for leg in departure["legs"]], ["End", None, ""])
+        self.assertEqual(departure["legs"][0]["route"], {"name": '1"2', "colour": "#ffee00", "text": "#000000"})
+        self.assertEqual(departure["legs"][2]["to"], {"id": "C", "name": "Central", "platform": "1"})
+        self.assertEqual(self.app.get("/api/profile", query_string={"from": "cafe", "to": "Central", **DAY}).json["to"]["stops"], ["C", "C2", "D"])
+        self.assertEqual(self.app.get("/health").json, {"status": "ok", "version": 1})
         for status, path, words in (
             (400, "/api/stops", {}),
             (400, "/api/profile", {"from": "A", **DAY}),
             (400, "/api/profile", {"from": "A", "to": "C", "day": "2024-01-15"}),
             (400, "/api/profile", {"from": "A", "to": "C", **DAY, "criterion": "price"}),
-            (404, "/api/profile", {"from": "A", "to": "Central", **DAY}),
+            (404, "/api/profile", {"from": "A", "to": "Nowhere", **DAY}),
+            (404, "/api/stops/Nowhere", {}),
         ):
             self.assertIn(f'"status":{status}', self.get(path, status, **words))
 
