@@ -92,7 +92,8 @@ def apply(body, folder):
     for file, old, new in body.pairs:
         if not file or not old:
             raise Fault("a `new:` stands before any `file:` or `old:`")
-        if not re.fullmatch(r"src/[\w/]+\.rt", file) or not os.path.isfile(f"{folder}/{file}"):
+        # (a proof file changes only where it names what the body calls)
+        if not re.fullmatch(r"src/[\w/]+\.rt|proofs/[\w/]+\.antt", file) or not os.path.isfile(f"{folder}/{file}"):
             raise Fault(f"there is no file {file}")
         if file not in texts:
             texts[file] = read(f"{folder}/{file}")
