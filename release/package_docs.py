@@ -19,7 +19,7 @@ DOCUMENTS = {
     "README.md": "README.md",
     "SECURITY.md": "SECURITY.md",
     "CHANGELOG.md": "CHANGELOG.md",
-    **{f"docs/{name}.md": f"{name}.md" for name in ("RUNNING", "GTFS", "GROWTH", "REFUSALS", "LIMITS", "IMAGE")},
+    **{f"docs/{name}.md": f"{name}.md" for name in ("RUNNING", "ASKING", "GTFS", "GROWTH", "REFUSALS", "LIMITS", "IMAGE")},
     "clients/python/README.md": "PYTHON.md",
     "clients/web/README.md": "PAGE.md",
 }
