@@ -8,7 +8,7 @@ from collections.abc import Iterator
 from contextlib import contextmanager
 
 from . import _protocol
-from ._protocol import ALREADY_PINNED, BAD_REQUEST, DEFAULT_PORT, LONGEST_REPLY, Criterion, Pinned, Profile, Question, Refused, Request, Result, SessionEnded, Stops
+from ._protocol import ALREADY_PINNED, DEFAULT_PORT, LONGEST_REPLY, Criterion, Pinned, Profile, Refused, Request, Result, SessionEnded, Stops
 
 
 class CsaClient:
@@ -27,7 +27,6 @@ class CsaClient:
         self._timeout = timeout
         self._socket.setsockopt(socket.IPPROTO_TCP, socket.TCP_NODELAY, 1)
         self._received = bytearray()
-        self._takes_sets = True
 
     def pin(self) -> Pinned:
         """Pins the current version: profiles are answered from it until it is released. Raises Refused 92 if the session holds a pin."""
@@ -56,30 +55,23 @@ class CsaClient:
             csa.profile(["A1", "A2"], ["C1", "C2"], after="07:00:00", until="09:00:00", by="10:00:00").points
 
         Each side is a stop_id or a sequence of them, as those of a station's platforms: then the answer is that from any of these to any of
-        those. A server with `--sets` answers it by one request; another one is asked each pair, in one version, and the answers are merged.
+        those: the server is asked each pair, in one version, and the answers are merged.
         Raises ValueError if a side has no stop or one twice, and Refused 31 if one of the stops is unknown. To see which, ask for a profile
         from a stop to itself: 32 if it is known, else 31.
         """
-        question = _protocol.question(source, target, after, until, by, criterion)
-        if question.is_of_one_pair or self._takes_sets:
-            try:
-                return self._ask(question.whole())
-            except Refused as refused:
-                if question.is_of_one_pair or refused.number != BAD_REQUEST:
-                    raise
-                self._takes_sets = False
-        return self._by_pairs(question)
+        requests = _protocol.profiles(source, target, after, until, by, criterion)
+        return (self._ask(requests[0]) if len(requests) == 1 else self._by_pairs(requests))
 
-    def _by_pairs(self, question: Question) -> Profile:
+    def _by_pairs(self, requests: list[Request[Profile]]) -> Profile:
         """The answer of several pairs, all in the version that is pinned, or else in one that is pinned for them."""
         try:
             self.pin()
         except Refused as refused:
             if refused.number != ALREADY_PINNED:
                 raise
-            return _protocol.merged([self._ask(request) for request in question.pairs()])
+            return _protocol.merged([self._ask(request) for request in requests])
         try:
-            return _protocol.merged([self._ask(request) for request in question.pairs()])
+            return _protocol.merged([self._ask(request) for request in requests])
         finally:
             if self._socket is not None:
                 self.release()

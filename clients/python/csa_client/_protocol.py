@@ -4,7 +4,7 @@ from __future__ import annotations
 
 import json
 import re
-from collections.abc import Callable, Iterable, Iterator, Sequence
+from collections.abc import Callable, Iterable, Sequence
 from dataclasses import dataclass
 from datetime import datetime, timedelta, timezone, tzinfo
 from itertools import product
@@ -20,9 +20,8 @@ Result = TypeVar("Result")
 
 DEFAULT_PORT = 7077
 
-# the numbers of two refusals
+# the number of a refusal
 ALREADY_PINNED = 92
-BAD_REQUEST = 112
 
 # the longest reply that a client reads, in bytes
 LONGEST_REPLY = 256 * 1024 * 1024
@@ -205,42 +204,14 @@ def load_and_wait(feed: str) -> Request[int]:
     return Request({"do": "load", "feed": feed, "wait": True}, lambda reply: _number(reply, "version"))
 
 
-@dataclass(frozen=True)
-class Question:
-    """What a profile asks: from any of these stops to any of those, in a window, by a criterion."""
-
-    sources: tuple[str, ...]
-    targets: tuple[str, ...]
-    window: dict[str, str]
-    criterion: Criterion
-
-    @property
-    def is_of_one_pair(self) -> bool:
-        return len(self.sources) == 1 and len(self.targets) == 1
-
-    def whole(self) -> Request[Profile]:
-        """The one request; only a server with `--sets` answers it if there are several stops on a side."""
-        return self._request(_side(self.sources), _side(self.targets))
-
-    def pairs(self) -> Iterator[Request[Profile]]:
-        """A request for each pair, whose answers `merged` puts together."""
-        return (self._request(source, target) for source, target in product(self.sources, self.targets))
-
-    def _request(self, source: str | list[str], target: str | list[str]) -> Request[Profile]:
-        return Request({"do": "profile", "from": source, "to": target, **self.window, "criterion": self.criterion}, _profile)
-
-
-def _side(stops: tuple[str, ...]) -> str | list[str]:
-    return stops[0] if len(stops) == 1 else list(stops)
-
-
-def question(sources: Stops, targets: Stops, after: str, until: str, by: str, criterion: Criterion) -> Question:
-    """The question of a call of `profile`. Raises ValueError if a side has no stop, or one twice."""
+def profiles(sources: Stops, targets: Stops, after: str, until: str, by: str, criterion: Criterion) -> list[Request[Profile]]:
+    """A request for each pair of these stops, whose answers `merged` puts together. Raises ValueError if a side has no stop, or one twice."""
     sides = [(stops,) if isinstance(stops, str) else tuple(stops) for stops in (sources, targets)]
     for stops in sides:
         if not stops or len(set(stops)) < len(stops):
             raise ValueError("there must be at least one stop on each side, and none twice")
-    return Question(sides[0], sides[1], {"after": after, "until": until, "by": by}, criterion)
+    window = {"after": after, "until": until, "by": by, "criterion": criterion}
+    return [Request({"do": "profile", "from": source, "to": target, **window}, _profile) for source, target in product(*sides)]
 
 
 def merged(profiles: Iterable[Profile]) -> Profile:

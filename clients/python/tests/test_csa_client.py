@@ -187,24 +187,21 @@ class Merging(unittest.TestCase):
 
 
 class CannedReplies(unittest.TestCase):
-    def test_several_stops_are_one_request_or_a_request_for_each_pair(self) -> None:
+    def test_several_stops_are_a_request_for_each_pair(self) -> None:
         window = '"after": "07:00:00", "until": "09:00:00", "by": "10:00:00", "criterion": "arrival"'
-        array = f'{{"do": "profile", "from": ["A", "B"], "to": "C", {window}}}'
         pairs = [f'{{"do": "profile", "from": "{stop}", "to": "C", {window}}}' for stop in "AB"]
         early = b'{"ok":"profile","points":[{"arr":"08:20:00","dep":"08:00:00","journey":"ride 0 0"}],"version":3,"walk":90}\n'
         late = b'{"ok":"profile","points":[{"arr":"08:20:00","dep":"08:10:00","journey":"ride 1 1"}],"version":3,"walk":null}\n'
         pin, release = ('{"do": "pin"}', b'{"base":0,"ok":"pin","version":3}\n'), ('{"do": "release"}', b'{"ok":"release"}\n')
-        refused, pinned = b'{"error":112,"name":"BadRequest"}\n', b'{"error":92,"name":"AlreadyPinned"}\n'
+        pinned = b'{"error":92,"name":"AlreadyPinned"}\n'
         both = (pairs[0], early), (pairs[1], late)
         wanted = Profile(3, (Point("08:10:00", "08:20:00", "ride 1 1"),), 90)
-        with self.session((array, late)) as client:
-            self.assertEqual(client.profile(["A", "B"], ["C"], **WINDOW), replace(wanted, walk=None))
-        # the second call doesn't ask again whether the server knows sets
-        with self.session((array, refused), pin, *both, release, pin, *both, release) as client:
-            for _ in range(2):
-                self.assertEqual(client.profile(["A", "B"], "C", **WINDOW), wanted)
-        with self.session((array, refused), ('{"do": "pin"}', pinned), *both) as client:
+        with self.session(pin, *both, release) as client:
+            self.assertEqual(client.profile(["A", "B"], ["C"], **WINDOW), wanted)
+        with self.session(('{"do": "pin"}', pinned), *both) as client:
             self.assertEqual(client.profile(("A", "B"), "C", **WINDOW), wanted)
+        with self.session((pairs[1], late)) as client:
+            self.assertEqual(client.profile(["B"], "C", **WINDOW), replace(wanted, walk=None))
         with self.session() as client:
             for sources in ([], ["A", "A"]):
                 with self.assertRaises(ValueError):

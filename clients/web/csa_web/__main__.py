@@ -21,8 +21,7 @@ Example, with the image and the server of csa's README:
 
   python3 -m csa_web --feed examples/base --image base.csa --server 7077 --port 8077
 
-A search occupies one of the server's workers while it runs; between places of several stops it asks each pair of them, unless the server was
-started with --sets. Names come from the feed's folder. Legs come from the server if it was
+A search occupies one of the server's workers while it runs; between places of several stops it asks each pair of them. Names come from the feed's folder. Legs come from the server if it was
 started with --legs, otherwise from the image, if it is the one from which the server answers. If the feed or the image is replaced, it is
 read again. The page is served by waitress if that is installed, otherwise by Flask's own server, which isn't meant for a network.
 """
