@@ -53,11 +53,10 @@ class AsyncCsaClient:
     ) -> Profile:
         """Returns every best departure from `after` to `until` that arrives no later than `by`, in the pinned version or else in the current one.
 
-            csa.profile("A", "C", after="07:00:00", until="09:00:00", by="10:00:00", criterion="arrival+trips").points
-            csa.profile(["A1", "A2"], ["C1", "C2"], after="07:00:00", until="09:00:00", by="10:00:00").points
+            answer = await csa.profile(["A1", "A2"], "C", after="07:00:00", until="09:00:00", by="10:00:00", criterion="arrival+trips")
 
         Each side is a stop_id or a sequence of them, as those of a station's platforms: then the answer is that from any of these to any of
-        those: the server is asked each pair, in one version, and the answers are merged.
+        those: the server is asked each pair, in one version, and the answers are merged; other tasks' requests wait until the last pair.
         Raises ValueError if a side has no stop or one twice, and Refused 31 if one of the stops is unknown. To see which, ask for a profile
         from a stop to itself: 32 if it is known, else 31.
         """
@@ -65,18 +64,19 @@ class AsyncCsaClient:
         return await (self._ask(requests[0]) if len(requests) == 1 else self._by_pairs(requests))
 
     async def _by_pairs(self, requests: list[Request[Profile]]) -> Profile:
-        """The answer of several pairs, all in the version that is pinned, or else in one that is pinned for them."""
-        try:
-            await self.pin()
-        except Refused as refused:
-            if refused.number != ALREADY_PINNED:
-                raise
-            return _protocol.merged([await self._ask(request) for request in requests])
-        try:
-            return _protocol.merged([await self._ask(request) for request in requests])
-        finally:
-            if self._streams is not None:
-                await self.release()
+        """The answer of several pairs, all in the version that is pinned, or else in one that is pinned for them; no other task has a turn."""
+        async with self._turn:
+            try:
+                await self._ask_in_turn(_protocol.pin())
+            except Refused as refused:
+                if refused.number != ALREADY_PINNED:
+                    raise
+                return _protocol.merged([await self._ask_in_turn(request) for request in requests])
+            try:
+                return _protocol.merged([await self._ask_in_turn(request) for request in requests])
+            finally:
+                if self._streams is not None:
+                    await self._ask_in_turn(_protocol.release())
 
     async def load(self, feed: str) -> None:
         """Orders the server to load the feed of this name and publish it. Returns once the order is queued, not once the load is done.
@@ -107,19 +107,23 @@ class AsyncCsaClient:
         self.close()
 
     async def _ask(self, request: Request[Result], timeout: float | None = None) -> Result:
-        """Sends a request, and returns the content of its reply or raises its refusal."""
+        """Sends a request when it is this task's turn, and returns the content of its reply or raises its refusal."""
         async with self._turn:
-            if self._streams is None:
-                raise SessionEnded("the session is not open: use `async with`, or open another one")
-            try:
-                line = await _bounded(_exchange(*self._streams, request.line()), self._timeout if timeout is None else timeout)
-                return request.result(line)
-            except Refused:
-                raise
-            except BaseException:
-                # also if the task is cancelled: the next line of the connection could be the reply to this request
-                self.close()
-                raise
+            return await self._ask_in_turn(request, timeout)
+
+    async def _ask_in_turn(self, request: Request[Result], timeout: float | None = None) -> Result:
+        """As `_ask`, for a task that has the turn."""
+        if self._streams is None:
+            raise SessionEnded("the session is not open: use `async with`, or open another one")
+        try:
+            line = await _bounded(_exchange(*self._streams, request.line()), self._timeout if timeout is None else timeout)
+            return request.result(line)
+        except Refused:
+            raise
+        except BaseException:
+            # also if the task is cancelled: the next line of the connection could be the reply to this request
+            self.close()
+            raise
 
 
 async def _exchange(reader: asyncio.StreamReader, writer: asyncio.StreamWriter, line: bytes) -> bytes:

@@ -397,6 +397,14 @@ class CannedAsyncReplies(unittest.IsolatedAsyncioTestCase):
         async with self.session(PIN, PIN, PIN, pause=0.002) as client:
             self.assertEqual(await asyncio.gather(client.pin(), client.pin(), client.pin()), [Pinned(1, 1705276800)] * 3)
 
+    async def test_no_task_asks_between_the_pairs_of_another(self) -> None:
+        # else the second task would use the pin of the first, which is released before its own pairs are answered
+        second = PROFILE[0].replace('"from": "A"', '"from": "B"'), PROFILE[1]
+        pairs = PIN, PROFILE, second, RELEASE
+        async with self.session(*pairs, *pairs) as client:
+            both = await asyncio.gather(*(client.profile(["A", "B"], "C", **WINDOW) for _ in range(2)))
+        self.assertEqual(both, [Profile(1, (FAST,), None)] * 2)
+
     async def test_pieces_do_not_prolong_the_timeout(self) -> None:
         async with self.session(PIN, timeout=0.3, pause=0.05) as client:
             with self.assertRaises(TimeoutError):
