@@ -56,8 +56,8 @@ class CsaClient:
 
         Each side is a stop_id or a sequence of them, as those of a station's platforms: then the answer is that from any of these to any of
         those: the server is asked each pair, in one version, and the answers are merged.
-        Raises ValueError if a side has no stop or one twice, and Refused 31 if one of the stops is unknown. To see which, ask for a profile
-        from a stop to itself: 32 if it is known, else 31.
+        Raises ValueError if a side has no stop or one twice, Refused 31 if a stop is unknown, and 32 if one is on both sides. To see which
+        is unknown, ask for a profile from each to itself: 32 if it is known, else 31.
         """
         requests = _protocol.profiles(source, target, after, until, by, criterion)
         return (self._ask(requests[0]) if len(requests) == 1 else self._by_pairs(requests))
