@@ -1,7 +1,8 @@
-"""Servers under test, and sessions with them: for the checks in .ci/ and the measurements in bench/."""
+"""Servers under test, and sessions with them: for the checks in .ci/ and deploy/, and the measurements in bench/."""
 import fcntl
 import glob
 import os
+import re
 import resource
 import socket
 import struct
@@ -24,10 +25,58 @@ def program(given=None):
     return os.path.abspath(found) if found else sys.exit("no program csa is built or released: ./csa --build")
 
 
-def serve_words(image, sessions, workers=1, feeds=(), port=0, first=FIRST):
+def serve_words(image, sessions, workers=1, feeds=(), port=0, plan=PLAN):
     """Returns the words of `csa serve` behind the program, with the feeds as NAME=FOLDER."""
     served = ["serve", "--image", image, "--port", str(port), "--workers", str(workers), "--sessions", str(sessions)]
-    return [*served, "--first", first, *PLAN[2:], *feeds]
+    return [*served, *plan, *feeds]
+
+
+def answers_of(csa, image, queries, clocks):
+    """Returns what `csa profile` prints for each of the queries, a source, a target and a criterion: the points (departure, arrival, journey, trips and
+    seconds on foot), and the seconds of the direct footpath. `clocks` has the clock of each option of the window."""
+    answers = {}
+    for source, target, criterion in queries:
+        words = [csa, "profile", image, "--from", source, "--to", target, "--criterion", criterion]
+        words += [word for name, clock in clocks.items() for word in (f"--{name}", clock)]
+        *lines, last = subprocess.run(words, check=True, capture_output=True, text=True).stdout.splitlines()
+        points = []
+        for line in lines:
+            dep, arr, trips, walked, journey = re.fullmatch(r"dep (\S+) arr (\S+)(?: trips (\d+))?(?: walked (\d+))? : (.*)", line).groups()
+            points.append((dep, arr, journey, trips and int(trips), walked and int(walked)))
+        walk = last.split()[-1]
+        answers[source, target, criterion] = points, None if walk == "none" else int(walk)
+    return answers
+
+
+def answer_of(profile):
+    """Returns the same of a reply that the Python client has read."""
+    return [(it.dep, it.arr, it.journey, it.trips, it.walked) for it in profile.points], profile.walk
+
+
+def preloaded(source, folder):
+    """Compiles a library of this repository, which is to be preloaded into a program, into a folder, and returns its path."""
+    library = os.path.join(folder, os.path.basename(source).replace(".c", ".so"))
+    subprocess.run(["cc", "-O2", "-Wall", "-Wextra", "-Werror", "-shared", "-fPIC", "-o", library, f"{TOP}/{source}", "-ldl"], check=True)
+    return library
+
+
+class Clock:
+    """The time of day of the programs that run in its environment (deploy/try_clock.c)."""
+
+    def __init__(self, folder, **environment):
+        self.path = os.path.join(folder, "clock")
+        self.environment = {**os.environ, "LD_PRELOAD": preloaded("deploy/try_clock.c", folder), "CLOCK": self.path, **environment}
+
+    def show(self, instant):
+        """Sets the clock to an instant, in seconds since 1970-01-01T00:00:00Z."""
+        with open(self.path + ".new", "w", encoding="utf-8") as file:
+            file.write(str(instant))
+        os.replace(self.path + ".new", self.path)
+
+
+def slow_to_open(path, seconds, folder):
+    """Returns the environment of a program that takes so many seconds to open this file, as from a slow disk. The folder gets the library that does so."""
+    return {**os.environ, "LD_PRELOAD": preloaded("deploy/try_clock.c", folder), "SLOW_FILE": path, "SLOW_SECONDS": str(seconds)}
 
 
 class Server:

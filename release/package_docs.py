@@ -29,11 +29,13 @@ FOLDERS = {"clients/python": "PYTHON.md", "clients/web": "PAGE.md"}
 LEFT_OUT = {
     "README.md": ("## Install", "## Test", "To assess or change csa: "),
     "docs/RUNNING.md": ("### From a clone", "## A new program", "## What has been tried"),
+    "clients/python/README.md": ("    python3 -m venv ", "On Debian, run "),
     "clients/web/README.md": ("## Tests",),
 }
 DOC, EXAMPLES, UNITS = "/usr/share/doc/csa", "/usr/share/doc/csa/examples", "/lib/systemd/system"
 # text of a document, and what it is in the package
 PLACES = (
+    (r" In a clone, write `\./csa` for `csa`\.| \(in a clone, `\./csa`\)", ""),
     (r"PYTHONPATH=clients/python(:clients/web)? ", ""),
     (r"deploy/nightly", "/usr/lib/csa/nightly"),
     (r"/srv/csa//usr", "/usr"),
@@ -56,6 +58,8 @@ PLACES = (
     (rf"(?m)^    (?:install|sed) .*{UNITS}/.*/etc/systemd/system/.*\n", ""),
 )
 LINK = re.compile(r"\[([^\]]*)\]\(([^)\s]+)\)")
+# the package has no pictures
+PICTURE = re.compile(r"(?m)^!\[[^\]]*\]\([^)\s]+\)\n\n")
 OF_A_CLONE = re.compile(r"(?<![\w./@-])(?:deploy/(?!try)|clients/|docs/)[\w.@/-]+")
 NOTE = f"""
 This is the copy in csa's package, whose documents are in {DOC}. Files in bench/, crates/, release/ and .ci/, and deploy/try, are only in csa's repository.
@@ -76,7 +80,7 @@ def without_parts(text: str, parts: tuple[str, ...]) -> str:
         in_paragraph = bool(line) and (in_paragraph or any(line.startswith(part) for part in parts if not part.startswith("#")))
         if not level and not in_paragraph:
             kept.append(line)
-    return "\n".join(kept)
+    return re.sub("\n{3,}", "\n\n", "\n".join(kept))
 
 
 def packaged(source: str) -> str:
@@ -92,7 +96,7 @@ def packaged(source: str) -> str:
         found = DOCUMENTS.get(relative) or FOLDERS.get(relative)
         return f"[{text}]({found}{hash_}{heading})" if found else text
 
-    text = LINK.sub(link, without_parts((TOP / source).read_text(), LEFT_OUT.get(source, ())))
+    text = LINK.sub(link, PICTURE.sub("", without_parts((TOP / source).read_text(), LEFT_OUT.get(source, ()))))
     for pattern, place in PLACES:
         text = re.sub(pattern, place, text)
     if source == "README.md":

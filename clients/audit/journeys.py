@@ -3,10 +3,14 @@
 from __future__ import annotations
 
 import argparse
+import csv
 import json
 import re
+from collections import defaultdict
+from collections.abc import Collection
 from dataclasses import dataclass, field
 from datetime import datetime
+from itertools import product
 from typing import Any, NamedTuple
 
 from csa_client import seconds_of
@@ -39,13 +43,30 @@ class Impossible(Exception):
     """Why no trip runs like this."""
 
 
-class Query(NamedTuple):
+class Pair(NamedTuple):
+    """A query from one stop to another."""
+
     source: str
     target: str
     after: str
     until: str
     by: str
     criterion: str
+
+
+class Query(NamedTuple):
+    """A query from any of several stops to any of several others."""
+
+    sources: tuple[str, ...]
+    targets: tuple[str, ...]
+    after: str
+    until: str
+    by: str
+    criterion: str
+
+    def pairs(self) -> list[Pair]:
+        """The queries between two stops whose answers together are the answer to this one."""
+        return [Pair(source, target, *self[2:]) for source, target in product(self.sources, self.targets)]
 
 
 @dataclass(frozen=True)
@@ -100,6 +121,40 @@ class Journey:
         assert self.query is not None
         return self.query
 
+    @property
+    def ends(self) -> tuple[str, str]:
+        """The stops where it begins and ends."""
+        return self.legs[0].source, self.legs[-1].target
+
+    @property
+    def misses(self) -> str:
+        """Why it can't be an answer to its query, by its ends; empty if it may be one."""
+        (source, target), sources, targets = self.ends, self.asked.sources, self.asked.targets
+        # if its own ends are one stop, csa journey says so
+        if source != target and (both := sorted(set(sources) & set(targets))):
+            return f"stop {both[0]!r} is one where its query begins, and one where it ends"
+        if source not in sources:
+            return f"it begins at {source!r}, and its query at none but {', '.join(map(repr, sources))}"
+        return "" if target in targets else f"it ends at {target!r}, and its query at none but {', '.join(map(repr, targets))}"
+
+
+def stations_of(path: str, known: Collection[str]) -> dict[str, tuple[str, ...]]:
+    """The stops of the station of each stop that has one, as far as they are known, by a feed's stops.txt."""
+    try:
+        with open(path, encoding="utf-8-sig", newline="") as file:
+            rows = [{name.strip(): (row[name] or "").strip() for name in row if name is not None} for row in csv.DictReader(file)]
+    except OSError as fault:
+        raise Stop(f"{path}: {fault.strerror}") from fault
+    except (UnicodeDecodeError, csv.Error) as fault:
+        raise Stop(f"{path}: {fault}") from fault
+    if rows and not {"stop_id", "parent_station"} <= rows[0].keys():
+        raise Stop(f"{path} isn't a stops.txt with the columns stop_id and parent_station")
+    stops: dict[str, list[str]] = defaultdict(list)
+    for row in rows:
+        if row["parent_station"] and row["stop_id"] in known:
+            stops[row["parent_station"]].append(row["stop_id"])
+    return {stop: tuple(those) for those in stops.values() for stop in those}
+
 
 def clock_of(seconds: int) -> str:
     return f"{seconds // 3600:02}:{seconds // 60 % 60:02}:{seconds % 60:02}"
@@ -108,8 +163,8 @@ def clock_of(seconds: int) -> str:
 class Reader:
     """Reads lines into journeys."""
 
-    def __init__(self, base: int, asked: argparse.Namespace) -> None:
-        self.base, self.asked = base, asked
+    def __init__(self, base: int, asked: argparse.Namespace, stations: dict[str, tuple[str, ...]]) -> None:
+        self.base, self.asked, self.stations = base, asked, stations
 
     def journey(self, number: int, line: str) -> Journey:
         journey = Journey(number)
@@ -140,8 +195,11 @@ class Reader:
         words, legs = line.split(), []
         while words:
             kind, *rest = words
-            keys = {"ride": ("trip", "day", "dep", "from", "arr", "to"), "walk": ("from", "to", "secs")}.get(kind)
-            if keys is None or len(rest) < len(keys):
+            keys = {"ride": ("trip", "day", "dep", "from", "arr", "to"), "walk": ("from", "to", "secs")}.get(kind, ())
+            # as `csa profile --names` prints it: a time follows the trip
+            if kind == "ride" and ":" in "".join(rest[1:2]):
+                keys = tuple(key for key in keys if key != "day")
+            if not keys or len(rest) < len(keys):
                 raise Unreadable(f"{' '.join(words)[:60]!r} is neither `ride TRIP DAY TIME STOP TIME STOP` nor `walk STOP STOP SECS`")
             legs.append({key: word for key, word in zip(keys, rest) if word != "-" or key not in ("day", "secs")})
             words = rest[len(keys) :]
@@ -193,7 +251,17 @@ class Reader:
         if criterion not in CRITERIA:
             raise Unreadable(f"{criterion!r} isn't a criterion")
         after, until, by = window
-        return Query(legs[0].source, legs[-1].target, after, until, by, criterion)
+        return Query(self.stops("from", legs[0].source, record), self.stops("to", legs[-1].target, record), after, until, by, criterion)
+
+    def stops(self, name: str, own: str, record: dict[str, Any]) -> tuple[str, ...]:
+        """The stops of one side of a query: those of the line or else of the command line, or else those of the station of the journey's own stop."""
+        given = record.get(name, getattr(self.asked, name))
+        if given is None:
+            return self.stations.get(own, (own,))
+        stops = [self.text(stop) for stop in (given if isinstance(given, list) else [given])]
+        if not stops or len(set(stops)) < len(stops):
+            raise Unreadable(f"its {name!r} has no stop, or one twice")
+        return tuple(sorted(stops))
 
 
 class Spelling:
@@ -207,6 +275,8 @@ class Spelling:
     def spell(self, journey: Journey) -> None:
         """Sets the journey's text, or else its verdict: which id is unknown, or why no trip runs like this."""
         try:
+            for stop in (*journey.asked.sources, *journey.asked.targets):
+                self.stop(stop)
             words: list[str] = []
             before: Ride | Walk | None = None
             for number, leg in enumerate(journey.legs):

@@ -8,7 +8,8 @@ from contextlib import asynccontextmanager
 from typing import TypeVar
 
 from . import _protocol
-from ._protocol import ALREADY_PINNED, DEFAULT_PORT, LONGEST_REPLY, Criterion, Pinned, Profile, Refused, Request, Result, SessionEnded, Stops
+from ._protocol import ALREADY_PINNED, BAD_REQUEST, DEFAULT_PORT, LINE_TOO_LONG, LONGEST_REPLY, MOST_STOPS
+from ._protocol import Criterion, Pinned, Profile, Question, Refused, Request, Result, SessionEnded, Stops
 
 Value = TypeVar("Value")
 
@@ -20,13 +21,17 @@ class AsyncCsaClient:
             answer = await csa.profile("A", "C", after="07:00:00", until="09:00:00", by="10:00:00")
     """
 
-    def __init__(self, host: str = "127.0.0.1", port: int = DEFAULT_PORT, timeout: float = 30.0) -> None:
+    def __init__(self, host: str = "127.0.0.1", port: int = DEFAULT_PORT, timeout: float = 30.0, sets: bool = False) -> None:
         """`timeout`, in seconds, applies to connecting, which `async with` does, and then to each request. TimeoutError closes the session.
 
         If all workers of the server are taken, connecting succeeds but no reply comes: the first request raises TimeoutError.
+
+        With `sets`, a profile between several stops is asked for by one request, for servers that take arrays of stop_ids. One that refuses
+        the first of them with 112 takes none: then the session asks each pair, as without `sets`.
         """
         self._address = host, port
         self._timeout = timeout
+        self._sets = sets
         self._streams: tuple[asyncio.StreamReader, asyncio.StreamWriter] | None = None
         self._turn = asyncio.Lock()
 
@@ -56,12 +61,29 @@ class AsyncCsaClient:
             answer = await csa.profile(["A1", "A2"], "C", after="07:00:00", until="09:00:00", by="10:00:00", criterion="arrival+trips")
 
         Each side is a stop_id or a sequence of them, as those of a station's platforms: then the answer is that from any of these to any of
-        those: the server is asked each pair, in one version, and the answers are merged; other tasks' requests wait until the last pair.
-        Raises ValueError if a side has no stop or one twice, Refused 31 if a stop is unknown, and 32 if one is on both sides. To see which
-        is unknown, ask for a profile from each to itself: 32 if it is known, else 31.
+        those. Without `sets` the server is asked each pair, in one version, and the answers are merged; other tasks' requests wait until the
+        last pair. Raises ValueError if a side has no stop or one twice, or a clock or the criterion isn't one, Refused 31 if a stop is unknown,
+        and 32 if one is on both sides. To see which is unknown, ask for a profile from each to itself: 32 if it is known, else 31.
         """
-        requests = _protocol.profiles(source, target, after, until, by, criterion)
-        return await (self._ask(requests[0]) if len(requests) == 1 else self._by_pairs(requests))
+        question = _protocol.question(source, target, after, until, by, criterion)
+        if question.most == 1:
+            return await self._ask(question.at_once())
+        if self._sets and question.most <= MOST_STOPS:
+            answer = await self._at_once(question)
+            if answer is not None:
+                return answer
+        return await self._by_pairs(question.pairs())
+
+    async def _at_once(self, question: Question) -> Profile | None:
+        """The answer by one request; None if the server takes no arrays, or none of this length."""
+        try:
+            answer: Profile = await self._ask(question.at_once())
+            return answer
+        except Refused as refused:
+            if refused.number not in (BAD_REQUEST, LINE_TOO_LONG):
+                raise
+            self._sets = refused.number == LINE_TOO_LONG
+            return None
 
     async def _by_pairs(self, requests: list[Request[Profile]]) -> Profile:
         """The answer of several pairs, all in the version that is pinned, or else in one that is pinned for them; no other task has a turn."""

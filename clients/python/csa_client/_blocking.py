@@ -8,7 +8,8 @@ from collections.abc import Iterator
 from contextlib import contextmanager
 
 from . import _protocol
-from ._protocol import ALREADY_PINNED, DEFAULT_PORT, LONGEST_REPLY, Criterion, Pinned, Profile, Refused, Request, Result, SessionEnded, Stops
+from ._protocol import ALREADY_PINNED, BAD_REQUEST, DEFAULT_PORT, LINE_TOO_LONG, LONGEST_REPLY, MOST_STOPS
+from ._protocol import Criterion, Pinned, Profile, Question, Refused, Request, Result, SessionEnded, Stops
 
 
 class CsaClient:
@@ -18,13 +19,17 @@ class CsaClient:
             answer = csa.profile("A", "C", after="07:00:00", until="09:00:00", by="10:00:00")
     """
 
-    def __init__(self, host: str = "127.0.0.1", port: int = DEFAULT_PORT, timeout: float = 30.0) -> None:
+    def __init__(self, host: str = "127.0.0.1", port: int = DEFAULT_PORT, timeout: float = 30.0, sets: bool = False) -> None:
         """Connects. `timeout`, in seconds, applies to connecting, and then to each request. TimeoutError closes the session.
 
         If all workers of the server are taken, connecting succeeds but no reply comes: the first request raises TimeoutError.
+
+        With `sets`, a profile between several stops is asked for by one request, for servers that take arrays of stop_ids. One that refuses
+        the first of them with 112 takes none: then the session asks each pair, as without `sets`.
         """
         self._socket: socket.socket | None = socket.create_connection((host, port), timeout)
         self._timeout = timeout
+        self._sets = sets
         self._socket.setsockopt(socket.IPPROTO_TCP, socket.TCP_NODELAY, 1)
         self._received = bytearray()
 
@@ -55,12 +60,29 @@ class CsaClient:
             csa.profile(["A1", "A2"], ["C1", "C2"], after="07:00:00", until="09:00:00", by="10:00:00").points
 
         Each side is a stop_id or a sequence of them, as those of a station's platforms: then the answer is that from any of these to any of
-        those: the server is asked each pair, in one version, and the answers are merged.
-        Raises ValueError if a side has no stop or one twice, Refused 31 if a stop is unknown, and 32 if one is on both sides. To see which
-        is unknown, ask for a profile from each to itself: 32 if it is known, else 31.
+        those. Without `sets` the server is asked each pair, in one version, and the answers are merged.
+        Raises ValueError if a side has no stop or one twice, or a clock or the criterion isn't one, Refused 31 if a stop is unknown, and 32 if
+        one is on both sides. To see which is unknown, ask for a profile from each to itself: 32 if it is known, else 31.
         """
-        requests = _protocol.profiles(source, target, after, until, by, criterion)
-        return (self._ask(requests[0]) if len(requests) == 1 else self._by_pairs(requests))
+        question = _protocol.question(source, target, after, until, by, criterion)
+        if question.most == 1:
+            return self._ask(question.at_once())
+        if self._sets and question.most <= MOST_STOPS:
+            answer = self._at_once(question)
+            if answer is not None:
+                return answer
+        return self._by_pairs(question.pairs())
+
+    def _at_once(self, question: Question) -> Profile | None:
+        """The answer by one request; None if the server takes no arrays, or none of this length."""
+        try:
+            answer: Profile = self._ask(question.at_once())
+            return answer
+        except Refused as refused:
+            if refused.number not in (BAD_REQUEST, LINE_TOO_LONG):
+                raise
+            self._sets = refused.number == LINE_TOO_LONG
+            return None
 
     def _by_pairs(self, requests: list[Request[Profile]]) -> Profile:
         """The answer of several pairs, all in the version that is pinned, or else in one that is pinned for them."""

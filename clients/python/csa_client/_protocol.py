@@ -8,7 +8,7 @@ from collections.abc import Callable, Iterable, Sequence
 from dataclasses import dataclass
 from datetime import datetime, timedelta, timezone, tzinfo
 from itertools import product
-from typing import Any, Generic, Literal, TypeVar, Union
+from typing import Any, Generic, Literal, TypeVar, Union, get_args
 from zoneinfo import ZoneInfo
 
 Criterion = Literal["arrival", "arrival+trips", "arrival+trips+walk"]
@@ -20,8 +20,11 @@ Result = TypeVar("Result")
 
 DEFAULT_PORT = 7077
 
-# the number of a refusal
-ALREADY_PINNED = 92
+# numbers of refusals
+ALREADY_PINNED, BAD_REQUEST, LINE_TOO_LONG = 92, 112, 113
+
+# how many stops a side of one request may have
+MOST_STOPS = 1000
 
 # the longest reply that a client reads, in bytes
 LONGEST_REPLY = 256 * 1024 * 1024
@@ -66,12 +69,17 @@ class Pinned:
         return (start + timedelta(seconds=seconds_of(clock))).astimezone(_zone(zone))
 
     def clock(self, instant: datetime) -> str:
-        """Returns the clock text of an instant in this version, in whole seconds. Raises ValueError if it is before the base or has no zone."""
+        """Returns the clock text of an instant in this version, in whole seconds.
+
+        Raises ValueError if the instant has no zone, is before the base, or is so late that no clock has it.
+        """
         if instant.tzinfo is None:
             raise ValueError("the instant has no zone: give it a tzinfo")
         seconds = int(instant.timestamp() // 1) - self.base
         if seconds < 0:
             raise ValueError("the instant is before the base of this version")
+        if seconds >= 3600 * 10**6:
+            raise ValueError("the instant is later than the last clock, 999999:59:59 after the base")
         return f"{seconds // 3600:02}:{seconds // 60 % 60:02}:{seconds % 60:02}"
 
 
@@ -204,14 +212,46 @@ def load_and_wait(feed: str) -> Request[int]:
     return Request({"do": "load", "feed": feed, "wait": True}, lambda reply: _number(reply, "version"))
 
 
-def profiles(sources: Stops, targets: Stops, after: str, until: str, by: str, criterion: Criterion) -> list[Request[Profile]]:
-    """A request for each pair of these stops, whose answers `merged` puts together. Raises ValueError if a side has no stop, or one twice."""
+@dataclass(frozen=True)
+class Question:
+    """What a profile asks: the best departures from any of some stops to any of others."""
+
+    sources: tuple[str, ...]
+    targets: tuple[str, ...]
+    #: The times and the criterion, as a request has them.
+    window: dict[str, str]
+
+    @property
+    def most(self) -> int:
+        """How many stops the larger side has."""
+        return max(len(self.sources), len(self.targets))
+
+    def pairs(self) -> list[Request[Profile]]:
+        """A request for each pair of stops, whose answers `merged` puts together."""
+        return [self._request(source, target) for source, target in product(self.sources, self.targets)]
+
+    def at_once(self) -> Request[Profile]:
+        """One request for all pairs, which not every server takes: a side of several stops is an array."""
+        source, target = (stops[0] if len(stops) == 1 else list(stops) for stops in (self.sources, self.targets))
+        return self._request(source, target)
+
+    def _request(self, source: Stops, target: Stops) -> Request[Profile]:
+        return Request({"do": "profile", "from": source, "to": target, **self.window}, _profile)
+
+
+def question(sources: Stops, targets: Stops, after: str, until: str, by: str, criterion: Criterion) -> Question:
+    """The question of a profile. Raises ValueError if the server could only refuse it with 112: if a clock isn't one, there is no such criterion, or
+    a side has no stop, or one twice."""
+    for name, clock in (("after", after), ("until", until), ("by", by)):
+        if not isinstance(clock, str) or CLOCK.fullmatch(clock) is None:
+            raise ValueError(f"{name} isn't a clock, HH:MM:SS: {str(clock)[:80]!r}")
+    if criterion not in get_args(Criterion):
+        raise ValueError(f"{criterion!r} isn't a criterion: {', '.join(get_args(Criterion))}")
     sides = [(stops,) if isinstance(stops, str) else tuple(stops) for stops in (sources, targets)]
     for stops in sides:
         if not stops or len(set(stops)) < len(stops):
             raise ValueError("there must be at least one stop on each side, and none twice")
-    window = {"after": after, "until": until, "by": by, "criterion": criterion}
-    return [Request({"do": "profile", "from": source, "to": target, **window}, _profile) for source, target in product(*sides)]
+    return Question(sides[0], sides[1], {"after": after, "until": until, "by": by, "criterion": criterion})
 
 
 def merged(profiles: Iterable[Profile]) -> Profile:

@@ -44,6 +44,23 @@ PROFILE = (
 )
 
 
+def of_pair(source: str) -> str:
+    """The request of a profile from this stop."""
+    return PROFILE[0].replace('"from": "A"', f'"from": "{source}"')
+
+
+SET = PROFILE[0].replace('"from": "A"', '"from": ["A", "B"]')
+BAD_REQUEST = b'{"error":112,"name":"BadRequest"}\n'
+PAIRS = PIN, PROFILE, (of_pair("B"), PROFILE[1]), RELEASE
+# what a session that may use arrays sends for some sides, where the server takes arrays, takes none, or finds a line too long
+SETS = (
+    ([(SET, PROFILE[1]), PROFILE, (SET, PROFILE[1])], [(["A", "B"], ["C"]), ("A", "C"), (("A", "B"), "C")]),
+    ([(PROFILE[0].replace('"to": "C"', '"to": ["C", "D"]'), PROFILE[1])], [(["A"], ["C", "D"])]),
+    ([(SET, BAD_REQUEST), *PAIRS, *PAIRS], [(["A", "B"], "C"), (["A", "B"], "C")]),
+    ([(SET, b'{"error":113,"name":"LineTooLong"}\n'), *PAIRS, (SET, PROFILE[1])], [(["A", "B"], "C"), (["A", "B"], "C")]),
+)
+
+
 class CannedServer:
     """Answers the lines of one connection by a list of pairs: the line that must come, and the bytes that go back (none: it hangs).
 
@@ -207,6 +224,30 @@ class CannedReplies(unittest.TestCase):
                 with self.assertRaises(ValueError):
                     client.profile(sources, "C", **WINDOW)
 
+    def test_several_stops_are_one_request_if_the_server_takes_arrays(self) -> None:
+        for talk, ask in SETS:
+            with self.session(*talk, sets=True) as client:
+                self.assertEqual([client.profile(*sides, **WINDOW) for sides in ask], [Profile(1, (FAST,), None)] * len(ask))
+        # other refusals are the answer
+        with self.session((SET, b'{"error":31,"name":"UnknownStop"}\n'), sets=True) as client, self.assertRaises(Refused) as refused:
+            client.profile(["A", "B"], "C", **WINDOW)
+        self.assertEqual(refused.exception.number, 31)
+        with self.session((SET, BAD_REQUEST), PIN, (of_pair("A"), BAD_REQUEST), RELEASE, sets=True) as client, self.assertRaises(Refused) as refused:
+            client.profile(["A", "B"], "C", **WINDOW)
+        self.assertEqual(refused.exception.number, 112)
+
+    def test_more_stops_than_an_array_may_have_are_asked_for_by_pairs(self) -> None:
+        stops = [f"S{number}" for number in range(1001)]
+        with self.session(PIN, *((of_pair(stop), PROFILE[1]) for stop in stops), RELEASE, sets=True, timeout=30.0) as client:
+            self.assertEqual(client.profile(stops, "C", **WINDOW), Profile(1, (FAST,), None))
+
+    def test_what_the_server_could_only_refuse_is_not_sent(self) -> None:
+        wrong = [("after", "7"), ("until", 7), ("by", "10:00:60"), ("by", "1000000:00:00"), ("after", None), ("criterion", "fast"), ("criterion", None)]
+        with self.session() as client:
+            for name, value in wrong:
+                with self.assertRaisesRegex(ValueError, name if name != "criterion" else "isn't a criterion: arrival, "):
+                    client.profile("A", "C", **{**WINDOW, name: value})
+
     def test_pinned_releases_at_the_end_of_its_block(self) -> None:
         talk = ('{"do": "pin"}', b'{"base":0,"ok":"pin","version":3}\n'), ('{"do": "release"}', b'{"ok":"release"}\n')
         with self.session(*talk) as client:
@@ -233,9 +274,9 @@ class CannedReplies(unittest.TestCase):
         with self.assertRaises(SessionEnded):
             asyncio.run(ask(server.port))
 
-    def session(self, *talk: tuple[str, bytes], timeout: float = 5.0, pause: float = 0.0, reset: bool = False) -> CsaClient:
+    def session(self, *talk: tuple[str, bytes], timeout: float = 5.0, pause: float = 0.0, reset: bool = False, sets: bool = False) -> CsaClient:
         server = CannedServer(*talk, pause=pause, reset=reset)
-        client = CsaClient(port=server.port, timeout=timeout)
+        client = CsaClient(port=server.port, timeout=timeout, sets=sets)
         self.addCleanup(lambda: self.assertEqual(server.mistakes, []))
         self.addCleanup(server.close)
         self.addCleanup(client.close)
@@ -370,11 +411,11 @@ class CannedReplies(unittest.TestCase):
 
 
 class CannedAsyncReplies(unittest.IsolatedAsyncioTestCase):
-    def session(self, *talk: tuple[str, bytes], timeout: float = 5.0, pause: float = 0.0) -> AsyncCsaClient:
+    def session(self, *talk: tuple[str, bytes], timeout: float = 5.0, pause: float = 0.0, sets: bool = False) -> AsyncCsaClient:
         server = CannedServer(*talk, pause=pause)
         self.addCleanup(lambda: self.assertEqual(server.mistakes, []))
         self.addCleanup(server.close)
-        return AsyncCsaClient(port=server.port, timeout=timeout)
+        return AsyncCsaClient(port=server.port, timeout=timeout, sets=sets)
 
     async def test_a_session(self) -> None:
         load = '{"do": "load", "feed": "slow"}', b'{"feed":"slow","ok":"load"}\n'
@@ -404,6 +445,11 @@ class CannedAsyncReplies(unittest.IsolatedAsyncioTestCase):
         async with self.session(*pairs, *pairs) as client:
             both = await asyncio.gather(*(client.profile(["A", "B"], "C", **WINDOW) for _ in range(2)))
         self.assertEqual(both, [Profile(1, (FAST,), None)] * 2)
+
+    async def test_several_stops_are_one_request_if_the_server_takes_arrays(self) -> None:
+        for talk, ask in SETS:
+            async with self.session(*talk, sets=True) as client:
+                self.assertEqual([await client.profile(*sides, **WINDOW) for sides in ask], [Profile(1, (FAST,), None)] * len(ask))
 
     async def test_pieces_do_not_prolong_the_timeout(self) -> None:
         async with self.session(PIN, timeout=0.3, pause=0.05) as client:
@@ -472,12 +518,14 @@ class RealServer(unittest.TestCase):
     def test_from_any_of_several_stops(self) -> None:
         wanted = [("08:12:00", "08:20:00", "ride 2 2")]
 
-        async def ask() -> Profile:
-            async with AsyncCsaClient(port=self.port, timeout=10) as client:
+        async def ask(sets: bool) -> Profile:
+            async with AsyncCsaClient(port=self.port, timeout=10, sets=sets) as client:
                 return await client.profile(["A", "B"], ["C"], **WINDOW)
 
+        with CsaClient(port=self.port, sets=True) as client:
+            at_once = client.profile(("A", "B"), "C", **WINDOW)
         with CsaClient(port=self.port) as client:
-            for answer in (client.profile(("A", "B"), "C", **WINDOW), asyncio.run(ask())):
+            for answer in (client.profile(("A", "B"), "C", **WINDOW), at_once, asyncio.run(ask(False)), asyncio.run(ask(True))):
                 self.assertEqual([(point.dep, point.arr, point.journey) for point in answer.points], wanted)
             for stop, number in (("nowhere", 31), ("C", 32)):
                 with self.assertRaises(Refused) as refused:
@@ -513,7 +561,8 @@ class RealServer(unittest.TestCase):
                 (lambda: client.profile("A", "X", **WINDOW), 31),
                 (lambda: client.profile("A", "A", **WINDOW), 32),
                 (lambda: client.profile("A", "C", after="09:00:00", until="07:00:00", by="10:00:00"), 33),
-                (lambda: client.profile("A", "C", after="7", until="8", by="9"), 112),
+                # the last clock that the client sends: the server knows it, but no image is so long
+                (lambda: client.profile("A", "C", after="07:00:00", until="999999:59:59", by="999999:59:59"), 33),
             ):
                 with self.assertRaises(Refused) as refused:
                     call()

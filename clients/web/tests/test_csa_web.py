@@ -339,6 +339,8 @@ class Pages(Folder):
             (400, {"from": "A", "to": "B", "day": "2024-02-30"}),
             (400, {"from": "A", "to": "B", "day": "2024-01-14"}),
             (400, {"from": "A", "to": "B", "day": "9999-12-31", "time": "23:30"}),
+            # later than the last clock after the base
+            (400, {"from": "A", "to": "B", "day": "2150-01-01"}),
             (400, {"from": "A", "to": "B", "hours": "3"}),
             (400, {"from": "A", "to": "B", "when": "never"}),
             (400, {"from": "Central", "to": "C2"}),

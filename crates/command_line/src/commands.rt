@@ -16,6 +16,8 @@ enum Argument {
     Words(&'static str, &'static str, &'static str),
     /// An option with a value.
     Option(&'static str, &'static str, &'static str),
+    /// An option with a value, which may be given several times.
+    Options(&'static str, &'static str, &'static str),
     /// An option with a value; the option may be left out.
     MaybeOption(&'static str, &'static str, &'static str),
     /// An option whose value is the name of a criterion.
@@ -53,13 +55,29 @@ const SOURCE: [Argument; 1] = [Argument::Option(
     "The stop_id of the stop where the journey begins",
 )];
 
-/// The other options of a query.
-const DESTINATION: [Argument; 4] = [
-    Argument::Option(
+/// Where a query ends.
+const DESTINATION: [Argument; 1] = [Argument::Option(
+    "to",
+    "STOP_ID",
+    "The stop_id of the stop where the journey ends",
+)];
+
+/// Where queries begin and end.
+const STATIONS: [Argument; 2] = [
+    Argument::Options(
+        "from",
+        "STOP_ID",
+        "The stop_id of the stop where the journey begins; given several times, of any of these stops (at most 1000)",
+    ),
+    Argument::Options(
         "to",
         "STOP_ID",
-        "The stop_id of the stop where the journey ends",
+        "The stop_id of the stop where the journey ends; given several times, of any of these stops (at most 1000)",
     ),
+];
+
+/// The times of a query.
+const TIMES: [Argument; 3] = [
     Argument::Option(
         "after",
         "CLOCK",
@@ -178,7 +196,7 @@ const WARNINGS: [Argument; 1] = [Argument::Flag(
     "Write no warnings on standard error",
 )];
 
-const SERVER: [Argument; 7] = [
+const SERVER: [Argument; 8] = [
     Argument::Option(
         "image",
         "IMAGE",
@@ -205,7 +223,12 @@ const SERVER: [Argument; 7] = [
     ),
     Argument::Flag(
         "log",
-        "Log each session that ends and each load on standard error",
+        "Log the beginning and the end of each session, and each load, on standard error",
+    ),
+    Argument::MaybeOption(
+        "idle",
+        "SECS",
+        "End the session of a client that sends nothing, or takes nothing, for SECS seconds, or that speaks HTTP",
     ),
     Argument::Words(
         "feeds",
@@ -238,26 +261,26 @@ const IMAGE_TASKS: [Task; 6] = [
         name: "journey",
         about: "Checks that a journey is possible in an image and answers a query, and prints its times",
         notes: texts::JOURNEY,
-        arguments: &[&IMAGE, &JOURNEY, &SOURCE, &DESTINATION],
+        arguments: &[&IMAGE, &JOURNEY, &SOURCE, &DESTINATION, &TIMES],
     },
     Task {
         name: "profile",
-        about: "Prints every best departure from one stop to another within a time window",
+        about: "Prints every best departure from one stop to another, or between two sets of stops, within a time window",
         notes: texts::PROFILE,
-        arguments: &[
-            &IMAGE,
-            &SOURCE,
-            &DESTINATION,
-            &CRITERION,
-            &PROFILE,
-            &WARNINGS,
-        ],
+        arguments: &[&IMAGE, &STATIONS, &TIMES, &CRITERION, &PROFILE, &WARNINGS],
     },
     Task {
         name: "departures",
         about: "Prints every best departure from each stop to one stop within a time window",
         notes: texts::DEPARTURES,
-        arguments: &[&IMAGE, &DESTINATION, &CRITERION, &DEPARTURES, &WARNINGS],
+        arguments: &[
+            &IMAGE,
+            &DESTINATION,
+            &TIMES,
+            &CRITERION,
+            &DEPARTURES,
+            &WARNINGS,
+        ],
     },
     Task {
         name: "stops",
@@ -339,6 +362,9 @@ fn arg_of<'a>(alloc: Global, argument: Argument) -> Result<Arg<'a>, AllocError> 
         Argument::MaybeWord(id, name, help) => Ok(value(alloc, id, name, help)),
         Argument::Words(id, name, help) => Ok(words(alloc, id, name, help)),
         Argument::Option(id, name, help) => Ok(option(alloc, id, name, help)),
+        Argument::Options(id, name, help) => {
+            Ok(option(alloc, id, name, help).action(ArgAction::Append))
+        }
         Argument::MaybeOption(id, name, help) => Ok(value(alloc, id, name, help).long(id)),
         Argument::Criterion(id, name, help) => {
             Ok(option(alloc, id, name, help).value_parser(CriterionName::NAMES.as_slice()))

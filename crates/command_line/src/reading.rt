@@ -5,12 +5,13 @@ use crate::values::{clock, count, month_name, named_folder, number, port, spelle
 use clap::error::ErrorKind;
 use clap::{ArgMatches, Error};
 use command_requests::{
-    AnswerForm, BuildRequest, DeparturesForm, DeparturesRequest, FirstDay, JourneyRequest,
-    NamedFolder, PlanText, ProfileRequest, Question, Request, Rows, ServeRequest, StopsRequest,
-    UpgradeRequest, Workers, days_of,
+    AnswerForm, BetweenRequest, BuildRequest, DeparturesForm, DeparturesRequest, FirstDay,
+    JourneyRequest, NamedFolder, PlanText, ProfileRequest, Question, Request, Rows, Seconds,
+    ServeRequest, StopsRequest, UpgradeRequest, Workers, days_of,
 };
 use criteria::CriterionName;
 use std::alloc::{AllocError, Global};
+use std::collections::BTreeMap;
 use std::convert::AsStr;
 
 /// Why the words ask for no command.
@@ -34,10 +35,11 @@ enum Form {
     Workers,
     Sessions,
     Rows,
+    Seconds,
 }
 
 /// The options whose values have a form of their own.
-const FORMS: [(&str, Form); 10] = [
+const FORMS: [(&str, Form); 11] = [
     ("after", Form::Clock),
     ("until", Form::Clock),
     ("by", Form::Clock),
@@ -48,6 +50,7 @@ const FORMS: [(&str, Form); 10] = [
     ("workers", Form::Workers),
     ("sessions", Form::Sessions),
     ("rows", Form::Rows),
+    ("idle", Form::Seconds),
 ];
 
 impl Form {
@@ -61,6 +64,7 @@ impl Form {
             Form::Workers => is_workers(value),
             Form::Sessions => count(value).is_some(),
             Form::Rows => rows_of(value).is_some(),
+            Form::Seconds => seconds_of(value).is_some(),
         }
     }
 
@@ -79,6 +83,7 @@ impl Form {
             Form::Workers => "the number of workers must be 1 to 16",
             Form::Sessions => "the number of sessions must be in decimal digits; 0 is no limit",
             Form::Rows => "the number of rows must be 1 to 10000",
+            Form::Seconds => "a number of seconds must be 1 to 4294967295",
         }
     }
 }
@@ -92,6 +97,10 @@ fn is_days(value: &str) -> bool {
 
 fn rows_of(value: &str) -> Option<Rows> {
     Rows::of(number(value)?)
+}
+
+fn seconds_of(value: &str) -> Option<Seconds> {
+    Seconds::of(number(value)?)
 }
 
 fn is_workers(value: &str) -> bool {
@@ -183,6 +192,7 @@ fn request_in<'a>(alloc: Global, matches: &ArgMatches<'a>) -> Result<Request<'a>
             None => Err(wrong_value(alloc, "build", inner)),
         },
         Some(("serve", inner)) => serve_request(alloc, inner),
+        Some(("profile", inner)) if has_several(inner) => between_request(alloc, inner),
         Some((name, inner)) => match plain_request(name, inner) {
             Some(request) => Ok(request),
             None => Err(wrong_value(alloc, name, inner)),
@@ -308,6 +318,111 @@ fn profile_request<'a>(matches: &ArgMatches<'a>) -> Option<ProfileRequest<'a>> {
     })
 }
 
+/// How many stops a side of a question may have.
+const MOST_STOPS: usize = 1000;
+
+/// Whether a question has several stops on a side.
+fn has_several(matches: &ArgMatches<'_>) -> bool {
+    count_of(matches, "from") > 1 || count_of(matches, "to") > 1
+}
+
+/// How many values an option has.
+fn count_of(matches: &ArgMatches<'_>, option: &str) -> usize {
+    match matches.get_strs(option) {
+        Some(values) => values.len(),
+        None => 0,
+    }
+}
+
+/// The request of `csa profile` with several stops on a side.
+fn between_request<'a>(alloc: Global, matches: &ArgMatches<'a>) -> Result<Request<'a>, Unread> {
+    if matches.get_str("picture").is_some() {
+        return Err(no_picture(alloc));
+    }
+    let from = stops_of(alloc, matches, "from")?;
+    let to = stops_of(alloc, matches, "to")?;
+    match between_of(matches, from, to) {
+        Some(request) => Ok(Request::Between(request)),
+        None => Err(wrong_value(alloc, "profile", matches)),
+    }
+}
+
+/// The request between these stops; `None` if a value has a wrong form.
+fn between_of<'a>(
+    matches: &ArgMatches<'a>,
+    from: Vec<&'a str>,
+    to: Vec<&'a str>,
+) -> Option<BetweenRequest<'a>> {
+    Some(BetweenRequest {
+        image: matches.get_str("image")?,
+        from,
+        to,
+        after: clock(matches.get_str("after")?)?,
+        until: clock(matches.get_str("until")?)?,
+        by: clock(matches.get_str("by")?)?,
+        criterion: CriterionName::of(matches.get_str("criterion")?)?,
+        form: answer_form(matches),
+    })
+}
+
+/// The stop_ids that an option has, each once and at most 1000 of them.
+fn stops_of<'a>(
+    alloc: Global,
+    matches: &ArgMatches<'a>,
+    option: &str,
+) -> Result<Vec<&'a str>, Unread> {
+    let mut stops = Vec::new(alloc);
+    let Some(words) = matches.get_strs(option) else {
+        return Ok(stops);
+    };
+    if words.len() > MOST_STOPS {
+        return Err(too_many_stops(alloc, option, words.len()));
+    }
+    let mut places = BTreeMap::new(alloc);
+    for place in 0..words.len() {
+        let word = words[place];
+        match places.insert(word, place) {
+            Ok(None) => {}
+            Ok(Some(first)) => return Err(stop_given_twice(alloc, option, word, first, place)),
+            Err(_) => return Err(Unread::OutOfMemory),
+        }
+        if stops.push(word).is_err() {
+            return Err(Unread::OutOfMemory);
+        }
+    }
+    Ok(stops)
+}
+
+fn too_many_stops(alloc: Global, option: &str, count: usize) -> Unread {
+    mistake(
+        alloc,
+        "profile",
+        format!(in alloc;
+            "error: --{option} is given {count} times: at most {MOST_STOPS} stops can be asked for\n"
+        ),
+    )
+}
+
+/// The message about a stop_id that is given at two places, counted from 0.
+fn stop_given_twice(alloc: Global, option: &str, stop: &str, first: usize, place: usize) -> Unread {
+    let (first, place) = (first.saturating_add(1), place.saturating_add(1));
+    mistake(
+        alloc,
+        "profile",
+        format!(in alloc;
+            "error: --{option} {stop:?}: number {place} is the same stop as number {first}\n"
+        ),
+    )
+}
+
+fn no_picture(alloc: Global) -> Unread {
+    mistake(
+        alloc,
+        "profile",
+        format!(in alloc; "error: --picture: an answer between several stops can't be drawn\n"),
+    )
+}
+
 /// How many rows of a picture are asked for; `None` if the value has a wrong form.
 fn rows(matches: &ArgMatches<'_>) -> Option<Rows> {
     match matches.get_str("rows") {
@@ -393,6 +508,9 @@ fn serve_request<'a>(alloc: Global, matches: &ArgMatches<'a>) -> Result<Request<
     ) else {
         return Err(wrong_value(alloc, "serve", matches));
     };
+    let Some(idle) = maybe_seconds(matches, "idle") else {
+        return Err(wrong_value(alloc, "serve", matches));
+    };
     Ok(Request::Serve(ServeRequest {
         image,
         port,
@@ -400,9 +518,18 @@ fn serve_request<'a>(alloc: Global, matches: &ArgMatches<'a>) -> Result<Request<
         sessions,
         legs: matches.get_flag("legs"),
         log: matches.get_flag("log"),
+        idle,
         plan,
         feeds: named_folders(alloc, matches)?,
     }))
+}
+
+/// How many seconds an option gives, if it is there; `None` if its value has a wrong form.
+fn maybe_seconds(matches: &ArgMatches<'_>, option: &str) -> Option<Option<Seconds>> {
+    match matches.get_str(option) {
+        Some(value) => Some(Some(seconds_of(value)?)),
+        None => Some(None),
+    }
 }
 
 fn workers(matches: &ArgMatches<'_>) -> Option<Workers> {

@@ -1,7 +1,7 @@
 //! What the help prints below the arguments of each command.
 
 /// The program's version, as `--version` prints it.
-pub(crate) const VERSION: &str = "1.0.0";
+pub(crate) const VERSION: &str = "1.1.0";
 
 pub(crate) const STATUSES: &str = "Exit status:\n\
 \x20 0   accepted\n\
@@ -82,6 +82,8 @@ as good in departure, arrival and whatever else the criterion counts, and better
 The last line `points N read N walk SECS` has the number of these departures, the number of connections that\n\
 were read, and the seconds of the direct walk, or `none`. A journey has at least one ride, so this walk is not\n\
 among the departures, and may be quicker than some of them.\n\
+With --from or --to given several times, at most 1000 times each, journeys may begin at any of the first stops and\n\
+end at any of the second: the departures are the best of all pairs, the walk is the shortest. Without --picture.\n\
 Clocks are HH:MM:SS after the image's base, the start of its first service day: 55:00:00 is 07:00 on the\n\
 third day. A warning says if the window begins before the image's first connection departs or ends after the last\n\
 one does; --no-warnings leaves it out.\n\
@@ -143,10 +145,13 @@ A session is lines of JSON over TCP:\n\
 \"by\":\"10:00:00\",\"criterion\":\"arrival\"}\n\
 Standard error has a line for each load, and what is wrong with a feed that is refused. With --log it also has,\n\
 with the instant in UTC and the seconds that it took:\n\
-\x20 2024-01-15T06:00:00Z session 1 ended requests 4 seconds 0.250\n\
+\x20 2024-01-15T06:00:00Z session 1 began\n\
+\x20 2024-01-15T06:00:00Z session 1 ended requests 4 seconds 0.250 slowest seconds 0.020\n\
 \x20     (ended: every request was answered; failed: a read or a write failed; spent: it sent too many requests)\n\
 \x20 2024-01-15T06:00:00Z load slow version 2 runs 2 connections 3 seconds 0.015\n\
 \x20 2024-01-15T06:00:00Z load slow refused 8 seconds 0.001\n\
+With --idle SECS a session also ends if the first byte that its client sends is a capital letter, as in HTTP\n\
+(GET /, POST /): without it, a web page in a browser on this machine can send requests, and order loads.\n\
 \n\
 Example: csa serve --image examples/base.csa --port 7077 --workers 2 --sessions 0 --first 20240115 \
 --days 1 --zone fixed:0 slow=examples/slow";

@@ -11,9 +11,9 @@ pub mod statuses;
 pub use ends::Ends;
 pub use plans::{
     Ahead, FirstDay, MOST_AHEAD, MOST_DAYS, MOST_ROWS, MOST_WORKERS, PLAIN_ROWS, PlanText, Rows,
-    Workers, ZoneText, days_of,
+    Seconds, Workers, ZoneText, days_of,
 };
 pub use requests::{
-    AnswerForm, BuildRequest, DeparturesForm, DeparturesRequest, JourneyRequest, NamedFolder,
-    ProfileRequest, Question, Request, ServeRequest, StopsRequest, UpgradeRequest,
+    AnswerForm, BetweenRequest, BuildRequest, DeparturesForm, DeparturesRequest, JourneyRequest,
+    NamedFolder, ProfileRequest, Question, Request, ServeRequest, StopsRequest, UpgradeRequest,
 };

@@ -78,6 +78,25 @@ impl Rows {
     }
 }
 
+/// A time of a second or more.
+#[derive(Clone, Copy, Drop)]
+pub struct Seconds {
+    pub number: u32,
+    ghost some: { 1 ≤ number },
+}
+
+impl Seconds {
+    /// This many seconds; `None` of 0.
+    pub fn of(asked: u32) -> Option<Seconds>
+        ensures { MatchOption result (asked ≡ 0) (λ seconds. seconds.number ≡ asked) }
+    {
+        if asked == 0 {
+            return None;
+        }
+        Some(Seconds { number: asked })
+    }
+}
+
 /// The number of service days, if it is 1 to 14; otherwise `None`.
 pub fn days_of(number: u32) -> Option<u32>
     ensures { SomeIff result ((1 ≤ number) × (number ≤ MOST_DAYS)) number }

@@ -1,6 +1,6 @@
 //! What a command line asks for.
 
-use crate::plans::{PlanText, Rows, Workers};
+use crate::plans::{PlanText, Rows, Seconds, Workers};
 use criteria::CriterionName;
 
 /// A command with its arguments.
@@ -14,6 +14,8 @@ pub enum Request<'a> {
     Journey(JourneyRequest<'a>),
     /// To answer a profile query over an image.
     Profile(ProfileRequest<'a>),
+    /// To answer a question between several stops over an image.
+    Between(BetweenRequest<'a>),
     /// To answer the queries from every stop to one over an image.
     Departures(DeparturesRequest<'a>),
     /// To read the tables of a feed's folder.
@@ -110,6 +112,23 @@ pub struct ProfileRequest<'a> {
     pub rows: Rows,
 }
 
+/// The image; any of which stops to leave from and to go to any of which, by their names, of each at least one; when, in
+/// seconds after the image's base; the criterion; and how the answer is printed.
+#[derive(Drop)]
+pub struct BetweenRequest<'a> {
+    pub image: &'a str,
+    pub from: Vec<&'a str>,
+    pub to: Vec<&'a str>,
+    /// The earliest departure.
+    pub after: u32,
+    /// The latest departure.
+    pub until: u32,
+    /// The latest arrival.
+    pub by: u32,
+    pub criterion: CriterionName,
+    pub form: AnswerForm,
+}
+
 /// The image, and the text that the names of the listed stops contain.
 #[derive(Clone, Copy, Drop)]
 pub struct StopsRequest<'a> {
@@ -153,6 +172,8 @@ pub struct ServeRequest<'a> {
     pub legs: bool,
     /// Whether each session and each load is logged.
     pub log: bool,
+    /// For how long a client may send nothing, or take nothing, until its session ends. `None`: for any time.
+    pub idle: Option<Seconds>,
     pub plan: PlanText<'a>,
     pub feeds: Vec<NamedFolder<'a>>,
 }

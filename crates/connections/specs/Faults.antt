@@ -8,7 +8,7 @@ use Rattle.connections.specs.declared.fault.RunsFault.TheVariants as faults
 
 -- there are too many runs (trips.txt) or connections (stop_times.txt)
 abbrev pub too_many_of : Table → RunsFault
-too_many_of table = faults.Table (record { table = table; row = 0; kind = TooMany })
+too_many_of table = faults.Table (record { file = table; row = 0; kind = TooMany })
 
 -- a day or a time is out of range
 abbrev pub range_fault : RunsFault

@@ -24,7 +24,7 @@ pub(crate) fn too_many(table: Table) -> RunsFault
     ensures { result ≡ too_many_of table }
 {
     RunsFault::Table(TableFault {
-        table,
+        file: table,
         row: 0,
         kind: FaultKind::TooMany,
     })
@@ -35,7 +35,7 @@ pub(crate) fn out_of_memory() -> RunsFault
     ensures { IsWantOfMemory result }
 {
     RunsFault::Table(TableFault {
-        table: Table::StopTimes,
+        file: Table::StopTimes,
         row: 0,
         kind: FaultKind::OutOfMemory,
     })

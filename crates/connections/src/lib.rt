@@ -23,3 +23,4 @@ pub use listing::runs_of;
 pub use report::Report;
 pub use runs::Run;
 pub use times::{RowTimes, TripTimes, trip_times};
+pub use trip_services::service_indices;

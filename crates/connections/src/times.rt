@@ -6,9 +6,8 @@ ghost use Rattle.std.specs.Prelude.{MatchOption, IsSome};
 ghost use Rattle.gtfs_tables.specs.Spread.{arrival_at};
 ghost use Rattle.connections.specs.Times.{AreTimes, lifted_by};
 
-use gtfs_tables::StopTimeRow;
 use gtfs_tables::laws::spread_times;
-use gtfs_tables::spread::spread;
+use gtfs_tables::{StopTimeRow, spread};
 use std::alloc::{AllocError, Global};
 
 /// When a trip arrives at a row's stop and departs from it, in seconds after the start of the service day.

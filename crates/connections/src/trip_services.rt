@@ -34,14 +34,14 @@ impl TripServices {
             → IfOk result (λ made. AreActive feed (map (λ d. d.day) days.now) trips.now made) }
     {
         let mut named = NamedServices::new(alloc, services);
-        let indices = indices_of(alloc, &mut named, trips)?;
+        let indices = service_indices(alloc, &mut named, trips)?;
         let active = active_on_days(alloc, services, &named, days)?;
         Ok(TripServices { indices, active })
     }
 }
 
-// Returns the index of each trip's service among the named ones, to which it is added. Memory may run out.
-fn indices_of(
+/// Returns the index of each trip's service among the named ones, to which it is added. Memory may run out.
+pub fn service_indices(
     alloc: Global,
     named: &mut NamedServices,
     trips: &[Trip],

@@ -1,4 +1,5 @@
 mod AnswerLemmas
+mod BetweenLemmas
 mod Appended
 mod OfFolder
 mod Picturing

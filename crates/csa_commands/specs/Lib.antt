@@ -1,4 +1,5 @@
 pub mod Answering
+pub mod AnsweringBetween
 pub mod Asking
 pub mod Building
 pub mod Commands

@@ -50,7 +50,7 @@ image_places images.OutOfMemory = []
 
 -- where a feed is wrong: the file, and for a fault of a table the record
 abbrev pub feed_places : LoadFault → List ℕ
-feed_places (feeds.Table fault) = word_text (file_name fault.table) ++ number_text fault.row
+feed_places (feeds.Table fault) = word_text (file_name fault.file) ++ number_text fault.row
 feed_places (feeds.Day fault) = []
 feed_places (feeds.Footpaths fault) = []
 feed_places (feeds.Image fault) = []

@@ -6,9 +6,9 @@ ghost use Rattle.csa_commands.specs.Commands.{IsDone, IsRefusedAs};
 ghost use Rattle.csa_commands.specs.Ending.{Ends};
 
 use crate::windows::{Departures, warn_of_window};
-use crate::{departures, info, journey, profile, status, stops, upgrade, verify};
+use crate::{between, departures, info, journey, profile, status, stops, upgrade, verify};
 use command_requests::{
-    DeparturesRequest, JourneyRequest, ProfileRequest, StopsRequest, UpgradeRequest,
+    BetweenRequest, DeparturesRequest, JourneyRequest, ProfileRequest, StopsRequest, UpgradeRequest,
 };
 use image_verifier::Verified;
 use std::io::Write;
@@ -25,6 +25,8 @@ pub enum Asked<'a> {
     Journey(JourneyRequest<'a>),
     /// Answer a profile query over it.
     Profile(ProfileRequest<'a>),
+    /// Answer a question between several stops over it.
+    Between(&'a BetweenRequest<'a>),
     /// Answer the queries from every stop over it.
     Departures(DeparturesRequest<'a>),
     /// List those of its stops whose names contain a text.
@@ -46,6 +48,7 @@ impl<'a> Asked<'a> {
             Asked::Info(image) => image,
             Asked::Journey(request) => request.image,
             Asked::Profile(request) => request.image,
+            Asked::Between(request) => request.image,
             Asked::Departures(request) => request.image,
             Asked::Stops(request) => request.image,
             Asked::Upgrade(request) => request.image,
@@ -58,6 +61,10 @@ impl<'a> Asked<'a> {
             Asked::Profile(request) => Some(Departures {
                 first: request.question.after,
                 last: request.question.until,
+            }),
+            Asked::Between(request) => Some(Departures {
+                first: request.after,
+                last: request.until,
             }),
             Asked::Departures(request) => Some(Departures {
                 first: request.after,
@@ -114,6 +121,7 @@ fn do_asked<H: Files + AllocGlobal, O: Write, E: Write>(
         Asked::Info(_) => info::run(rt.alloc(), image, output),
         Asked::Journey(request) => journey::run(rt.alloc(), image, request, output, errors),
         Asked::Profile(request) => profile::run(rt, image, request, output, errors),
+        Asked::Between(request) => between::run(rt.alloc(), image, request, output, errors),
         Asked::Departures(request) => departures::run(rt, image, request, output, errors),
         Asked::Stops(request) => stops::run(rt.alloc(), image, request, output, errors),
         Asked::Upgrade(request) => upgrade::run(rt, image, request, output, errors),

@@ -11,7 +11,6 @@ ghost use Rattle.csa_commands.specs.Ending.{Ends, EndsUndone};
 ghost use Rattle.csa_commands.specs.Departing.{AreAllPrinted, ArePrinted, AreShownBy, IsNoneAsked};
 ghost use Rattle.csa_commands.specs.Departing.{form_of, list_status, window_asked};
 
-use crate::explaining::{explain, is_file};
 use crate::question::{explain_end, window_reason};
 use crate::refusal::Refusal;
 use crate::status;
@@ -19,6 +18,7 @@ use crate::wanted_stops::{NoList, wanted_from};
 use command_requests::{DeparturesForm, DeparturesRequest};
 use criteria::{Arrival, ArrivalTrips, ArrivalTripsWalk, CriterionName};
 use departure_lines::{LineForm, Wanted, departures_text};
+use feed_messages::{explain, is_file};
 use image_verifier::Verified;
 use journeys::{Window, destination_named};
 use profile_scan::Destination;

@@ -7,12 +7,12 @@ ghost use Rattle.csa_commands.specs.Ending.{Ends, EndsUndone};
 ghost use Rattle.csa_commands.specs.Judging.{IsAccepted, IsFaulty, IsVerdict, times_line};
 ghost use Rattle.csa_commands.specs.Refusing.{refusal_line};
 
-use crate::explaining::explain;
 use crate::question::{query_asked, refuse_question};
 use crate::refusal::Refusal;
 use crate::status;
 use command_requests::JourneyRequest;
 use departure_lines::append_times;
+use feed_messages::explain;
 use image_verifier::Verified;
 use journeys::{JourneyFault, TextFault, check, journey_parse};
 use std::alloc::{AllocError, Global};
@@ -103,45 +103,7 @@ fn explain_refusal<E: Write>(refusal: Refusal, errors: &mut E) {
 
 // Says which ride or walk of a journey is wrong, and why. Takes no memory.
 fn explain_fault<E: Write>(fault: JourneyFault, errors: &mut E) {
-    let reason = reason_of(fault);
-    let _ = match fault {
-        JourneyFault::LegRange(leg)
-        | JourneyFault::TwoTrips(leg)
-        | JourneyFault::NoBoarding(leg)
-        | JourneyFault::NoAlighting(leg)
-        | JourneyFault::TooEarly(leg) => {
-            write!(errors, "csa: ride {leg} (the first is ride 0): {reason}\n")
-        }
-        JourneyFault::NoFootpath(walk) | JourneyFault::WalkBroken(walk) => {
-            write!(
-                errors,
-                "csa: walk {walk} (walk 0 is the one before the first ride): {reason}\n"
-            )
-        }
-        JourneyFault::WrongEnds | JourneyFault::OutsideWindow => write!(errors, "csa: {reason}\n"),
-    };
-}
-
-fn reason_of(fault: JourneyFault) -> &'static str {
-    match fault {
-        JourneyFault::LegRange(_) => {
-            "there is no such ride, or the image has no such connections, or the first is after the last"
-        }
-        JourneyFault::TwoTrips(_) => "its first and its last connection are of different trips",
-        JourneyFault::NoBoarding(_) => "boarding isn't allowed where it departs",
-        JourneyFault::NoAlighting(_) => "alighting isn't allowed where it ends",
-        JourneyFault::NoFootpath(_) =>
-            "the image has no footpath from the one stop to the other with so many seconds",
-        JourneyFault::WalkBroken(_) => {
-            "it doesn't lead from where the ride before it ends to where the next departs; a change is a walk, \
-even at one stop and of 0 seconds"
-        }
-        JourneyFault::TooEarly(_) => "it departs before the ride and the walk before it are over",
-        JourneyFault::WrongEnds => "the journey doesn't begin at --from, or doesn't end at --to",
-        JourneyFault::OutsideWindow => {
-            "the journey departs before --after or after --until, or arrives after --by"
-        }
-    }
+    let _ = write!(errors, "csa: {fault}\n");
 }
 
 /// Finds when the text's journey departs and arrives, if it counts for the question's query; otherwise the first fault,

@@ -3,13 +3,12 @@
 #![tactic(auto)]
 
 mod asked;
+mod between;
 pub mod build;
 pub mod days;
 mod departures;
 mod elapsed;
 mod explaining;
-mod folders;
-mod further_rows;
 mod info;
 mod journey;
 mod listing;
@@ -22,14 +21,10 @@ mod profile;
 mod progress;
 mod question;
 mod reading;
-mod records;
 mod refusal;
 mod replying;
-mod separator;
 pub mod status;
 mod stops;
-mod suspects;
-mod table_fault;
 pub mod tables;
 mod upgrade;
 mod verify;
@@ -40,8 +35,8 @@ mod writing;
 
 pub use asked::{Asked, answer};
 pub use elapsed::{Begun, put_seconds};
-pub use explaining::{explain, explain_load, explain_refused, explain_zone, reason_of};
-pub use folders::folder_fault;
+pub use explaining::{explain_load, explain_refused, explain_zone};
+pub use feed_messages::{explain, folder_fault, reason_of};
 pub use newlines::line_ends;
 pub use opening::open_image;
 pub use planning::{PlanFailure, zone_and_plan};

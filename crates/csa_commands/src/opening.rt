@@ -11,7 +11,7 @@ ghost use Rattle.csa_commands.specs.Refusing.{refusal_line};
 ghost use Rattle.csa_commands.specs.declared.refusal.Refusal.TheVariants.{Image as OfImage};
 
 use crate::refusal::Refusal;
-use crate::{explaining, status};
+use crate::status;
 use image_files::{ImageDisk, ImageFileFault, image_words};
 use image_verifier::{ImageFault, Verified, verify};
 use std::alloc::Global;
@@ -94,7 +94,7 @@ fn report_unread<H: Files, E: Write>(rt: &H, path: &str, errors: &mut E) -> u8
     ensures { result ≡ INPUT_OUTPUT }
 {
     if path == "-" {
-        explaining::explain(errors, &["csa: standard input can't be read"]);
+        feed_messages::explain(errors, &["csa: standard input can't be read"]);
         return status::INPUT_OUTPUT;
     }
     status::report_unreadable(rt, errors, path)

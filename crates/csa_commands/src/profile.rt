@@ -144,8 +144,8 @@ fn profile_by<C: Told>(
     Ok(Profile { text, picture })
 }
 
-// The text of an answer, in a form.
-fn text_in_form<C: Told>(
+/// The text of an answer, in a form.
+pub(crate) fn text_in_form<C: Told>(
     alloc: Global,
     image: &Verified,
     criterion: &C,

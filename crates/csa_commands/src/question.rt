@@ -10,10 +10,10 @@ ghost use Rattle.csa_commands.specs.Ending.{EndsUndone};
 ghost use Rattle.csa_commands.specs.Refusing.{refusal_line};
 ghost use Rattle.csa_commands.specs.declared.refusal.Refusal.TheVariants.{Query as OfQuery};
 
-use crate::explaining::{explain, quoted};
 use crate::refusal::Refusal;
 use crate::status;
 use command_requests::Question;
+use feed_messages::{explain, quoted};
 use image_verifier::Verified;
 use journeys::{Window, query_of};
 use std::alloc::Global;

@@ -128,7 +128,7 @@ fn put_feed_places(line: &mut String, fault: LoadFault) -> Result<(), AllocError
     ensures { OnOk result (string_bytes line.new ≡ string_bytes line.old ++ feed_places fault) }
 {
     match fault {
-        LoadFault::Table(fault) => put_record(line, fault.table.file_name(), fault.row),
+        LoadFault::Table(fault) => put_record(line, fault.file.file_name(), fault.row),
         LoadFault::FileFailed(table) => put_word(line, table.file_name()),
         LoadFault::Day(_) | LoadFault::Footpaths(_) | LoadFault::Image(_) => Ok(()),
     }

@@ -8,11 +8,12 @@ ghost use Rattle.csa_commands.specs.Ending.{EndsUndone};
 ghost use Rattle.csa_commands.specs.Refusing.{refusal_line};
 ghost use Rattle.csa_commands.specs.Writing.{IsBegun};
 
-use crate::explaining::{explain, explain_zone_named, reason_of, shown_path, unread_reason};
+use crate::explaining::explain_zone_named;
 use crate::refusal::{Refusal, refusal_line};
 pub use command_requests::statuses::{
     ACCEPTED, COMMAND_LINE, INPUT_OUTPUT, OUT_OF_MEMORY, REFUSED,
 };
+use feed_messages::{explain, reason_of, shown_path, unread_reason};
 use std::alloc::{AllocError, Global};
 use std::io::{ErrorKind, Write};
 use std::rt::Files;

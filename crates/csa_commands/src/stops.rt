@@ -5,10 +5,10 @@ ghost use Rattle.command_requests.specs.declared.statuses.TheConstants.{ACCEPTED
 ghost use Rattle.csa_commands.specs.StopLines.{AreStopLines, AreStopsPrinted, IsFound, IsIn, stop_line};
 ghost use Rattle.csa_commands.specs.Ending.{Ends};
 
-use crate::explaining::{explain, quoted};
 use crate::status;
 use answer_pictures::stop_name;
 use command_requests::StopsRequest;
+use feed_messages::{explain, quoted};
 use image_verifier::Verified;
 use std::alloc::{AllocError, Global};
 use std::io::Write;

@@ -3,14 +3,12 @@
 ghost use Rattle.std.specs.Prelude.{◌≡◌, true, IfSome};
 ghost use Rattle.gtfs_rows.specs.Values.{is_civil};
 
-use crate::explaining::{explain, is_file};
-use crate::records::{Records, Search, Wanted};
-use crate::separator::Separator;
-use crate::table_fault::{found_in, search_in};
 use command_requests::ZoneText;
+use csv::ByteRecord;
 use feed_loader::{Plan, Report};
-use gtfs_rows::Day;
+use feed_messages::{advance, explain, file_bytes, is_file};
 use gtfs_rows::values::number;
+use gtfs_rows::{Day, Records, cell, column, find_record};
 use image_verifier::Verified;
 use service_days::{Zone, day_after, day_start};
 use std::alloc::{AllocError, Global};
@@ -63,36 +61,39 @@ fn warn_of<E: Write>(errors: &mut E, line: &str) {
 /// The warning of the days of the plan on which no trip runs; `None` if there are none.
 fn idle_days(alloc: Global, built: &Built) -> Option<String> {
     let mut text = format!(in alloc; "no trip runs on").ok()?;
-    let mut separator = Separator::new(" ");
+    let mut is_first = true;
     let mut day = built.plan.first_day;
     for _ in 0..built.plan.days {
-        append_if_idle(&mut text, &mut separator, built, day)?;
+        if is_idle(built, day)? {
+            append_day(&mut text, is_first, day)?;
+            is_first = false;
+        }
         day = day_after(day);
     }
-    if separator.is_unused() {
-        None
-    } else {
-        Some(text)
-    }
+    if is_first { None } else { Some(text) }
 }
 
-/// Appends the day, if no trip runs on it. `None` if it is no day of the calendar or has no start in the zone, or if
-/// memory runs out.
-fn append_if_idle(
-    text: &mut String,
-    separator: &mut Separator,
-    built: &Built,
-    day: Day,
-) -> Option<()>
+/// Whether no trip runs on a day. `None` if it is no day of the calendar or has no start in the zone.
+fn is_idle(built: &Built, day: Day) -> Option<bool>
     ensures { IfSome result (λ _. is_civil day ≡ true) }
 {
     day_start(&built.plan.zone, day).ok()?;
-    let number = 10_000 * day.year as u32 + 100 * day.month as u32 + day.day as u32;
-    if has_trip_on(&built.image, number) {
-        return Some(());
+    Some(!has_trip_on(&built.image, number_of(day)))
+}
+
+/// Appends a day, behind a comma if it isn't the first.
+fn append_day(text: &mut String, is_first: bool, day: Day) -> Option<()> {
+    let number = number_of(day);
+    if is_first {
+        write!(text, " {number:08}").ok()
+    } else {
+        write!(text, ", {number:08}").ok()
     }
-    let between = separator.next();
-    write!(text, "{between}{number:08}").ok()
+}
+
+/// A day as the number YYYYMMDD.
+fn number_of(day: Day) -> u32 {
+    10_000 * day.year as u32 + 100 * day.month as u32 + day.day as u32
 }
 
 /// Whether a trip of the image runs on a day, given as the number YYYYMMDD.
@@ -118,34 +119,23 @@ impl Rows {
         Rows { count: 0, first: 0 }
     }
 
-    fn add(&mut self, line: u64) {
+    fn add(&mut self, records: &Records<'_>) {
         if self.count == 0 {
-            self.first = line;
+            self.first = records.position().line;
         }
         self.count = self.count.saturating_add(1);
     }
 
     /// Appends how many rows there are, why they are left out, and the line of the first, if there are any.
-    fn append(
-        &self,
-        text: &mut String,
-        separator: &mut Separator,
-        reason: &str,
-    ) -> Result<(), AllocError> {
-        let first = self.first;
-        match self.count {
+    fn append(&self, text: &mut String, between: &str, reason: &str) -> Result<(), AllocError> {
+        let (count, first) = (self.count, self.first);
+        match count {
             0 => Ok(()),
-            1 => {
-                let between = separator.next();
-                write!(text, "{between}1 {reason} (line {first})")
-            }
-            count => {
-                let between = separator.next();
-                write!(
-                    text,
-                    "{between}{count} {reason} (the first in line {first})"
-                )
-            }
+            1 => write!(text, "{between}1 {reason} (line {first})"),
+            _ => write!(
+                text,
+                "{between}{count} {reason} (the first in line {first})"
+            ),
         }
     }
 }
@@ -160,50 +150,86 @@ struct LeftOut {
 /// The columns of `transfers.txt` that restrict a row to trips or routes.
 const TRIPS_AND_ROUTES: [&str; 4] = ["from_route_id", "to_route_id", "from_trip_id", "to_trip_id"];
 
-impl Search for LeftOut {
-    fn is_found(&mut self, records: &Records) -> bool {
-        if records.is_behind_header() {
-            let transfer_type = records.value("transfer_type");
-            if has_any(records, &TRIPS_AND_ROUTES) {
-                self.between_trips.add(records.record.line);
-            } else if !transfer_type.is_empty() && number(transfer_type).unwrap_or(4) > 3 {
-                self.of_other_types.add(records.record.line);
-            }
+/// The places of the columns that say whether a transfer is left out.
+#[derive(Clone, Copy, Drop)]
+struct Places {
+    trips_and_routes: [Option<usize>; 4],
+    transfer_type: Option<usize>,
+}
+
+impl Places {
+    fn of(header: &ByteRecord) -> Places {
+        let [from_route, to_route, from_trip, to_trip] = TRIPS_AND_ROUTES;
+        Places {
+            trips_and_routes: [
+                column(header, from_route.as_bytes()),
+                column(header, to_route.as_bytes()),
+                column(header, from_trip.as_bytes()),
+                column(header, to_trip.as_bytes()),
+            ],
+            transfer_type: column(header, b"transfer_type"),
         }
-        false
     }
 }
 
-fn has_any(records: &Records, columns: &[&str]) -> bool {
-    columns
-        .iter()
-        .any(|column| !records.value(column).is_empty())
+impl LeftOut {
+    /// Takes note of a record, if it is left out.
+    fn note(&mut self, places: &Places, records: &Records<'_>) {
+        let record = records.last();
+        let transfer_type = cell(record, places.transfer_type);
+        if has_any(record, &places.trips_and_routes) {
+            self.between_trips.add(records);
+        } else if !transfer_type.is_empty() && number(transfer_type).unwrap_or(4) > 3 {
+            self.of_other_types.add(records);
+        }
+    }
 }
 
-fn warn_of_transfers<H: Files + AllocGlobal, E: Write>(rt: &H, folder: &str, errors: &mut E) {
+fn has_any(record: &ByteRecord, places: &[Option<usize>]) -> bool {
+    places.iter().any(|place| !cell(record, *place).is_empty())
+}
+
+/// The transfers of a file that are left out; none if memory runs out.
+fn left_out_of(alloc: Global, bytes: &[u8]) -> Option<LeftOut> {
     let mut left_out = LeftOut {
         between_trips: Rows::none(),
         of_other_types: Rows::none(),
     };
-    if search_in(rt, folder, "transfers.txt", &mut left_out).is_ok()
-        && let Ok(line) = transfers_line(rt.alloc(), &left_out)
-    {
-        warn_of(errors, line.as_str());
-    } else {
-        warn_of(errors, "rows of transfers.txt are left out");
+    let mut records = Records::open(alloc, bytes);
+    advance(&mut records)?;
+    let places = Places::of(records.last());
+    for _ in 0..u64::MAX {
+        if advance(&mut records).is_none() {
+            return Some(left_out);
+        }
+        left_out.note(&places, &records);
+    }
+    None
+}
+
+fn warn_of_transfers<H: Files + AllocGlobal, E: Write>(rt: &H, folder: &str, errors: &mut E) {
+    match transfers_line(rt, folder) {
+        Some(line) => warn_of(errors, line.as_str()),
+        None => warn_of(errors, "rows of transfers.txt are left out"),
     }
 }
 
-fn transfers_line(alloc: Global, left_out: &LeftOut) -> Result<String, AllocError> {
+fn transfers_line<H: Files + AllocGlobal>(rt: &H, folder: &str) -> Option<String> {
+    let bytes = file_bytes(rt, folder, "transfers.txt")?;
+    let left_out = left_out_of(rt.alloc(), &bytes)?;
+    text_of(rt.alloc(), &left_out).ok()
+}
+
+fn text_of(alloc: Global, left_out: &LeftOut) -> Result<String, AllocError> {
     let mut text = format!(in alloc; "rows of transfers.txt are left out")?;
     let other_type = "of a transfer_type that isn't one of 0, 1, 2, 3";
-    let mut separator = Separator::new(": ");
-    left_out
-        .between_trips
-        .append(&mut text, &mut separator, "between trips or routes")?;
-    left_out
-        .of_other_types
-        .append(&mut text, &mut separator, other_type)?;
+    let (trips, others) = (&left_out.between_trips, &left_out.of_other_types);
+    trips.append(&mut text, ": ", "between trips or routes")?;
+    if trips.count == 0 {
+        others.append(&mut text, ": ", other_type)?;
+    } else {
+        others.append(&mut text, ", ", other_type)?;
+    }
     text.push_str("; a change there may need more time than answers give it")?;
     Ok(text)
 }
@@ -216,8 +242,10 @@ fn other_zone<H: Files + AllocGlobal>(
     asked: &ZoneText<'_>,
     plan: &Plan,
 ) -> Option<String> {
-    let found = found_in(rt, folder, "agency.txt", Wanted::Number(1))?;
-    let name = str::from_utf8(found.value("agency_timezone")).ok()?;
+    let bytes = file_bytes(rt, folder, "agency.txt")?;
+    let found = find_record(rt.alloc(), &bytes, 1).ok()??;
+    let place = column(&found.header, b"agency_timezone");
+    let name = str::from_utf8(cell(&found.record, place)).ok()?;
     if is_file_of(asked, name) {
         return None;
     }

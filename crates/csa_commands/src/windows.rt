@@ -1,6 +1,6 @@
 //! Warnings of a window of departures that goes beyond the departures of the image's connections. They take no memory.
 
-use crate::explaining::explain;
+use feed_messages::explain;
 use image_verifier::Verified;
 use std::io::Write;
 use timetable::Clock;

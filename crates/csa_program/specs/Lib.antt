@@ -1,3 +1,4 @@
+pub mod Accepting
 pub mod Door
 pub mod Hosting
 pub mod Logging

@@ -9,6 +9,10 @@ end_word End.Ended = codes "ended"
 end_word End.Failed = codes "failed"
 end_word End.Spent = codes "spent"
 
+-- the session of this number begins
+unfoldable pub begin_text : ℕ → List ℕ
+begin_text number = (codes " session " ++ decimal number) ++ codes " began\n"
+
 -- the session of this number ended so, and had sent so many requests
 unfoldable pub session_text : ℕ → End → ℕ → List ℕ
 session_text number end requests =

@@ -1,21 +1,25 @@
 //! The body of the program `csa`: words, a reader and two writers in, an exit status out.
 #![tactic(auto)]
 
+mod accepting;
 mod bases;
+mod draining;
 mod explaining;
 mod folders;
+mod line_queue;
 mod logging;
 mod machine;
 mod requests;
 mod serve;
 mod sockets;
+mod visits;
 mod watching;
 
 pub use crate::explaining::Explains;
 pub use crate::machine::Machine;
 use crate::watching::Watched;
 use command_line::{Unread, read, wants_warnings};
-use command_requests::Request;
+use command_requests::{BetweenRequest, Request};
 use csa_commands::{
     Asked, answer, build, days, explain, explain_zone, open_image, reason_of, status, tables,
 };
@@ -86,6 +90,25 @@ fn explain_unwritten<E: Write>(errors: &mut E, fault: Option<ErrorKind>) {
     }
 }
 
+// Answers a question between several stops.
+fn answer_between<H: Files + AllocGlobal, I: Read, O: Write, E: Write>(
+    rt: &H,
+    request: BetweenRequest<'_>,
+    input: &mut I,
+    output: &mut O,
+    errors: &mut E,
+    warnings: bool,
+) -> u8 {
+    answer_over(
+        rt,
+        Asked::Between(&request),
+        input,
+        output,
+        errors,
+        warnings,
+    )
+}
+
 // Runs the command; the status says where memory ran out.
 fn run_command<
     H: Machine + Net<Listener = TcpListener, Stream = TcpStream>,
@@ -107,6 +130,9 @@ fn run_command<
         }
         Ok(Request::Profile(request)) => {
             answer_over(rt, Asked::Profile(request), input, output, errors, warnings)
+        }
+        Ok(Request::Between(request)) => {
+            answer_between(rt, request, input, output, errors, warnings)
         }
         Ok(Request::Departures(request)) => {
             answer_over(
@@ -132,9 +158,9 @@ fn run_command<
         Ok(Request::Serve(request)) => serve::run(rt, request, input, output, errors),
         Err(Unread::Help(text)) => status::write_text(output, text.as_str(), status::ACCEPTED),
         Err(Unread::Mistake(text)) => {
-            let status = status::write_text(errors, text.as_str(), status::COMMAND_LINE);
+            let _ = errors.write_all(text.as_bytes());
             explain_zone(rt, words, errors);
-            status
+            status::COMMAND_LINE
         }
         Err(Unread::OutOfMemory) => status::OUT_OF_MEMORY,
     }

@@ -1,94 +1,143 @@
-//! What a server writes on standard error: the loader's lines and, if they are wanted, a line for each session and each
-//! load that ended.
+//! What a server writes on standard error: the loader's lines, why a client can't be accepted, and, if they are wanted,
+//! two lines for each session and one for each load.
 //!
 //! A line that can't be written, or for which there is no memory, changes nothing.
 
 ghost use Rattle.std.specs.Prelude.{◌≡◌, ◌++◌, codes, OnOk, string_bytes};
-ghost use Rattle.csa_program.specs.Logging.{end_word, loaded_text, session_text};
+ghost use Rattle.csa_program.specs.Logging.{begin_text, end_word, loaded_text, session_text};
 
+use crate::line_queue::LineQueue;
 use arrayvec::ArrayVec;
 use clock_days::instant;
 use csa_commands::{Begun, put_seconds};
 use jiff::Timestamp;
 use std::alloc::{AllocError, Global};
 use std::fmt::Write as _;
-use std::io;
 use std::io::Write;
-use std::sync::{Mutex, Wait};
+use std::sync::Wait;
 use std::time::{Clock, Duration};
+use std::{io, thread};
 use text_pieces::{put_number, put_text, put_word};
 use workers::{End, LoadRefusal, Loaded};
 
 /// How many bytes of a line are kept until it ends.
 const LONGEST_LINE: usize = 4096;
 
+/// How many milliseconds a server waits until it tries to accept a client again.
+const PAUSE: u64 = 100;
+
 /// Standard error of a server, which its threads share.
 #[derive(Drop)]
-pub struct SharedErrors<'a, H, E> {
+pub struct SharedErrors<'a, H> {
     rt: &'a H,
     alloc: Global,
-    errors: &'a Mutex<E>,
+    queue: &'a LineQueue,
 }
 
-impl<'a, H, E> SharedErrors<'a, H, E> {
-    /// Standard error, which this lock protects.
-    pub fn of(rt: &'a H, alloc: Global, errors: &'a Mutex<E>) -> SharedErrors<'a, H, E> {
-        SharedErrors { rt, alloc, errors }
+impl<'a, H> SharedErrors<'a, H> {
+    /// Standard error, whose lines wait in this queue.
+    pub fn of(rt: &'a H, alloc: Global, queue: &'a LineQueue) -> SharedErrors<'a, H> {
+        SharedErrors { rt, alloc, queue }
     }
 
     /// The same for another thread.
-    pub fn another(&self) -> SharedErrors<'a, H, E> {
+    pub fn another(&self) -> SharedErrors<'a, H> {
         SharedErrors {
             rt: self.rt,
             alloc: self.alloc,
-            errors: self.errors,
+            queue: self.queue,
         }
     }
 }
 
-impl<'a, H: Wait, E: Write> SharedErrors<'a, H, E> {
-    /// Writes bytes, with no other thread's between them.
+impl<'a, H: Wait> SharedErrors<'a, H> {
+    /// Puts bytes into the queue, with no other thread's between them.
     fn put(&self, bytes: &[u8]) {
-        let mut errors = self.errors.lock(self.rt);
-        let _ = errors.write_all(bytes);
+        self.queue.put(self.rt, bytes);
     }
 }
 
-/// Where sessions are logged, from any thread.
-pub trait SessionLog {
+/// What sessions and the acceptance of clients need of their server: a clock, and a place where they report. All
+/// threads share it.
+pub trait Host {
     /// The start of something that begins now.
     fn now(&self) -> Begun;
 
-    /// Logs that the session of this number ended so, how many requests it had sent, and how long it took.
-    fn log_session(&self, number: u64, end: End, requests: u64, begun: Begun);
+    /// How long something has lasted, if the clock can be read.
+    fn elapsed(&self, begun: Begun) -> Option<Duration>;
+
+    /// Waits until accepting may be tried again.
+    fn pause(&self);
+
+    /// Logs that the session of this number begins.
+    fn log_begin(&self, number: u64);
+
+    /// Logs that the session of this number ended so, how many requests it had sent, how long it took, and how long the
+    /// slowest of its requests took.
+    fn log_end(&self, number: u64, end: End, requests: u64, begun: Begun, slowest: Duration);
+
+    /// Tells why no client can be accepted, and whether accepting is tried again.
+    fn tell_failure(&self, error: &io::Error, is_last: bool);
+
+    /// Tells that clients are accepted again.
+    fn tell_recovery(&self);
 }
 
-impl<'a, H: Wait + Clock, E: Write> SessionLog for SharedErrors<'a, H, E> {
+impl<'a, H: Wait + Clock> Host for SharedErrors<'a, H> {
     fn now(&self) -> Begun {
         Begun::now(self.rt)
     }
 
-    fn log_session(&self, number: u64, end: End, requests: u64, begun: Begun) {
-        let lasted = begun.elapsed(self.rt);
-        let line = session_line(self.alloc, instant(self.rt), number, end, requests, lasted);
-        if let Ok(line) = line {
+    fn elapsed(&self, begun: Begun) -> Option<Duration> {
+        begun.elapsed(self.rt)
+    }
+
+    fn pause(&self) {
+        thread::sleep(self.rt, Duration::from_millis(PAUSE));
+    }
+
+    fn log_begin(&self, number: u64) {
+        if let Ok(line) = begin_line(self.alloc, instant(self.rt), number) {
             self.put(line.as_bytes());
         }
+    }
+
+    fn log_end(&self, number: u64, end: End, requests: u64, begun: Begun, slowest: Duration) {
+        let lasted = begun.elapsed(self.rt);
+        let at = instant(self.rt);
+        if let Ok(line) = end_line(self.alloc, at, number, end, requests, lasted, slowest) {
+            self.put(line.as_bytes());
+        }
+    }
+
+    // It takes no memory, since memory may be what is wanting.
+    fn tell_failure(&self, error: &io::Error, is_last: bool) {
+        let then = if is_last {
+            "no more are accepted"
+        } else {
+            "trying again"
+        };
+        let mut line = LoaderErrors::of(self.another());
+        let _ = write!(line, "csa: clients can't be accepted: {error}: {then}\n");
+    }
+
+    fn tell_recovery(&self) {
+        self.put(b"csa: clients are accepted again\n");
     }
 }
 
 /// Standard error as the loader writes it: each of its lines is written in one piece, unless it is longer than
 /// `LONGEST_LINE`. It takes no memory.
 #[derive(Drop)]
-pub struct LoaderErrors<'a, H, E> {
-    errors: SharedErrors<'a, H, E>,
+pub struct LoaderErrors<'a, H> {
+    errors: SharedErrors<'a, H>,
     /// The line that has begun.
     line: ArrayVec<u8, LONGEST_LINE>,
 }
 
-impl<'a, H: Wait, E: Write> LoaderErrors<'a, H, E> {
+impl<'a, H: Wait> LoaderErrors<'a, H> {
     /// No line has begun yet.
-    pub fn of(errors: SharedErrors<'a, H, E>) -> LoaderErrors<'a, H, E> {
+    pub fn of(errors: SharedErrors<'a, H>) -> LoaderErrors<'a, H> {
         LoaderErrors {
             errors,
             line: ArrayVec::new(),
@@ -102,7 +151,7 @@ impl<'a, H: Wait, E: Write> LoaderErrors<'a, H, E> {
 }
 
 /// If a line grows too long, what is kept of it is written, and then the piece that didn't fit.
-impl<'a, H: Wait, E: Write> Write for LoaderErrors<'a, H, E> {
+impl<'a, H: Wait> Write for LoaderErrors<'a, H> {
     fn write(&mut self, piece: &[u8]) -> io::Result<usize> {
         match self.line.try_extend_from_slice(piece) {
             Ok(()) => {
@@ -138,18 +187,28 @@ pub fn log_load<C: Clock, W: Write>(
     }
 }
 
-fn session_line(
+fn begin_line(alloc: Global, at: Option<i64>, number: u64) -> Result<String, AllocError> {
+    let mut line = String::new(alloc);
+    put_instant(&mut line, at)?;
+    put_begin(&mut line, number)?;
+    Ok(line)
+}
+
+fn end_line(
     alloc: Global,
     at: Option<i64>,
     number: u64,
     end: End,
     requests: u64,
     lasted: Option<Duration>,
+    slowest: Duration,
 ) -> Result<String, AllocError> {
     let mut line = String::new(alloc);
     put_instant(&mut line, at)?;
     put_session(&mut line, number, end, requests)?;
-    put_end(&mut line, lasted)?;
+    put_seconds(&mut line, lasted)?;
+    put_text(&mut line, " slowest")?;
+    put_end(&mut line, Some(slowest))?;
     Ok(line)
 }
 
@@ -182,6 +241,15 @@ fn put_instant(line: &mut String, at: Option<i64>) -> Result<(), AllocError> {
 
 fn timestamp(second: i64) -> Option<Timestamp> {
     Timestamp::from_second(second).ok()
+}
+
+/// Adds the number of a session that begins, and ends the line.
+fn put_begin(line: &mut String, number: u64) -> Result<(), AllocError>
+    ensures { OnOk result (string_bytes line.new ≡ string_bytes line.old ++ begin_text number) }
+{
+    put_number(line, " session ", number)?;
+    put_text(line, " began\n")?;
+    Ok(())
 }
 
 /// Adds a session's number, how it ended, and how many requests it had sent.

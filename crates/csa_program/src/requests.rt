@@ -1,10 +1,29 @@
-//! How many requests a session sends: the lines that are read.
+//! The requests that a session sends: how many lines are read, and how long the session took to answer them.
 
 ghost use Rattle.std.specs.Prelude.{◌≡◌};
+ghost use Rattle.std.specs.Io.{ReadsAtMost};
+ghost use Rattle.std.specs.Io.KnownBytes.{ReadConsumes};
 
-use csa_commands::line_ends;
+use crate::logging::Host;
+use crate::visits::Visit;
+use csa_commands::{Begun, line_ends};
 use std::io;
-use std::io::Read;
+use std::io::{ErrorKind, Read};
+use std::net::TcpStream;
+use std::time::Duration;
+
+/// A reader whose next bytes can be looked at before they are read.
+pub trait Peek: Read {
+    /// The next bytes, which stay unread; none at the end.
+    fn peek(&self, room: &mut [u8]) -> io::Result<usize>
+        ensures { ReadsAtMost result room.new };
+}
+
+impl Peek for TcpStream {
+    fn peek(&self, room: &mut [u8]) -> io::Result<usize> {
+        TcpStream::peek(self, room)
+    }
+}
 
 /// A reader that counts the lines that are read, and keeps whose requests they are.
 #[derive(Drop)]
@@ -14,6 +33,12 @@ pub struct Requests<S, V> {
     ended: u64,
     /// Whether a line has begun and not ended yet.
     has_begun: bool,
+    /// Whether a read failed.
+    has_failed: bool,
+    /// When the last read gave bytes, until the next read.
+    answering: Option<Begun>,
+    /// The longest time from a read that gave bytes to the next read.
+    slowest: Duration,
     /// Whose requests they are.
     pub visit: V,
 }
@@ -27,6 +52,9 @@ impl<S, V> Requests<S, V> {
             stream,
             ended: 0,
             has_begun: false,
+            has_failed: false,
+            answering: None,
+            slowest: Duration::ZERO,
             visit,
         }
     }
@@ -34,6 +62,22 @@ impl<S, V> Requests<S, V> {
     /// How many lines were read; the last one counts even without a line end.
     pub fn count(&self) -> u64 {
         self.ended.saturating_add(u64::from(self.has_begun))
+    }
+
+    /// Whether a read failed.
+    pub fn has_failed(&self) -> bool
+        ensures { result ≡ self.now.has_failed }
+    {
+        self.has_failed
+    }
+
+    /// The reader itself.
+    pub fn stream(&mut self) -> &mut S {
+        &mut self.stream
+    }
+
+    fn is_new(&self) -> bool {
+        self.ended == 0 && !self.has_begun
     }
 
     fn note(&mut self, bytes: &[u8])
@@ -46,16 +90,70 @@ impl<S, V> Requests<S, V> {
     }
 }
 
-impl<S: Read, V> Read for Requests<S, V> {
-    ghost remaining = { λ requests. S.remaining requests.stream };
+impl<'a, S: Peek, L: Host> Requests<S, Visit<'a, L>> {
+    // What was read before is answered now.
+    fn note_answered(&mut self)
+        ensures { self.new.stream ≡ self.old.stream }
+    {
+        if let Some(begun) = self.answering {
+            let lasted = self.visit.elapsed(begun);
+            if self.slowest < lasted {
+                self.slowest = lasted;
+            }
+            self.answering = None;
+        }
+    }
+
+    /// The longest time that requests took which came together: from the read that gave them to the next one.
+    pub fn slowest(&mut self) -> Duration {
+        self.note_answered();
+        self.slowest
+    }
+
+    // Whether the next byte begins a request of HTTP.
+    fn begins_http(&self) -> io::Result<bool> {
+        let mut first = [0u8; 1];
+        let count = self.stream.peek(&mut first)?;
+        Ok(count == 1 && first[0].is_ascii_uppercase())
+    }
+
+    // Fails where the session is no session of lines of JSON: no such line begins with a capital letter, and the first
+    // one of HTTP does. Nothing is read.
+    fn check_first(&self) -> io::Result<()> {
+        if self.visit.is_strict() && self.is_new() && self.begins_http()? {
+            return Err(ErrorKind::InvalidData.into());
+        }
+        Ok(())
+    }
+
+    // Reads once, unless the session begins as one of HTTP: then it fails, and nothing is read.
+    fn read_on(&mut self, room: &mut [u8]) -> io::Result<usize>
+        ensures bound { ReadsAtMost result room.new }
+        ensures bytes { ReadConsumes (S.Read.remaining self.old.stream) (S.Read.remaining self.new.stream) result
+            room.new }
+    {
+        match self.check_first() {
+            Ok(()) => self.stream.read(room),
+            Err(error) => Err(error),
+        }
+    }
+}
+
+impl<'a, S: Peek, L: Host> Read for Requests<S, Visit<'a, L>> {
+    ghost remaining = { λ requests. S.Read.remaining requests.stream };
 
     fn read(&mut self, room: &mut [u8]) -> io::Result<usize> {
-        match self.stream.read(room) {
+        self.note_answered();
+        match self.read_on(room) {
             Ok(count) => {
                 self.note(&room[..count]);
+                self.answering = self.visit.instant();
                 Ok(count)
             }
-            Err(error) => Err(error),
+            Err(error) => {
+                self.has_failed = true;
+                Err(error)
+            }
         }
     }
 }

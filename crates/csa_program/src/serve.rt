@@ -1,5 +1,5 @@
-//! `csa serve --image IMAGE --port P --workers W --sessions N [--legs] [--log] --first DAY --days N --zone ZONE
-//! [NAME=FOLDER]..`.
+//! `csa serve --image IMAGE --port P --workers W --sessions N [--legs] [--log] [--idle SECS] --first DAY --days N
+//! --zone ZONE [NAME=FOLDER]..`.
 
 ghost use Rattle.std.specs.Prelude.{◌≡◌, ◌≢◌, ◌≤◌, ◌⊎◌, [], All, length, map};
 ghost use Rattle.std.specs.Prelude.{slice_get, Some, string_bytes, IfOk, IfSome, MatchOption, ℕ};
@@ -22,10 +22,12 @@ ghost use Rattle.feed_plans.specs.Planning.{IsPlanNow};
 use crate::bases::warn_of_bases;
 use crate::explaining::{Explains, warn_of_idle_feed};
 use crate::folders::warn_of_folders;
-use crate::logging::{LoaderErrors, SessionLog, SharedErrors, log_load};
+use crate::line_queue::LineQueue;
+use crate::logging::{Host, LoaderErrors, SharedErrors, log_load};
 use crate::machine::Machine;
 use crate::requests::Requests;
-use crate::sockets::{Door, Visit, Visitor};
+use crate::sockets::{Door, Visitor};
+use crate::visits::{SessionRules, Visit};
 use clock_days::instant;
 use command_requests::{Ends, NamedFolder, ServeRequest};
 use csa_commands::{
@@ -38,14 +40,14 @@ use feed_plans::plan_at;
 use image_verifier::Verified;
 use orders::OpenGate;
 use std::alloc::{AllocError, Global};
-use std::io;
 use std::io::{ErrorKind, Read, Write};
 use std::marker::Brand;
 use std::net::{Ipv4Addr, Net, TcpListener, TcpStream};
 use std::rt::Files;
-use std::sync::{Arc, Mutex, Wait};
+use std::sync::{Arc, Wait};
 use std::thread::Threads;
 use std::time::{Clock, Instant};
+use std::{io, thread};
 use text_pieces::{put_number, put_text};
 use workers::{
     Client, Clients, Feeds, LoadRefusal, Loaded, PointForm, Ran, Served, WorkersFault, run_shelves,
@@ -176,9 +178,33 @@ pub fn run<
         Ok(bound) => bound,
         Err(error) => return unheard(alloc, errors, request.port, error.kind()),
     };
-    let errors = Mutex::new(errors);
-    let shared = SharedErrors::of(rt, alloc, &errors);
-    let (status, _hosted) = listen(&bound, image, &folders, &shared, output);
+    serve_at(rt, &bound, image, &folders, output, errors)
+}
+
+// Serves at the port, while a thread of its own writes what the server's threads report.
+fn serve_at<H: Disk + Explains + Clock + Threads + Wait + Sync, O: Write, E: Write + Send>(
+    rt: &H,
+    bound: &Bound,
+    image: Verified,
+    folders: &Folders<'_, H>,
+    output: &mut O,
+    errors: &mut E,
+) -> u8 {
+    let alloc = folders.alloc;
+    let Ok((queue, writer)) = LineQueue::new(alloc) else {
+        return status::OUT_OF_MEMORY;
+    };
+    let queue = &queue;
+    let ((), status) = thread::join(
+        rt,
+        move || writer.write_all(rt, queue, errors),
+        || -> u8 {
+            let shared = SharedErrors::of(rt, alloc, queue);
+            let (status, _hosted) = listen(bound, image, folders, &shared, output);
+            queue.close(rt);
+            status
+        },
+    );
     status
 }
 
@@ -201,29 +227,22 @@ fn name_of(alloc: Global, feed: &NamedFolder<'_>) -> Result<String, AllocError>
 
 // Prints the port, serves whoever comes to it, and prints how many sessions there were. Returns the status and what was
 // served: none if the server failed before it served anybody, or if its workers failed. Whatever the server's threads
-// report goes through one lock.
-fn listen<
-    'd,
-    'f,
-    'e,
-    H: Disk + Explains + Clock + Threads + Wait + Sync,
-    O: Write,
-    E: Write + Send,
->(
+// report goes into one queue.
+fn listen<'d, 'f, 'e, H: Disk + Explains + Clock + Threads + Wait + Sync, O: Write>(
     bound: &'d Bound,
     image: Verified,
     folders: &Folders<'f, H>,
-    errors: &'d SharedErrors<'e, H, E>,
+    errors: &'d SharedErrors<'e, H>,
     output: &mut O,
-) -> (u8, Option<Hosted<'d, SharedErrors<'e, H, E>>>)
+) -> (u8, Option<Hosted<'d, SharedErrors<'e, H>>>)
     ensures end { MatchOption result.1 ((result.0 ≡ INPUT_OUTPUT) ⊎ (result.0 ≡ OUT_OF_MEMORY))
         (λ hosted. IsServerEnd bound.now.port (O.contents output.old) (O.contents output.new)
         hosted.served hosted.door.failed result.0) }
     ensures many { IfSome result.1 (λ hosted.
         AreAsMany folders.now.request.now.sessions (length hosted.served) hosted.door.failed) }
     ensures hosted { IfSome result.1 (λ hosted. AreHosted (form_with folders.now.request.now.legs)
-        ⟦<Visitor<'d, SharedErrors<'e, H, E>> as Client>⟧.opens
-        ⟦<Requests<TcpStream, Option<Visit<'d, SharedErrors<'e, H, E>>>> as Read>⟧.remaining
+        ⟦<Visitor<'d, SharedErrors<'e, H>> as Client>⟧.opens
+        ⟦<Requests<TcpStream, Visit<'d, SharedErrors<'e, H>>> as Read>⟧.remaining
         ⟦<TcpStream as Write>⟧.contents
         folders.now.request.now.workers.number hosted.door.came hosted.served) }
 {
@@ -235,8 +254,11 @@ fn listen<
     if begun != status::ACCEPTED {
         return (begun, None);
     }
-    let log = if request.log { Some(errors) } else { None };
-    let door = Door::new(&bound.listener, request.sessions, log);
+    let rules = SessionRules {
+        idle: request.idle,
+        log: request.log,
+    };
+    let door = Door::new(&bound.listener, request.sessions, rules, errors);
     let loader_errors = LoaderErrors::of(errors.another());
     match serve_door::<Brand, _, _, _>(door, made, folders, loader_errors) {
         Ok(hosted) => (tell_served(folders.alloc, &hosted, output), Some(hosted)),
@@ -247,7 +269,7 @@ fn listen<
 /// What a server served, and the door to which the clients came.
 #[derive(Drop)]
 struct Hosted<'d, L> {
-    served: Served<Requests<TcpStream, Option<Visit<'d, L>>>, TcpStream>,
+    served: Served<Requests<TcpStream, Visit<'d, L>>, TcpStream>,
     door: Door<'d, L>,
 }
 
@@ -257,7 +279,7 @@ fn serve_door<
     'f,
     B: Named + Send + Sync,
     H: Disk + Explains + Clock + Threads + Wait + Sync,
-    L: SessionLog + Sync,
+    L: Host + Sync,
     E: Write + Send + Drop,
 >(
     door: Door<'d, L>,
@@ -276,7 +298,7 @@ fn serve_door<
         door.entry.is_endless door.entry.failed []
         → IfOk result (λ hosted. AreAsMany wanted (length hosted.served) hosted.door.failed) }
     ensures sessions { IfOk result (λ hosted. AreSessionsOf (form_with folders.now.request.now.legs)
-        ⟦<Visitor<'d, L> as Client>⟧.opens ⟦<Requests<TcpStream, Option<Visit<'d, L>>> as Read>⟧.remaining
+        ⟦<Visitor<'d, L> as Client>⟧.opens ⟦<Requests<TcpStream, Visit<'d, L>> as Read>⟧.remaining
         ⟦<TcpStream as Write>⟧.contents made.2.items hosted.door.came hosted.served) }
 {
     let form = form_of(folders.request.legs);
@@ -288,7 +310,7 @@ fn serve_door<
 }
 
 // How many sessions ended in each way, and whether accepting failed.
-fn end_of<'d, L: SessionLog + Sync>(hosted: &Hosted<'d, L>) -> (Ends, bool)
+fn end_of<'d, L: Host + Sync>(hosted: &Hosted<'d, L>) -> (Ends, bool)
     ensures ends { result.0 ≡ counts_of hosted.now.served }
     ensures deaf { result.1 ≡ hosted.now.door.failed }
 {
@@ -447,7 +469,7 @@ fn port_line(alloc: Global, port: u16) -> Result<String, AllocError>
 
 // Prints how many sessions there were. The status follows from how they ended and whether accepting failed, unless the
 // line can't be printed.
-fn tell_served<'d, L: SessionLog + Sync, O: Write>(
+fn tell_served<'d, L: Host + Sync, O: Write>(
     alloc: Global,
     hosted: &Hosted<'d, L>,
     output: &mut O,

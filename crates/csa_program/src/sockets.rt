@@ -4,51 +4,40 @@ ghost use Rattle.std.specs.Prelude.{◌≡◌, ◌⊎◌, ◌↔◌, ◌+◌, �
 ghost use Rattle.std.specs.Prelude.{false, IfOk, IfSome, IsTrue, MatchOption, ⊤, ◌-◌, ◌^◌, ℕ, map, min};
 ghost use Rattle.csa_program.specs.Door.{AreCountedOff};
 
-use crate::logging::SessionLog;
+use crate::accepting::{NextTry, next_try};
+use crate::draining::drain;
+use crate::logging::Host;
 use crate::requests::Requests;
-use csa_commands::Begun;
+use crate::visits::{SessionRules, Visit};
+use command_requests::Seconds;
 use load_orders::Notes;
-use std::io::ErrorKind;
+use std::io;
 use std::net::{TcpListener, TcpStream};
+use std::time::Duration;
 use workers::{Client, Clients, ConnFault, End};
 
-/// A session of a client, as it is logged.
-#[derive(Drop)]
-pub struct Visit<'a, L> {
-    /// The client's number among those that were accepted, from 1 on.
-    number: u64,
-    begun: Begun,
-    log: &'a L,
-}
-
-impl<'a, L: SessionLog> Visit<'a, L> {
-    fn end(&self, end: End, requests: u64) {
-        self.log.log_session(self.number, end, requests, self.begun);
-    }
-}
-
-/// A client whose TCP connection was accepted, and where its session is logged, if it is.
+/// A client whose TCP connection was accepted, and how its session is kept.
 #[derive(Drop)]
 pub struct Visitor<'a, L> {
     stream: TcpStream,
     number: u64,
-    log: Option<&'a L>,
+    rules: SessionRules,
+    host: &'a L,
 }
 
-/// A client's session, to be logged, which begins now; none if sessions aren't logged.
-fn visit_of<'a, L: SessionLog>(number: u64, log: Option<&'a L>) -> Option<Visit<'a, L>> {
-    match log {
-        Some(log) => Some(Visit {
-            number,
-            begun: log.now(),
-            log,
-        }),
-        None => None,
+// Each reply is sent at once. A read and a write fail once the client has sent nothing, or taken nothing, for so long.
+fn make_ready(stream: &TcpStream, idle: Option<Seconds>) -> io::Result<()> {
+    stream.set_nodelay(true)?;
+    if let Some(idle) = idle {
+        let longest = Duration::from_secs(u64::from(idle.number));
+        stream.set_read_timeout(Some(longest))?;
+        stream.set_write_timeout(Some(longest))?;
     }
+    Ok(())
 }
 
-impl<'a, L: SessionLog + Sync> Client for Visitor<'a, L> {
-    type Reader = Requests<TcpStream, Option<Visit<'a, L>>>;
+impl<'a, L: Host + Sync> Client for Visitor<'a, L> {
+    type Reader = Requests<TcpStream, Visit<'a, L>>;
 
     type Writer = TcpStream;
 
@@ -56,28 +45,33 @@ impl<'a, L: SessionLog + Sync> Client for Visitor<'a, L> {
     ghost opens = { λ visitor result. IfOk result (λ opened. opened.1 ≡ visitor.stream) };
 
     /// Each reply is sent at once.
-    fn open(self) -> Result<(Requests<TcpStream, Option<Visit<'a, L>>>, TcpStream), ConnFault> {
+    fn open(self) -> Result<(Requests<TcpStream, Visit<'a, L>>, TcpStream), ConnFault> {
         let Visitor {
             stream,
             number,
-            log,
+            rules,
+            host,
         } = self;
-        let visit = visit_of(number, log);
-        match (stream.set_nodelay(true), stream.try_clone()) {
+        let visit = Visit::begin(number, rules, host);
+        match (make_ready(&stream, rules.idle), stream.try_clone()) {
             (Ok(()), Ok(reader)) => Ok((Requests::new(reader, visit), stream)),
             _ => {
-                if let Some(visit) = &visit {
-                    visit.end(End::Failed, 0);
-                }
+                visit.end(End::Failed, 0, Duration::ZERO);
                 Err(ConnFault)
             }
         }
     }
 
-    fn close(reader: Requests<TcpStream, Option<Visit<'a, L>>>, _writer: TcpStream, end: End) {
-        if let Some(visit) = &reader.visit {
-            visit.end(end, reader.count());
+    /// If the session ended before the client's requests did, the client is left time for the replies that were
+    /// written.
+    fn close(reader: Requests<TcpStream, Visit<'a, L>>, writer: TcpStream, end: End) {
+        let mut reader = reader;
+        let slowest = reader.slowest();
+        if end != End::Ended && !reader.has_failed() {
+            let host = reader.visit.host();
+            drain(&writer, reader.stream(), host);
         }
+        reader.visit.end(end, reader.count(), slowest);
     }
 }
 
@@ -90,18 +84,24 @@ pub struct Door<'a, L> {
     failed: bool,
     /// How many were accepted.
     accepted: u64,
-    log: Option<&'a L>,
+    rules: SessionRules,
+    host: &'a L,
     came: Notes<Visitor<'a, L>>,
 }
 
 impl<'a, L> Door<'a, L> {
-    /// A door for so many connections, or for connections without end if that is 0. Their sessions are logged, if there
-    /// is something to log them to.
-    pub fn new(listener: &'a TcpListener, connections: u64, log: Option<&'a L>) -> Door<'a, L>
+    /// A door for so many connections, or for connections without end if that is 0, whose sessions are kept by these
+    /// rules.
+    pub fn new(
+        listener: &'a TcpListener,
+        connections: u64,
+        rules: SessionRules,
+        host: &'a L,
+    ) -> Door<'a, L>
         ensures left { result.left ≡ connections }
         ensures endless { IsTrue result.is_endless ↔ (connections ≡ 0) }
         ensures whole { result.failed ≡ false }
-        ensures log { result.log ≡ log.entry }
+        ensures rules { result.rules ≡ rules }
         ensures nobody { result.came ≡ [] }
         ensures counted { AreCountedOff connections result.left result.accepted result.is_endless result.failed [] }
     {
@@ -111,7 +111,8 @@ impl<'a, L> Door<'a, L> {
             is_endless: connections == 0,
             failed: false,
             accepted: 0,
-            log,
+            rules,
+            host,
             came: Notes::none(),
         }
     }
@@ -123,30 +124,6 @@ impl<'a, L> Door<'a, L> {
         self.failed
     }
 
-    // Accepts a connection. One that ended before it was accepted is passed over, and not counted.
-    fn accept(&mut self) -> Option<TcpStream>
-        ensures failed { MatchOption result (self.new.failed ≡ true) (λ _. self.new.failed ≡ self.old.failed) }
-        ensures left { self.new.left ≡ self.old.left }
-        ensures endless { self.new.is_endless ≡ self.old.is_endless }
-        ensures came { self.new.came ≡ self.old.came }
-        ensures accepted { self.new.accepted ≡ self.old.accepted }
-        ensures log { self.new.log ≡ self.old.log }
-    {
-        for _ in 0..u64::MAX {
-            match self.listener.accept() {
-                Ok((stream, _)) => return Some(stream),
-                Err(error) => match error.kind() {
-                    ErrorKind::Interrupted
-                    | ErrorKind::ConnectionAborted
-                    | ErrorKind::ConnectionReset => {}
-                    _ => break,
-                },
-            }
-        }
-        self.failed = true;
-        None
-    }
-
     // The client of this connection, who has the next number and is noted as one who came.
     fn visitor(&mut self, stream: TcpStream) -> Visitor<'a, L>
         ensures stream { result.stream ≡ stream }
@@ -155,21 +132,71 @@ impl<'a, L> Door<'a, L> {
         ensures failed { self.new.failed ≡ self.old.failed }
         ensures number { result.number ≡ self.new.accepted }
         ensures next { self.new.accepted ≡ min (self.old.accepted + 1) (2 ^ 64 - 1) }
-        ensures log { (result.log ≡ self.old.log) × (self.new.log ≡ self.old.log) }
+        ensures rules { (result.rules ≡ self.old.rules) × (self.new.rules ≡ self.old.rules) }
         ensures came { self.new.came ≡ self.old.came ++ result ∷ [] }
     {
         self.accepted = self.accepted.saturating_add(1);
         let visitor = Visitor {
             stream,
             number: self.accepted,
-            log: self.log,
+            rules: self.rules,
+            host: self.host,
         };
         self.came.note(&visitor);
         visitor
     }
 }
 
-impl<'a, L> Clients<Visitor<'a, L>> for Door<'a, L> {
+impl<'a, L: Host> Door<'a, L> {
+    // Accepts a connection. One that ended before it was accepted is passed over, and not counted. If accepting fails
+    // for another reason, this is told, and accepting is tried again as long as that may help.
+    fn accept(&mut self) -> Option<TcpStream>
+        ensures failed { MatchOption result (self.new.failed ≡ true) (λ _. self.new.failed ≡ self.old.failed) }
+        ensures left { self.new.left ≡ self.old.left }
+        ensures endless { self.new.is_endless ≡ self.old.is_endless }
+        ensures came { self.new.came ≡ self.old.came }
+        ensures accepted { self.new.accepted ≡ self.old.accepted }
+        ensures rules { self.new.rules ≡ self.old.rules }
+    {
+        let accepted = accepted_at(self.listener, self.host);
+        if accepted.is_none() {
+            self.failed = true;
+        }
+        accepted
+    }
+}
+
+// The next connection; `None` where no more can be accepted.
+fn accepted_at<L: Host>(listener: &TcpListener, host: &L) -> Option<TcpStream> {
+    let mut is_waiting = false;
+    for _ in 0..u64::MAX {
+        match listener.accept() {
+            Ok((stream, _)) => {
+                if is_waiting {
+                    host.tell_recovery();
+                }
+                return Some(stream);
+            }
+            Err(error) => match next_try(error.kind()) {
+                NextTry::AtOnce => {}
+                NextTry::Later => {
+                    if !is_waiting {
+                        host.tell_failure(&error, false);
+                    }
+                    is_waiting = true;
+                    host.pause();
+                }
+                NextTry::Never => {
+                    host.tell_failure(&error, true);
+                    return None;
+                }
+            },
+        }
+    }
+    None
+}
+
+impl<'a, L: Host> Clients<Visitor<'a, L>> for Door<'a, L> {
     ghost came = { λ door. door.came };
 
     // Accepting failed, or as many as are wanted were accepted.
@@ -194,7 +221,7 @@ impl<'a, L> Clients<Visitor<'a, L>> for Door<'a, L> {
         ensures left { IfSome result (λ _. (self.old.is_endless ≡ true) ⊎ (self.new.left + 1 ≡ self.old.left)) }
         ensures failed { IfSome result (λ _. self.new.failed ≡ self.old.failed) }
         ensures deaf { self.old.failed ≡ true → self.new.failed ≡ true }
-        ensures log { self.new.log ≡ self.old.log }
+        ensures rules { self.new.rules ≡ self.old.rules }
         ensures number { IfSome result (λ client. client.number ≡ min (self.old.accepted + 1) (2 ^ 64 - 1)) }
         ensures holds { (wanted : ℕ)
             → AreCountedOff wanted self.old.left self.old.accepted self.old.is_endless self.old.failed

@@ -1,16 +1,44 @@
 //! How many trips run on a day.
 
-ghost use Rattle.std.specs.Prelude.{◌≡◌, ◌≤◌, if◌then◌else◌, IfOk, OnOk};
-ghost use Rattle.gtfs_tables.specs.Joined.{makes_connections as makes};
+ghost use Rattle.std.specs.Prelude.{◌≡◌, ◌≤◌, ◌&&◌, get_or, false, length, if◌then◌else◌, ℕ, List, IfOk};
+ghost use Rattle.std.specs.List.{count_by};
 ghost use Rattle.gtfs_tables.specs.declared.tables.Feed.{Feed as JoinedFeed};
-ghost use Rattle.service_days.specs.Asked.{AreOfDay};
-ghost use Rattle.service_days.specs.Services.{HoldsServices};
 ghost use Rattle.connections.specs.Runs.{runs_on};
+ghost use Rattle.gtfs_tables.specs.Joined.{makes_connections as makes};
+ghost use Rattle.gtfs_rows.specs.declared.values.Day.{Day as RunDay};
+ghost use Rattle.connections.specs.Active.{AreNamed, active_among};
+ghost use Rattle.feed_days.specs.Served.{AreServicesOf};
 ghost use Rattle.feed_days.specs.Service.{trips_on as running_trips};
 
+use connections::service_indices;
 use gtfs_tables::{Day, Feed, Trip};
-use service_days::{DayServices, Services};
+use service_days::{NamedServices, Services};
 use std::alloc::{AllocError, Global};
+
+/// The services of a feed: their rows, the services that trips name, each once, and which of these each trip has. So
+/// each of them is evaluated once for a day, however many trips have it.
+#[derive(Drop)]
+pub struct FeedServices {
+    services: Services,
+    named: NamedServices,
+    indices: Vec<usize>,
+}
+
+impl FeedServices {
+    /// Returns the services of a feed. Memory may run out.
+    pub fn new(alloc: Global, feed: &Feed) -> Result<FeedServices, AllocError>
+        ensures { IfOk result (AreServicesOf feed.now) }
+    {
+        let services = Services::new(alloc, feed.hash, &feed.calendar, &feed.calendar_dates)?;
+        let mut named = NamedServices::new(alloc, &services);
+        let indices = service_indices(alloc, &mut named, &feed.trips)?;
+        Ok(FeedServices {
+            services,
+            named,
+            indices,
+        })
+    }
+}
 
 /// Returns how many of a feed's trips run on a day, given the feed's services: a trip runs if its service is active,
 /// it isn't a flex trip, and it has at least two rows. A trip that `frequencies.txt` repeats counts once. Memory may
@@ -18,39 +46,39 @@ use std::alloc::{AllocError, Global};
 pub fn trips_on(
     alloc: Global,
     feed: &Feed,
-    services: &Services,
+    services: &FeedServices,
     day: Day,
 ) -> Result<usize, AllocError>
-    requires { HoldsServices feed.now.calendar.items feed.now.calendar_dates.items services.now }
+    requires { AreServicesOf feed.now services.now }
     ensures { IfOk result (λ count. count ≡ running_trips feed.now day) }
 {
-    let mut asked = DayServices::new(alloc, services);
-    let mut count = 0usize;
-    for trip in &feed.trips {
-        count += running(&mut asked, services, day, trip)?;
-    }
-    Ok(count)
+    let active = services.named.active_on(alloc, &services.services, day)?;
+    Ok(count_running(&active, &services.indices, &feed.trips))
 }
 
-// Returns 1 if a trip runs on the day, or else 0.
-fn running(
-    asked: &mut DayServices,
-    services: &Services,
-    day: Day,
-    trip: &Trip,
-) -> Result<usize, AllocError>
-    ensures asked { (feed : JoinedFeed) → HoldsServices feed.calendar.items feed.calendar_dates.items services.now
-        → AreOfDay feed.calendar.items feed.calendar_dates.items day asked.old
-        → OnOk result (AreOfDay feed.calendar.items feed.calendar_dates.items day asked.new) }
-    ensures count { (feed : JoinedFeed) → HoldsServices feed.calendar.items feed.calendar_dates.items services.now
-        → AreOfDay feed.calendar.items feed.calendar_dates.items day asked.old
-        → IfOk result (λ count. count ≡ (if runs_on feed day trip.now then 1 else 0)) }
-    ensures one { IfOk result (λ count. count ≤ 1) }
+// Returns how many trips run on a day, given the index of each trip's service and which services are active on the
+// day.
+fn count_running(active: &[bool], indices: &[usize], trips: &[Trip]) -> usize
+    requires { length indices.now ≡ length trips.now }
+    ensures { (feed : JoinedFeed) (day : RunDay) (names : List (List ℕ)) → AreNamed names trips.now indices.now
+        → active.now ≡ active_among feed names day → result ≡ count_by (runs_on feed day) trips.now }
 {
-    if makes_connections(trip) && asked.runs(services, &trip.service, day)? {
-        return Ok(1);
+    let mut count = 0usize;
+    for (place, trip) in trips.iter().enumerate() {
+        count += running(active, indices[place], trip);
     }
-    Ok(0)
+    count
+}
+
+// Returns 1 if a trip runs on a day on which these services are active, or else 0.
+fn running(active: &[bool], service: usize, trip: &Trip) -> usize
+    ensures count { result ≡ (if makes trip.now && get_or active.now service false then 1 else 0) }
+    ensures one { result ≤ 1 }
+{
+    if makes_connections(trip) && active.get(service).copied().unwrap_or(false) {
+        return 1;
+    }
+    0
 }
 
 // Returns whether a trip makes connections: it isn't a flex trip, and has at least two rows.

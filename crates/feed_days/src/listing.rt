@@ -3,14 +3,15 @@
 ghost use Rattle.std.specs.Prelude.{◌≡◌, ◌++◌, true, IfOk, OnOk, string_bytes};
 ghost use Rattle.std.specs.List.{flat_map};
 ghost use Rattle.gtfs_rows.specs.Values.{is_civil};
-ghost use Rattle.service_days.specs.Services.{HoldsServices, is_not_after};
+ghost use Rattle.service_days.specs.Services.{is_not_after};
+ghost use Rattle.feed_days.specs.Served.{AreServicesOf};
 ghost use Rattle.feed_days.specs.Days.{AreDayLines, first_unlisted, listed_days, span_text, trips_line, unlisted_line};
 
-use crate::counting::trips_on;
+use crate::counting::{FeedServices, trips_on};
 use crate::putting::{put_date, put_date_line};
 use crate::span::{Span, span_of};
 use gtfs_tables::{Day, Feed};
-use service_days::{Services, day_after};
+use service_days::day_after;
 use std::alloc::{AllocError, Global};
 use text_pieces::{put_number, put_text};
 
@@ -40,7 +41,7 @@ fn append_span(lines: &mut String, alloc: Global, feed: &Feed, span: Span) -> Re
 {
     put_date_line(lines, "first ", span.first)?;
     put_date_line(lines, "last ", span.last)?;
-    let services = Services::new(alloc, feed.hash, &feed.calendar, &feed.calendar_dates)?;
+    let services = FeedServices::new(alloc, feed)?;
     let unlisted = append_days(lines, alloc, feed, &services, span)?;
     append_unlisted(lines, unlisted)?;
     Ok(())
@@ -51,10 +52,10 @@ fn append_days(
     lines: &mut String,
     alloc: Global,
     feed: &Feed,
-    services: &Services,
+    services: &FeedServices,
     span: Span,
 ) -> Result<Option<Day>, AllocError>
-    requires services { HoldsServices feed.now.calendar.items feed.now.calendar_dates.items services.now }
+    requires services { AreServicesOf feed.now services.now }
     requires first { is_civil span.first ≡ true }
     requires last { is_civil span.last ≡ true }
     requires in_order { is_not_after span.first span.last ≡ true }
@@ -80,10 +81,10 @@ fn append_day(
     lines: &mut String,
     alloc: Global,
     feed: &Feed,
-    services: &Services,
+    services: &FeedServices,
     day: Day,
 ) -> Result<(), AllocError>
-    requires { HoldsServices feed.now.calendar.items feed.now.calendar_dates.items services.now }
+    requires { AreServicesOf feed.now services.now }
     ensures { OnOk result (string_bytes lines.new ≡ string_bytes lines.old ++ trips_line feed.now day) }
 {
     let trips = trips_on(alloc, feed, services, day)?;

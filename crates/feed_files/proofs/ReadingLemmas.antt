@@ -73,7 +73,7 @@ fine_more content (table ∷ rest) next (here, fine) h = (here, fine_more conten
 
 -- both calendars are missing
 pub calendars_missing : (content : Content) (fault : TableFault) → content tables.Calendar ≡ None → content tables.CalendarDates ≡ None
-    → fault.table ≡ tables.Calendar → fault.row ≡ 0 → fault.kind ≡ kinds.MissingFile → FineBefore content tables.Calendar → IsFirstFault content fault
+    → fault.file ≡ tables.Calendar → fault.row ≡ 0 → fault.kind ≡ kinds.MissingFile → FineBefore content tables.Calendar → IsFirstFault content fault
 calendars_missing content fault calendar dates table row kind fine = record {
   stands = subst (λ t. FaultIn content t fault.row fault.kind) (sym table)
       (subst (λ c. CalendarFault c (content tables.CalendarDates) fault.row fault.kind) (sym calendar) (

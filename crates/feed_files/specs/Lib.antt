@@ -1,5 +1,6 @@
 pub mod Files
 pub mod Hashed
+pub mod Held
 pub mod Memory
 pub mod Outcome
 pub mod Reading

@@ -124,8 +124,8 @@ FineBefore content table = AreFine content (earlier table)
 
 -- the first fault of a feed's files
 pub record IsFirstFault (content : Content) (fault : TableFault) : Type 0 where
-  pub stands : FaultIn content fault.table fault.row fault.kind
-  pub first : FineBefore content fault.table
+  pub stands : FaultIn content fault.file fault.row fault.kind
+  pub first : FineBefore content fault.file
 
 -- the rows that were read are those of the file; there are none if there is no file
 abbrev pub IsHeld : {R : Type 0} → (List ℕ → R → Type 0) → Option (List ℕ) → Option R → Type 0
@@ -136,7 +136,7 @@ IsHeld Holds (Some bytes) (Some rows) = Holds bytes rows
 
 -- why one file's rows can't be read: memory ran out, the file has this fault, or its read failed
 abbrev pub NoRows : Table → (ℕ → FaultKind → Type 0) → ReadFault → Type 0
-NoRows table IsFault = RefusedOrFailed (λ fault. (fault.table ≡ table)
+NoRows table IsFault = RefusedOrFailed (λ fault. (fault.file ≡ table)
     × (fault.kind ≢ kinds.OutOfMemory → IsFault fault.row fault.kind)) (λ failed. failed ≡ table)
 
 -- why a feed's tables can't be read: memory ran out, this is the first fault, or a read failed and nothing is wrong with the files before

@@ -1,18 +1,22 @@
 //! The files of a folder.
 
 ghost use Rattle.std.specs.Prelude.{◌≡◌, ◌≤◌, ◌↔◌, ◌⊎◌, ◌∷◌, [], length, None, Some, All, IfErr, IfOk, IfSome, IsNone};
-ghost use Rattle.std.specs.Prelude.{IsOk, IsTrue, List, ℕ};
+ghost use Rattle.std.specs.Prelude.{IsOk, IsTrue, List, Option, ℕ, option_map};
+ghost use Rattle.std.specs.Path.{path_join};
 ghost use Rattle.std_io.specs.declared.io.kind.ErrorKind.TheVariants.{NotADirectory, NotFound, OutOfMemory};
 ghost use Rattle.feed_files.specs.Files.{FileAnswer, MayBeRead, MayFail, one_more, opened};
+ghost use Rattle.feed_files.specs.Held.{IsHeldAt};
+ghost use Rattle.feed_files.specs.declared.disk.NodeState.{NodeState as Node};
 ghost use Rattle.feed_files.specs.declared.files.FileFault.TheVariants.{OutOfMemory as WasOutOfMemory};
 ghost use Rattle.feed_files.specs.declared.files.TheConstants.{LONGEST_FILE};
 
+use crate::disk::{NodeState, OpenDisk, state_at};
 use crate::failed::FailedNames;
 use crate::files::{FeedFiles, FileFault, LONGEST_FILE};
 use crate::reads::FileReads;
 use gtfs_tables::IdHash;
 use std::alloc::Global;
-use std::fs::{File, OpenFile};
+use std::fs::OpenFile;
 use std::io::{ErrorKind, Read};
 use std::path::Path;
 use std::random::RandomSource;
@@ -23,19 +27,30 @@ pub trait Disk {
     // The possible results of asking for a file: first the path of the folder, then the name of the file.
     ghost gives: { Self → List ℕ → List ℕ → FileAnswer → Type 0 } = { λ _ _ _ _. Unit {0} };
 
-    /// Returns the bytes of a file in a folder, or none if there is no such file.
+    // The possible results of asking for a file while its folder is in a state: the folder's path, its state, and the
+    // name of the file.
+    ghost gives_in: { Self → List ℕ → Option Node → List ℕ → FileAnswer → Type 0 } = { λ _ _ _ _ _. Unit {0} };
+
+    /// Returns the state of the folder at a path, or at the end of the link there; none if nothing is found.
+    fn folder_state(&self, folder: &str) -> Option<NodeState>;
+
+    /// Returns the bytes of a file in a folder, or none if there is no such file, as long as the folder is in the given
+    /// state.
     ///
     /// # Errors
     ///
-    /// `Failed` if the file is longer than [`LONGEST_FILE`], can't be read, or is a link that leads nowhere;
-    /// `OutOfMemory` if memory ran out.
+    /// `Failed` if the file is longer than [`LONGEST_FILE`], can't be read, isn't a plain file, or is a link that leads
+    /// nowhere, and if the folder is no longer in the given state or the file changed while it was read; `OutOfMemory`
+    /// if memory ran out.
     fn feed_file(
         &self,
         alloc: Global,
         folder: &str,
+        state: &Option<NodeState>,
         name: &str,
     ) -> Result<Option<Vec<u8>>, FileFault>
         ensures gives { gives self.now folder.now name.now result }
+        ensures gives_in { gives_in self.now folder.now state.now name.now result }
         ensures short { IfOk result (λ file. IfSome file (λ bytes. length bytes.items ≤ LONGEST_FILE)) };
 
     /// Returns a hash with a new random key, by which ids in a feed's files are looked up.
@@ -46,13 +61,20 @@ impl<H: Files + RandomSource> Disk for H {
     // nothing more is known of a machine's files
     ghost gives = { λ _ _ _ answer. IfOk answer (λ file. IfSome file (λ bytes. length bytes.items ≤ LONGEST_FILE)) };
 
+    ghost gives_in = { λ _ _ _ _ _. Unit {0} };
+
+    fn folder_state(&self, folder: &str) -> Option<NodeState> {
+        state_at(self, folder)
+    }
+
     fn feed_file(
         &self,
         alloc: Global,
         folder: &str,
+        state: &Option<NodeState>,
         name: &str,
     ) -> Result<Option<Vec<u8>>, FileFault> {
-        file_up_to(LONGEST_FILE, self, alloc, folder, name)
+        file_up_to(LONGEST_FILE, self, alloc, folder, state, name)
     }
 
     fn id_hash(&self) -> IdHash {
@@ -61,16 +83,22 @@ impl<H: Files + RandomSource> Disk for H {
 }
 
 /// The files of a folder. No contract says what a disk holds, so contracts only know the bytes that were read.
+///
+/// All reads are of the folder as it is when this value is made: once the folder has been exchanged for another, or a
+/// file in it added, removed or replaced, each further read fails.
 #[derive(Drop)]
 pub struct FolderFiles<'a, H: Disk> {
     disk: &'a H,
     folder: &'a str,
+    state: Option<NodeState>,
     hash: IdHash,
     failures: u64,
     failed: FailedNames,
     reads: FileReads,
     // Each read, and each failure, that was noted is a possible result of the disk for that file of this folder.
     ghost given: { ∥ All (MayBeRead (H.gives disk.now folder.now)) reads ∥₁ },
+    // All reads are of one state of the folder.
+    ghost of_one_state: { ∥ All (MayBeRead (H.gives_in disk.now folder.now state)) reads ∥₁ },
     ghost unread: { ∥ All (MayFail (H.gives disk.now folder.now)) failed ∥₁ },
 }
 
@@ -87,6 +115,7 @@ impl<'a, H: Disk> FolderFiles<'a, H> {
         FolderFiles {
             disk,
             folder,
+            state: disk.folder_state(folder),
             hash: disk.id_hash(),
             failures: 0,
             failed: FailedNames::none(),
@@ -151,33 +180,85 @@ fn none_or_fault(kind: ErrorKind) -> Result<Option<Vec<u8>>, FileFault>
     Err(fault_of(kind))
 }
 
-/// Returns the bytes of a file in a folder, or none if there is no such file: also if there is no such folder, or
-/// if its path isn't that of a folder.
-///
-/// # Errors
-///
-/// `Failed` if the file is longer than `limit`, can't be read, or is a link that leads nowhere; `OutOfMemory` if
-/// memory ran out.
-pub fn file_up_to<H: Files>(
+// Returns all bytes of a file that was found, or `Failed` if there are more than `limit` or the file changed while it
+// was read.
+fn found_bytes<D: OpenDisk>(
+    limit: u32,
+    disk: &D,
+    alloc: Global,
+    path: &str,
+    found: &NodeState,
+) -> Result<Vec<u8>, FileFault>
+    requires { D.is_found disk.now path.now found.now }
+    ensures short { IfOk result (λ bytes. length bytes.items ≤ limit) }
+    ensures held { IfOk result (λ bytes. IsHeldAt (D.may_hold disk.now) (D.stayed disk.now) path.now bytes.items) }
+{
+    let bytes = match disk.open_found(path, found) {
+        Ok(file) => bytes_up_to(limit, alloc, file)?,
+        Err(error) => return Err(fault_of(error.kind())),
+    };
+    if disk.file_stayed(path, found, &bytes) {
+        Ok(bytes)
+    } else {
+        Err(FileFault::Failed)
+    }
+}
+
+// Returns the bytes of the file at a path, or none if there is no such file.
+fn file_at<H: Files + OpenDisk<Opened = H::File>>(
     limit: u32,
     rt: &H,
     alloc: Global,
-    folder: &str,
-    name: &str,
+    path: &str,
 ) -> Result<Option<Vec<u8>>, FileFault>
-    ensures { IfOk result (λ file. IfSome file (λ bytes. length bytes.items ≤ limit)) }
+    ensures short { IfOk result (λ file. IfSome file (λ bytes. length bytes.items ≤ limit)) }
+    ensures held { IfOk result (λ file. IfSome file
+        (λ bytes. IsHeldAt (H.may_hold rt.now) (H.stayed rt.now) path.now bytes.items)) }
 {
-    let Ok(path) = Path::new(folder).join(alloc, name) else {
-        return Err(FileFault::OutOfMemory);
-    };
-    match File::open(rt, path.as_path()) {
-        Ok(file) => match bytes_up_to(limit, alloc, file) {
+    match rt.find_file(path) {
+        Ok(found) => match found_bytes(limit, rt, alloc, path, &found) {
             Ok(bytes) => Ok(Some(bytes)),
             Err(fault) => Err(fault),
         },
         // a link with this name leads nowhere
-        Err(error) if is_no_file(error.kind()) && path.is_symlink(rt) => Err(FileFault::Failed),
+        Err(error) if is_no_file(error.kind()) && Path::new(path).is_symlink(rt) => {
+            Err(FileFault::Failed)
+        }
         Err(error) => none_or_fault(error.kind()),
+    }
+}
+
+/// Returns the bytes of a file in a folder, or none if there is no such file: also if there is no such folder, or
+/// if its path isn't that of a folder. They are those that the file held while the folder was in the given state:
+/// neither of the two changed until the file had been read.
+///
+/// # Errors
+///
+/// `Failed` if the file is longer than `limit`, can't be read, isn't a plain file, or is a link that leads nowhere, and
+/// if the folder is no longer in the given state or the file changed while it was read; `OutOfMemory` if memory ran
+/// out.
+pub fn file_up_to<H: Files + OpenDisk<Opened = H::File>>(
+    limit: u32,
+    rt: &H,
+    alloc: Global,
+    folder: &str,
+    state: &Option<NodeState>,
+    name: &str,
+) -> Result<Option<Vec<u8>>, FileFault>
+    ensures short { IfOk result (λ file. IfSome file (λ bytes. length bytes.items ≤ limit)) }
+    ensures held { IfOk result (λ file. IfSome file (λ bytes. IsHeldAt (H.may_hold rt.now) (H.stayed rt.now)
+        (path_join folder.now name.now) bytes.items)) }
+    ensures stayed { IfOk result (λ file. H.stayed rt.now folder.now state.now
+        (option_map (λ bytes. bytes.items) file)) }
+{
+    let Ok(path) = Path::new(folder).join(alloc, name) else {
+        return Err(FileFault::OutOfMemory);
+    };
+    let file = file_at(limit, rt, alloc, path.as_str())?;
+    if rt.folder_stayed(folder, state, &file) {
+        Ok(file)
+    } else {
+        Err(FileFault::Failed)
     }
 }
 
@@ -197,7 +278,7 @@ impl<'a, H: Disk> FeedFiles for FolderFiles<'a, H> {
     ghost hash = { λ files. Some files.hash };
 
     fn read(&mut self, alloc: Global, name: &str) -> Result<Option<Vec<u8>>, FileFault> {
-        let read = self.disk.feed_file(alloc, self.folder, name);
+        let read = self.disk.feed_file(alloc, self.folder, &self.state, name);
         match &read {
             Ok(file) => self.reads.note(name, file),
             Err(FileFault::Failed) => {

@@ -1,6 +1,7 @@
 //! The files of a feed, by name, and the tables that are read from them.
 #![tactic(auto)]
 
+mod disk;
 mod failed;
 mod files;
 mod folder;
@@ -9,6 +10,7 @@ mod memory;
 mod reading;
 mod reads;
 
+pub use disk::{NodeState, OpenDisk, state_at};
 pub use failed::FailedNames;
 pub use files::{FeedFiles, FileFault, LONGEST_FILE};
 pub use folder::{Disk, FolderFiles, file_up_to};

@@ -52,7 +52,7 @@ fn bytes_of<F: FeedFiles, T: TableFile>(
         Ok(bytes) => Ok(bytes),
         Err(FileFault::Failed) => Err(ReadFault::FileFailed(T::TABLE)),
         Err(FileFault::OutOfMemory) => Err(ReadFault::Table(TableFault {
-            table: T::TABLE,
+            file: T::TABLE,
             row: 0,
             kind: FaultKind::OutOfMemory,
         })),

@@ -23,11 +23,11 @@ load_fault_of_runs (runs.Day fault) = faults.Day fault
 
 -- the fault TooMany of a table
 abbrev pub too_many : Table → LoadFault
-too_many table = faults.Table (record { table = table; row = 0; kind = kinds.TooMany })
+too_many table = faults.Table (record { file = table; row = 0; kind = kinds.TooMany })
 
 -- the fault OutOfMemory of a table
 abbrev pub out_of_memory : Table → LoadFault
-out_of_memory table = faults.Table (record { table = table; row = 0; kind = kinds.OutOfMemory })
+out_of_memory table = faults.Table (record { file = table; row = 0; kind = kinds.OutOfMemory })
 
 -- how many reads failed
 abbrev pub failed_in : {T : Type 0} → Result T LoadFault → ℕ

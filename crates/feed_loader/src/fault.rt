@@ -9,39 +9,31 @@ use footpaths::FootFault;
 use gtfs_tables::{FaultKind, Table, TableFault};
 use image_verifier::ImageFault;
 use service_days::DayFault;
-use std::error::Error;
-use std::fmt;
+use thiserror::Error;
 
 /// Why a feed isn't loaded: the first thing that is wrong, or memory that ran out.
-#[derive(Clone, Copy, Debug, PartialEq, Eq)]
+///
+/// Its text has the number and the name of the fault, and for a table's fault the file and the number of the record (0
+/// for the whole file), with spaces between them: `8 IdTwice stops.txt 3`. A file that can't be read has no record:
+/// `101 FileFailed trips.txt`.
+#[derive(Clone, Copy, Debug, PartialEq, Eq, Error)]
 pub enum LoadFault {
     /// A file is refused, or there are too many stops, runs or connections, or too long names.
+    #[error("{} {} {} {}", self.number(), self.name(), .0.file.file_name(), .0.row)]
     Table(TableFault),
     /// A day has no start, or a run has a time out of range.
+    #[error("{} {}", self.number(), self.name())]
     Day(DayFault),
     /// The closure has too many footpaths, or one that takes too long.
+    #[error("{} {}", self.number(), self.name())]
     Footpaths(FootFault),
     /// Memory ran out while the image was verified.
+    #[error("{} {}", self.number(), self.name())]
     Image(ImageFault),
     /// A file can't be read.
+    #[error("{} {} {}", self.number(), self.name(), .0.file_name())]
     FileFailed(Table),
 }
-
-/// Writes the number and the name of the fault, and for a table's fault the file and the number of the record (0 for
-/// the whole file), with spaces between them: `8 IdTwice stops.txt 3`. A file that can't be read has no record:
-/// `101 FileFailed trips.txt`.
-impl fmt::Display for LoadFault {
-    fn fmt<W: fmt::Write>(&self, f: &mut fmt::Formatter<W>) -> fmt::Result {
-        write!(f, "{} {}", self.number(), self.name())?;
-        match self {
-            LoadFault::Table(fault) => write!(f, " {} {}", fault.table.file_name(), fault.row),
-            LoadFault::FileFailed(table) => write!(f, " {}", table.file_name()),
-            LoadFault::Day(_) | LoadFault::Footpaths(_) | LoadFault::Image(_) => Ok(()),
-        }
-    }
-}
-
-impl Error for LoadFault {}
 
 impl LoadFault {
     ghost use Rattle.std.specs.Prelude.{◌≡◌, MatchBool};
@@ -154,7 +146,7 @@ pub(crate) fn too_many(table: Table) -> LoadFault
     ensures { result ≡ too_many_of table }
 {
     LoadFault::Table(TableFault {
-        table,
+        file: table,
         row: 0,
         kind: FaultKind::TooMany,
     })
@@ -165,7 +157,7 @@ pub(crate) fn out_of_memory(table: Table) -> LoadFault
     ensures { result ≡ out_of_memory_of table }
 {
     LoadFault::Table(TableFault {
-        table,
+        file: table,
         row: 0,
         kind: FaultKind::OutOfMemory,
     })

@@ -78,6 +78,10 @@ pub cell_text : (place : Option ℕ) (r : Record) → AllText r → IsUtf8 (cell
 cell_text None r h = IsUtf8-nil
 cell_text (Some i) r h = trim_text (unwrap_or (field_at r i) []) (field_text r i h)
 
+-- of records that are text, the first and those after it are
+pub text_first : (all rest : List Record) (r : Record) → all ≡ r ∷ rest → AllRecordsText all → AllText r
+text_first all rest r e h = let t : AllRecordsText (r ∷ rest) = rw e at h in t.0
+
 pub text_rest : (all rest : List Record) (r : Record) → all ≡ r ∷ rest → AllRecordsText all → AllRecordsText rest
 text_rest all rest r e h = let t : AllRecordsText (r ∷ rest) = rw e at h in t.1
 

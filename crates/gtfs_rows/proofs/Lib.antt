@@ -1,8 +1,6 @@
 pub mod CellLemmas
-pub mod CutLemmas
 pub mod DayKeyLemmas
 pub mod FaultLemmas
-pub mod FieldsLemmas
 pub mod KeyLemmas
 pub mod OneFault
 pub mod SeenLemmas

@@ -1,12 +1,14 @@
 -- The records of a text, read one at a time, are the records of the text.
 use Rattle.std.proofs.Common.{◌≡◌, ◌≤◌, ◌+◌, ◌∷◌, ◌++◌, ℕ, zero, suc, List, [], length, Option, Some, None, Bool, true}
 use Rattle.std.proofs.Common.{false, refl, sym, ap, ◌∙◌, arith, add-one}
+use Rattle.std.specs.Prelude.{IsSome}
+use Rattle.std.specs.Bool.{MatchBool}
 use Rattle.csv.specs.Machine.{Read, ends_at_end, field_after, fields_after, is_end, next_record, step}
-use Rattle.csv.specs.Reading.{default_config, records_from, records_next}
+use Rattle.csv.specs.Reading.{NextIs, ReadsNext, default_config, records_from, records_next}
 use Rattle.csv.specs.declared.parser.Config.{Config}
 use Rattle.csv.specs.declared.parser.State.{State}
 use Rattle.csv.specs.declared.parser.State.TheVariants as st
-use Rattle.gtfs_rows.specs.Source.{records_at}
+use Rattle.gtfs_rows.specs.Source.{Record, records_at, records_of}
 
 -- after the end of the text there is no record
 pub ended : (cfg : Config) (s : State) (fields : List (List ℕ)) (field : List ℕ) (p : Read)
@@ -90,6 +92,25 @@ rows-next s (c ∷ rest) p h =
     ap (λ (n : ℕ). records_from default_config n s (c ∷ rest)) size
     ∙ rw h (ap (λ (rows : List (List (List ℕ))). p.0 ∷ rows) (e ∙ ap (λ (n : ℕ). records_from default_config n p.1 p.2) after))
 
-pub rows-none : (s : State) (xs : List ℕ) → next_record default_config s [] [] xs ≡ None → records_at s xs ≡ []
+rows-none : (s : State) (xs : List ℕ) → next_record default_config s [] [] xs ≡ None → records_at s xs ≡ []
 unfolding records_from
 rows-none s xs h = rw (add-one, h) refl
+
+-- a read of known bytes takes the first of their records, if they have one
+taken : (s s2 : State) (xs ys : List ℕ) (found : Bool) (fields : Record) (o : Option Read) → next_record default_config s [] [] xs ≡ o
+    → NextIs o found fields s2 ys → MatchBool found (records_at s xs ≡ fields ∷ records_at s2 ys) (records_at s xs ≡ [])
+taken s s2 xs ys found fields None e found_none = rw found_none (rows-none s xs e)
+taken s s2 xs ys found fields (Some p) e (is, same, state, rest) = rw (is, same, state, rest) (rows-next s xs p e)
+
+pub taken_of : (s s2 : State) (before after : Option (List ℕ)) (found : Bool) (fields : Record) → IsSome before
+    → ReadsNext default_config s before after found fields s2
+    → MatchBool found (records_of s before ≡ fields ∷ records_of s2 after) (records_of s before ≡ [])
+taken_of s s2 None after found fields known read = cc
+taken_of s s2 (Some xs) None found fields known read = absurd read
+taken_of s s2 (Some xs) (Some ys) found fields known read = taken s s2 xs ys found fields _ refl read
+
+pub known_after : (s s2 : State) (before after : Option (List ℕ)) (found : Bool) (fields : Record) → IsSome before
+    → ReadsNext default_config s before after found fields s2 → IsSome after
+known_after s s2 None after found fields known read = cc
+known_after s s2 (Some xs) None found fields known read = absurd read
+known_after s s2 (Some xs) (Some ys) found fields known read = refl

@@ -1,8 +1,7 @@
 pub mod Cells
-pub mod Cut
 pub mod Faults
-pub mod Fields
 pub mod Ids
+pub mod Positions
 pub mod Rows
 pub mod Source
 pub mod Tables

@@ -1,11 +1,13 @@
 -- The records of a file's bytes, and those that are still to be read.
-use Rattle.std.specs.Prelude.{◌+◌, if◌then◌else◌, ℕ, List, [], ◌∷◌, length, Bool, ⊤}
-use Rattle.csv.specs.Machine.{ends_with, next_record}
-use Rattle.csv.specs.Reading.{default_config, records, records_from, records_next, strip_bom}
-use Rattle.csv.specs.Records.{AllText}
+use Rattle.std.specs.Prelude.{◌≡◌, ◌+◌, ◌<◌, ℕ, List, [], ◌∷◌, length, slice_index_or, Option, Some, None, IsSome, ⊤}
+use Rattle.std.specs.Borrow.{Bor}
+use Rattle.csv.specs.Reading.{Ready, default_config, reader_config, reader_state, reader_trim, records, records_from, source_of, strip_bom}
+use Rattle.csv.specs.Records.{AllText, fields_of}
 use Rattle.csv.specs.declared.parser.State.{State}
-use Rattle.csv.specs.declared.parser.Terminator.TheVariants as term
-use Rattle.gtfs_rows.specs.declared.source.Records.{Records}
+use Rattle.csv.specs.declared.reader.Trim.TheVariants as trim
+use Rattle.gtfs_rows.specs.Positions.{line_at}
+use Rattle.gtfs_rows.specs.declared.records.FoundRecord.{FoundRecord}
+use Rattle.gtfs_rows.specs.declared.records.Records.{Records}
 
 -- a record is its fields, each a list of bytes
 abbrev pub Record : Type 0
@@ -19,28 +21,47 @@ records_in text = records default_config text
 abbrev pub table_records : List ℕ → List Record
 table_records bytes = records_in (strip_bom bytes)
 
--- the records that are still to be read
-abbrev pub left_of : Records → List Record
-left_of r = records_in r.rest.now
-
 -- the records of a text that is read from this state on
 abbrev pub records_at : State → List ℕ → List Record
 records_at s text = records_from default_config (length text + 1) s text
 
--- the records from the middle of a record on: these fields of it are read, and these bytes of the current field
-abbrev pub rows_in : State → Record → List ℕ → List ℕ → List Record
-rows_in s fields field text = records_next records_at (next_record default_config s fields field text)
+-- the same if the text is known
+abbrev pub records_of : State → Option (List ℕ) → List Record
+records_of s None = []
+records_of s (Some text) = records_at s text
 
--- LF (10) or CR (13)
-abbrev pub ends_line : ℕ → Bool
-ends_line byte = ends_with term.CRLF byte
+-- the bytes of a slice that a reader has not been given yet are known
+abbrev pub known : Bor (List ℕ) → Option (List ℕ)
+known slice = Some slice.now
 
--- the text without the ends of lines at its start
-abbrev pub at_record : List ℕ → List ℕ
-at_record [] = []
-at_record (b ∷ rest) = if ends_line b then at_record rest else b ∷ rest
+-- the records that are still to be read
+abbrev pub left_of : Records → List Record
+left_of r = records_of (reader_state r.reader) (source_of known r.reader)
+
+-- the record that was read last
+abbrev pub last_of : Records → Record
+last_of r = fields_of r.record
+
+-- the same, and then the records that are left
+abbrev pub from_last : Records → List Record
+from_last r = last_of r ∷ left_of r
+
+-- the records are read as a table's are: by commas and double quotes, nothing is trimmed, and the first isn't left out
+pub record IsReading (r : Records) : Type 0 where
+  pub config : reader_config r.reader ≡ default_config
+  pub trim : reader_trim r.reader ≡ trim.None
+  pub ready : Ready r.reader
+  pub source : IsSome (source_of known r.reader)
 
 -- each field of each record is UTF-8
 abbrev pub AllRecordsText : List Record → Type 0
 AllRecordsText [] = ⊤
 AllRecordsText (r ∷ rest) = AllText r × AllRecordsText rest
+
+-- the file has a record of this number, and it was found with the header and the line in which it begins
+pub record IsFound (bytes : List ℕ) (number : ℕ) (found : FoundRecord) : Type 0 where
+  pub within : number < length (table_records bytes)
+  pub header : fields_of found.header ≡ slice_index_or (table_records bytes) 0 []
+  pub fields : fields_of found.«record» ≡ slice_index_or (table_records bytes) number []
+  pub number_is : found.position.«record» ≡ number
+  pub line : found.position.line ≡ line_at bytes found.position.byte

@@ -2,8 +2,7 @@
 
 ghost use Rattle.std.specs.Prelude.{◌≡◌, ◌≤◌, length, map, IfErr, IfOk, IsUtf8, None, Some, true, false};
 ghost use Rattle.std.specs.String.{string_bytes};
-ghost use Rattle.csv.specs.Records.{AllText};
-ghost use Rattle.gtfs_rows.specs.Fields.{fields_of};
+ghost use Rattle.csv.specs.Records.{AllText, fields_of};
 ghost use Rattle.gtfs_rows.specs.Cells.{cell as cell_of, column as column_of, has_required as are_there, places_of};
 ghost use Rattle.gtfs_rows.specs.Cells.{trim_front, trim_spaces};
 ghost use Rattle.gtfs_rows.specs.Faults.{fault_unless};
@@ -11,8 +10,8 @@ ghost use Rattle.gtfs_rows.specs.Rows.{value};
 ghost use Rattle.gtfs_rows.specs.Values.{time_of};
 
 use crate::fault::FaultKind;
-use crate::fields::Fields;
 use crate::values::Time;
+use csv::ByteRecord;
 use std::alloc::{AllocError, Global};
 
 /// The index of a column in the header, if the header has it.
@@ -41,8 +40,8 @@ fn trim_start(text: &[u8]) -> &[u8]
     rest
 }
 
-// Returns a record's value in a column, without spaces around it; blank if the column is absent.
-fn cell<'a>(fields: &'a Fields<'_>, place: Place) -> &'a [u8]
+/// Returns a record's value in the column of an index, without spaces around it; blank if the column is absent.
+pub fn cell<'a>(fields: &'a ByteRecord, place: Place) -> &'a [u8]
     ensures { result.now ≡ cell_of place (fields_of fields.entry.now) }
 {
     let Some(place) = place else {
@@ -54,8 +53,8 @@ fn cell<'a>(fields: &'a Fields<'_>, place: Place) -> &'a [u8]
     }
 }
 
-// Returns the index of the first column with this name.
-fn column(header: &Fields<'_>, name: &[u8]) -> Place
+/// Returns the index of the first column with this name, if the header has one.
+pub fn column(header: &ByteRecord, name: &[u8]) -> Place
     ensures { result ≡ column_of name.now (fields_of header.now) }
 {
     for place in 0..header.len() {
@@ -69,7 +68,7 @@ fn column(header: &Fields<'_>, name: &[u8]) -> Place
 // Returns the index of each named column in the header.
 pub(crate) fn places(
     alloc: Global,
-    header: &Fields<'_>,
+    header: &ByteRecord,
     names: &[&str],
 ) -> Result<Vec<Place>, AllocError>
     ensures { IfOk result (λ v. v.items ≡ places_of (map (λ name. name.now) names.now) (fields_of header.now)) }
@@ -112,12 +111,12 @@ fn text_of(alloc: Global, bytes: &[u8]) -> Result<String, AllocError>
 
 /// The fields of a record, and the index in the header of each of the table's columns.
 #[derive(Clone, Copy)]
-pub struct Cells<'a, 'f> {
+pub struct Cells<'a> {
     pub(crate) places: &'a [Place],
-    pub(crate) fields: &'a Fields<'f>,
+    pub(crate) fields: &'a ByteRecord,
 }
 
-impl<'a, 'f> Cells<'a, 'f> {
+impl<'a> Cells<'a> {
     // Returns the record's value in the table's column of this index; blank if the column is absent.
     pub(crate) fn get(&self, column: usize) -> &'a [u8]
         ensures { result.now ≡ value self.entry.now.places.now column (fields_of self.entry.now.fields.now) }

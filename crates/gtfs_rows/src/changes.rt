@@ -1,7 +1,7 @@
 //! transfers.txt and frequencies.txt: where passengers change, and when trips repeat.
 
 ghost use Rattle.std.specs.Prelude.{◌≡◌, None, Some, IfOk, IfErr};
-ghost use Rattle.gtfs_rows.specs.Fields.{fields_of};
+ghost use Rattle.csv.specs.Records.{fields_of};
 ghost use Rattle.gtfs_rows.specs.Rows.{SpellsFrequency, SpellsTransfer, headway_fault, transfer_of, typed_transfer};
 ghost use Rattle.gtfs_rows.specs.Values.{number_of};
 ghost use Rattle.gtfs_rows.specs.declared.fault.Table.TheVariants as files;

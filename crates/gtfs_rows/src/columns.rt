@@ -8,19 +8,19 @@ use crate::fault::Table;
 /// The columns, by index, that must be different in any two records of a table, or the same in all of them.
 #[derive(Clone, Copy)]
 pub enum Key {
-    // records may repeat each other
+    /// Records may repeat each other.
     Nothing,
-    // no two records have the same text in this column
+    /// No two records have the same text in this column.
     Column(usize),
-    // no two records have the same pair of texts in these columns
+    /// No two records have the same pair of texts in these columns.
     Columns(usize, usize),
-    // all records have the same text in this column
+    /// All records have the same text in this column.
     Shared(usize),
 }
 
 impl Table {
-    // Returns the names of the columns that are read.
-    pub(crate) fn columns(self) -> &'static [&'static str]
+    /// Returns the names of the columns that are read, the required ones first.
+    pub fn columns(self) -> &'static [&'static str]
         ensures { map (λ name. name.now) result.now ≡ columns_of self }
     {
         match self {
@@ -63,8 +63,8 @@ impl Table {
         }
     }
 
-    // Returns how many of the columns are required; they come first.
-    pub(crate) fn required(self) -> usize
+    /// Returns how many of the columns are required; they come first.
+    pub fn required(self) -> usize
         ensures number { result ≡ required_of self }
         ensures within { result ≤ length (columns_of self) }
     {
@@ -78,8 +78,8 @@ impl Table {
         }
     }
 
-    // Returns which columns must be different in each record, or the same in all.
-    pub(crate) fn key(self) -> Key
+    /// Returns which columns must be different in each record, or the same in all.
+    pub fn key(self) -> Key
         ensures { result ≡ key_of self }
     {
         match self {

@@ -69,7 +69,7 @@ pub enum FaultKind {
 /// the file as a whole.
 #[derive(Clone, Copy, Debug, PartialEq, Eq)]
 pub struct TableFault {
-    pub table: Table,
+    pub file: Table,
     pub row: u64,
     pub kind: FaultKind,
 }
@@ -146,12 +146,12 @@ impl Table {
 
     // Returns a fault of a record of this table, or of the file if `row` is 0.
     pub(crate) fn fault(self, row: u64, kind: FaultKind) -> TableFault
-        ensures table { result.table ≡ self }
+        ensures file { result.file ≡ self }
         ensures row { result.row ≡ row }
         ensures kind { result.kind ≡ kind }
     {
         TableFault {
-            table: self,
+            file: self,
             row,
             kind,
         }
@@ -159,7 +159,7 @@ impl Table {
 
     /// Returns the fault that this table's file is missing.
     pub fn missing(self) -> TableFault
-        ensures table { result.table ≡ self }
+        ensures file { result.file ≡ self }
         ensures row { result.row ≡ 0 }
         ensures kind { result.kind ≡ FaultKind.MissingFile }
     {
@@ -168,7 +168,7 @@ impl Table {
 
     // Returns the fault that memory ran out at this table.
     pub(crate) fn out_of_memory(self) -> TableFault
-        ensures table { result.table ≡ self }
+        ensures file { result.file ≡ self }
         ensures kind { result.kind ≡ FaultKind.OutOfMemory }
     {
         self.fault(0, FaultKind::OutOfMemory)
@@ -185,7 +185,7 @@ impl Error for Table {}
 
 impl fmt::Display for TableFault {
     fn fmt<W: fmt::Write>(&self, f: &mut fmt::Formatter<W>) -> fmt::Result {
-        write!(f, "{}, record {}: {}", self.table, self.row, self.kind)
+        write!(f, "{}, record {}: {}", self.file, self.row, self.kind)
     }
 }
 

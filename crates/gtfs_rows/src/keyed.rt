@@ -2,8 +2,7 @@
 
 ghost use Rattle.std.specs.Prelude.{◌≡◌, ◌≢◌, ◌++◌, ◌∷◌, ℕ, List, [], None, Some, IfOk, IfErr, OnOk, ⊤};
 ghost use Rattle.std.specs.List.{AllZip};
-ghost use Rattle.csv.specs.Records.{AllText};
-ghost use Rattle.gtfs_rows.specs.Fields.{fields_of};
+ghost use Rattle.csv.specs.Records.{AllText, fields_of};
 ghost use Rattle.indexmap.specs.IndexSet.{hasher_of};
 ghost use Rattle.gtfs_rows.specs.Source.{Record};
 ghost use Rattle.gtfs_rows.specs.Cells.{Places};
@@ -140,7 +139,7 @@ pub(crate) fn every_row<R: Row>(
     bytes: &[u8],
 ) -> Result<Vec<R>, TableFault>
     ensures ok { IfOk result (λ rows. HoldsRows (shape_of R.TABLE) R.spells bytes.now rows.items) }
-    ensures file { IfErr result (λ fault. fault.table ≡ R.TABLE) }
+    ensures file { IfErr result (λ fault. fault.file ≡ R.TABLE) }
     ensures err { IfErr result (λ fault. fault.kind ≢ FaultKind.OutOfMemory
         → IsFaultOf (shape_of R.TABLE) bytes.now fault.row fault.kind) }
 {

@@ -45,7 +45,7 @@ pub fn rows_up_to<R: LimitedRow>(
 ) -> Result<Vec<R>, TableFault>
     ensures ok { IfOk result (λ rows. HoldsWithin (HoldsRows (shape_of R.TABLE) R.spells) R.count limit bytes.now
         rows.items) }
-    ensures file { IfErr result (λ fault. fault.table ≡ R.TABLE) }
+    ensures file { IfErr result (λ fault. fault.file ≡ R.TABLE) }
     ensures err { IfErr result (λ fault. fault.kind ≢ FaultKind.OutOfMemory
         → IsFaultWithin (shape_of R.TABLE) (HoldsRows (shape_of R.TABLE) R.spells) R.count limit bytes.now fault.row
         fault.kind) }

@@ -31,7 +31,7 @@ fn known_key() -> IdHash {
 /// Returns the agencies in the bytes of `agency.txt`, or the first fault of the file.
 pub fn read_agency(alloc: Global, bytes: &[u8]) -> Result<Vec<AgencyRow>, TableFault>
     ensures ok { IfOk result (λ rows. HoldsAgencies bytes.now rows.items) }
-    ensures file { IfErr result (λ fault. fault.table ≡ Table.Agency) }
+    ensures file { IfErr result (λ fault. fault.file ≡ Table.Agency) }
     ensures err { IfErr result (λ fault. fault.kind ≢ FaultKind.OutOfMemory
         → IsFaultOf agency_shape bytes.now fault.row fault.kind) }
 {
@@ -41,7 +41,7 @@ pub fn read_agency(alloc: Global, bytes: &[u8]) -> Result<Vec<AgencyRow>, TableF
 /// Returns the stop times in the bytes of `stop_times.txt`, or the first fault of the file.
 pub fn read_stop_times(alloc: Global, bytes: &[u8]) -> Result<StopTimes, TableFault>
     ensures ok { IfOk result (λ t. HoldsStopTimes bytes.now t) }
-    ensures file { IfErr result (λ fault. fault.table ≡ Table.StopTimes) }
+    ensures file { IfErr result (λ fault. fault.file ≡ Table.StopTimes) }
     ensures err { IfErr result (λ fault. fault.kind ≢ FaultKind.OutOfMemory
         → IsFaultOf stop_times_shape bytes.now fault.row fault.kind) }
 {
@@ -51,7 +51,7 @@ pub fn read_stop_times(alloc: Global, bytes: &[u8]) -> Result<StopTimes, TableFa
 /// Returns the weekly services in the bytes of `calendar.txt`, or the first fault of the file.
 pub fn read_calendar(alloc: Global, bytes: &[u8]) -> Result<Vec<CalendarRow>, TableFault>
     ensures ok { IfOk result (λ rows. HoldsCalendar bytes.now rows.items) }
-    ensures file { IfErr result (λ fault. fault.table ≡ Table.Calendar) }
+    ensures file { IfErr result (λ fault. fault.file ≡ Table.Calendar) }
     ensures err { IfErr result (λ fault. fault.kind ≢ FaultKind.OutOfMemory
         → IsFaultOf calendar_shape bytes.now fault.row fault.kind) }
 {
@@ -61,7 +61,7 @@ pub fn read_calendar(alloc: Global, bytes: &[u8]) -> Result<Vec<CalendarRow>, Ta
 /// Returns the added and removed days in the bytes of `calendar_dates.txt`, or the first fault of the file.
 pub fn read_calendar_dates(alloc: Global, bytes: &[u8]) -> Result<Vec<CalendarDateRow>, TableFault>
     ensures ok { IfOk result (λ rows. HoldsCalendarDates bytes.now rows.items) }
-    ensures file { IfErr result (λ fault. fault.table ≡ Table.CalendarDates) }
+    ensures file { IfErr result (λ fault. fault.file ≡ Table.CalendarDates) }
     ensures err { IfErr result (λ fault. fault.kind ≢ FaultKind.OutOfMemory
         → IsFaultOf calendar_dates_shape bytes.now fault.row fault.kind) }
 {
@@ -71,7 +71,7 @@ pub fn read_calendar_dates(alloc: Global, bytes: &[u8]) -> Result<Vec<CalendarDa
 /// Returns the rows in the bytes of `transfers.txt`, or the first fault of the file.
 pub fn read_transfers(alloc: Global, bytes: &[u8]) -> Result<Vec<TransferRow>, TableFault>
     ensures ok { IfOk result (λ rows. HoldsTransfers bytes.now rows.items) }
-    ensures file { IfErr result (λ fault. fault.table ≡ Table.Transfers) }
+    ensures file { IfErr result (λ fault. fault.file ≡ Table.Transfers) }
     ensures err { IfErr result (λ fault. fault.kind ≢ FaultKind.OutOfMemory
         → IsFaultOf transfers_shape bytes.now fault.row fault.kind) }
 {
@@ -81,7 +81,7 @@ pub fn read_transfers(alloc: Global, bytes: &[u8]) -> Result<Vec<TransferRow>, T
 /// Returns the rows in the bytes of `frequencies.txt`, or the first fault of the file.
 pub fn read_frequencies(alloc: Global, bytes: &[u8]) -> Result<Vec<FrequencyRow>, TableFault>
     ensures ok { IfOk result (λ rows. HoldsFrequencies bytes.now rows.items) }
-    ensures file { IfErr result (λ fault. fault.table ≡ Table.Frequencies) }
+    ensures file { IfErr result (λ fault. fault.file ≡ Table.Frequencies) }
     ensures err { IfErr result (λ fault. fault.kind ≢ FaultKind.OutOfMemory
         → IsFaultOf frequencies_shape bytes.now fault.row fault.kind) }
 {
@@ -93,7 +93,7 @@ pub fn read_frequencies(alloc: Global, bytes: &[u8]) -> Result<Vec<FrequencyRow>
 pub fn read_stops(alloc: Global, bytes: &[u8]) -> Result<Vec<StopRow>, TableFault>
     ensures ok { IfOk result (λ rows. HoldsStops bytes.now rows.items) }
     ensures few { IfOk result (λ rows. count_by is_stop rows.items ≤ MAX_STOPS) }
-    ensures file { IfErr result (λ fault. fault.table ≡ Table.Stops) }
+    ensures file { IfErr result (λ fault. fault.file ≡ Table.Stops) }
     ensures err { IfErr result (λ fault. fault.kind ≢ FaultKind.OutOfMemory
         → IsStopsFault MAX_STOPS bytes.now fault.row fault.kind) }
 {
@@ -105,7 +105,7 @@ pub fn read_stops(alloc: Global, bytes: &[u8]) -> Result<Vec<StopRow>, TableFaul
 pub fn read_trips(alloc: Global, bytes: &[u8]) -> Result<Vec<TripRow>, TableFault>
     ensures ok { IfOk result (λ rows. HoldsTrips bytes.now rows.items) }
     ensures few { IfOk result (λ rows. length rows.items ≤ MAX_TRIPS) }
-    ensures file { IfErr result (λ fault. fault.table ≡ Table.Trips) }
+    ensures file { IfErr result (λ fault. fault.file ≡ Table.Trips) }
     ensures err { IfErr result (λ fault. fault.kind ≢ FaultKind.OutOfMemory
         → IsTripsFault MAX_TRIPS bytes.now fault.row fault.kind) }
 {

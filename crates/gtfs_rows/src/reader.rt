@@ -1,9 +1,8 @@
 //! Reads any table: its header, then record by record until the first fault.
 
 ghost use Rattle.std.specs.Prelude.{◌≡◌, ◌≢◌, ◌+◌, ◌++◌, ◌∷◌, [], ℕ, List, Some, None, IfOk, IfErr, OnOk};
-ghost use Rattle.csv.specs.Records.{AllText};
-ghost use Rattle.gtfs_rows.specs.Fields.{fields_of};
-ghost use Rattle.gtfs_rows.specs.Source.{AllRecordsText, Record, left_of};
+ghost use Rattle.csv.specs.Records.{AllText, fields_of};
+ghost use Rattle.gtfs_rows.specs.Source.{AllRecordsText, IsReading, Record, last_of, left_of};
 ghost use Rattle.gtfs_rows.specs.Cells.{Places};
 ghost use Rattle.gtfs_rows.specs.Faults.{HoldsFile, HoldsUnder, IsFaultOf, IsFaultUnder, IsFaultless, IsFirstFault};
 ghost use Rattle.gtfs_rows.specs.Faults.{length_first};
@@ -13,8 +12,7 @@ ghost use Rattle.gtfs_rows.specs.declared.id_hash.IdHash.{IdHash as Hash};
 
 use crate::cells::{Cells, Place, has_required, is_text, places};
 use crate::fault::{FaultKind, Table, TableFault};
-use crate::fields::Fields;
-use crate::source::{Records, open_table, take_record};
+use crate::records::Records;
 use std::alloc::Global;
 
 // The rows of a table that were read so far.
@@ -75,34 +73,34 @@ fn add_record<T: TableRows>(
     rows.add(alloc, cells)
 }
 
-// Adds the records that the reader has left, or returns their first fault.
+// Adds the records that are left, or returns their first fault.
 fn add_records<T: TableRows>(
     mut rows: T,
     alloc: Global,
-    reader: &mut Records<'_>,
+    records: &mut Records<'_>,
     places: &[Place],
     width: usize,
 ) -> Result<T, TableFault>
-    requires text { AllRecordsText (left_of reader.old) }
+    requires reading { IsReading records.old }
+    requires text { AllRecordsText (left_of records.old) }
     requires starts { T.holds places.now [] rows }
     ensures ok { IfOk result (λ t. IsFaultless (length_first width (judge_of T.TABLE places.now))
-        (left_of reader.old) × T.holds places.now (left_of reader.old) t) }
-    ensures file { IfErr result (λ fault. fault.table ≡ T.TABLE) }
+        (left_of records.old) × T.holds places.now (left_of records.old) t) }
+    ensures file { IfErr result (λ fault. fault.file ≡ T.TABLE) }
     ensures err { IfErr result (λ fault. fault.kind ≢ FaultKind.OutOfMemory
         → (k : ℕ) × (fault.row ≡ k + 1) × IsFirstFault (length_first width (judge_of T.TABLE places.now))
-        (left_of reader.old) k fault.kind) }
+        (left_of records.old) k fault.kind) }
     ensures hashes { IfOk result (λ t. T.hashes t ≡ T.hashes rows) }
 {
-    let mut fields = Fields::new(alloc);
     for taken in 0..u64::MAX {
-        match take_record(alloc, reader, &mut fields) {
+        match records.advance() {
             Err(_) => return Err(T::TABLE.out_of_memory()),
             Ok(false) => return Ok(rows),
             Ok(true) => {}
         }
         let cells = Cells {
             places,
-            fields: &fields,
+            fields: records.last(),
         };
         if let Err(kind) = add_record(&mut rows, alloc, &cells, width) {
             return Err(T::TABLE.fault(taken + 1, kind));
@@ -120,7 +118,7 @@ pub(crate) fn read_table<T: TableRows>(
 ) -> Result<T, TableFault>
     requires { (places : Places) → T.holds places [] rows }
     ensures ok { IfOk result (λ t. HoldsFile (shape_of T.TABLE) T.holds bytes.now t) }
-    ensures file { IfErr result (λ fault. fault.table ≡ T.TABLE) }
+    ensures file { IfErr result (λ fault. fault.file ≡ T.TABLE) }
     ensures err { IfErr result (λ fault. fault.kind ≢ FaultKind.OutOfMemory
         → IsFaultOf (shape_of T.TABLE) bytes.now fault.row fault.kind) }
     ensures hashes { IfOk result (λ t. T.hashes t ≡ T.hashes rows) }
@@ -128,37 +126,38 @@ pub(crate) fn read_table<T: TableRows>(
     if !is_text(bytes) {
         return Err(T::TABLE.fault(0, FaultKind::BadUtf8));
     }
-    let mut reader = open_table(bytes);
-    let mut header = Fields::new(alloc);
-    match take_record(alloc, &mut reader, &mut header) {
+    let mut records = Records::open(alloc, bytes);
+    match records.advance() {
         Err(_) => Err(T::TABLE.out_of_memory()),
         Ok(false) => Err(T::TABLE.fault(0, FaultKind::MissingColumn)),
-        Ok(true) => read_under(rows, alloc, &mut reader, &header),
+        Ok(true) => read_under(rows, alloc, &mut records),
     }
 }
 
-// Returns the rows of the records that the reader has left after the header, or their first fault: `MissingColumn`
-// if the header lacks a required column.
+// Returns the rows of the records that are left after the header, which was read last, or their first fault:
+// `MissingColumn` if the header lacks a required column.
 fn read_under<T: TableRows>(
     rows: T,
     alloc: Global,
-    reader: &mut Records<'_>,
-    header: &Fields<'_>,
+    records: &mut Records<'_>,
 ) -> Result<T, TableFault>
+    requires reading { IsReading records.old }
     requires starts { (places : Places) → T.holds places [] rows }
-    requires text { AllRecordsText (left_of reader.old) }
-    ensures ok { IfOk result (λ t. HoldsUnder (shape_of T.TABLE) T.holds (fields_of header.now) (left_of reader.old)
+    requires text { AllRecordsText (left_of records.old) }
+    ensures ok { IfOk result (λ t. HoldsUnder (shape_of T.TABLE) T.holds (last_of records.old) (left_of records.old)
         t) }
-    ensures file { IfErr result (λ fault. fault.table ≡ T.TABLE) }
+    ensures file { IfErr result (λ fault. fault.file ≡ T.TABLE) }
     ensures err { IfErr result (λ fault. fault.kind ≢ FaultKind.OutOfMemory
-        → IsFaultUnder (shape_of T.TABLE) (fields_of header.now) (left_of reader.old) fault.row fault.kind) }
+        → IsFaultUnder (shape_of T.TABLE) (last_of records.old) (left_of records.old) fault.row fault.kind) }
     ensures hashes { IfOk result (λ t. T.hashes t ≡ T.hashes rows) }
 {
+    let header = records.last();
+    let width = header.len();
     let Ok(places) = places(alloc, header, T::TABLE.columns()) else {
         return Err(T::TABLE.out_of_memory());
     };
     if !has_required(&places, T::TABLE.required()) {
         return Err(T::TABLE.fault(0, FaultKind::MissingColumn));
     }
-    add_records(rows, alloc, reader, &places, header.len())
+    add_records(rows, alloc, records, &places, width)
 }

@@ -1,7 +1,7 @@
 //! calendar.txt and calendar_dates.txt: the days on which services run.
 
 ghost use Rattle.std.specs.Prelude.{◌≡◌, ◌+◌, None, Some, IfOk, IfErr};
-ghost use Rattle.gtfs_rows.specs.Fields.{fields_of};
+ghost use Rattle.csv.specs.Records.{fields_of};
 ghost use Rattle.gtfs_rows.specs.Faults.{fault_unless};
 ghost use Rattle.gtfs_rows.specs.Rows.{SpellsCalendar, SpellsCalendarDate, exception_of, flag_of, value};
 ghost use Rattle.gtfs_rows.specs.Rows.{weekday as weekday_of, weekdays_of};

@@ -3,8 +3,7 @@
 ghost use Rattle.std.specs.Prelude.{◌≡◌, ◌≢◌, ◌<◌, ◌++◌, ◌∷◌, [], List, length, map, IfOk, IfErr, OnOk, IsUtf8};
 ghost use Rattle.std.specs.Prelude.{None, Some};
 ghost use Rattle.std.specs.String.{string_bytes};
-ghost use Rattle.csv.specs.Records.{AllText};
-ghost use Rattle.gtfs_rows.specs.Fields.{fields_of};
+ghost use Rattle.csv.specs.Records.{AllText, fields_of};
 ghost use Rattle.gtfs_rows.specs.Faults.{IsFaultOf, fault_unless};
 ghost use Rattle.gtfs_rows.specs.Ids.{given_also};
 ghost use Rattle.indexmap.specs.IndexSet.{hasher_of};

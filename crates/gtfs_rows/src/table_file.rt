@@ -27,7 +27,7 @@ pub trait TableFile: Sized + Drop {
     fn read(alloc: Global, hash: IdHash, bytes: &[u8]) -> Result<Self, TableFault>
         ensures ok { IfOk result (λ rows. holds bytes.now rows) }
         ensures hashed { IfOk result (λ rows. is_hashed hash rows) }
-        ensures file { IfErr result (λ fault. fault.table ≡ TABLE) }
+        ensures file { IfErr result (λ fault. fault.file ≡ TABLE) }
         ensures err { IfErr result (λ fault. fault.kind ≢ FaultKind.OutOfMemory
             → tells bytes.now fault.row fault.kind) };
 }

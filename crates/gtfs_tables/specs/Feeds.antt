@@ -63,7 +63,7 @@ naming_fault named placed t =
 
 -- the fault of a trip's row, with the number of its record
 abbrev pub told_of : List Turn → ℕ × FaultKind → TableFault
-told_of turns wrong = record { table = tables.StopTimes; row = slice_index_or (map (λ turn. turn.number) turns) wrong.0 0; kind = wrong.1 }
+told_of turns wrong = record { file = tables.StopTimes; row = slice_index_or (map (λ turn. turn.number) turns) wrong.0 0; kind = wrong.1 }
 
 -- the first fault in the rows of the trip of an index
 abbrev pub trip_fault : Bool → List Turn → List StopTimeRow → ℕ → Option TableFault

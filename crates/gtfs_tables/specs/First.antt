@@ -15,7 +15,7 @@ first_place p n = first_below (place_if p) n
 
 -- the fault of the row at an index; records are numbered from 1
 abbrev pub fault_at : Table → ℕ → FaultKind → TableFault
-fault_at table place kind = record { table = table; row = place + 1; kind = kind }
+fault_at table place kind = record { file = table; row = place + 1; kind = kind }
 
 -- the fault of the row at an index, given how rows are judged
 abbrev pub row_fault : {R : Type 0} → Table → (R → Option FaultKind) → List R → ℕ → Option TableFault

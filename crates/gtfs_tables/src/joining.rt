@@ -410,7 +410,7 @@ fn told(order: &RowOrder, first: usize, end: usize, at: usize, kind: FaultKind) 
         0
     };
     TableFault {
-        table: Table::StopTimes,
+        file: Table::StopTimes,
         row,
         kind,
     }

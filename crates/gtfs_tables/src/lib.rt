@@ -10,7 +10,7 @@ mod links;
 mod names;
 mod order;
 pub mod outcome;
-pub mod spread;
+mod spreading;
 mod tables;
 mod times;
 
@@ -22,4 +22,5 @@ pub use gtfs_rows::{
     read_transfers, read_trips,
 };
 pub use joining::join;
+pub use spreading::spread;
 pub use tables::{Feed, Frequency, Place, Stop, Tables, Transfer, Trip};

@@ -36,7 +36,7 @@ pub(crate) fn fault_at(table: Table, place: usize, kind: FaultKind) -> TableFaul
     ensures { result ≡ fault_of table place kind }
 {
     TableFault {
-        table,
+        file: table,
         row: place as u64 + 1,
         kind,
     }
@@ -47,7 +47,7 @@ pub(crate) fn out_of_memory() -> TableFault
     ensures { result.kind ≡ FaultKind.OutOfMemory }
 {
     TableFault {
-        table: Table::StopTimes,
+        file: Table::StopTimes,
         row: 0,
         kind: FaultKind::OutOfMemory,
     }

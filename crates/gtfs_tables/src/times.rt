@@ -9,7 +9,7 @@ ghost use Rattle.gtfs_tables.specs.Times.{first_wrong as wrong_first, goes_back,
 ghost use Rattle.gtfs_tables.specs.Times.{is_flex as flex_of, is_short, is_twice, wrong_at};
 ghost use Rattle.gtfs_tables.specs.Times.{wrong_given as given_wrong, wrong_times};
 
-use crate::spread::{arrival, departure, spread};
+use crate::spreading::{arrival, departure, spread};
 use gtfs_rows::{FaultKind, StopTimeRow};
 use std::alloc::{AllocError, Global};
 

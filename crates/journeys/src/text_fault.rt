@@ -6,12 +6,14 @@ ghost use Rattle.journeys.specs.declared.text_fault.TextFault.TheVariants.{OutOf
 
 use reasoning::variant_name;
 use std::alloc::AllocFailed;
+use thiserror::Error;
 
 /// Why no journey is read from a text.
-#[derive(Clone, Copy, Debug, PartialEq, Eq)]
+#[derive(Clone, Copy, Debug, PartialEq, Eq, Error)]
 pub enum TextFault {
-    /// It is no journey's text.
+    #[error("the text isn't that of a journey")]
     BadText,
+    #[error("out of memory")]
     OutOfMemory,
 }
 

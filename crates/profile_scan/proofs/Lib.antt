@@ -28,5 +28,6 @@ pub mod Complete
 pub mod StepLemmas
 pub mod Ends
 pub mod Answer
+pub mod Single
 pub mod AnsweredLemmas
 pub mod Windows

@@ -1,6 +1,7 @@
 pub mod Values
 pub mod Points
 pub mod Window
+pub mod Between
 pub mod Continuations
 pub mod Parts
 pub mod Plain

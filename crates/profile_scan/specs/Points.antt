@@ -16,12 +16,16 @@ use Rattle.profile_scan.specs.Values.{journey_value}
 abbrev pub IsPoint : {V : Type 0} → Rules V → TimetableValue → Query → ℕ → V → Type 0
 IsPoint rules t q departure v = (j : JourneyValue) × Counts t q departure j × (v ≡ journey_value rules t j)
 
--- a point of the query that no other one dominates: one that departs no earlier, and is no worse, is that point itself
-pub record IsUndominated {V : Type 0} (rules : Rules V) (t : TimetableValue) (q : Query) (departure : ℕ)
+-- a point of a set that no other one dominates: one that departs no earlier, and is no worse, is that point itself
+pub record IsUndominatedOf {V : Type 0} (rules : Rules V) (IsThere : ℕ → V → Type 0) (departure : ℕ)
     (v : V) : Type 0 where
-  pub is_point : IsPoint rules t q departure v
-  pub only_itself : (d : ℕ) (w : V) → IsPoint rules t q d w → departure ≤ d → NoWorse rules w v → (d ≡ departure)
+  pub is_point : IsThere departure v
+  pub only_itself : (d : ℕ) (w : V) → IsThere d w → departure ≤ d → NoWorse rules w v → (d ≡ departure)
       × (w ≡ v)
+
+-- the same of the points of a query
+abbrev pub IsUndominated : {V : Type 0} → Rules V → TimetableValue → Query → ℕ → V → Type 0
+IsUndominated rules t q = IsUndominatedOf rules (IsPoint rules t q)
 
 -- a list has a point with this departure and value
 abbrev pub Lists : {V : Type 0} → List (Point V) → ℕ → V → Type 0
@@ -37,13 +41,16 @@ abbrev pub is_before : {V : Type 0} → Rules V → Point V → Point V → Bool
 is_before rules p q = nat_lt p.departure q.departure ||
     (p.departure == q.departure && is_lt (rules.list_order p.value q.value))
 
--- the answer: exactly the undominated points, in order, and they cover every journey that counts. Under a criterion's laws no point is before itself, so each
--- is listed once
-pub record IsAnswer {V : Type 0} (rules : Rules V) (t : TimetableValue) (q : Query)
-    (points : List (Point V)) : Type 0 where
-  pub exactly : (departure : ℕ) (v : V) → Lists points departure v ↔ IsUndominated rules t q departure v
-  pub unbeaten : (departure : ℕ) (v : V) → IsPoint rules t q departure v → Covers rules points departure v
+-- points are exactly the undominated ones of a set, in order, and they cover each point of it. Under a criterion's laws no point is before itself, so each is
+-- listed once
+pub record IsAnswerOf {V : Type 0} (rules : Rules V) (IsThere : ℕ → V → Type 0) (points : List (Point V)) : Type 0 where
+  pub exactly : (departure : ℕ) (v : V) → Lists points departure v ↔ IsUndominatedOf rules IsThere departure v
+  pub unbeaten : (departure : ℕ) (v : V) → IsThere departure v → Covers rules points departure v
   pub ordered : AllPairs (Before rules) points
+
+-- the answer of a query: so its undominated points, which cover every journey that counts
+abbrev pub IsAnswer : {V : Type 0} → Rules V → TimetableValue → Query → List (Point V) → Type 0
+IsAnswer rules t q = IsAnswerOf rules (IsPoint rules t q)
 
 -- a point without its tag
 abbrev pub untagged : {V : Type 0} → Point V → ℕ × V

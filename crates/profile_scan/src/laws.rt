@@ -5,6 +5,9 @@
 
 ghost use Rattle.std.specs.Prelude.{◌≡◌, ◌++◌, ℕ, IfOk, OnOk, OnErr, map, reverse, take};
 ghost use Rattle.timetable.specs.Journeys.{Counts};
+ghost use Rattle.timetable.specs.TimetableValue.{TimetableValue};
+ghost use Rattle.timetable.specs.declared.query.Query.{Query};
+ghost use Rattle.profile_scan.specs.Between.{OneIsPlain};
 ghost use Rattle.timetable.specs.Queries.{IsAskable};
 ghost use Rattle.profile_scan.specs.Answered.{IsAnswered};
 ghost use Rattle.profile_scan.specs.Found.{Answers, criterion_of_found, listed, nodes_of, query_of, timetable_of};
@@ -63,6 +66,12 @@ pub fn match_is_the_answer<C: Criterion>(_criterion: &C)
 /// A query has only one answer, tags aside.
 pub fn one_answer<C: Criterion>(_criterion: &C)
     ensures { OneAnswer (C.rules _criterion.now) }
+{}
+
+/// Between a single source and a single target the same journeys count as from the one to the other, and so the points
+/// and the answer are the same, and when it can be asked.
+pub fn one_is_plain<C: Criterion>(_criterion: &C)
+    ensures { (t : TimetableValue) (q : Query) → OneIsPlain (C.rules _criterion.now) t q }
 {}
 
 /// Read backward, a window's indices fall by one each time, all are those of connections, and departures never rise.

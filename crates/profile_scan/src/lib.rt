@@ -39,6 +39,7 @@
 #![tactic(auto)]
 
 mod answering;
+mod between;
 mod bound;
 mod destination;
 mod everywhere;
@@ -61,8 +62,9 @@ mod view;
 mod ways;
 
 pub use answering::profile;
+pub use between::Between;
 pub use destination::Destination;
-pub use found::Found;
+pub use found::{Found, in_order};
 pub use nodes::Node;
 pub use profiles::{Profiles, profiles_to};
 pub use sources::{ConnSource, Decoded, InPlace};

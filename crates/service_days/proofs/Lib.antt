@@ -1,3 +1,2 @@
-pub mod AskedLemmas
 pub mod DayLemmas
 pub mod StartLemmas

@@ -1,4 +1,3 @@
-pub mod Asked
 pub mod Days
 pub mod Faults
 pub mod Named

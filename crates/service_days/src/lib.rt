@@ -4,7 +4,6 @@
 //! hours, on which the clocks change (GTFS Schedule Reference, field type Time).
 #![tactic(auto)]
 
-mod asked;
 mod day;
 mod fault;
 pub mod laws;
@@ -12,7 +11,6 @@ mod named;
 mod services;
 mod zone;
 
-pub use asked::DayServices;
 pub use day::{day_after, day_start};
 pub use fault::DayFault;
 pub use named::NamedServices;

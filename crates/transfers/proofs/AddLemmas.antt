@@ -71,25 +71,25 @@ module _ {X : Type 0} (xs : List X) (made : X → Claim → Type 0) where
       subst (λ (ys : List X). Adds old new (ForOneOf ys made)) all h
 
 -- the same without claims that needn't be made
-module _ (silent : Claim → Type 0) where
+module _ (banned : Claim → Type 0) where
   abbrev Spoken : (Claim → Type 0) → Claim → Type 0
-  Spoken made c = made c × ¬ silent c
+  Spoken made c = made c × ¬ banned c
 
-  pub aloud_same : (old new : List Claim) (P Q : Claim → Type 0) → ((c : Claim) → P c → Q c) → ((c : Claim) → Q c → P c)
-      → Adds old new (λ c. P c × ¬ silent c) → Adds old new (λ c. Q c × ¬ silent c)
-  aloud_same old new P Q there back h = adds_same old new (Spoken P) (Spoken Q) (λ c m. (there c m.0, m.1)) (λ c m. (back c m.0, m.1)) h
+  pub unbanned_same : (old new : List Claim) (P Q : Claim → Type 0) → ((c : Claim) → P c → Q c) → ((c : Claim) → Q c → P c)
+      → Adds old new (λ c. P c × ¬ banned c) → Adds old new (λ c. Q c × ¬ banned c)
+  unbanned_same old new P Q there back h = adds_same old new (Spoken P) (Spoken Q) (λ c m. (there c m.0, m.1)) (λ c m. (back c m.0, m.1)) h
 
-  pub aloud_then : (old mid new : List Claim) (P Q R : Claim → Type 0) → ((c : Claim) → P c → R c) → ((c : Claim) → Q c → R c)
-      → ((c : Claim) → R c → P c ⊎ Q c) → Adds old mid (λ c. P c × ¬ silent c) → Adds mid new (λ c. Q c × ¬ silent c)
-      → Adds old new (λ c. R c × ¬ silent c)
-  aloud_then old mid new P Q R first second either before step = adds_then old mid new (Spoken P) (Spoken Q) (Spoken R)
+  pub unbanned_then : (old mid new : List Claim) (P Q R : Claim → Type 0) → ((c : Claim) → P c → R c) → ((c : Claim) → Q c → R c)
+      → ((c : Claim) → R c → P c ⊎ Q c) → Adds old mid (λ c. P c × ¬ banned c) → Adds mid new (λ c. Q c × ¬ banned c)
+      → Adds old new (λ c. R c × ¬ banned c)
+  unbanned_then old mid new P Q R first second either before step = adds_then old mid new (Spoken P) (Spoken Q) (Spoken R)
       (λ c m. (first c m.0, m.1)) (λ c m. (second c m.0, m.1))
       (λ c m. elim (either c m.0) [ inl p ↦ inl (p, m.1) | inr q ↦ inr (q, m.1) ])
       before step
 
   module _ {X : Type 0} (xs : List X) (made : X → Claim → Type 0) where
     abbrev SpokenBy : X → Claim → Type 0
-    SpokenBy x c = made x c × ¬ silent c
+    SpokenBy x c = made x c × ¬ banned c
 
     together : (ys : List X) (c : Claim) → ForOneOf ys SpokenBy c → Spoken (ForOneOf ys made) c
     together ys c (x, is_in, m) = ((x, is_in, m.0), m.1)
@@ -97,20 +97,20 @@ module _ (silent : Claim → Type 0) where
     apart : (ys : List X) (c : Claim) → Spoken (ForOneOf ys made) c → ForOneOf ys SpokenBy c
     apart ys c m = (m.0.0, m.0.1, (m.0.2, m.1))
 
-    pub aloud_none : (claims : List Claim) → Adds claims claims (λ c. ForOneOf (take 0 xs) made c × ¬ silent c)
-    aloud_none claims = adds_nothing claims (Spoken (ForOneOf (take 0 xs) made)) (λ c m. not_in_nil m.0.0 m.0.1)
+    pub unbanned_none : (claims : List Claim) → Adds claims claims (λ c. ForOneOf (take 0 xs) made c × ¬ banned c)
+    unbanned_none claims = adds_nothing claims (Spoken (ForOneOf (take 0 xs) made)) (λ c m. not_in_nil m.0.0 m.0.1)
 
-    pub aloud_more : (i : ℕ) (d : X) (old mid new : List Claim) → i < length xs → Adds old mid (λ c. ForOneOf (take i xs) made c × ¬ silent c)
-        → Adds mid new (λ c. made (get_or xs i d) c × ¬ silent c) → Adds old new (λ c. ForOneOf (take (i + 1) xs) made c × ¬ silent c)
-    aloud_more i d old mid new below before step =
+    pub unbanned_more : (i : ℕ) (d : X) (old mid new : List Claim) → i < length xs → Adds old mid (λ c. ForOneOf (take i xs) made c × ¬ banned c)
+        → Adds mid new (λ c. made (get_or xs i d) c × ¬ banned c) → Adds old new (λ c. ForOneOf (take (i + 1) xs) made c × ¬ banned c)
+    unbanned_more i d old mid new below before step =
         let had : Adds old mid (ForOneOf (take i xs) SpokenBy) =
         adds_same old mid (Spoken (ForOneOf (take i xs) made)) (ForOneOf (take i xs) SpokenBy) (apart (take i xs)) (together (take i xs)) before in
         let more : Adds old new (ForOneOf (take (i + 1) xs) SpokenBy) = adds_more xs SpokenBy i d old mid new below had step in
         adds_same old new (ForOneOf (take (i + 1) xs) SpokenBy) (Spoken (ForOneOf (take (i + 1) xs) made)) (together (take (i + 1) xs))
         (apart (take (i + 1) xs)) more
 
-    pub aloud_end : (i : ℕ) (old new : List Claim) → i ≡ length xs → Adds old new (λ c. ForOneOf (take i xs) made c × ¬ silent c)
-        → Adds old new (λ c. ForOneOf xs made c × ¬ silent c)
-    aloud_end i old new e h =
+    pub unbanned_end : (i : ℕ) (old new : List Claim) → i ≡ length xs → Adds old new (λ c. ForOneOf (take i xs) made c × ¬ banned c)
+        → Adds old new (λ c. ForOneOf xs made c × ¬ banned c)
+    unbanned_end i old new e h =
         let all : take i xs ≡ xs = take_all i xs (omega (arith, e)) in
-        subst (λ (ys : List X). Adds old new (λ c. ForOneOf ys made c × ¬ silent c)) all h
+        subst (λ (ys : List X). Adds old new (λ c. ForOneOf ys made c × ¬ banned c)) all h

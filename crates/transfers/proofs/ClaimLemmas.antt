@@ -12,16 +12,16 @@ use Rattle.gtfs_tables.specs.declared.tables.Place.{Place}
 use Rattle.gtfs_tables.specs.declared.tables.Place.TheVariants.{Stop as TheStop, Station as TheStation}
 use Rattle.transfers.specs.declared.claims.Source.{Source}
 use Rattle.transfers.specs.declared.claims.Source.TheVariants.{Default}
-use Rattle.transfers.specs.declared.claims.Word.{Word}
-use Rattle.transfers.specs.declared.claims.Word.TheVariants.{Takes}
+use Rattle.transfers.specs.declared.claims.Verdict.{Verdict}
+use Rattle.transfers.specs.declared.claims.Verdict.TheVariants.{Takes}
 use Rattle.transfers.specs.declared.claims.Claim.{Claim}
-use Rattle.transfers.specs.Listed.{stands_for, station_of, station_in, is_station, is_child, is_of, word_of}
+use Rattle.transfers.specs.Listed.{stands_for, station_of, station_in, is_station, is_child, is_of, verdict_of}
 use Rattle.transfers.specs.Groups.{IsGroup}
 use Rattle.transfers.specs.Lookup.{stop_named, station_named}
 use Rattle.transfers.specs.Claims.{Adds, ForOneOf, IsPairClaim, IsRowInto, IsNumberedClaim, IsClaimBy, IsSiblingPair, IsSiblingInto, IsRowClaim}
 use Rattle.transfers.specs.Claims.{IsLoopOf, IsStationClaim, IsStopClaim, IsClaimInto, AreStoodFor, AreChildren}
-use Rattle.transfers.specs.Bans.{Aloud, IsSilent}
-use Rattle.transfers.proofs.AddLemmas.{adds_one, adds_same, adds_nothing, aloud_same, aloud_then}
+use Rattle.transfers.specs.Bans.{Unbanned, IsBannedClaim}
+use Rattle.transfers.proofs.AddLemmas.{adds_one, adds_same, adds_nothing, unbanned_same, unbanned_then}
 use Rattle.transfers.proofs.ListLemmas.{at_map, from_map}
 
 -- a station is the one that it is
@@ -32,16 +32,16 @@ station_is (Some other) station e = ap (λ (n : ℕ). Some n) (eqb-true other st
 pub is_its_station : (o : Option ℕ) (station : ℕ) → o ≡ Some station → is_station o station ≡ true
 is_its_station o station e = subst (λ (p : Option ℕ). is_station p station ≡ true) (sym e) (eq-eqb station station refl)
 
-abbrev pub claim_of : ℕ → ℕ → Source → Word → Claim
-claim_of to from source word = record { to = to; from = from; source = source; word = word }
+abbrev pub claim_of : ℕ → ℕ → Source → Verdict → Claim
+claim_of to from source verdict = record { to = to; from = from; source = source; verdict = verdict }
 
 -- claims with the same parts are the same
-pub same_claim : (to from : ℕ) (source : Source) (word : Word) (c : Claim) → to ≡ c.to → from ≡ c.from → source ≡ c.source → word ≡ c.word
-    → claim_of to from source word ≡ c
-same_claim to from source word c e_to e_from e_source e_word =
-    ap (λ (n : ℕ). claim_of n from source word) e_to ∙ ap (λ (n : ℕ). claim_of c.to n source word) e_from
-    ∙ ap (λ (s : Source). claim_of c.to c.from s word) e_source
-    ∙ ap (λ (w : Word). claim_of c.to c.from c.source w) e_word
+pub same_claim : (to from : ℕ) (source : Source) (verdict : Verdict) (c : Claim) → to ≡ c.to → from ≡ c.from → source ≡ c.source → verdict ≡ c.verdict
+    → claim_of to from source verdict ≡ c
+same_claim to from source verdict c e_to e_from e_source e_verdict =
+    ap (λ (n : ℕ). claim_of n from source verdict) e_to ∙ ap (λ (n : ℕ). claim_of c.to n source verdict) e_from
+    ∙ ap (λ (s : Source). claim_of c.to c.from s verdict) e_source
+    ∙ ap (λ (w : Verdict). claim_of c.to c.from c.source w) e_verdict
 
 -- the stops whose station is keyed so are its children
 pub children_are : (all : List Stop) (station : ℕ) (stops : List ℕ) → IsGroup (map (λ (stop : Stop). stop.station) all) station stops
@@ -73,8 +73,8 @@ module _ (all : List Stop) (to : ℕ) (row : Transfer) (froms : List ℕ) (from_
     from_stands = subst (λ (n : ℕ). stands_for all row.from n ≡ true) (sym p.from_is) (from_stops.stand from in_froms);
     to_is = p.to_is;
     source_is = p.source_is;
-    word_is = subst (λ (n : ℕ). word_of row (n == c.to) ≡ Some c.word) (sym p.from_is) (subst
-        (λ (n : ℕ). word_of row (from == n) ≡ Some c.word) (sym p.to_is) p.word_is);
+    verdict_is = subst (λ (n : ℕ). verdict_of row (n == c.to) ≡ Some c.verdict) (sym p.from_is) (subst
+        (λ (n : ℕ). verdict_of row (from == n) ≡ Some c.verdict) (sym p.to_is) p.verdict_is);
   }
 
   own_pair : (c : Claim) → IsRowInto all to row c → IsPairClaim row c.from to c
@@ -82,7 +82,7 @@ module _ (all : List Stop) (to : ℕ) (row : Transfer) (froms : List ℕ) (from_
     from_is = refl;
     to_is = h.to_is;
     source_is = h.source_is;
-    word_is = subst (λ (n : ℕ). word_of row (c.from == n) ≡ Some c.word) h.to_is h.word_is;
+    verdict_is = subst (λ (n : ℕ). verdict_of row (c.from == n) ≡ Some c.verdict) h.to_is h.verdict_is;
   }
 
   pub into_back : (c : Claim) → IsRowInto all to row c → ForOneOf froms (λ from. IsPairClaim row from to) c
@@ -90,17 +90,17 @@ module _ (all : List Stop) (to : ℕ) (row : Transfer) (froms : List ℕ) (from_
 
 -- a transfer that isn't there says nothing
 pub adds_no_row : (all : List Stop) (rows : List Transfer) (to number : ℕ) (claims : List Claim) → slice_get rows number ≡ None
-    → Adds claims claims (Aloud all rows (IsNumberedClaim all rows to number))
-adds_no_row all rows to number claims none = adds_nothing claims (Aloud all rows (IsNumberedClaim all rows to number))
+    → Adds claims claims (Unbanned all rows (IsNumberedClaim all rows to number))
+adds_no_row all rows to number claims none = adds_nothing claims (Unbanned all rows (IsNumberedClaim all rows to number))
     (λ c m. none-some m.0.0 (sym none ∙ m.0.1))
 
 -- the transfers in a group are those that lead to its place
 module _ (all : List Stop) (rows : List Transfer) (to key : ℕ) (named : Place
     → Option ℕ) (place : Place) (numbers : List ℕ) (group : IsGroup (map (λ (row : Transfer). named row.to) rows) key numbers)
     (there : (p : Place) → named p ≡ Some key → p ≡ place) (back : named place ≡ Some key) where
-  pub adds_group : (old new : List Claim) → Adds old new (Aloud all rows (ForOneOf numbers (IsNumberedClaim all rows to)))
-      → Adds old new (Aloud all rows (IsClaimBy all rows place to))
-  adds_group old new h = aloud_same (IsSilent all rows) old new (ForOneOf numbers (IsNumberedClaim all rows to)) (IsClaimBy all rows place to)
+  pub adds_group : (old new : List Claim) → Adds old new (Unbanned all rows (ForOneOf numbers (IsNumberedClaim all rows to)))
+      → Adds old new (Unbanned all rows (IsClaimBy all rows place to))
+  adds_group old new h = unbanned_same (IsBannedClaim all rows) old new (ForOneOf numbers (IsNumberedClaim all rows to)) (IsClaimBy all rows place to)
       (λ c (number, is_in, (row, at, is)).
       let (other, at_other, key_is) = from_map (λ (row : Transfer). named row.to) rows number (Some key) (group.has number is_in) in
       let own : named row.to ≡ Some key = subst (λ (r : Transfer). named r.to ≡ Some key) (same_at rows number other row at_other at) key_is in
@@ -115,15 +115,15 @@ module _ (all : List Stop) (rows : List Transfer) (to key : ℕ) (named : Place
 -- those that lead to a stop itself, and those that lead to a station
 pub adds_to_stop : (all : List Stop) (rows : List Transfer) (to : ℕ) (numbers : List ℕ)
     → IsGroup (map (λ (row : Transfer). stop_named row.to) rows) to numbers → (old new : List Claim)
-    → Adds old new (Aloud all rows (ForOneOf numbers (IsNumberedClaim all rows to)))
-    → Adds old new (Aloud all rows (IsClaimBy all rows (TheStop to) to))
+    → Adds old new (Unbanned all rows (ForOneOf numbers (IsNumberedClaim all rows to)))
+    → Adds old new (Unbanned all rows (IsClaimBy all rows (TheStop to) to))
 adds_to_stop all rows to numbers group old new h = adds_group all rows to to (λ p. stop_named p) (TheStop to) numbers group
     (λ p e. stop_is p to e) refl old new h
 
 pub adds_to_station : (all : List Stop) (rows : List Transfer) (to station : ℕ) (numbers : List ℕ)
     → IsGroup (map (λ (row : Transfer). station_named row.to) rows) station numbers → (old new : List Claim)
-    → Adds old new (Aloud all rows (ForOneOf numbers (IsNumberedClaim all rows to)))
-    → Adds old new (Aloud all rows (IsClaimBy all rows (TheStation station) to))
+    → Adds old new (Unbanned all rows (ForOneOf numbers (IsNumberedClaim all rows to)))
+    → Adds old new (Unbanned all rows (IsClaimBy all rows (TheStation station) to))
 adds_to_station all rows to station numbers group old new h = adds_group all rows to station (λ p. station_named p) (TheStation station) numbers group
     (λ p e. named_station p station e) refl old new h
 
@@ -134,7 +134,7 @@ module _ (all : List Stop) (station to : ℕ) (children : List ℕ) (they_are : 
     to_is = p.to_is;
     differ = λ e. p.differ (sym p.from_is ∙ e ∙ p.to_is);
     source_is = p.source_is;
-    word_is = p.word_is;
+    verdict_is = p.verdict_is;
   }
 
   own_siblings : (c : Claim) → IsSiblingInto all station to c → IsSiblingPair c.from to c
@@ -143,7 +143,7 @@ module _ (all : List Stop) (station to : ℕ) (children : List ℕ) (they_are : 
     to_is = h.to_is;
     differ = λ e. h.differ (e ∙ sym h.to_is);
     source_is = h.source_is;
-    word_is = h.word_is;
+    verdict_is = h.verdict_is;
   }
 
   sibling_back : (c : Claim) → IsSiblingInto all station to c → ForOneOf children (λ from. IsSiblingPair from to) c
@@ -155,22 +155,22 @@ module _ (all : List Stop) (station to : ℕ) (children : List ℕ) (they_are : 
 
 -- first by transfers, then within the station
 pub adds_station : (all : List Stop) (rows : List Transfer) (station to : ℕ) (old mid new : List Claim)
-    → Adds old mid (Aloud all rows (IsClaimBy all rows (TheStation station) to)) → Adds mid new (Aloud all rows (IsSiblingInto all station to))
-    → Adds old new (Aloud all rows (IsStationClaim all rows station to))
-adds_station all rows station to old mid new first second = aloud_then (IsSilent all rows) old mid new (IsClaimBy all rows (TheStation station) to)
+    → Adds old mid (Unbanned all rows (IsClaimBy all rows (TheStation station) to)) → Adds mid new (Unbanned all rows (IsSiblingInto all station to))
+    → Adds old new (Unbanned all rows (IsStationClaim all rows station to))
+adds_station all rows station to old mid new first second = unbanned_then (IsBannedClaim all rows) old mid new (IsClaimBy all rows (TheStation station) to)
     (IsSiblingInto all station to) (IsStationClaim all rows station to)
     (λ c h. inl h) (λ c h. inr h) (λ c h. h) first second
 
 -- the loop
 pub adds_loop : (to : ℕ) (old : List Claim) → Adds old (old ++ claim_of to to Default (Takes 0) ∷ []) (IsLoopOf to)
-adds_loop to old = adds_one old (claim_of to to Default (Takes 0)) (IsLoopOf to) (record { to_is = refl; from_is = refl; source_is = refl; word_is = refl })
-    (λ c h. same_claim to to Default (Takes 0) c (sym h.to_is) (sym h.from_is) (sym h.source_is) (sym h.word_is))
+adds_loop to old = adds_one old (claim_of to to Default (Takes 0)) (IsLoopOf to) (record { to_is = refl; from_is = refl; source_is = refl; verdict_is = refl })
+    (λ c h. same_claim to to Default (Takes 0) c (sym h.to_is) (sym h.from_is) (sym h.source_is) (sym h.verdict_is))
 
 -- first as one of its station, then the loop
 pub adds_stop : (all : List Stop) (rows : List Transfer) (station to : ℕ) (old mid new : List Claim)
-    → Adds old mid (Aloud all rows (IsStationClaim all rows station to)) → Adds mid new (Aloud all rows (IsLoopOf to))
-    → Adds old new (Aloud all rows (IsStopClaim all rows (Some station) to))
-adds_stop all rows station to old mid new first second = aloud_then (IsSilent all rows) old mid new (IsStationClaim all rows station to)
+    → Adds old mid (Unbanned all rows (IsStationClaim all rows station to)) → Adds mid new (Unbanned all rows (IsLoopOf to))
+    → Adds old new (Unbanned all rows (IsStopClaim all rows (Some station) to))
+adds_stop all rows station to old mid new first second = unbanned_then (IsBannedClaim all rows) old mid new (IsStationClaim all rows station to)
     (IsLoopOf to) (IsStopClaim all rows (Some station) to)
     (λ c h. inl h) (λ c h. inr h) (λ c h. h) first second
 
@@ -184,7 +184,7 @@ module _ (all : List Stop) (rows : List Transfer) (to : ℕ) where
         from_stands = h.from_stands;
         to_stands = subst (λ (p : Place). stands_for all p c.to ≡ true) (sym place_is) (subst (λ (n : ℕ). stands_for all place n ≡ true) (sym h.to_is) stands);
         source_is = h.source_is;
-        word_is = h.word_is;
+        verdict_is = h.verdict_is;
       },
     ),
     h.to_is,
@@ -193,7 +193,7 @@ module _ (all : List Stop) (rows : List Transfer) (to : ℕ) where
   by_back : (c : Claim) (row : Transfer) → Contains rows row → IsRowClaim all row c → c.to ≡ to → (place : Place) → row.to ≡ place
       → IsClaimBy all rows place to c
   by_back c row is_in h to_is place place_is =
-      (row, is_in, place_is, record { from_stands = h.from_stands; to_is = to_is; source_is = h.source_is; word_is = h.word_is })
+      (row, is_in, place_is, record { from_stands = h.from_stands; to_is = to_is; source_is = h.source_is; verdict_is = h.verdict_is })
 
   loop_there : (stop : Stop) → At all to stop → (c : Claim) → IsLoopOf to c → IsClaimInto all rows to c
   loop_there stop at c h = (
@@ -203,7 +203,7 @@ module _ (all : List Stop) (rows : List Transfer) (to : ℕ) where
       loop = h.from_is
           ∙ sym h.to_is;
       source_is = h.source_is;
-      word_is = h.word_is;
+      verdict_is = h.verdict_is;
     })),
     h.to_is,
   )
@@ -220,7 +220,7 @@ module _ (all : List Stop) (rows : List Transfer) (to : ℕ) where
               (λ (o : Option ℕ). is_of all o c.from ≡ true) (sym its) h.child;
           differ = h.differ;
           source_is = h.source_is;
-          word_is = h.word_is;
+          verdict_is = h.verdict_is;
         })),
         h.to_is,
       )
@@ -255,21 +255,22 @@ module _ (all : List Stop) (rows : List Transfer) (to : ℕ) where
         to_is = to_is;
         differ = h.differ;
         source_is = h.source_is;
-        word_is = h.word_is;
+        verdict_is = h.verdict_is;
       })))
-  stop_cases stop at None is c (inr (inr h), to_is) = inr (record { to_is = to_is; from_is = h.loop ∙ to_is; source_is = h.source_is; word_is = h.word_is })
+  stop_cases stop at None is c (inr (inr h), to_is) =
+      inr (record { to_is = to_is; from_is = h.loop ∙ to_is; source_is = h.source_is; verdict_is = h.verdict_is })
   stop_cases stop at (Some station) is c (inr (inr h), to_is) = inr (inr (record {
     to_is = to_is;
     from_is = h.loop
         ∙ to_is;
     source_is = h.source_is;
-    word_is = h.word_is;
+    verdict_is = h.verdict_is;
   }))
 
   -- all that is claimed of the ways into a stop of the feed
-  pub adds_ways : (stop : Stop) (old mid new : List Claim) → At all to stop → Adds old mid (Aloud all rows (IsClaimBy all rows (TheStop to) to))
-      → Adds mid new (Aloud all rows (IsStopClaim all rows stop.station to)) → Adds old new (Aloud all rows (IsClaimInto all rows to))
-  adds_ways stop old mid new at first second = aloud_then (IsSilent all rows) old mid new (IsClaimBy all rows (TheStop to) to)
+  pub adds_ways : (stop : Stop) (old mid new : List Claim) → At all to stop → Adds old mid (Unbanned all rows (IsClaimBy all rows (TheStop to) to))
+      → Adds mid new (Unbanned all rows (IsStopClaim all rows stop.station to)) → Adds old new (Unbanned all rows (IsClaimInto all rows to))
+  adds_ways stop old mid new at first second = unbanned_then (IsBannedClaim all rows) old mid new (IsClaimBy all rows (TheStop to) to)
       (IsStopClaim all rows stop.station to)
       (IsClaimInto all rows to)
       (λ c h. by_there (TheStop to) c (own_equal to) h)
@@ -278,9 +279,9 @@ module _ (all : List Stop) (rows : List Transfer) (to : ℕ) where
       first second
 
   -- into a stop that the feed hasn't, transfers to that stop alone claim it
-  pub adds_no_stop : (old new : List Claim) → slice_get all to ≡ None → Adds old new (Aloud all rows (IsClaimBy all rows (TheStop to) to))
-      → Adds old new (Aloud all rows (IsClaimInto all rows to))
-  adds_no_stop old new none h = aloud_same (IsSilent all rows) old new (IsClaimBy all rows (TheStop to) to) (IsClaimInto all rows to)
+  pub adds_no_stop : (old new : List Claim) → slice_get all to ≡ None → Adds old new (Unbanned all rows (IsClaimBy all rows (TheStop to) to))
+      → Adds old new (Unbanned all rows (IsClaimInto all rows to))
+  adds_no_stop old new none h = unbanned_same (IsBannedClaim all rows) old new (IsClaimBy all rows (TheStop to) to) (IsClaimInto all rows to)
       (λ c h. by_there (TheStop to) c (own_equal to) h)
       back h
     where

@@ -2,12 +2,12 @@ pub mod ListLemmas
 pub mod AddLemmas
 pub mod ClaimLemmas
 pub mod BanLemmas
-pub mod AloudLemmas
+pub mod UnbannedLemmas
 pub mod BorderLemmas
 pub mod OrderLemmas
-pub mod WordLemmas
+pub mod VerdictLemmas
 pub mod MemberLemmas
-pub mod HeardLemmas
+pub mod CountingLemmas
 pub mod PathLemmas
 pub mod RangeLemmas
 pub mod VoidLemmas

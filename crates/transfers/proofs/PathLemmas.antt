@@ -7,21 +7,21 @@ use Rattle.std.proofs.lemmas.List.Elements.{Contains-push, Contains-push_cases, 
 use Rattle.reasoning.proofs.ListLemmas.{same_at}
 use Rattle.timetable.specs.declared.network.Footpath.{Footpath}
 use Rattle.timetable.specs.Legal.{At, AreInOrder}
-use Rattle.transfers.specs.declared.claims.Word.{Word}
-use Rattle.transfers.specs.declared.claims.Word.TheVariants.{Never, Takes}
+use Rattle.transfers.specs.declared.claims.Verdict.{Verdict}
+use Rattle.transfers.specs.declared.claims.Verdict.TheVariants.{Never, Takes}
 use Rattle.transfers.specs.declared.claims.Claim.{Claim}
 use Rattle.transfers.specs.Claims.{ComesBefore, AreSorted, IsFirstAt, IsPathAt, ArePathsBelow, path_of}
 use Rattle.timetable.proofs.LegalLemmas.{in_order_push}
 
-abbrev pub secs_in : Word → ℕ
+abbrev pub secs_in : Verdict → ℕ
 secs_in Never = 0
 secs_in (Takes n) = suc n
 
 pub never_takes : (n : ℕ) → Never ≡ Takes n → ⊥
-never_takes n e = let same : 0 ≡ suc n = ap (λ (w : Word). secs_in w) e in omega (arith, same)
+never_takes n e = let same : 0 ≡ suc n = ap (λ (w : Verdict). secs_in w) e in omega (arith, same)
 
 pub same_takes : (m n : ℕ) → Takes m ≡ Takes n → m ≡ n
-same_takes m n e = let same : suc m ≡ suc n = ap (λ (w : Word). secs_in w) e in omega (arith, same)
+same_takes m n e = let same : suc m ≡ suc n = ap (λ (w : Verdict). secs_in w) e in omega (arith, same)
 
 abbrev pub footpath_of : ℕ → ℕ → ℕ → Footpath
 footpath_of from to secs = record { from = from; to = to; secs = secs }
@@ -64,17 +64,17 @@ module _ (claims : List Claim) (place : ℕ) (c : Claim) (at : At claims place c
   }
 
   module _ (first : IsFirstAt claims place) where
-    by_word : (w : Word) → c.word ≡ w → ArePathsBelow claims (place + 1) (paths ++ path_of c.from c.to w)
-    by_word Never is = record {
+    by_verdict : (w : Verdict) → c.verdict ≡ w → ArePathsBelow claims (place + 1) (paths ++ path_of c.from c.to w)
+    by_verdict Never is = record {
       has = λ f is_in. weaker f (subst (λ (ps : List Footpath). Contains ps f) (append-nil paths) is_in);
       each = λ k f below path. elim (cases_eq k place) [
         | inl same ↦
             let is_c : path.claim ≡ c = same_at claims place path.claim c (subst (λ (n : ℕ). At claims n path.claim) same path.at) at in
-            absurd (never_takes f.secs (sym is ∙ sym (ap (λ (x : Claim). x.word) is_c) ∙ path.word_is))
+            absurd (never_takes f.secs (sym is ∙ sym (ap (λ (x : Claim). x.verdict) is_c) ∙ path.verdict_is))
         | inr differ ↦ Contains-append_left paths [] f (h.each k f (omega (arith, below, differ)) path)
       ];
     }
-    by_word (Takes secs) is =
+    by_verdict (Takes secs) is =
         let x : Footpath = record { from = c.from; to = c.to; secs = secs } in
         record {
           has = λ f is_in. elim (Contains-push_cases paths x f is_in) [
@@ -83,7 +83,7 @@ module _ (claims : List Claim) (place : ℕ) (c : Claim) (at : At claims place c
               place,
               omega arith,
               subst (λ (f : Footpath). IsPathAt claims place f) same
-                  (record { claim = c; at = at; first = first; from_is = refl; to_is = refl; word_is = is }),
+                  (record { claim = c; at = at; first = first; from_is = refl; to_is = refl; verdict_is = is }),
             )
           ];
           each = λ k f below path. elim (cases_eq k place) [
@@ -91,18 +91,18 @@ module _ (claims : List Claim) (place : ℕ) (c : Claim) (at : At claims place c
                 let is_c : path.claim ≡ c = same_at claims place path.claim c (subst (λ (n : ℕ). At claims n path.claim) same path.at) at in
                 let from : c.from ≡ f.from = sym (ap (λ (x : Claim). x.from) is_c) ∙ path.from_is in
                 let to : c.to ≡ f.to = sym (ap (λ (x : Claim). x.to) is_c) ∙ path.to_is in
-                let words : Takes secs ≡ Takes f.secs = sym is ∙ sym (ap (λ (x : Claim). x.word) is_c) ∙ path.word_is in
-                subst (λ (g : Footpath). Contains (paths ++ x ∷ []) g) (same_path c.from c.to secs f from to (same_takes secs f.secs words))
+                let verdicts : Takes secs ≡ Takes f.secs = sym is ∙ sym (ap (λ (x : Claim). x.verdict) is_c) ∙ path.verdict_is in
+                subst (λ (g : Footpath). Contains (paths ++ x ∷ []) g) (same_path c.from c.to secs f from to (same_takes secs f.secs verdicts))
                 (Contains-push paths x)
             | inr differ ↦ Contains-append_left paths (x ∷ []) f (h.each k f (omega (arith, below, differ)) path)
           ];
         }
 
     -- a claim that is the first on its pair gives its footpath
-    pub paths_more : ArePathsBelow claims (place + 1) (paths ++ path_of c.from c.to c.word)
-    paths_more = by_word c.word refl
+    pub paths_more : ArePathsBelow claims (place + 1) (paths ++ path_of c.from c.to c.verdict)
+    paths_more = by_verdict c.verdict refl
 
-    order_by : AreSorted claims → AreInOrder paths → (w : Word) → AreInOrder (paths ++ path_of c.from c.to w)
+    order_by : AreSorted claims → AreInOrder paths → (w : Verdict) → AreInOrder (paths ++ path_of c.from c.to w)
     order_by sorted in_order Never = subst (λ (ps : List Footpath). AreInOrder ps) (sym (append-nil paths)) in_order
     order_by sorted in_order (Takes secs) = in_order_push paths (record { from = c.from; to = c.to; secs = secs }) in_order (λ e is_in.
         let (k, below, path) = h.has e is_in in
@@ -119,5 +119,5 @@ module _ (claims : List Claim) (place : ℕ) (c : Claim) (at : At claims place c
               | inr above ↦ absurd (first_strict claims sorted k place path.claim c below path.at at first same_to (omega (arith, le, above, path.from_is)))
             ]
 
-    pub order_more : AreSorted claims → AreInOrder paths → AreInOrder (paths ++ path_of c.from c.to c.word)
-    order_more sorted in_order = order_by sorted in_order c.word
+    pub order_more : AreSorted claims → AreInOrder paths → AreInOrder (paths ++ path_of c.from c.to c.verdict)
+    order_more sorted in_order = order_by sorted in_order c.verdict

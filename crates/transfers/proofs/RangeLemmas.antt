@@ -15,15 +15,16 @@ use Rattle.gtfs_tables.specs.declared.tables.Transfer.{Transfer}
 use Rattle.gtfs_tables.specs.declared.tables.Place.{Place}
 use Rattle.gtfs_tables.specs.declared.tables.Place.TheVariants.{Stop as TheStop, Station as TheStation}
 use Rattle.transfers.specs.declared.claims.Source.TheVariants.{Stops, Station}
-use Rattle.transfers.specs.declared.claims.Word.{Word}
-use Rattle.transfers.specs.declared.claims.Word.TheVariants.{Never, Takes}
+use Rattle.transfers.specs.declared.claims.Verdict.{Verdict}
+use Rattle.transfers.specs.declared.claims.Verdict.TheVariants.{Never, Takes}
 use Rattle.transfers.specs.declared.claims.Claim.{Claim}
-use Rattle.transfers.specs.Listed.{NamesBelow, stands_for, station_of, station_in, is_child, is_of, word_by, word_of, given_or, said_by, default_word}
-use Rattle.transfers.specs.Listed.{word_between, secs_of, listed_secs}
+use Rattle.transfers.specs.Listed.{NamesBelow, stands_for, station_of, station_in, is_child, is_of}
+use Rattle.transfers.specs.Listed.{verdict_by, verdict_of, given_or, claimed_by, default_verdict}
+use Rattle.transfers.specs.Listed.{verdict_between, secs_of, listed_secs}
 use Rattle.transfers.specs.Claims.{IsClaim}
 use Rattle.transfers.specs.Lookup.{EndsBelow}
 use Rattle.transfers.proofs.ClaimLemmas.{station_is, claim_of}
-use Rattle.transfers.proofs.WordLemmas.{claim_between, first_said, said_claim}
+use Rattle.transfers.proofs.VerdictLemmas.{claim_between, first_claimed, claimed_claim}
 
 -- a child is a stop of the list
 has_stop : (all : List Stop) (stop station : ℕ) → station_of all stop ≡ Some station → stop < length all
@@ -63,55 +64,55 @@ claim_below feed end ends c (inr (inr h)) =
     let below : c.to < end = omega (arith, h.below, ends.stops) in
     (omega (arith, below, h.loop), below)
 
-pub secs_given : (o : Option Word) (secs : ℕ) → secs_of o ≡ Some secs → o ≡ Some (Takes secs)
+pub secs_given : (o : Option Verdict) (secs : ℕ) → secs_of o ≡ Some secs → o ≡ Some (Takes secs)
 secs_given None secs e = absurd (none-some secs e)
 secs_given (Some Never) secs e = absurd (none-some secs e)
-secs_given (Some (Takes n)) secs e = ap (λ (m : ℕ). let w : Word = Takes m in Some w) (same_Some n secs e)
+secs_given (Some (Takes n)) secs e = ap (λ (m : ℕ). let w : Verdict = Takes m in Some w) (same_Some n secs e)
 
 -- and so is what it lists
 pub listed_below : (feed : Feed) (end : ℕ) → EndsBelow feed end → (from to secs : ℕ) → listed_secs feed from to ≡ Some secs → (from < end) × (to < end)
 listed_below feed end ends from to secs is =
-    let (d, claim, d_to, d_from) = claim_between feed from to (Takes secs) (secs_given (word_between feed from to) secs is) in
+    let (d, claim, d_to, d_from) = claim_between feed from to (Takes secs) (secs_given (verdict_between feed from to) secs is) in
     let below = claim_below feed end ends d claim in
     (omega (arith, below.0, d_from), omega (arith, below.1, d_to))
 
 -- no transfer keeps a stop apart from itself
-loop_word : (kind : TransferKind) (given : Option ℕ) (w : Word) → word_by kind given true ≡ Some w → (n : ℕ) × (w ≡ Takes n)
-loop_word Recommended given w e = (given_or given 0, sym (same_Some (Takes (given_or given 0)) w e))
-loop_word Timed given w e = (given_or given 0, sym (same_Some (Takes (given_or given 0)) w e))
-loop_word Minimum given w e = (given_or given 120, sym (same_Some (Takes (given_or given 120)) w e))
-loop_word Impossible given w e = absurd (none-some w e)
-loop_word Skipped given w e = absurd (none-some w e)
+loop_verdict : (kind : TransferKind) (given : Option ℕ) (w : Verdict) → verdict_by kind given true ≡ Some w → (n : ℕ) × (w ≡ Takes n)
+loop_verdict Recommended given w e = (given_or given 0, sym (same_Some (Takes (given_or given 0)) w e))
+loop_verdict Timed given w e = (given_or given 0, sym (same_Some (Takes (given_or given 0)) w e))
+loop_verdict Minimum given w e = (given_or given 120, sym (same_Some (Takes (given_or given 120)) w e))
+loop_verdict Impossible given w e = absurd (none-some w e)
+loop_verdict Skipped given w e = absurd (none-some w e)
 
 -- what is claimed of a loop is a time
-pub loop_takes : (stops : List Stop) (rows : List Transfer) (c : Claim) → IsClaim stops rows c → c.from ≡ c.to → (n : ℕ) × (c.word ≡ Takes n)
+pub loop_takes : (stops : List Stop) (rows : List Transfer) (c : Claim) → IsClaim stops rows c → c.from ≡ c.to → (n : ℕ) × (c.verdict ≡ Takes n)
 loop_takes stops rows c (inl (row, is_in, h)) loop =
-    loop_word row.kind row.seconds c.word (ap (λ (b : Bool). word_of row b) (sym (eq-eqb c.from c.to loop)) ∙ h.word_is)
-loop_takes stops rows c (inr (inl h)) loop = (120, h.word_is)
-loop_takes stops rows c (inr (inr h)) loop = (0, h.word_is)
+    loop_verdict row.kind row.seconds c.verdict (ap (λ (b : Bool). verdict_of row b) (sym (eq-eqb c.from c.to loop)) ∙ h.verdict_is)
+loop_takes stops rows c (inr (inl h)) loop = (120, h.verdict_is)
+loop_takes stops rows c (inr (inr h)) loop = (0, h.verdict_is)
 
 -- each stop of the feed has a listed loop
 pub loop_listed : (feed : Feed) (stop : ℕ) → stop < length feed.stops.items → (secs : ℕ) × (listed_secs feed stop stop ≡ Some secs)
-loop_listed feed stop below = by_stops (said_by feed.stops.items Stops stop stop feed.transfers.items) refl
+loop_listed feed stop below = by_stops (claimed_by feed.stops.items Stops stop stop feed.transfers.items) refl
   where
-    time_of : (w : Word) → (n : ℕ) × (w ≡ Takes n) → (secs : ℕ) × (secs_of (Some w) ≡ Some secs)
-    time_of w (n, is) = (n, ap (λ (v : Word). let o : Option Word = Some v in secs_of o) is)
+    time_of : (w : Verdict) → (n : ℕ) × (w ≡ Takes n) → (secs : ℕ) × (secs_of (Some w) ≡ Some secs)
+    time_of w (n, is) = (n, ap (λ (v : Verdict). let o : Option Verdict = Some v in secs_of o) is)
 
-    otherwise : default_word feed.stops.items stop stop ≡ Some (Takes 0)
+    otherwise : default_verdict feed.stops.items stop stop ≡ Some (Takes 0)
     otherwise = rw (eq-eqb stop stop refl) (rw (lt-ltb stop (length feed.stops.items) below) refl)
 
-    by_station : (o : Option Word) → said_by feed.stops.items Station stop stop feed.transfers.items ≡ o
-        → (secs : ℕ) × (secs_of (or_else o (default_word feed.stops.items stop stop)) ≡ Some secs)
+    by_station : (o : Option Verdict) → claimed_by feed.stops.items Station stop stop feed.transfers.items ≡ o
+        → (secs : ℕ) × (secs_of (or_else o (default_verdict feed.stops.items stop stop)) ≡ Some secs)
     by_station (Some w) is = time_of w (loop_takes feed.stops.items feed.transfers.items (claim_of stop stop Station w)
-        (said_claim feed Station stop stop w ((first_said feed.stops.items Station stop stop feed.transfers.items).something w is)) refl)
-    by_station None is = (0, ap (λ (o : Option Word). secs_of o) otherwise)
+        (claimed_claim feed Station stop stop w ((first_claimed feed.stops.items Station stop stop feed.transfers.items).something w is)) refl)
+    by_station None is = (0, ap (λ (o : Option Verdict). secs_of o) otherwise)
 
-    by_stops : (o : Option Word) → said_by feed.stops.items Stops stop stop feed.transfers.items ≡ o
-        → (secs : ℕ) × (secs_of (or_else o (or_else (said_by feed.stops.items Station stop stop feed.transfers.items)
-        (default_word feed.stops.items stop stop))) ≡ Some secs)
+    by_stops : (o : Option Verdict) → claimed_by feed.stops.items Stops stop stop feed.transfers.items ≡ o
+        → (secs : ℕ) × (secs_of (or_else o (or_else (claimed_by feed.stops.items Station stop stop feed.transfers.items)
+        (default_verdict feed.stops.items stop stop))) ≡ Some secs)
     by_stops (Some w) is = time_of w (loop_takes feed.stops.items feed.transfers.items (claim_of stop stop Stops w)
-        (said_claim feed Stops stop stop w ((first_said feed.stops.items Stops stop stop feed.transfers.items).something w is)) refl)
-    by_stops None is = by_station (said_by feed.stops.items Station stop stop feed.transfers.items) refl
+        (claimed_claim feed Stops stop stop w ((first_claimed feed.stops.items Stops stop stop feed.transfers.items).something w is)) refl)
+    by_stops None is = by_station (claimed_by feed.stops.items Station stop stop feed.transfers.items) refl
 
 -- a greater number is above a stop that a place names too
 names_more : (place : Place) (end more : ℕ) → end ≤ more → NamesBelow end place → NamesBelow more place

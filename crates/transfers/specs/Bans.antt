@@ -65,23 +65,23 @@ station_at stops (TheStop stop) = station_of stops stop
 station_at stops (TheStation station) = Some station
 
 -- a claim of this source doesn't count: it isn't by a transfer that names both stops itself, and no transfer is possible between the stations
-abbrev pub MayBeSilent : Source → Type 0 → Type 0
-MayBeSilent Stops void = ⊥
-MayBeSilent Station void = void
-MayBeSilent Default void = void
+abbrev pub IsBanned : Source → Type 0 → Type 0
+IsBanned Stops void = ⊥
+IsBanned Station void = void
+IsBanned Default void = void
 
 -- a transfer says nothing except about loops: it doesn't name both stops itself, and no transfer is possible between its stations
-abbrev pub IsMute : List Stop → List Transfer → Transfer → ℕ → Type 0
-IsMute stops rows row to = MayBeSilent (source_of row) (IsVoid rows (station_at stops row.from) (station_of stops to))
+abbrev pub IsBannedRow : List Stop → List Transfer → Transfer → ℕ → Type 0
+IsBannedRow stops rows row to = IsBanned (source_of row) (IsVoid rows (station_at stops row.from) (station_of stops to))
 
 -- a claim needn't be made: its source doesn't name both stops itself, no transfer is possible between their stations, and it isn't about a loop
-pub record IsSilent (stops : List Stop) (rows : List Transfer) (c : Claim) : Type 0 where
+pub record IsBannedClaim (stops : List Stop) (rows : List Transfer) (c : Claim) : Type 0 where
   pub apart : c.from ≢ c.to
-  pub void : MayBeSilent c.source (IsVoid rows (station_of stops c.from) (station_of stops c.to))
+  pub void : IsBanned c.source (IsVoid rows (station_of stops c.from) (station_of stops c.to))
 
 -- the claims without those that needn't be made
-abbrev pub Aloud : List Stop → List Transfer → (Claim → Type 0) → Claim → Type 0
-Aloud stops rows made c = made c × ¬ IsSilent stops rows c
+abbrev pub Unbanned : List Stop → List Transfer → (Claim → Type 0) → Claim → Type 0
+Unbanned stops rows made c = made c × ¬ IsBannedClaim stops rows c
 
 -- a transfer makes this claim about the loop of a stop
 abbrev pub IsOwnInto : List Stop → ℕ → Transfer → Claim → Type 0

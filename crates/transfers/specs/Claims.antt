@@ -8,10 +8,10 @@ use Rattle.gtfs_tables.specs.declared.tables.Place.{Place}
 use Rattle.gtfs_tables.specs.declared.tables.Place.TheVariants.{Station as TheStation}
 use Rattle.transfers.specs.declared.claims.Source.{Source}
 use Rattle.transfers.specs.declared.claims.Source.TheVariants.{Stops, Station, Default}
-use Rattle.transfers.specs.declared.claims.Word.{Word}
-use Rattle.transfers.specs.declared.claims.Word.TheVariants.{Never, Takes}
+use Rattle.transfers.specs.declared.claims.Verdict.{Verdict}
+use Rattle.transfers.specs.declared.claims.Verdict.TheVariants.{Never, Takes}
 use Rattle.transfers.specs.declared.claims.Claim.{Claim}
-use Rattle.transfers.specs.Listed.{stands_for, is_child, source_of, word_of, is_of, station_of}
+use Rattle.transfers.specs.Listed.{stands_for, is_child, source_of, verdict_of, is_of, station_of}
 
 -- the claims made are added, and nothing else
 pub record Adds (old new : List Claim) (made : Claim → Type 0) : Type 0 where
@@ -28,21 +28,21 @@ pub record IsPairClaim (row : Transfer) (from to : ℕ) (c : Claim) : Type 0 whe
   pub from_is : c.from ≡ from
   pub to_is : c.to ≡ to
   pub source_is : c.source ≡ source_of row
-  pub word_is : word_of row (from == to) ≡ Some c.word
+  pub verdict_is : verdict_of row (from == to) ≡ Some c.verdict
 
 -- a transfer makes this claim
 pub record IsRowClaim (stops : List Stop) (row : Transfer) (c : Claim) : Type 0 where
   pub from_stands : stands_for stops row.from c.from ≡ true
   pub to_stands : stands_for stops row.to c.to ≡ true
   pub source_is : c.source ≡ source_of row
-  pub word_is : word_of row (c.from == c.to) ≡ Some c.word
+  pub verdict_is : verdict_of row (c.from == c.to) ≡ Some c.verdict
 
 -- the default claim about two different stops of one station
 pub record IsSiblingClaim (stops : List Stop) (c : Claim) : Type 0 where
   pub siblings : is_of stops (station_of stops c.to) c.from ≡ true
   pub differ : c.from ≢ c.to
   pub source_is : c.source ≡ Default
-  pub word_is : c.word ≡ Takes 120
+  pub verdict_is : c.verdict ≡ Takes 120
 
 -- the default claim about the way from one stop to another of the same station
 pub record IsSiblingPair (from to : ℕ) (c : Claim) : Type 0 where
@@ -50,7 +50,7 @@ pub record IsSiblingPair (from to : ℕ) (c : Claim) : Type 0 where
   pub to_is : c.to ≡ to
   pub differ : from ≢ to
   pub source_is : c.source ≡ Default
-  pub word_is : c.word ≡ Takes 120
+  pub verdict_is : c.verdict ≡ Takes 120
 
 -- the default claim about the way to a stop from another stop of the station
 pub record IsSiblingInto (all : List Stop) (station to : ℕ) (c : Claim) : Type 0 where
@@ -58,14 +58,14 @@ pub record IsSiblingInto (all : List Stop) (station to : ℕ) (c : Claim) : Type
   pub to_is : c.to ≡ to
   pub differ : c.from ≢ c.to
   pub source_is : c.source ≡ Default
-  pub word_is : c.word ≡ Takes 120
+  pub verdict_is : c.verdict ≡ Takes 120
 
 -- the default claim about the loop of a stop with a number below this
 pub record IsLoopClaim (stops : ℕ) (c : Claim) : Type 0 where
   pub below : c.to < stops
   pub loop : c.from ≡ c.to
   pub source_is : c.source ≡ Default
-  pub word_is : c.word ≡ Takes 0
+  pub verdict_is : c.verdict ≡ Takes 0
 
 -- the feed makes the claim
 abbrev pub IsClaim : List Stop → List Transfer → Claim → Type 0
@@ -76,7 +76,7 @@ pub record IsRowInto (stops : List Stop) (to : ℕ) (row : Transfer) (c : Claim)
   pub from_stands : stands_for stops row.from c.from ≡ true
   pub to_is : c.to ≡ to
   pub source_is : c.source ≡ source_of row
-  pub word_is : word_of row (c.from == c.to) ≡ Some c.word
+  pub verdict_is : verdict_of row (c.from == c.to) ≡ Some c.verdict
 
 -- the transfer of this number makes this claim about a way into a stop
 abbrev pub IsNumberedClaim : List Stop → List Transfer → ℕ → ℕ → Claim → Type 0
@@ -95,7 +95,7 @@ pub record IsLoopOf (stop : ℕ) (c : Claim) : Type 0 where
   pub to_is : c.to ≡ stop
   pub from_is : c.from ≡ stop
   pub source_is : c.source ≡ Default
-  pub word_is : c.word ≡ Takes 0
+  pub verdict_is : c.verdict ≡ Takes 0
 
 -- a claim about a way into a stop of the feed, except those of transfers that lead to the stop itself
 abbrev pub IsStopClaim : List Stop → List Transfer → Option ℕ → ℕ → Claim → Type 0
@@ -122,18 +122,18 @@ source_number Stops = 0
 source_number Station = 1
 source_number Default = 2
 
--- of two words of one source the first is the one that counts, or they are the same
-abbrev pub IsHeardBefore : Word → Word → Type 0
-IsHeardBefore Never other = Unit {0}
-IsHeardBefore (Takes secs) Never = ⊥
-IsHeardBefore (Takes secs) (Takes other) = secs ≤ other
+-- of two verdicts of one source the first is the one that counts, or they are the same
+abbrev pub CountsBefore : Verdict → Verdict → Type 0
+CountsBefore Never other = Unit {0}
+CountsBefore (Takes secs) Never = ⊥
+CountsBefore (Takes secs) (Takes other) = secs ≤ other
 
--- a claim comes before another, or is equal: by the stop that it leads to, the stop that it leaves, its source, and its word
+-- a claim comes before another, or is equal: by the stop that it leads to, the stop that it leaves, its source, and its verdict
 pub record ComesBefore (c d : Claim) : Type 0 where
   pub by_to : c.to ≤ d.to
   pub by_from : c.to ≡ d.to → c.from ≤ d.from
   pub by_source : c.to ≡ d.to → c.from ≡ d.from → source_number c.source ≤ source_number d.source
-  pub by_word : c.to ≡ d.to → c.from ≡ d.from → c.source ≡ d.source → IsHeardBefore c.word d.word
+  pub by_verdict : c.to ≡ d.to → c.from ≡ d.from → c.source ≡ d.source → CountsBefore c.verdict d.verdict
 
 -- the claims are in this order
 abbrev pub AreSorted : List Claim → Type 0
@@ -150,14 +150,14 @@ pub record IsPathAt (claims : List Claim) (place : ℕ) (f : Footpath) : Type 0 
   pub first : IsFirstAt claims place
   pub from_is : claim.from ≡ f.from
   pub to_is : claim.to ≡ f.to
-  pub word_is : claim.word ≡ Takes f.secs
+  pub verdict_is : claim.verdict ≡ Takes f.secs
 
 -- these are the footpaths of those claims below an index that are the first about their pairs
 pub record ArePathsBelow (claims : List Claim) (place : ℕ) (paths : List Footpath) : Type 0 where
   pub has : (f : Footpath) → Contains paths f → (k : ℕ) × (k < place) × IsPathAt claims k f
   pub each : (k : ℕ) (f : Footpath) → k < place → IsPathAt claims k f → Contains paths f
 
--- the footpath that a word gives, if it gives one
-abbrev pub path_of : ℕ → ℕ → Word → List Footpath
+-- the footpath that a verdict gives, if it gives one
+abbrev pub path_of : ℕ → ℕ → Verdict → List Footpath
 path_of from to Never = []
 path_of from to (Takes secs) = record { from = from; to = to; secs = secs } ∷ []

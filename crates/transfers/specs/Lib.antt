@@ -3,4 +3,4 @@ pub mod Groups
 pub mod Lookup
 pub mod Claims
 pub mod Bans
-pub mod Heard
+pub mod Counting

@@ -14,8 +14,8 @@ use Rattle.gtfs_tables.specs.declared.tables.Place.{Place}
 use Rattle.gtfs_tables.specs.declared.tables.Place.TheVariants.{Stop as TheStop, Station as TheStation}
 use Rattle.transfers.specs.declared.claims.Source.{Source}
 use Rattle.transfers.specs.declared.claims.Source.TheVariants.{Stops, Station, Default}
-use Rattle.transfers.specs.declared.claims.Word.{Word}
-use Rattle.transfers.specs.declared.claims.Word.TheVariants.{Never, Takes}
+use Rattle.transfers.specs.declared.claims.Verdict.{Verdict}
+use Rattle.transfers.specs.declared.claims.Verdict.TheVariants.{Never, Takes}
 pub use Rattle.gtfs_tables.specs.Joined.{NamesBelow}
 
 -- the station of a stop
@@ -51,15 +51,15 @@ given_or None secs = secs
 given_or (Some given) secs = min given 86400
 
 -- what a transfer says about a pair of stops that its ends stand for; it can't forbid a loop
-abbrev pub word_by : TransferKind → Option ℕ → Bool → Option Word
-word_by Recommended given is_loop = Some (Takes (given_or given (if is_loop then 0 else 120)))
-word_by Timed given is_loop = Some (Takes (given_or given 0))
-word_by Minimum given is_loop = Some (Takes (given_or given 120))
-word_by Impossible given is_loop = if is_loop then None else Some Never
-word_by Skipped given is_loop = None
+abbrev pub verdict_by : TransferKind → Option ℕ → Bool → Option Verdict
+verdict_by Recommended given is_loop = Some (Takes (given_or given (if is_loop then 0 else 120)))
+verdict_by Timed given is_loop = Some (Takes (given_or given 0))
+verdict_by Minimum given is_loop = Some (Takes (given_or given 120))
+verdict_by Impossible given is_loop = if is_loop then None else Some Never
+verdict_by Skipped given is_loop = None
 
-abbrev pub word_of : Transfer → Bool → Option Word
-word_of row is_loop = word_by row.kind row.seconds is_loop
+abbrev pub verdict_of : Transfer → Bool → Option Verdict
+verdict_of row is_loop = verdict_by row.kind row.seconds is_loop
 
 -- the two sources are the same
 abbrev pub is_source : Source → Source → Bool
@@ -69,53 +69,53 @@ is_source Default Default = true
 is_source _ _ = false
 
 -- what a transfer of this source says about a pair of stops
-abbrev pub word_for : List Stop → Source → ℕ → ℕ → Transfer → Option Word
-word_for stops source from to row =
-    if is_source (source_of row) source && stands_for stops row.from from && stands_for stops row.to to then word_of row (from == to) else None
+abbrev pub verdict_for : List Stop → Source → ℕ → ℕ → Transfer → Option Verdict
+verdict_for stops source from to row =
+    if is_source (source_of row) source && stands_for stops row.from from && stands_for stops row.to to then verdict_of row (from == to) else None
 
--- the word of two that counts: there is no footpath if one says so, or else the least time counts
-abbrev pub least_word : Word → Word → Word
-least_word Never other = Never
-least_word (Takes secs) Never = Never
-least_word (Takes secs) (Takes other) = Takes (min secs other)
+-- the verdict of two that counts: there is no footpath if one says so, or else the least time counts
+abbrev pub least_verdict : Verdict → Verdict → Verdict
+least_verdict Never other = Never
+least_verdict (Takes secs) Never = Never
+least_verdict (Takes secs) (Takes other) = Takes (min secs other)
 
--- the word of two that counts, if either is there
-abbrev pub heard : Option Word → Option Word → Option Word
-heard None other = other
-heard (Some word) None = Some word
-heard (Some word) (Some other) = Some (least_word word other)
+-- the verdict of two that counts, if either is there
+abbrev pub least_of_both : Option Verdict → Option Verdict → Option Verdict
+least_of_both None other = other
+least_of_both (Some verdict) None = Some verdict
+least_of_both (Some verdict) (Some other) = Some (least_verdict verdict other)
 
--- the word that counts among those of one source about a pair of stops
-abbrev pub said_by : List Stop → Source → ℕ → ℕ → List Transfer → Option Word
-said_by stops source from to [] = None
-said_by stops source from to (row ∷ rows) = heard (word_for stops source from to row) (said_by stops source from to rows)
+-- the verdict that counts among those of one source about a pair of stops
+abbrev pub claimed_by : List Stop → Source → ℕ → ℕ → List Transfer → Option Verdict
+claimed_by stops source from to [] = None
+claimed_by stops source from to (row ∷ rows) = least_of_both (verdict_for stops source from to row) (claimed_by stops source from to rows)
 
 -- the station is there, and the stop is one of its stops
 abbrev pub is_of : List Stop → Option ℕ → ℕ → Bool
 is_of stops None stop = false
 is_of stops (Some station) stop = is_child stops station stop
 
--- the word for a pair of stops if no transfer counts: no time for a loop, two minutes within a station
-abbrev pub default_word : List Stop → ℕ → ℕ → Option Word
-default_word stops from to =
+-- the verdict for a pair of stops if no transfer counts: no time for a loop, two minutes within a station
+abbrev pub default_verdict : List Stop → ℕ → ℕ → Option Verdict
+default_verdict stops from to =
     if from == to
     then (if nat_lt to (length stops) then Some (Takes 0) else None)
     else (if is_of stops (station_of stops to) from then Some (Takes 120) else None)
 
--- the word that counts for a pair of stops: of transfers that name both themselves, else of those that name a station, else the default
-abbrev pub word_between : Feed → ℕ → ℕ → Option Word
-word_between feed from to =
-    or_else (said_by feed.stops.items Stops from to feed.transfers.items)
-    (or_else (said_by feed.stops.items Station from to feed.transfers.items) (default_word feed.stops.items from to))
+-- the verdict that counts for a pair of stops: of transfers that name both themselves, else of those that name a station, else the default
+abbrev pub verdict_between : Feed → ℕ → ℕ → Option Verdict
+verdict_between feed from to =
+    or_else (claimed_by feed.stops.items Stops from to feed.transfers.items)
+    (or_else (claimed_by feed.stops.items Station from to feed.transfers.items) (default_verdict feed.stops.items from to))
 
-abbrev pub secs_of : Option Word → Option ℕ
+abbrev pub secs_of : Option Verdict → Option ℕ
 secs_of None = None
 secs_of (Some Never) = None
 secs_of (Some (Takes secs)) = Some secs
 
 -- the seconds of the listed footpath from one stop to another, if there is one
 abbrev pub listed_secs : Feed → ℕ → ℕ → Option ℕ
-listed_secs feed from to = secs_of (word_between feed from to)
+listed_secs feed from to = secs_of (verdict_between feed from to)
 
 -- these are the listed footpaths between the pairs of stops that are meant
 pub record AreListed (feed : Feed) (meant : ℕ → ℕ → Type 0) (paths : List Footpath) : Type 0 where

@@ -9,7 +9,7 @@ use Rattle.transfers.specs.declared.lookup.Lookup.{Lookup}
 use Rattle.transfers.specs.declared.lookup.Known.{Known}
 use Rattle.transfers.specs.Bans.{AreBans}
 use Rattle.transfers.specs.Groups.{AreGroups}
-use Rattle.transfers.specs.Heard.{HearsOnce}
+use Rattle.transfers.specs.Counting.{KeepsWhatCounts}
 use Rattle.transfers.specs.Listed.{NamesBelow}
 
 -- the stop, or the station, that an end is
@@ -39,8 +39,8 @@ abbrev pub IsKnown : Known → Type 0
 IsKnown known = IsLookup (stops_in known) (transfers_in known) known.lookup.now
 
 -- the transfers that are left say all that counts
-abbrev pub IsHeard : Known → Type 0
-IsHeard known = HearsOnce known.feed.now.transfers.items (transfers_in known)
+abbrev pub HasWhatCounts : Known → Type 0
+HasWhatCounts known = KeepsWhatCounts known.feed.now.transfers.items (transfers_in known)
 
 -- the number is above those of all stops that the feed has or that its transfers name
 pub record EndsBelow (feed : Feed) (end : ℕ) : Type 0 where

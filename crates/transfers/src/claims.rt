@@ -1,9 +1,9 @@
 //! Claims: what a feed says about footpaths between pairs of stops, and what in the feed says it.
 
 ghost use Rattle.std.specs.Prelude.{◌≡◌, OnOk};
-ghost use Rattle.transfers.specs.Bans.{Aloud, IsOwnInto};
+ghost use Rattle.transfers.specs.Bans.{Unbanned, IsOwnInto};
 ghost use Rattle.transfers.specs.declared.claims.Claim.{Claim};
-ghost use Rattle.transfers.specs.Listed.{source_of, given_or, word_of};
+ghost use Rattle.transfers.specs.Listed.{source_of, given_or, verdict_of};
 ghost use Rattle.transfers.specs.Claims.{Adds, ForOneOf, IsPairClaim, IsRowInto, IsNumberedClaim, IsSiblingPair};
 ghost use Rattle.transfers.specs.Claims.{IsSiblingInto};
 ghost use Rattle.transfers.specs.Claims.{IsStationClaim, IsLoopOf, IsStopClaim, IsClaimInto};
@@ -34,7 +34,7 @@ pub enum Source {
 /// What a claim says about an ordered pair of stops. If one source makes several claims, the least in this order
 /// counts.
 #[derive(Clone, Copy, Debug, PartialEq, Eq, PartialOrd, Ord)]
-pub enum Word {
+pub enum Verdict {
     /// There is no direct footpath.
     Never,
     /// There is a footpath that takes so many seconds.
@@ -42,13 +42,13 @@ pub enum Word {
 }
 
 /// A claim about an ordered pair of stops. Claims are ordered by the stop that the way leads to, the stop that it
-/// leaves, the source and the word, so the claim that counts for a pair comes first.
+/// leaves, the source and the verdict, so the claim that counts for a pair comes first.
 #[derive(Clone, Copy, Debug, PartialEq, Eq, PartialOrd, Ord)]
 pub struct Claim {
     pub to: u32,
     pub from: u32,
     pub source: Source,
-    pub word: Word,
+    pub verdict: Verdict,
 }
 
 /// The claims made so far.
@@ -78,17 +78,17 @@ fn given_or(given: Option<u32>, secs: u32) -> u32
 }
 
 // Returns what a transfer says about a pair of stops that its ends stand for, if anything.
-pub(crate) fn word_of(row: &Transfer, is_loop: bool) -> Option<Word>
-    ensures { result ≡ word_of row.now is_loop }
+pub(crate) fn verdict_of(row: &Transfer, is_loop: bool) -> Option<Verdict>
+    ensures { result ≡ verdict_of row.now is_loop }
 {
     match row.kind {
         TransferKind::Recommended => {
             let usual = if is_loop { 0 } else { USUAL_SECS };
-            Some(Word::Takes(given_or(row.seconds, usual)))
+            Some(Verdict::Takes(given_or(row.seconds, usual)))
         }
-        TransferKind::Timed => Some(Word::Takes(given_or(row.seconds, 0))),
-        TransferKind::Minimum => Some(Word::Takes(given_or(row.seconds, USUAL_SECS))),
-        TransferKind::Impossible => { if is_loop { None } else { Some(Word::Never) } }
+        TransferKind::Timed => Some(Verdict::Takes(given_or(row.seconds, 0))),
+        TransferKind::Minimum => Some(Verdict::Takes(given_or(row.seconds, USUAL_SECS))),
+        TransferKind::Impossible => { if is_loop { None } else { Some(Verdict::Never) } }
         TransferKind::Skipped => None,
     }
 }
@@ -97,13 +97,13 @@ pub(crate) fn word_of(row: &Transfer, is_loop: bool) -> Option<Word>
 fn claim_pair(claims: &mut Vec<Claim>, row: &Transfer, from: u32, to: u32) -> Result<(), AllocError>
     ensures { OnOk result (Adds claims.old.items claims.new.items (IsPairClaim row.now from to)) }
 {
-    if let Some(word) = word_of(row, from == to) {
+    if let Some(verdict) = verdict_of(row, from == to) {
         let source = source_of(row);
         claims.push(Claim {
             to,
             from,
             source,
-            word,
+            verdict,
         })?;
     }
     Ok(())
@@ -134,7 +134,7 @@ fn claim_sibling(claims: &mut Vec<Claim>, from: u32, to: u32) -> Result<(), Allo
             to,
             from,
             source: Source::Default,
-            word: Word::Takes(USUAL_SECS),
+            verdict: Verdict::Takes(USUAL_SECS),
         })?;
     }
     Ok(())
@@ -166,12 +166,12 @@ impl Claims {
     }
 
     // Adds the claims of a transfer about the ways into a stop, except those that don't count.
-    fn add_said(&mut self, known: &Known, row: &Transfer, to: u32) -> Result<(), AllocError>
+    fn add_claims_of(&mut self, known: &Known, row: &Transfer, to: u32) -> Result<(), AllocError>
         requires { IsKnown known.now }
         ensures { OnOk result (Adds self.old.made.items self.new.made.items
-            (Aloud (stops_in known.now) (transfers_in known.now) (IsRowInto (stops_in known.now) to row.now))) }
+            (Unbanned (stops_in known.now) (transfers_in known.now) (IsRowInto (stops_in known.now) to row.now))) }
     {
-        if known.is_mute(row, to) {
+        if known.is_banned_row(row, to) {
             self.add_own(known, row, to)
         } else {
             claim_into(&mut self.made, row, known.lookup.stood_for(&row.from), to)
@@ -182,10 +182,11 @@ impl Claims {
     fn add_row(&mut self, known: &Known, number: u32, to: u32) -> Result<(), AllocError>
         requires { IsKnown known.now }
         ensures { OnOk result (Adds self.old.made.items self.new.made.items
-            (Aloud (stops_in known.now) (transfers_in known.now) (IsNumberedClaim (stops_in known.now) (transfers_in known.now) to number))) }
+            (Unbanned (stops_in known.now) (transfers_in known.now)
+            (IsNumberedClaim (stops_in known.now) (transfers_in known.now) to number))) }
     {
         match known.lookup.transfers.get(number as usize) {
-            Some(row) => self.add_said(known, row, to),
+            Some(row) => self.add_claims_of(known, row, to),
             None => Ok(()),
         }
     }
@@ -194,7 +195,7 @@ impl Claims {
     fn add_rows(&mut self, known: &Known, numbers: &[u32], to: u32) -> Result<(), AllocError>
         requires { IsKnown known.now }
         ensures { OnOk result (Adds self.old.made.items self.new.made.items
-            (Aloud (stops_in known.now) (transfers_in known.now)
+            (Unbanned (stops_in known.now) (transfers_in known.now)
             (ForOneOf numbers.now (IsNumberedClaim (stops_in known.now) (transfers_in known.now) to)))) }
     {
         for number in numbers {
@@ -207,7 +208,7 @@ impl Claims {
     fn add_siblings(&mut self, known: &Known, station: u32, to: u32) -> Result<(), AllocError>
         requires { IsKnown known.now }
         ensures { OnOk result (Adds self.old.made.items self.new.made.items
-            (Aloud (stops_in known.now) (transfers_in known.now) (IsSiblingInto (stops_in known.now) station to))) }
+            (Unbanned (stops_in known.now) (transfers_in known.now) (IsSiblingInto (stops_in known.now) station to))) }
     {
         if known.is_void(Some(station), known.station_of(to)) {
             Ok(())
@@ -220,7 +221,7 @@ impl Claims {
     fn add_station(&mut self, known: &Known, station: u32, to: u32) -> Result<(), AllocError>
         requires { IsKnown known.now }
         ensures { OnOk result (Adds self.old.made.items self.new.made.items
-            (Aloud (stops_in known.now) (transfers_in known.now)
+            (Unbanned (stops_in known.now) (transfers_in known.now)
             (IsStationClaim (stops_in known.now) (transfers_in known.now) station to))) }
     {
         self.add_rows(known, known.lookup.into_stations.group(station), to)?;
@@ -235,7 +236,7 @@ impl Claims {
             to: stop,
             from: stop,
             source: Source::Default,
-            word: Word::Takes(0),
+            verdict: Verdict::Takes(0),
         })?;
         Ok(())
     }
@@ -244,7 +245,7 @@ impl Claims {
     fn add_stop(&mut self, known: &Known, station: Option<u32>, to: u32) -> Result<(), AllocError>
         requires { IsKnown known.now }
         ensures { OnOk result (Adds self.old.made.items self.new.made.items
-            (Aloud (stops_in known.now) (transfers_in known.now)
+            (Unbanned (stops_in known.now) (transfers_in known.now)
             (IsStopClaim (stops_in known.now) (transfers_in known.now) station to))) }
     {
         match station {
@@ -261,7 +262,8 @@ impl Claims {
     pub fn add_ways(&mut self, known: &Known, to: u32) -> Result<(), AllocError>
         requires { IsKnown known.now }
         ensures { OnOk result (Adds self.old.made.items self.new.made.items
-            (Aloud (stops_in known.now) (transfers_in known.now) (IsClaimInto (stops_in known.now) (transfers_in known.now) to))) }
+            (Unbanned (stops_in known.now) (transfers_in known.now)
+            (IsClaimInto (stops_in known.now) (transfers_in known.now) to))) }
     {
         self.add_rows(known, known.lookup.into_stops.group(to), to)?;
         match known.feed.stops.get(to as usize) {

@@ -1,13 +1,14 @@
 //! Why a feed's footpaths aren't listed.
 
 use std::alloc::AllocError;
+use thiserror::Error;
 
 /// Why a feed's footpaths aren't listed.
-#[derive(Clone, Copy, Debug, PartialEq, Eq)]
+#[derive(Clone, Copy, Debug, PartialEq, Eq, Error)]
 pub enum ListingFault {
-    /// There are more footpaths than are allowed.
+    #[error("there are more footpaths than are allowed")]
     TooMany,
-    /// Memory ran out.
+    #[error("out of memory")]
     OutOfMemory,
 }
 

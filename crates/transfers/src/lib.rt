@@ -4,12 +4,12 @@
 
 mod bans;
 mod claims;
+mod counting;
 mod fault;
 mod groups;
-mod heard;
 pub mod laws;
 mod listing;
 mod lookup;
 
 pub use fault::ListingFault;
-pub use listing::{listed, listed_within};
+pub use listing::listed_within;

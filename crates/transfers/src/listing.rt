@@ -5,14 +5,12 @@ ghost use Rattle.std.specs.Prelude.{◌≡◌, ◌<◌, ◌≤◌, ◌++◌, ◌
 ghost use Rattle.timetable.specs.Legal.{AreInOrder};
 ghost use Rattle.transfers.specs.Listed.{AreAllListed, AreListed, LeadBelow, ListsMore, ListsMoreBelow};
 ghost use Rattle.transfers.specs.Claims.{AreSorted, IsFirstAt, ArePathsBelow, path_of};
-ghost use Rattle.transfers.specs.Lookup.{IsHeard, IsKnown};
+ghost use Rattle.transfers.specs.Lookup.{HasWhatCounts, IsKnown};
 ghost use Rattle.transfers.specs.declared.fault.ListingFault.TheVariants.{TooMany};
-ghost use Rattle.footpaths.specs.declared.fault.FootFault.TheVariants.{OutOfMemory as NoMemory};
 
-use crate::claims::{Claim, Claims, Word};
+use crate::claims::{Claim, Claims, Verdict};
 use crate::fault::ListingFault;
 use crate::lookup::{Known, Lookup, end_of_stops};
-use footpaths::FootFault;
 use gtfs_tables::Feed;
 use std::alloc::{AllocError, Global};
 use timetable::Footpath;
@@ -33,9 +31,9 @@ fn is_first(claims: &[Claim], place: usize) -> bool
 
 // Adds the footpath of a claim, if the claim gives one.
 fn add_path(paths: &mut Vec<Footpath>, claim: &Claim) -> Result<(), AllocError>
-    ensures { OnOk result (paths.new.items ≡ paths.old.items ++ path_of claim.now.from claim.now.to claim.now.word) }
+    ensures { OnOk result (paths.new.items ≡ paths.old.items ++ path_of claim.now.from claim.now.to claim.now.verdict) }
 {
-    if let Word::Takes(secs) = claim.word {
+    if let Verdict::Takes(secs) = claim.verdict {
         paths.push(Footpath {
             from: claim.from,
             to: claim.to,
@@ -80,7 +78,7 @@ fn add_ways(
     to: u32,
 ) -> Result<(), AllocError>
     requires lookup { IsKnown known.now }
-    requires heard { IsHeard known.now }
+    requires counting { HasWhatCounts known.now }
     ensures { AreListed known.now.feed.now (LeadBelow to) paths.old.items
         → OnOk result (AreListed known.now.feed.now (LeadBelow (to + 1)) paths.new.items) }
 {
@@ -102,7 +100,7 @@ fn add_within(
     most: usize,
 ) -> Result<(), ListingFault>
     requires lookup { IsKnown known.now }
-    requires heard { IsHeard known.now }
+    requires counting { HasWhatCounts known.now }
     requires before { AreListed known.now.feed.now (LeadBelow to) paths.old.items }
     ensures listed { OnOk result (AreListed known.now.feed.now (LeadBelow (to + 1)) paths.new.items) }
     ensures few { OnOk result (length paths.new.items ≤ most) }
@@ -124,7 +122,7 @@ fn paths_below(
     most: usize,
 ) -> Result<Vec<Footpath>, ListingFault>
     requires lookup { IsKnown known.now }
-    requires heard { IsHeard known.now }
+    requires counting { HasWhatCounts known.now }
     requires small { end ≤ 2 ^ 32 }
     ensures listed { IfOk result (λ v. AreListed known.now.feed.now (LeadBelow end) v.items) }
     ensures few { IfOk result (λ v. length v.items ≤ most) }
@@ -173,19 +171,4 @@ pub fn listed_within(alloc: Global, feed: &Feed, most: usize) -> Result<Vec<Foot
         lookup: &lookup,
     };
     paths_below(alloc, &known, end, most)
-}
-
-/// Returns all footpaths that a feed lists, as [`listed_within`] does, without a limit.
-///
-/// # Errors
-///
-/// Only `OutOfMemory`.
-pub fn listed(alloc: Global, feed: &Feed) -> Result<Vec<Footpath>, FootFault>
-    ensures all { IfOk result (λ v. AreAllListed feed.now v.items) }
-    ensures err { IfErr result (λ fault. fault ≡ NoMemory) }
-{
-    match listed_within(alloc, feed, usize::MAX) {
-        Ok(paths) => Ok(paths),
-        Err(_) => Err(FootFault::OutOfMemory),
-    }
 }

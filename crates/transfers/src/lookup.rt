@@ -3,17 +3,17 @@
 ghost use Rattle.std.specs.Prelude.{◌≡◌, ◌<◌, ◌≤◌, ◌+◌, ◌^◌, true, false, List, length, map, IfOk};
 ghost use Rattle.gtfs_tables.specs.declared.tables.Stop.{Stop as TheStop};
 ghost use Rattle.gtfs_tables.specs.declared.tables.Transfer.{Transfer as TheTransfer};
-ghost use Rattle.transfers.specs.Bans.{IsMute, IsVoid, station_at};
+ghost use Rattle.transfers.specs.Bans.{IsBannedRow, IsVoid, station_at};
 ghost use Rattle.transfers.specs.Claims.{AreStoodFor, AreChildren};
-ghost use Rattle.transfers.specs.Heard.{HearsOnce};
+ghost use Rattle.transfers.specs.Counting.{KeepsWhatCounts};
 ghost use Rattle.transfers.specs.Listed.{NamesBelow, is_station, stands_for, station_of};
 ghost use Rattle.transfers.specs.Lookup.{EndsBelow, IsKnown, IsLookup, stop_named, station_named, stops_in};
 ghost use Rattle.transfers.specs.Lookup.{transfers_in};
 
 use crate::bans::{Ban, bans_of, is_ban};
 use crate::claims::{Source, source_of};
+use crate::counting::rows_that_count;
 use crate::groups::Groups;
-use crate::heard::heard_once;
 use gtfs_tables::{Feed, Place, Stop, Transfer};
 use std::alloc::{AllocError, Global};
 use std::slice;
@@ -92,9 +92,9 @@ impl Lookup {
     /// Makes the lookup of a feed. Memory may run out.
     pub fn new(alloc: Global, feed: &Feed) -> Result<Lookup, AllocError>
         ensures lookup { IfOk result (λ l. IsLookup feed.now.stops.items l.transfers.items l) }
-        ensures heard { IfOk result (λ l. HearsOnce feed.now.transfers.items l.transfers.items) }
+        ensures counting { IfOk result (λ l. KeepsWhatCounts feed.now.transfers.items l.transfers.items) }
     {
-        let transfers = heard_once(alloc, &feed.transfers)?;
+        let transfers = rows_that_count(alloc, &feed.transfers)?;
         let bans = bans_of(alloc, &transfers)?;
         let children = Groups::new(alloc, &stations(alloc, &feed.stops)?)?;
         let (stops, stations) = ends_named(alloc, &transfers)?;
@@ -175,10 +175,10 @@ impl<'a> Known<'a> {
 
     /// Returns whether a transfer says nothing about the ways into a stop, except perhaps about its loop: it doesn't
     /// name both stops itself, and no transfer is possible between its stations.
-    pub fn is_mute(&self, row: &Transfer, to: u32) -> bool
+    pub fn is_banned_row(&self, row: &Transfer, to: u32) -> bool
         requires { IsKnown self.now }
-        ensures mute { result ≡ true → IsMute (stops_in self.now) (transfers_in self.now) row.now to }
-        ensures aloud { result ≡ false → ¬ IsMute (stops_in self.now) (transfers_in self.now) row.now to }
+        ensures banned { result ≡ true → IsBannedRow (stops_in self.now) (transfers_in self.now) row.now to }
+        ensures unbanned { result ≡ false → ¬ IsBannedRow (stops_in self.now) (transfers_in self.now) row.now to }
     {
         match source_of(row) {
             Source::Stops => false,

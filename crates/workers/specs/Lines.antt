@@ -18,7 +18,7 @@ with_word text word = (text ++ codes " ") ++ word
 -- a fault of a feed: its number and name, and then the file and the record of a table's fault, or the file of a read that failed
 abbrev pub fault_text : LoadFault → List ℕ
 fault_text (LoadFault.Table fault) =
-    with_word (with_word (named_text (fault_number (LoadFault.Table fault)) (fault_name (LoadFault.Table fault))) (file_name fault.table)) (decimal fault.row)
+    with_word (with_word (named_text (fault_number (LoadFault.Table fault)) (fault_name (LoadFault.Table fault))) (file_name fault.file)) (decimal fault.row)
 fault_text (LoadFault.FileFailed table) =
     with_word (named_text (fault_number (LoadFault.FileFailed table)) (fault_name (LoadFault.FileFailed table))) (file_name table)
 fault_text fault = named_text (fault_number fault) (fault_name fault)

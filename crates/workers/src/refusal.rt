@@ -69,7 +69,7 @@ impl fmt::Display for FeedFault {
         let name = self.0.name();
         match self.0 {
             LoadFault::Table(fault) => {
-                let file = fault.table.file_name();
+                let file = fault.file.file_name();
                 let row = fault.row;
                 write!(f, "{number} {name} {file} {row}")
             }

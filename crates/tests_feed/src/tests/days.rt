@@ -6,7 +6,7 @@ use super::texts::{CENTRAL_EUROPE, Case, Telling, file_of, try_cases, zone_of};
 use gtfs_rows::{
     CalendarDateRow, CalendarRow, Day, Exception, FaultKind, IdHash, TableFault, read_calendar,
 };
-use service_days::{DayFault, DayServices, Services, Zone, active, day_after, day_start};
+use service_days::{DayFault, Services, Zone, active, day_after, day_start};
 use std::alloc::{AllocError, Global};
 use std::fmt::Write;
 use std::process::Abort;
@@ -264,24 +264,6 @@ impl Telling for Runs {
 #[test]
 fn services_run_on_their_days(rt: HostRuntime) -> Result<(), Fail> {
     try_cases(&rt, rt.alloc(), SERVICES, &Runs)
-}
-
-// A day that is added to one service and removed from another.
-const ADDED_AND_REMOVED: &str = "\
-calendar.txt service_id,monday,tuesday,wednesday,thursday,friday,saturday,sunday,start_date,end_date
-X +20240115, Z -20240115";
-
-// A service gives the same answers when it is asked for again.
-#[test]
-fn services_asked_for_twice(rt: HostRuntime) -> Result<(), Fail> {
-    let services = services_of(rt.alloc(), ADDED_AND_REMOVED)?;
-    let monday = day("20240115")?;
-    let mut asked = DayServices::new(rt.alloc(), &services);
-    for service in ["X", "Y", "Z", "X", "Y", "Z"] {
-        let id = String::from_str(rt.alloc(), service)?;
-        assert!(rt; asked.runs(&services, &id, monday)? == (service == "X"));
-    }
-    Ok(())
 }
 
 // A service on every day but one.

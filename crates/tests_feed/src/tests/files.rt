@@ -4,7 +4,7 @@ ghost use Rattle.std.specs.Prelude.{◌<◌};
 
 use super::failing::{Failing, ORDER};
 use feed_files::{
-    FeedFiles, FileFault, FolderFiles, MemoryFiles, ReadFault, file_up_to, read_tables,
+    Disk, FeedFiles, FileFault, FolderFiles, MemoryFiles, ReadFault, file_up_to, read_tables,
 };
 use gtfs_tables::{FaultKind, IdHash, Table, TableFault, Tables, join};
 use std::alloc::{AllocError, Global};
@@ -91,7 +91,11 @@ fn read_after(
 }
 
 fn refused(table: Table, row: u64, kind: FaultKind) -> Result<RowCounts, ReadFault> {
-    Err(ReadFault::Table(TableFault { table, row, kind }))
+    Err(ReadFault::Table(TableFault {
+        file: table,
+        row,
+        kind,
+    }))
 }
 
 #[test]
@@ -176,7 +180,8 @@ fn is_read(
     name: &str,
     text: &[u8],
 ) -> Result<bool, FileFault> {
-    match file_up_to(limit, rt, rt.alloc(), folder, name)? {
+    let state = rt.folder_state(folder);
+    match file_up_to(limit, rt, rt.alloc(), folder, &state, name)? {
         Some(bytes) => Ok(bytes.as_slice() == text),
         None => Ok(false),
     }
@@ -219,6 +224,76 @@ fn a_folder_that_is_missing_has_no_files(rt: HostRuntime) {
     assert!(rt; length_of(&rt, "/proc/self", "fd") == Err(FileFault::Failed));
     assert!(rt; length_of(&rt, "/proc/self", "agency.txt") == Ok(None));
     assert!(rt; matches!(length_of(&rt, "/proc/self", "stat"), Ok(Some(length)) if length > 0));
+}
+
+// A device isn't opened, so nobody waits for what it may give.
+#[test]
+fn a_device_is_no_file(rt: HostRuntime) -> Result<(), Fail> {
+    symlink(&rt, "/dev/null", "device.txt")?;
+    let length = length_of(&rt, ".", "device.txt");
+    fs::remove_file(&rt, "device.txt")?;
+    assert!(rt; length == Err(FileFault::Failed));
+    Ok(())
+}
+
+// How many bytes a file has, 0 if it isn't there, and none if it can't be read.
+fn length_in<F: FeedFiles>(alloc: Global, files: &mut F, name: &str) -> Option<usize> {
+    match files.read(alloc, name) {
+        Ok(Some(bytes)) => Some(bytes.len()),
+        Ok(None) => Some(0),
+        Err(_) => None,
+    }
+}
+
+// Once its folder has been exchanged for another one, no file is read of either, and none is taken for a missing one:
+// not while there is no folder at all, and not if the second folder has such a file.
+#[test]
+fn an_exchanged_folder_is_not_read(rt: HostRuntime) -> Result<(), Fail> {
+    write_folder(&rt, "exchanged", &[("agency.txt", AGENCY)])?;
+    write_folder(&rt, "exchanged_for", &[("stops.txt", STOPS)])?;
+    let mut files = FolderFiles::new(&rt, "exchanged");
+    let agency = length_in(rt.alloc(), &mut files, "agency.txt");
+    let stops = length_in(rt.alloc(), &mut files, "stops.txt");
+    fs::rename(&rt, "exchanged", "exchanged_before")?;
+    let gone = length_in(rt.alloc(), &mut files, "transfers.txt");
+    fs::rename(&rt, "exchanged_for", "exchanged")?;
+    let other = length_in(rt.alloc(), &mut files, "stops.txt");
+    fs::remove_file(&rt, "exchanged/stops.txt")?;
+    fs::remove_dir(&rt, "exchanged")?;
+    fs::remove_file(&rt, "exchanged_before/agency.txt")?;
+    fs::remove_dir(&rt, "exchanged_before")?;
+    assert!(rt; agency == Some(AGENCY.len()) && stops == Some(0));
+    assert!(rt; gone.is_none() && other.is_none());
+    Ok(())
+}
+
+// Writes a new file into a folder, again and again until the system's clock for files has moved on.
+fn add_file(rt: &HostRuntime, folder: &str, path: &str, bytes: &[u8]) -> Result<(), Fail> {
+    let before = rt.folder_state(folder);
+    for _ in 0..100_000 {
+        fs::write(rt, path, bytes)?;
+        if rt.folder_state(folder) != before {
+            return Ok(());
+        }
+        fs::remove_file(rt, path)?;
+    }
+    fs::write(rt, path, bytes)?;
+    Ok(())
+}
+
+// A file that is added, or put in the place of another one, changes its folder.
+#[test]
+fn a_folder_with_another_file_is_not_read(rt: HostRuntime) -> Result<(), Fail> {
+    write_folder(&rt, "added_to", &[("agency.txt", AGENCY)])?;
+    let mut files = FolderFiles::new(&rt, "added_to");
+    let agency = length_in(rt.alloc(), &mut files, "agency.txt");
+    add_file(&rt, "added_to", "added_to/stops.txt", STOPS)?;
+    let stops = length_in(rt.alloc(), &mut files, "stops.txt");
+    fs::remove_file(&rt, "added_to/agency.txt")?;
+    fs::remove_file(&rt, "added_to/stops.txt")?;
+    fs::remove_dir(&rt, "added_to")?;
+    assert!(rt; agency == Some(AGENCY.len()) && stops.is_none());
+    Ok(())
 }
 
 // A link that leads nowhere isn't taken for a missing file.

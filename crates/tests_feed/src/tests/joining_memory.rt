@@ -2,10 +2,9 @@
 
 ghost use Rattle.std.specs.Prelude.{◌≡◌};
 
-use gtfs_tables::spread::spread;
 use gtfs_tables::{
     FaultKind, Feed, FrequencyRow, IdHash, Location, StopRow, StopTimeRow, StopTimes, Tables,
-    TransferKind, TransferRow, TripRow, join,
+    TransferKind, TransferRow, TripRow, join, spread,
 };
 use indexmap::IndexSet;
 use std::alloc::{AllocError, Global};

@@ -1,12 +1,13 @@
 //! Small feeds and the footpaths that they list.
 
 use super::texts::{Case, Telling, joined, joined_or_refused, number, paths_text, try_cases};
+use footpaths::listed;
 use gtfs_tables::Feed;
 use std::alloc::{AllocError, Global};
 use std::fmt::Write;
 use std::process::Abort;
 use std::test::Fail;
-use transfers::{ListingFault, listed, listed_within};
+use transfers::{ListingFault, listed_within};
 
 // A is a stop without a station, B and C are stops of the station S, and the station H has no stops. Nothing runs.
 const BASE: &str = "\

@@ -230,7 +230,7 @@ fn an_end_time_is_no_start(rt: HostRuntime) -> Result<(), Fail> {
     let report = report_of(rt.alloc(), TWO_STARTS)?;
     assert!(rt; report.runs == 3 && report.connections == 5);
     let headway = TableFault {
-        table: Table::Frequencies,
+        file: Table::Frequencies,
         row: 1,
         kind: FaultKind::BadHeadway,
     };
@@ -302,7 +302,7 @@ fn a_station_has_ways_and_loops(rt: HostRuntime) -> Result<(), Fail> {
 #[test]
 fn what_is_wrong_is_told(rt: HostRuntime) {
     let missing = TableFault {
-        table: Table::Agency,
+        file: Table::Agency,
         row: 0,
         kind: FaultKind::MissingFile,
     };
@@ -314,7 +314,7 @@ fn what_is_wrong_is_told(rt: HostRuntime) {
 #[test]
 fn faults_are_told(rt: HostRuntime) -> Result<(), Fail> {
     let twice = TableFault {
-        table: Table::Stops,
+        file: Table::Stops,
         row: 3,
         kind: FaultKind::IdTwice,
     };

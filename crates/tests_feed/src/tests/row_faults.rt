@@ -12,7 +12,14 @@ fn missing_files(rt: HostRuntime) {
     for table in [Table::Agency, Table::Stops, Table::Calendar] {
         let row = 0;
         let kind = FaultKind::MissingFile;
-        assert!(rt; table.missing() == TableFault { table, row, kind });
+        assert!(rt;
+            table.missing()
+                == TableFault {
+                    file: table,
+                    row,
+                    kind
+                }
+        );
     }
 }
 

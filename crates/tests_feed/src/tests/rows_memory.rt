@@ -17,7 +17,7 @@ fn read_or_refused<T: Drop>(
     match answer {
         Ok(read) => Ok(read),
         Err(fault) => {
-            assert!(rt; fault.table == table && fault.kind == FaultKind::OutOfMemory);
+            assert!(rt; fault.file == table && fault.kind == FaultKind::OutOfMemory);
             Err(AllocError)
         }
     }

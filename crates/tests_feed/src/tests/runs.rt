@@ -230,7 +230,7 @@ fn feeds_make_runs(rt: HostRuntime) -> Result<(), Fail> {
 /// If there are too many runs, the fault names trips.txt, and none of its records.
 fn too_many_runs()
     ensures { too_many_of Table.Trips ≡ RunsFault.Table (record {
-      table = Table.Trips;
+      file = Table.Trips;
       row = 0;
       kind =
           FaultKind.TooMany;

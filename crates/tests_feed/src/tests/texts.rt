@@ -134,7 +134,7 @@ pub(crate) fn add_rows<T: Debug>(text: &mut String, rows: &[T]) -> Result<(), Al
 pub(crate) fn fault_text(alloc: Global, fault: TableFault) -> Result<String, AllocError> {
     let number = fault.kind.number();
     let name = fault.kind.name();
-    let file = fault.table.file_name();
+    let file = fault.file.file_name();
     let row = fault.row;
     format!(in alloc; "{number} {name} {file} {row}")
 }
@@ -222,7 +222,7 @@ pub(crate) fn files_of(alloc: Global, feed: &str) -> Result<Vec<(&str, &[u8])>, 
 /// The fault that memory ran out for the files themselves, told of the first file.
 fn wanting() -> TableFault {
     TableFault {
-        table: Table::Agency,
+        file: Table::Agency,
         row: 0,
         kind: FaultKind::OutOfMemory,
     }

@@ -7,7 +7,7 @@ use std::net::{Ipv4Addr, TcpListener};
 use std::test::Fail;
 
 const WRONG_WORDS: &str = "
-# Ports, workers, sessions, zones and feeds of a wrong form.
+# Ports, workers, sessions, zones, times and feeds of a wrong form.
 run serve --image - --port 65536 --workers 2 --sessions 1 --first 20240115 --days 1 --zone fixed:0 slow=slow_feed
 complains 64
 run serve --image - --port 0 --workers 0 --sessions 1 --first 20240115 --days 1 --zone fixed:0 slow=slow_feed
@@ -18,6 +18,16 @@ run serve --image - --port 0 --workers 2 --sessions -1 --first 20240115 --days 1
 complains 64
 run serve --image - --port 0 --workers 2 --sessions 1 --first 20240115 --days 1 --zone utc slow=slow_feed
 complains 64
+run serve --image - --port 0 --workers 2 --sessions 1 --idle 4294967296 --first 20240115 --days 1 --zone fixed:0
+complains 64
+run serve --image - --port 0 --workers 2 --sessions 1 --idle 0 --first 20240115 --days 1 --zone fixed:0 slow=slow_feed
+tells error: --idle \"0\": a number of seconds must be 1 to 4294967295
+tells 
+tells Usage: csa serve [OPTIONS] --image <IMAGE> --port <P> --workers <W> --sessions <N> --first <DAY> --days <N> \
+--zone <ZONE> [NAME=FOLDER]...
+tells 
+tells For more information, try 'csa serve --help'.
+ends 64
 run serve --image - --port 0 --workers 2 --sessions 1 --first 20240115 --days 1 --zone fixed:0 slow
 complains 64
 run serve --image - --port 0 --workers 2 --sessions 1 --first 20240115 --days 1 --zone fixed:0 slow=

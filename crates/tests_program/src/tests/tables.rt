@@ -183,7 +183,8 @@ has \u{FEFF}trip_id,arrival_time,departure_time,stop_id,stop_sequence
 has
 has \"T1\",08:00:00,08:00:00,\"A
 has \",1
-tells csa: stop_times.txt, line 3: stop_id \"A\\n\" isn't in stops.txt
+tells csa: stop_times.txt, line 3: stop_id \"A\\n\" isn't in stops.txt; \
+a double quote in line 3 opens a field that goes on to line 4
 answers refused 9 UnknownId stop_times.txt 1
 
 # A header without a column, one without any, a record that is too short, and an id that is there twice.
@@ -314,7 +315,79 @@ answers refused 1 MissingFile agency.txt 0
 remove feed.zip
 ";
 
+const LINES: &str = "
+# A line ends with LF, with CR LF or with CR alone: the line of the file is named.
+base
+run tables base_feed
+file base_feed/stops.txt
+cr stop_id
+cr A
+cr B
+cr C
+cr A
+tells csa: stops.txt, line 5: stop_id \"A\" is in line 2 too
+answers refused 8 IdTwice stops.txt 4
+file base_feed/stops.txt
+crlf stop_id
+crlf A
+crlf B
+crlf C
+crlf A
+tells csa: stops.txt, line 5: stop_id \"A\" is in line 2 too
+answers refused 8 IdTwice stops.txt 4
+rows base_feed/stops.txt stop_id | A | B | C
+
+# A mark before the header, empty lines, and a line end within quotes, with CR alone.
+file base_feed/stop_times.txt
+cr \u{FEFF}trip_id,arrival_time,departure_time,stop_id,stop_sequence,note
+cr
+cr T1,08:00:00,08:00:00,A,1,\"two
+cr lines\"
+cr T1,08:60:00,08:10:00,B,2,
+tells csa: stop_times.txt, line 5: arrival_time \"08:60:00\" isn't a time, \
+H:MM:SS or HH:MM:SS with minutes and seconds below 60
+answers refused 5 BadTime stop_times.txt 2
+remove base_feed
+base
+
+# A double quote that isn't closed in its line: its field goes on to the next double quote, or to the end of the file.
+rows base_feed/stops.txt stop_id,stop_name | A,\"A | B,B | C,C
+tells csa: stop_times.txt, line 3: stop_id \"B\" isn't in stops.txt; \
+line 3 of stops.txt has it, in a field that a double quote in line 2 opens
+answers refused 9 UnknownId stop_times.txt 2
+rows base_feed/stops.txt stop_id,stop_name | A,\"A | B,\"B\" | C,C
+tells csa: stop_times.txt, line 3: stop_id \"B\" isn't in stops.txt; \
+line 3 of stops.txt has it, in a field that a double quote in line 2 opens
+answers refused 9 UnknownId stop_times.txt 2
+rows base_feed/stops.txt stop_id,stop_name | A,\"A | B,\"B\",x | C,C
+tells csa: stops.txt, line 2: the number of fields is 3, in the header 2; \
+a double quote in line 2 opens a field that goes on to line 3
+answers refused 4 RowLength stops.txt 1
+rows base_feed/stops.txt stop_id,stop_name | A,A | B | \"C,C
+tells csa: stops.txt, line 3: the number of fields is 1, in the header 2
+answers refused 4 RowLength stops.txt 2
+rows base_feed/stops.txt stop_id,stop_name | A,A | \"B,B | C,C
+tells csa: stops.txt, line 3: the number of fields is 1, in the header 2; \
+a double quote in line 3 opens a field that goes on to line 4
+answers refused 4 RowLength stops.txt 2
+rows base_feed/stops.txt stop_id | A | B | C
+
+# All columns are counted.
+wide base_feed/agency.txt 1000000
+tells csa: agency.txt, line 2: the number of fields is 1, in the header 1000001
+answers refused 4 RowLength agency.txt 1
+rows base_feed/agency.txt agency_timezone | Etc/UTC
+
+# A device isn't read.
+link base_feed/transfers.txt /dev/null
+tells csa: base_feed/transfers.txt can't be read: it is a pipe, a socket or a device
+prints refused 101 FileFailed transfers.txt
+ends 3
+remove base_feed/transfers.txt
+remove base_feed
+";
+
 #[test]
 fn tables_are_judged(rt: HostRuntime) -> Result<(), Fail> {
-    try_transcripts(&rt, &[CHANGES])
+    try_transcripts(&rt, &[CHANGES, LINES])
 }

@@ -13,8 +13,9 @@
 //! | `zeros WORDS` | the input is so many words of 0 |
 //! | `folder PATH`, `file PATH` | makes a folder, or an empty file |
 //! | `link PATH TARGET` | makes a link at a path, to a target |
-//! | `has TEXT`, `crlf TEXT` | adds a line to the file that was made last, ended by LF, or by CR LF |
+//! | `has TEXT`, `crlf TEXT`, `cr TEXT` | adds a line to the file that was made last, ended by LF, by CR LF, or by CR |
 //! | `rows PATH LINE | LINE ..` | makes a file of these lines |
+//! | `wide PATH COUNT` | makes a file with a header of `agency_timezone` and so many further columns, and a record of one |
 //! | `remove PATH` | removes a file, or a folder with all that is in it |
 //! | `base` | makes the feed of examples/base, in a folder `base_feed` |
 //! | `with FILE PLACE RECORD` | writes a file of that feed anew, its record of this number (from 1) replaced |
@@ -343,6 +344,19 @@ fn write_rows<R: Machine>(rt: &R, text: &str) -> Result<(), Fail> {
     write(rt, path, rows.as_bytes())
 }
 
+/// Makes a file with many columns, and a record that lacks them.
+fn write_wide<R: Machine>(rt: &R, text: &str) -> Result<(), Fail> {
+    let Some((path, count)) = text.split_once(' ') else {
+        return Err(Fail::new("a file and a number of columns"));
+    };
+    let mut rows = String::from_str(rt.alloc(), "agency_timezone")?;
+    for _ in 0..number(count)? {
+        rows.push_str(",c")?;
+    }
+    rows.push_str("\nEtc/UTC\n")?;
+    write(rt, path, rows.as_bytes())
+}
+
 /// Writes the bytes of the input to a file.
 fn save<R: Machine>(rt: &R, stage: &Stage<'_>, path: &str) -> Result<(), Fail> {
     let input = stage.input(rt.alloc())?;
@@ -551,6 +565,8 @@ fn follow_files<'a, R: Machine + Abort>(
         "file" => begin_file(rt, stage, rest),
         "has" => write_line(rt, stage, rest, "\n"),
         "crlf" => write_line(rt, stage, rest, "\r\n"),
+        "cr" => write_line(rt, stage, rest, "\r"),
+        "wide" => write_wide(rt, rest),
         "rows" => write_rows(rt, rest),
         "remove" => remove(rt, rest),
         "base" => base_feed::make(rt),

@@ -91,4 +91,4 @@ returns-in-None-None-clause-err g c content gave fine ne =
     let dates = no_file (λ bytes (rows : Vec CalendarDateRow Global). HoldsCalendarDates bytes rows.items)
     (content tables.CalendarDates) c.in_ok-dates.dates
     (c.in_ok-dates.ensures.ok content g2) c.in-None-None.is-1 in
-    calendars_missing content c.missing.result calendar dates c.missing.ensures.table c.missing.ensures.row c.missing.ensures.kind fine
+    calendars_missing content c.missing.result calendar dates c.missing.ensures.file c.missing.ensures.row c.missing.ensures.kind fine

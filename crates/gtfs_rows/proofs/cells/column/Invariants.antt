@@ -1,5 +1,5 @@
 use Rattle.std.proofs.Common.{◌≡◌, drop}
-use Rattle.gtfs_rows.specs.Fields.{fields_of}
+use Rattle.csv.specs.Records.{fields_of}
 use Rattle.gtfs_rows.specs.Cells.{column, column_from}
 use Rattle.gtfs_rows.proofs.cells.column.Given as goal
 

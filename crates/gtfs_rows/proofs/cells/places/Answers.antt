@@ -1,6 +1,6 @@
 use Rattle.std.proofs.Common.{◌∙◌, map, ap, Bor, ℕ, List}
 use Rattle.std.proofs.lemmas.List.{take_all}
-use Rattle.gtfs_rows.specs.Fields.{fields_of}
+use Rattle.csv.specs.Records.{fields_of}
 use Rattle.gtfs_rows.specs.Cells.{column}
 use Rattle.gtfs_rows.proofs.CellLemmas.{places_names}
 use Rattle.gtfs_rows.proofs.cells.places.Goals as goal

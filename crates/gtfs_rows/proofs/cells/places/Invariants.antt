@@ -1,5 +1,5 @@
 use Rattle.std.proofs.Common.{◌≡◌, map, take}
-use Rattle.gtfs_rows.specs.Fields.{fields_of}
+use Rattle.csv.specs.Records.{fields_of}
 use Rattle.gtfs_rows.specs.Cells.{column}
 use Rattle.gtfs_rows.proofs.cells.places.Given as goal
 

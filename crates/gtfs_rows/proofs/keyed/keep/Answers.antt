@@ -1,5 +1,5 @@
 use Rattle.std.proofs.Common.{◌≡◌, ◌∙◌, ◌++◌, Some, ap, refl, sym, rules, string_bytes}
-use Rattle.gtfs_rows.specs.Fields.{fields_of}
+use Rattle.csv.specs.Records.{fields_of}
 use Rattle.gtfs_rows.specs.Rows.{key_by, value}
 use Rattle.gtfs_rows.specs.declared.columns.Key.TheVariants as keys
 use Rattle.gtfs_rows.proofs.KeyLemmas.{key_new, no_keys, on_ok_both}

@@ -1,6 +1,6 @@
 use Rattle.std.proofs.Common.{◌≡◌, ◌∙◌, Bool, true, false, not, ap, sym, string_bytes}
 use Rattle.std.specs.Str.{bytes_eq}
-use Rattle.gtfs_rows.specs.Fields.{fields_of}
+use Rattle.csv.specs.Records.{fields_of}
 use Rattle.gtfs_rows.specs.Faults.{fault_if}
 use Rattle.gtfs_rows.specs.Rows.{value}
 use Rattle.gtfs_rows.specs.declared.fault.FaultKind.TheVariants as kinds

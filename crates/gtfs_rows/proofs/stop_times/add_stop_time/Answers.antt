@@ -1,5 +1,5 @@
 use Rattle.std.proofs.Common.{◌≡◌, None, Some, ℕ, map, refl, slice_index_or, string_bytes}
-use Rattle.gtfs_rows.specs.Fields.{fields_of}
+use Rattle.csv.specs.Records.{fields_of}
 use Rattle.gtfs_rows.specs.Cells.{Places}
 use Rattle.gtfs_rows.specs.Rows.{SpellsStopTime, stop_time_fault, time_fault, value}
 use Rattle.gtfs_rows.specs.Source.{Record}

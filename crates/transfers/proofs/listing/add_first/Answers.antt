@@ -3,7 +3,7 @@ use Rattle.std.proofs.lemmas.Option.{slice_get-get_or}
 use Rattle.timetable.specs.Legal.{AreInOrder}
 use Rattle.timetable.specs.declared.network.Footpath.{Footpath}
 use Rattle.transfers.specs.declared.claims.Source.TheVariants.{Default}
-use Rattle.transfers.specs.declared.claims.Word.TheVariants.{Never}
+use Rattle.transfers.specs.declared.claims.Verdict.TheVariants.{Never}
 use Rattle.transfers.specs.Claims.{ArePathsBelow}
 use Rattle.transfers.proofs.ClaimLemmas.{claim_of}
 use Rattle.transfers.proofs.PathLemmas.{paths_more, paths_skip, order_more}

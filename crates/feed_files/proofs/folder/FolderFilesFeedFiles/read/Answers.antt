@@ -10,6 +10,8 @@ invariant_of-self g c =
     record {
       given = one_more (g.H.Disk.gives files.disk.now files.folder.now) files.reads c.note.new.self c.args.name.now c.in-Ok.file
           c.feed_file-read.result c.in-Ok.is c.feed_file-read.ensures.gives c.note.ensures files.given;
+      of_one_state = one_more (g.H.Disk.gives_in files.disk.now files.folder.now files.state) files.reads c.note.new.self c.args.name.now
+          c.in-Ok.file c.feed_file-read.result c.in-Ok.is c.feed_file-read.ensures.gives_in c.note.ensures files.of_one_state;
       unread = files.unread;
     }
 
@@ -19,6 +21,7 @@ invariant_of-self-in-Err-Failed g c =
     let failed : c.feed_file-read.result ≡ Err faults.Failed = search rules in
     record {
       given = files.given;
+      of_one_state = files.of_one_state;
       unread = one_failed (g.H.Disk.gives files.disk.now files.folder.now) files.failed c.note-in-Err-Failed.new.self c.args.name.now
           c.feed_file-read.result failed c.feed_file-read.ensures.gives c.note-in-Err-Failed.ensures files.unread;
     }

@@ -1,5 +1,5 @@
 use Rattle.std.proofs.Common.{None, slice_index_or}
-use Rattle.gtfs_rows.specs.Fields.{fields_of}
+use Rattle.csv.specs.Records.{fields_of}
 use Rattle.gtfs_rows.proofs.CellLemmas.{cell_text}
 use Rattle.gtfs_rows.proofs.cells.Cells.text.Goals as goal
 

@@ -1,7 +1,7 @@
 use Rattle.std.proofs.Common.{◌≡◌}
 use Rattle.std.proofs.lemmas.Result.{on_ok_weaker}
 use Rattle.reasoning.proofs.ListLemmas.{all_zip-push}
-use Rattle.gtfs_rows.specs.Fields.{fields_of}
+use Rattle.csv.specs.Records.{fields_of}
 use Rattle.gtfs_rows.specs.Tables.{key_of}
 use Rattle.gtfs_rows.proofs.keyed.KeyedTableRows.add.Goals as goal
 

@@ -1,7 +1,7 @@
 use Rattle.std.proofs.Common.{◌∙◌, sym}
 use Rattle.std.proofs.lemmas.Result.{on_ok_weaker}
 use Rattle.transfers.specs.Lookup.{stops_in, transfers_in}
-use Rattle.transfers.proofs.AloudLemmas.{own_row, no_own}
+use Rattle.transfers.proofs.UnbannedLemmas.{own_row, no_own}
 use Rattle.transfers.proofs.claims.Claims.add_own.Goals as goal
 
 pub returns-then-stands_for : goal.returns-then-stands_for

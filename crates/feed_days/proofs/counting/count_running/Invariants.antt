@@ -1,0 +1,14 @@
+use Rattle.std.proofs.Common.{◌≡◌, ◌≤◌, ℕ, List, take}
+use Rattle.std.specs.List.{count_by}
+use Rattle.gtfs_rows.specs.declared.values.Day.{Day}
+use Rattle.gtfs_tables.specs.declared.tables.Feed.{Feed}
+use Rattle.connections.specs.Active.{AreNamed, active_among}
+use Rattle.connections.specs.Runs.{runs_on}
+use Rattle.feed_days.proofs.counting.count_running.Given as goal
+
+abbrev pub invariant-loop-place : goal.invariant-loop-place
+invariant-loop-place l = record {
+  few : l.count ≤ l.place;
+  count : (feed : Feed) (day : Day) (names : List (List ℕ)) → AreNamed names l.trips l.indices → l.active ≡ active_among feed names day
+      → l.count ≡ count_by (runs_on feed day) (take l.place l.trips);
+}

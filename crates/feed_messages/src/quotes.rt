@@ -1,0 +1,91 @@
+//! Double quotes that aren't closed in their line, so that the lines after it are part of a field.
+
+use crate::files::advance;
+use csv::ByteRecord;
+use gtfs_rows::{FoundRecord, Records};
+use std::alloc::Global;
+
+/// What to say of a record, if a double quote in its first line opens a field of several lines.
+pub fn quote_in(alloc: Global, bytes: &[u8], found: &FoundRecord) -> Option<String> {
+    let field = long_field(&found.record)?;
+    let line = found.position.line;
+    let last = line.saturating_add(line_ends(field)).min(lines_of(bytes));
+    format!(in alloc;
+        "; a double quote in line {line} opens a field that goes on to line {last}"
+    ).ok()
+}
+
+/// What to say of a file in which an id wasn't found, if it is in a field of several lines.
+pub fn quote_before(alloc: Global, bytes: &[u8], file: &str, id: &[u8]) -> Option<String> {
+    let mut records = Records::open(alloc, bytes);
+    for _ in 0..u64::MAX {
+        advance(&mut records)?;
+        if let Some(before) = text_before(records.last(), id) {
+            let first = records.position().line;
+            let line = first.saturating_add(line_ends(before));
+            return format!(in alloc;
+                "; line {line} of {file} has it, in a field that a double quote in line {first} opens"
+            ).ok();
+        }
+    }
+    None
+}
+
+/// Whether a text has several lines.
+pub fn is_long(text: &[u8]) -> bool {
+    text.iter().any(|byte| is_line_end(*byte))
+}
+
+fn long_field(record: &ByteRecord) -> Option<&[u8]> {
+    record.iter().find(|field| is_long(field))
+}
+
+/// What comes before an id in a field of several lines, if the id is there.
+fn text_before<'a>(record: &'a ByteRecord, id: &[u8]) -> Option<&'a [u8]> {
+    let field = long_field(record)?;
+    for place in 1..field.len() {
+        let (before, rest) = (field.get(..place)?, field.get(place..)?);
+        if is_at_end(before.last()) && begins_with(rest, id) {
+            return Some(before);
+        }
+    }
+    None
+}
+
+fn begins_with(text: &[u8], id: &[u8]) -> bool {
+    match text.strip_prefix(id) {
+        Some(rest) => !id.is_empty() && is_at_end(rest.first()),
+        None => false,
+    }
+}
+
+/// Whether a field may end at this byte, or at the end of the file.
+fn is_at_end(byte: Option<&u8>) -> bool {
+    match byte {
+        Some(byte) => is_line_end(*byte) || *byte == b',',
+        None => true,
+    }
+}
+
+fn is_line_end(byte: u8) -> bool {
+    byte == b'\n' || byte == b'\r'
+}
+
+/// How many lines a file has.
+fn lines_of(bytes: &[u8]) -> u64 {
+    let text = bytes.strip_suffix(b"\n").unwrap_or(bytes);
+    line_ends(text.strip_suffix(b"\r").unwrap_or(text)).saturating_add(1)
+}
+
+/// How many lines end in a text, with LF, CR LF or CR.
+fn line_ends(text: &[u8]) -> u64 {
+    let mut ends = 0u64;
+    let mut is_behind_return = false;
+    for byte in text {
+        if *byte == b'\r' || (*byte == b'\n' && !is_behind_return) {
+            ends = ends.saturating_add(1);
+        }
+        is_behind_return = *byte == b'\r';
+    }
+    ends
+}

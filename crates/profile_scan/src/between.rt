@@ -1,0 +1,37 @@
+//! Queries between sets of stops.
+
+use std::alloc::{AllocError, Global};
+use timetable::Query;
+
+/// What a client asks for who may begin at any of several stops and end at any of several others, as the platforms of
+/// two stations: journeys from any of the sources to any of the targets that depart between two times and arrive by a
+/// third. Times are in seconds after the base.
+#[derive(Debug, Drop)]
+pub struct Between {
+    pub sources: Vec<u32>,
+    pub targets: Vec<u32>,
+    /// The earliest departure.
+    pub from: u32,
+    /// The latest departure.
+    pub until: u32,
+    /// The latest arrival.
+    pub by: u32,
+}
+
+impl Between {
+    ghost use Rattle.std.specs.Prelude.{◌≡◌, IfOk};
+    ghost use Rattle.profile_scan.specs.Between.{between_one, question};
+
+    /// The query between one source and one target. The only error is that memory runs out.
+    pub fn one(alloc: Global, query: &Query) -> Result<Self, AllocError>
+        ensures { IfOk result (λ between. question between ≡ between_one query.now) }
+    {
+        Ok(Between {
+            sources: vec![in alloc; query.source]?,
+            targets: vec![in alloc; query.target]?,
+            from: query.from,
+            until: query.until,
+            by: query.by,
+        })
+    }
+}

@@ -1,0 +1,6 @@
+pub mod WalkLemmas
+pub mod SetLemmas
+pub mod MergeLemmas
+pub mod ReadLemmas
+pub mod TellLemmas
+pub mod NameLemmas

@@ -1,0 +1,7 @@
+use Rattle.profile_scan.specs.Between.{question}
+use Rattle.station_answers.proofs.TellLemmas.{AreTold}
+use Rattle.station_answers.proofs.answering.departures_of.Given as goal
+
+abbrev pub invariant-loop-place : goal.invariant-loop-place
+invariant-loop-place g l =
+    AreTold (g.C.Criterion.rules l.criterion) (g.S.ConnSource.timetable l.source) (question l.query) l.points.items l.place l.departures.items

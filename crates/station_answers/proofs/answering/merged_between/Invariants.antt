@@ -1,0 +1,15 @@
+use Rattle.std.proofs.Common.{◌≡◌, ℕ, ◌<◌, ◌++◌, Contains, reverse, slice_get, Some}
+use Rattle.profile_scan.specs.Between.{pair_of, question}
+use Rattle.station_answers.specs.Merging.{CoversQuery, IsMerged}
+use Rattle.station_answers.specs.Reading.{repeated, window_between}
+use Rattle.station_answers.proofs.answering.merged_between.Given as goal
+
+abbrev pub invariant-loop-place : goal.invariant-loop-place
+invariant-loop-place g l = record {
+  timetable : g.S.ConnSource.timetable l.source ≡ g.S.ConnSource.timetable l.fn.source;
+  merged : IsMerged g.C.Criterion.rules l.criterion (g.S.ConnSource.timetable l.fn.source) (question l.query) l.merged;
+  covers : (k target stop : ℕ) → k < l.place → slice_get l.query.targets.items k ≡ Some target → Contains l.query.sources.items stop
+      → CoversQuery (g.C.Criterion.rules l.criterion) (g.S.ConnSource.timetable l.fn.source) l.merged (pair_of (question l.query) stop target);
+  log : g.S.ConnSource.log l.source
+      ≡ g.S.ConnSource.log l.fn.source ++ repeated l.place (reverse (window_between (g.S.ConnSource.timetable l.fn.source) (question l.query)));
+}
