@@ -196,7 +196,7 @@ const WARNINGS: [Argument; 1] = [Argument::Flag(
     "Write no warnings on standard error",
 )];
 
-const SERVER: [Argument; 8] = [
+const SERVER: [Argument; 9] = [
     Argument::Option(
         "image",
         "IMAGE",
@@ -229,6 +229,11 @@ const SERVER: [Argument; 8] = [
         "idle",
         "SECS",
         "End the session of a client that sends nothing, or takes nothing, for SECS seconds, or that speaks HTTP",
+    ),
+    Argument::MaybeOption(
+        "longest",
+        "SECS",
+        "Refuse a profile with 33 if more than SECS seconds are from its earliest departure to its latest arrival",
     ),
     Argument::Words(
         "feeds",

@@ -39,7 +39,7 @@ enum Form {
 }
 
 /// The options whose values have a form of their own.
-const FORMS: [(&str, Form); 11] = [
+const FORMS: [(&str, Form); 12] = [
     ("after", Form::Clock),
     ("until", Form::Clock),
     ("by", Form::Clock),
@@ -51,6 +51,7 @@ const FORMS: [(&str, Form); 11] = [
     ("sessions", Form::Sessions),
     ("rows", Form::Rows),
     ("idle", Form::Seconds),
+    ("longest", Form::Seconds),
 ];
 
 impl Form {
@@ -77,7 +78,8 @@ impl Form {
                 "the first day is YYYYMMDD, a date of the years 1 to 9999, or today, or today-1",
             Form::Days => "the number of days must be 1 to 14",
             Form::Zone => {
-                "a zone is file:PATH, posix:TEXT, or fixed:SECS with at most 86399 seconds either way"
+                "a zone is file:PATH, posix:TEXT, or fixed:SECS, the seconds east of Greenwich, as fixed:3600 or \
+fixed:-18000, at most 86399 either way"
             }
             Form::Port => "a port is a number from 0 to 65535",
             Form::Workers => "the number of workers must be 1 to 16",
@@ -175,7 +177,31 @@ pub fn read<'a, S: AsStr>(alloc: Global, words: &'a [S]) -> Result<Request<'a>, 
     };
     match command.try_get_matches_from(words) {
         Ok(matches) => request_in(alloc, &matches),
-        Err(error) => Err(unread_of(alloc, &error, command_in(words))),
+        Err(error) => match unknown_topic(words) {
+            Some(topic) => Err(unread_topic(alloc, topic, &error)),
+            None => Err(unread_of(alloc, &error, command_in(words))),
+        },
+    }
+}
+
+/// What `csa help` is asked about, if it is no command.
+fn unknown_topic<S: AsStr>(words: &[S]) -> Option<&str> {
+    let (help, topic) = (words.get(1)?.as_str(), words.get(2)?.as_str());
+    if words.len() == 3 && help == "help" && !is_command(topic) {
+        Some(topic)
+    } else {
+        None
+    }
+}
+
+/// The message about a topic of `csa help` that is no command: that of the command itself, which has a suggestion.
+fn unread_topic(alloc: Global, topic: &str, error: &Error) -> Unread {
+    let Ok(command) = program(alloc) else {
+        return Unread::OutOfMemory;
+    };
+    match command.try_get_matches_from(&["csa", topic]) {
+        Ok(_) => unread_of(alloc, error, ""),
+        Err(error) => unread_of(alloc, &error, ""),
     }
 }
 
@@ -508,7 +534,10 @@ fn serve_request<'a>(alloc: Global, matches: &ArgMatches<'a>) -> Result<Request<
     ) else {
         return Err(wrong_value(alloc, "serve", matches));
     };
-    let Some(idle) = maybe_seconds(matches, "idle") else {
+    let (Some(idle), Some(longest)) = (
+        maybe_seconds(matches, "idle"),
+        maybe_seconds(matches, "longest"),
+    ) else {
         return Err(wrong_value(alloc, "serve", matches));
     };
     Ok(Request::Serve(ServeRequest {
@@ -519,6 +548,7 @@ fn serve_request<'a>(alloc: Global, matches: &ArgMatches<'a>) -> Result<Request<
         legs: matches.get_flag("legs"),
         log: matches.get_flag("log"),
         idle,
+        longest,
         plan,
         feeds: named_folders(alloc, matches)?,
     }))

@@ -1,7 +1,7 @@
 //! What the help prints below the arguments of each command.
 
 /// The program's version, as `--version` prints it.
-pub(crate) const VERSION: &str = "1.1.0";
+pub(crate) const VERSION: &str = "1.2.0";
 
 pub(crate) const STATUSES: &str = "Exit status:\n\
 \x20 0   accepted\n\
@@ -85,8 +85,8 @@ among the departures, and may be quicker than some of them.\n\
 With --from or --to given several times, at most 1000 times each, journeys may begin at any of the first stops and\n\
 end at any of the second: the departures are the best of all pairs, the walk is the shortest. Without --picture.\n\
 Clocks are HH:MM:SS after the image's base, the start of its first service day: 55:00:00 is 07:00 on the\n\
-third day. A warning says if the window begins before the image's first connection departs or ends after the last\n\
-one does; --no-warnings leaves it out.\n\
+third day. A warning says if no connection departs in the window, or if it ends after the last day on which one\n\
+does; --no-warnings leaves it out.\n\
 \n\
 Example: csa profile examples/base.csa --from A --to C --after 08:00:00 --until 08:12:00 \
 --by 10:00:00 --criterion arrival+trips\n\
@@ -105,7 +105,7 @@ A journey has at least one ride, so a direct walk is not among the departures: -
 for the stops that have a line.\n\
 If a line of FILE is not a stop_id of the image, nothing is printed, standard error has its number and its text, and\n\
 the status is 2; if FILE cannot be read, it is 3.\n\
-A warning says if the window begins before the image's first connection departs or ends after the last one does;\n\
+A warning says if no connection departs in the window, or if it ends after the last day on which one does;\n\
 --no-warnings leaves it out.\n\
 \n\
 Example: csa departures examples/base.csa --to C --after 08:00:00 --until 08:12:00 --by 10:00:00 \

@@ -112,8 +112,8 @@ pub struct ProfileRequest<'a> {
     pub rows: Rows,
 }
 
-/// The image; any of which stops to leave from and to go to any of which, by their names, of each at least one; when, in
-/// seconds after the image's base; the criterion; and how the answer is printed.
+/// The image; the names of the stops to leave from, and of those to go to, at least one of each; when, in seconds after
+/// the image's base; the criterion; and how the answer is printed.
 #[derive(Drop)]
 pub struct BetweenRequest<'a> {
     pub image: &'a str,
@@ -174,6 +174,8 @@ pub struct ServeRequest<'a> {
     pub log: bool,
     /// For how long a client may send nothing, or take nothing, until its session ends. `None`: for any time.
     pub idle: Option<Seconds>,
+    /// How long a window may be, from the earliest departure to the latest arrival. `None`: of any length.
+    pub longest: Option<Seconds>,
     pub plan: PlanText<'a>,
     pub feeds: Vec<NamedFolder<'a>>,
 }

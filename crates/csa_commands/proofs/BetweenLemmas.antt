@@ -6,8 +6,8 @@ use Rattle.timetable.specs.TimetableValue.{TimetableValue}
 use Rattle.image_layout.specs.Image.{ImageValue}
 use Rattle.profile_scan.specs.Between.{BetweenValue, IsAnswerBetween}
 use Rattle.journeys.specs.Answer.{point_of}
+use Rattle.journeys.specs.Extracted.{AttainsBetween}
 use Rattle.journeys.specs.declared.answering.Departure.{Departure}
-use Rattle.station_answers.specs.Attaining.{AttainsBetween}
 use Rattle.station_answers.specs.Reading.{window_between}
 use Rattle.station_answers.specs.Walks.{IsDirectTime}
 use Rattle.command_requests.specs.declared.requests.AnswerForm.{AnswerForm}

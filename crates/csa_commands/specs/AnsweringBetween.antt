@@ -8,12 +8,11 @@ use Rattle.criteria.specs.declared.told.ToldValue.{ToldValue}
 use Rattle.timetable.specs.declared.query.QueryFault.{QueryFault}
 use Rattle.image_layout.specs.Image.{ImageValue}
 use Rattle.journeys.specs.Answer.{point_of}
+use Rattle.journeys.specs.Extracted.{AttainsBetween}
 use Rattle.journeys.specs.declared.answering.Departure.{Departure}
 use Rattle.journeys.specs.declared.question.Window.{Window}
-use Rattle.profile_scan.specs.Between.{BetweenValue, IsAnswerBetween}
+use Rattle.profile_scan.specs.Between.{BetweenValue, IsAnswerBetween, IsAskableBetween}
 use Rattle.answer_replies.specs.Valuing.{arrival_told, by_arrival, by_trips, by_walking, trips_told, walking_told}
-use Rattle.station_answers.specs.Asking.{CanBeAsked}
-use Rattle.station_answers.specs.Attaining.{AttainsBetween}
 use Rattle.station_answers.specs.Naming.{AsksBetween, IsFaultBetween}
 use Rattle.station_answers.specs.Reading.{window_between}
 use Rattle.station_answers.specs.Walks.{IsDirectTime}
@@ -26,8 +25,8 @@ use Rattle.csa_commands.specs.Refusing.{refusal_line}
 use Rattle.csa_commands.specs.declared.refusal.Refusal.TheVariants.{Query as OfQuery}
 
 -- the question is answered: the departures' points are exactly the undominated points of all journeys that count for any of its pairs, in order, each once,
--- and each departure has a journey that attains its point for one of the pairs. The text shows the departures and the direct walk, and in lines also how many
--- connections the window has
+-- and each departure has a journey that attains its point for one of the pairs, and that ends as soon as it is at a target. The text shows the departures and
+-- the direct walk, and in lines also how many connections the window has
 pub record AnswersBetween {V : Type 0} (told : V → ToldValue) (rules : Rules V) (form : AnswerForm) (image : ImageValue) (b : BetweenValue)
     (text : List ℕ) : Type 0 where
   pub departures : List (Departure V)
@@ -60,7 +59,7 @@ window_of_between request = record { from = request.after; until = request.until
 -- the request makes a question that can be asked of the image, and the text answers it
 pub record AnswersRequestBetween (image : ImageValue) (request : BetweenRequest) (text : List ℕ) : Type 0 where
   pub question : BetweenValue
-  pub askable : CanBeAsked image.timetable.stops question
+  pub askable : IsAskableBetween image.timetable.stops question
   pub asks : AsksBetween image.names (names_from request) (names_to request) (window_of_between request) question
   pub shown : IsShownBetween request image question text
 

@@ -3,8 +3,7 @@
 
 ghost use Rattle.std.specs.Prelude.{◌≡◌, IfOk, string_bytes};
 ghost use Rattle.std.specs.Io.KnownBytes.{Appends};
-ghost use Rattle.profile_scan.specs.Between.{question};
-ghost use Rattle.station_answers.specs.Asking.{CanBeAsked};
+ghost use Rattle.profile_scan.specs.Between.{IsAskableBetween, question};
 ghost use Rattle.command_requests.specs.declared.statuses.TheConstants.{ACCEPTED, OUT_OF_MEMORY, REFUSED};
 ghost use Rattle.csa_commands.specs.AnsweringBetween.{AnswersBetween, IsNoneBetween, IsPrintedBetween, IsShownBetween};
 ghost use Rattle.csa_commands.specs.AnsweringBetween.{IsTextBetween};
@@ -81,7 +80,7 @@ fn text_by_name(
     query: &Between,
     request: &BetweenRequest<'_>,
 ) -> Result<String, AllocError>
-    requires { CanBeAsked image.now.timetable.stops (question query.now) }
+    requires { IsAskableBetween image.now.timetable.stops (question query.now) }
     ensures { IfOk result (λ text. IsShownBetween request.now image.now (question query.now) (string_bytes text)) }
 {
     match request.criterion {
@@ -99,7 +98,7 @@ fn text_by<C: Told>(
     query: &Between,
     request: &BetweenRequest<'_>,
 ) -> Result<String, AllocError>
-    requires { CanBeAsked image.now.timetable.stops (question query.now) }
+    requires { IsAskableBetween image.now.timetable.stops (question query.now) }
     ensures { IfOk result (λ text. AnswersBetween C.told (C.rules criterion.now) request.now.form image.now
         (question query.now) (string_bytes text)) }
 {

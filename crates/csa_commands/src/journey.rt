@@ -3,9 +3,8 @@
 ghost use Rattle.std.specs.Prelude.{◌≡◌, IfOk, string_bytes};
 ghost use Rattle.std.specs.Io.KnownBytes.{Appends};
 ghost use Rattle.command_requests.specs.declared.statuses.TheConstants.{ACCEPTED, OUT_OF_MEMORY, REFUSED};
-ghost use Rattle.csa_commands.specs.Ending.{Ends, EndsUndone};
+ghost use Rattle.csa_commands.specs.Ending.{Ends};
 ghost use Rattle.csa_commands.specs.Judging.{IsAccepted, IsFaulty, IsVerdict, times_line};
-ghost use Rattle.csa_commands.specs.Refusing.{refusal_line};
 
 use crate::question::{query_asked, refuse_question};
 use crate::refusal::Refusal;
@@ -16,9 +15,9 @@ use feed_messages::explain;
 use image_verifier::Verified;
 use journeys::{JourneyFault, TextFault, check, journey_parse};
 use std::alloc::{AllocError, Global};
-use std::io::Write;
+use std::io::{self, Write};
 use text_pieces::put_text;
-use timetable::{QueryFault, Times};
+use timetable::{Journey, QueryFault, Times};
 
 /// Why a journey isn't accepted.
 #[derive(Drop)]
@@ -56,8 +55,20 @@ pub fn run<O: Write, E: Write>(
         Err(Failure::BadQuery(fault)) => {
             refuse_question(alloc, image, &request.question, fault, output, errors)
         }
-        Err(Failure::BadText) => refuse(alloc, Refusal::BadText, output, errors),
-        Err(Failure::Faulty(fault)) => refuse(alloc, Refusal::Journey(fault), output, errors),
+        Err(Failure::BadText) => {
+            let status = status::print_refusal(alloc, output, Refusal::BadText);
+            if status == status::REFUSED {
+                explain_text(errors);
+            }
+            status
+        }
+        Err(Failure::Faulty(fault)) => {
+            let status = status::print_refusal(alloc, output, Refusal::Journey(fault));
+            if status == status::REFUSED {
+                explain_fault(alloc, image, request.text, fault, errors);
+            }
+            status
+        }
         Err(Failure::OutOfMemory) => status::OUT_OF_MEMORY,
     }
 }
@@ -73,37 +84,53 @@ fn line_of(alloc: Global, times: Times) -> Result<String, AllocError>
     Ok(line)
 }
 
-/// Prints why a journey is refused, and explains that in `errors`.
-fn refuse<O: Write, E: Write>(alloc: Global, refusal: Refusal, output: &mut O, errors: &mut E) -> u8
-    ensures status { EndsUndone result }
-    ensures printed { result ≡ REFUSED
-        → Appends (O.contents output.old) (O.contents output.new) (refusal_line refusal) }
-    ensures silent { result ≡ OUT_OF_MEMORY → O.contents output.new ≡ O.contents output.old }
-{
-    let status = status::print_refusal(alloc, output, refusal);
-    if status == status::REFUSED {
-        explain_refusal(refusal, errors);
-    }
-    status
+fn explain_text<E: Write>(errors: &mut E) {
+    explain(
+        errors,
+        &[
+            "csa: a journey is rides and walks by number, as `csa profile` prints them without --names: ",
+            "`ride FIRST LAST`, `walk FROM TO SECS`, one space between words, at least one ride",
+        ],
+    );
 }
 
-fn explain_refusal<E: Write>(refusal: Refusal, errors: &mut E) {
-    match refusal {
-        Refusal::BadText => explain(
+// Says which ride or walk of a journey is wrong, and why.
+fn explain_fault<E: Write>(
+    alloc: Global,
+    image: &Verified,
+    text: &str,
+    fault: JourneyFault,
+    errors: &mut E,
+) {
+    let _ = match (fault, journey_parse(alloc, text.as_bytes())) {
+        (JourneyFault::LegRange(place), Ok(journey)) => {
+            explain_range(image, &journey, place, errors)
+        }
+        _ => write!(errors, "csa: {fault}\n"),
+    };
+}
+
+// Says what is wrong with the connections of a ride.
+fn explain_range<E: Write>(
+    image: &Verified,
+    journey: &Journey,
+    place: usize,
+    errors: &mut E,
+) -> io::Result<()> {
+    match (journey.rides.get(place), image.len().checked_sub(1)) {
+        (None, _) => write!(errors, "csa: the journey has no ride\n"),
+        (Some(_), None) => write!(errors, "csa: the image has no connections\n"),
+        (Some(ride), Some(_)) if ride.leg.last < ride.leg.first => write!(
             errors,
-            &[
-                "csa: a journey is rides and walks by number, as `csa profile` prints them without --names: ",
-                "`ride FIRST LAST`, `walk FROM TO SECS`, one space between words, at least one ride",
-            ],
+            "csa: ride {place} (the first is ride 0): its first connection, {}, is after its last one, {}\n",
+            ride.leg.first, ride.leg.last
         ),
-        Refusal::Journey(fault) => explain_fault(fault, errors),
-        _ => {}
+        (Some(ride), Some(last)) => write!(
+            errors,
+            "csa: ride {place} (the first is ride 0): it has connections {} to {}, and the image has 0 to {last}\n",
+            ride.leg.first, ride.leg.last
+        ),
     }
-}
-
-// Says which ride or walk of a journey is wrong, and why. Takes no memory.
-fn explain_fault<E: Write>(fault: JourneyFault, errors: &mut E) {
-    let _ = write!(errors, "csa: {fault}\n");
 }
 
 /// Finds when the text's journey departs and arrives, if it counts for the question's query; otherwise the first fault,

@@ -6,7 +6,7 @@ ghost use Rattle.gtfs_rows.specs.Values.{is_civil};
 use command_requests::ZoneText;
 use csv::ByteRecord;
 use feed_loader::{Plan, Report};
-use feed_messages::{advance, explain, file_bytes, is_file};
+use feed_messages::{advance, explain, file_bytes, is_file, is_folder, quoted};
 use gtfs_rows::values::number;
 use gtfs_rows::{Day, Records, cell, column, find_record};
 use image_verifier::Verified;
@@ -49,7 +49,7 @@ pub fn warn<H: Files + AllocGlobal, E: Write>(
     if built.report.skipped > 0 {
         warn_of_transfers(rt, folder, errors);
     }
-    if let Some(line) = other_zone(rt, folder, zone, &built.plan) {
+    if let Some(line) = of_zone(rt, folder, zone, &built.plan) {
         warn_of(errors, line.as_str());
     }
 }
@@ -234,9 +234,9 @@ fn text_of(alloc: Global, left_out: &LeftOut) -> Result<String, AllocError> {
     Ok(text)
 }
 
-/// The warning that days begin at other instants in the feed's own zone, by the system's file of that zone. There is
-/// none if the zone that is asked for is a file of that name, which may be newer than the system's.
-fn other_zone<H: Files + AllocGlobal>(
+/// The warning about the feed's own zone. There is none if the zone that is asked for is a file of that name, which may
+/// be newer than the system's.
+fn of_zone<H: Files + AllocGlobal>(
     rt: &H,
     folder: &str,
     asked: &ZoneText<'_>,
@@ -249,8 +249,29 @@ fn other_zone<H: Files + AllocGlobal>(
     if is_file_of(asked, name) {
         return None;
     }
-    let path = zone_path(rt, name)?;
-    let bytes = fs::read(rt, path.as_str()).ok()?;
+    match zone_path(rt, name) {
+        Some(path) => other_days(rt, name, path.as_str(), plan),
+        None => no_zone(rt, name),
+    }
+}
+
+/// The warning that the feed's own zone is none of the system's, if the system has any.
+fn no_zone<H: Files + AllocGlobal>(rt: &H, name: &str) -> Option<String> {
+    if !is_folder(rt, ZONES) {
+        return None;
+    }
+    let name = quoted(rt.alloc(), name.as_bytes()).ok()?;
+    format!(in rt.alloc(); "agency_timezone {name} in agency.txt is no zone of {ZONES}").ok()
+}
+
+/// The warning that days begin at other instants in the feed's own zone, by the system's file of that zone.
+fn other_days<H: Files + AllocGlobal>(
+    rt: &H,
+    name: &str,
+    path: &str,
+    plan: &Plan,
+) -> Option<String> {
+    let bytes = fs::read(rt, path).ok()?;
     let zone = Zone::file_bytes(rt.alloc(), &bytes).ok()?;
     if is_same_on_days(&zone, plan) {
         return None;

@@ -1,4 +1,4 @@
-//! Warnings of a window of departures that goes beyond the departures of the image's connections. They take no memory.
+//! Warnings of a window of departures in which an image may have no connections. They take no memory.
 
 use feed_messages::explain;
 use image_verifier::Verified;
@@ -12,8 +12,11 @@ pub struct Departures {
     pub last: u32,
 }
 
-/// Warns if the window of departures that is asked for begins before the image's first connection departs, or ends
-/// after its last one does.
+/// The seconds of a day.
+const DAY: u32 = 86_400;
+
+/// Warns if no connection departs in the window of departures that is asked for, or if it ends after the last day on
+/// which one does.
 pub fn warn_of_window<E: Write>(image: &Verified, asked: Departures, errors: &mut E) {
     match departures_of(image) {
         Some(all) => warn_beyond(asked, all, errors),
@@ -42,12 +45,18 @@ fn warn_beyond<E: Write>(asked: Departures, all: Departures, errors: &mut E) {
     }
 }
 
-/// How the window that is asked for relates to all departures; `None` if it is within them.
+/// The end of the day of a time.
+fn end_of_day(time: u32) -> u32 {
+    (time / DAY).saturating_add(1).saturating_mul(DAY)
+}
+
+/// How the window that is asked for relates to all departures; `None` if some connections depart in it, and none can be
+/// missing at its end.
 fn reason_of(asked: Departures, all: Departures) -> Option<&'static str> {
     if asked.last < all.first || all.last < asked.first {
         Some("is outside")
-    } else if asked.first < all.first || all.last < asked.last {
-        Some("goes beyond")
+    } else if end_of_day(all.last) <= asked.last {
+        Some("goes beyond the last day of")
     } else {
         None
     }

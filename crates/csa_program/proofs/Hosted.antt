@@ -1,6 +1,6 @@
 -- The sessions of a server, once it has ended.
 use Rattle.std.proofs.Common.{◌≡◌, ℕ, List, [], Option, Result, subst}
-use Rattle.answer_replies.specs.declared.point_form.PointForm.{PointForm}
+use Rattle.session.specs.declared.reply_form.ReplyForm.{ReplyForm}
 use Rattle.csa_program.specs.Hosting.{AreSessionsOf}
 use Rattle.epochs.specs.ShelfSeats.{NoticeValue, ShelfSeatValue}
 use Rattle.load_orders.specs.Asking.{OrderRoute, WorkerOrdersValue}
@@ -11,7 +11,7 @@ use Rattle.workers.specs.declared.clients.ConnFault.{ConnFault}
 
 -- those who came since nobody had are all who came
 pub all_sessions : {C R W : Type 0} (opens : C → Result (R × W) ConnFault → Type 0) (remaining : R → Option (List ℕ)) (contents : W → Option (List ℕ))
-    (form wanted : PointForm) (before came : List C) (route : OrderRoute NoticeValue) (seats lasts : List ShelfSeatValue)
+    (form wanted : ReplyForm) (before came : List C) (route : OrderRoute NoticeValue) (seats lasts : List ShelfSeatValue)
     (orders : List (WorkerOrdersValue NoticeValue)) (sessions : List (Session R W)) → form ≡ wanted → before ≡ []
     → AreServedSince form opens remaining contents (λ (seat : ShelfSeatValue). seat.number) (λ seat. seat.shown) (λ seat. known_of seat.view)
     (λ (notice : NoticeValue). notice.version) route before came seats orders sessions lasts

@@ -1,6 +1,6 @@
 -- The sessions of a server, at the seats of its workers.
 use Rattle.std.specs.Prelude.{ℕ, List, [], Option, Result}
-use Rattle.answer_replies.specs.declared.point_form.PointForm.{PointForm}
+use Rattle.session.specs.declared.reply_form.ReplyForm.{ReplyForm}
 use Rattle.atomic_table.specs.Seated.{TableId}
 use Rattle.epochs.specs.ShelfSeats.{NoticeValue, SeatsHanded, ShelfSeatValue}
 use Rattle.load_orders.specs.Asking.{OrderRoute, WorkerOrdersValue}
@@ -9,7 +9,7 @@ use Rattle.workers.specs.Ends.{Session}
 use Rattle.workers.specs.Sessions.{AreServedSince}
 use Rattle.workers.specs.declared.clients.ConnFault.{ConnFault}
 
-module _ {C R W : Type 0} (form : PointForm) (opens : C → Result (R × W) ConnFault → Type 0)
+module _ {C R W : Type 0} (form : ReplyForm) (opens : C → Result (R × W) ConnFault → Type 0)
     (remaining : R → Option (List ℕ)) (contents : W → Option (List ℕ)) where
   -- these are the sessions of all clients who came, one for each, served at these seats and replied in this form
   abbrev pub AreSessionsOf : List ShelfSeatValue → List C → List (Session R W) → Type 0

@@ -4,7 +4,10 @@ use Rattle.std.specs.Io.KnownBytes.{Appends}
 use Rattle.command_requests.specs.Ending.{sessions_in, status_of}
 use Rattle.command_requests.specs.declared.statuses.TheConstants.{INPUT_OUTPUT, OUT_OF_MEMORY}
 use Rattle.command_requests.specs.declared.ends.Ends.{Ends}
+use Rattle.std.specs.Option.{option_map}
 use Rattle.answer_replies.specs.declared.point_form.PointForm.{PointForm}
+use Rattle.session.specs.declared.reply_form.ReplyForm.{ReplyForm}
+use Rattle.command_requests.specs.declared.plans.Seconds.{Seconds}
 use Rattle.workers.specs.Ends.{Session, ended_in, failed_in, spent_in}
 
 -- how many sessions ended in each way
@@ -12,9 +15,13 @@ abbrev pub counts_of : {R W : Type 0} → List (Session R W) → Ends
 counts_of sessions = record { ended = ended_in sessions; failed = failed_in sessions; spent = spent_in sessions }
 
 -- with `--legs` each point of a profile has the legs of its journey
-abbrev pub form_with : Bool → PointForm
-form_with true = PointForm.WithLegs
-form_with false = PointForm.Bare
+abbrev pub points_with : Bool → PointForm
+points_with true = PointForm.WithLegs
+points_with false = PointForm.Bare
+
+-- and with `--longest` no window may last longer than so many seconds
+abbrev pub form_with : Bool → Option Seconds → ReplyForm
+form_with legs longest = record { points = points_with legs; longest = option_map (λ seconds. seconds.number) longest }
 
 -- at which port it listens
 abbrev pub port_text : ℕ → List ℕ

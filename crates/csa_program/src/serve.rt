@@ -1,5 +1,5 @@
-//! `csa serve --image IMAGE --port P --workers W --sessions N [--legs] [--log] [--idle SECS] --first DAY --days N
-//! --zone ZONE [NAME=FOLDER]..`.
+//! `csa serve --image IMAGE --port P --workers W --sessions N [--legs] [--log] [--idle SECS] [--longest SECS]
+//! --first DAY --days N --zone ZONE [NAME=FOLDER]..`.
 
 ghost use Rattle.std.specs.Prelude.{◌≡◌, ◌≢◌, ◌≤◌, ◌⊎◌, [], All, length, map};
 ghost use Rattle.std.specs.Prelude.{slice_get, Some, string_bytes, IfOk, IfSome, MatchOption, ℕ};
@@ -16,7 +16,9 @@ ghost use Rattle.workers.specs.Ordering.{AreAllTaken, route_to};
 ghost use Rattle.workers.specs.Sessions.{AreServedSince, MayClose};
 ghost use Rattle.csa_program.specs.Door.{AreAsMany, AreCountedOff};
 ghost use Rattle.csa_program.specs.Hosting.{AreHosted, AreSessionsOf};
-ghost use Rattle.csa_program.specs.Serving.{IsServerEnd, counts_of, form_with, port_text, served_text};
+ghost use Rattle.std.specs.Option.{option_map};
+ghost use Rattle.csa_program.specs.Serving.{IsServerEnd, counts_of, form_with, points_with, port_text};
+ghost use Rattle.csa_program.specs.Serving.{served_text};
 ghost use Rattle.feed_plans.specs.Planning.{IsPlanNow};
 
 use crate::bases::warn_of_bases;
@@ -29,7 +31,7 @@ use crate::requests::Requests;
 use crate::sockets::{Door, Visitor};
 use crate::visits::{SessionRules, Visit};
 use clock_days::instant;
-use command_requests::{Ends, NamedFolder, ServeRequest};
+use command_requests::{Ends, NamedFolder, Seconds, ServeRequest};
 use csa_commands::{
     Begun, PlanFailure, explain_load, open_image, reason_of, refuse_feed, status, zone_and_plan,
 };
@@ -50,7 +52,8 @@ use std::time::{Clock, Instant};
 use std::{io, thread};
 use text_pieces::{put_number, put_text};
 use workers::{
-    Client, Clients, Feeds, LoadRefusal, Loaded, PointForm, Ran, Served, WorkersFault, run_shelves,
+    Client, Clients, Feeds, LoadRefusal, Loaded, PointForm, Ran, ReplyForm, Served, WorkersFault,
+    run_shelves,
 };
 
 /// The feeds that may be loaded: those that the command line names.
@@ -240,7 +243,8 @@ fn listen<'d, 'f, 'e, H: Disk + Explains + Clock + Threads + Wait + Sync, O: Wri
         hosted.served hosted.door.failed result.0) }
     ensures many { IfSome result.1 (λ hosted.
         AreAsMany folders.now.request.now.sessions (length hosted.served) hosted.door.failed) }
-    ensures hosted { IfSome result.1 (λ hosted. AreHosted (form_with folders.now.request.now.legs)
+    ensures hosted { IfSome result.1 (λ hosted. AreHosted
+        (form_with folders.now.request.now.legs folders.now.request.now.longest)
         ⟦<Visitor<'d, SharedErrors<'e, H>> as Client>⟧.opens
         ⟦<Requests<TcpStream, Visit<'d, SharedErrors<'e, H>>> as Read>⟧.remaining
         ⟦<TcpStream as Write>⟧.contents
@@ -297,11 +301,12 @@ fn serve_door<
     ensures many { (wanted : ℕ) → AreCountedOff wanted door.entry.left door.entry.accepted
         door.entry.is_endless door.entry.failed []
         → IfOk result (λ hosted. AreAsMany wanted (length hosted.served) hosted.door.failed) }
-    ensures sessions { IfOk result (λ hosted. AreSessionsOf (form_with folders.now.request.now.legs)
+    ensures sessions { IfOk result (λ hosted. AreSessionsOf
+        (form_with folders.now.request.now.legs folders.now.request.now.longest)
         ⟦<Visitor<'d, L> as Client>⟧.opens ⟦<Requests<TcpStream, Visit<'d, L>> as Read>⟧.remaining
         ⟦<TcpStream as Write>⟧.contents made.2.items hosted.door.came hosted.served) }
 {
-    let form = form_of(folders.request.legs);
+    let form = form_of(folders.request.legs, folders.request.longest);
     let ran = serve_all::<B, _, _, _, _>(door, made, folders, form, errors)?;
     Ok(Hosted {
         served: ran.served,
@@ -330,7 +335,7 @@ fn serve_all<
     clients: K,
     made: (Shelves, ShelfLoader, Vec<ShelfSeat>),
     folders: &Folders<'f, H>,
-    form: PointForm,
+    form: ReplyForm,
     errors: E,
 ) -> Result<Ran<C, K, ShelfSeat, ShelfLoader, NamedNotice<B>, FolderFiles<'f, H>>, WorkersFault>
     requires named { made.0 ≡ B.table }
@@ -396,14 +401,32 @@ fn bound_at<H: Net<Listener = TcpListener, Stream = TcpStream>>(
     })
 }
 
-// In which form profiles are replied.
-fn form_of(legs: bool) -> PointForm
-    ensures { result ≡ form_with legs }
+// In which form profiles are replied, and for which windows.
+fn form_of(legs: bool, longest: Option<Seconds>) -> ReplyForm
+    ensures { result ≡ form_with legs longest }
+{
+    ReplyForm {
+        points: points_of(legs),
+        longest: number_of(longest),
+    }
+}
+
+fn points_of(legs: bool) -> PointForm
+    ensures { result ≡ points_with legs }
 {
     if legs {
         PointForm::WithLegs
     } else {
         PointForm::Bare
+    }
+}
+
+fn number_of(seconds: Option<Seconds>) -> Option<u32>
+    ensures { result ≡ option_map (λ s. s.number) seconds }
+{
+    match seconds {
+        Some(seconds) => Some(seconds.number),
+        None => None,
     }
 }
 

@@ -1,5 +1,6 @@
 -- What nodes spell, from one node to the next.
 use Rattle.std.proofs.Common.{◌≡◌, ℕ, suc, ◌+◌, ◌<◌, ◌≤◌, List, [], ◌∷◌, ◌++◌, length, slice_get, Option, Some, None, MatchOption, refl, sym, ◌∙◌, ap}
+use Rattle.std.proofs.Common.{Contains}
 use Rattle.std.proofs.Common.{subst, inl, inr, arith, append_assoc}
 use Rattle.std.proofs.lemmas.Option.{slice_get_cases, same_Some}
 use Rattle.reasoning.proofs.ListLemmas.{contains_at}
@@ -8,9 +9,13 @@ use Rattle.bags.specs.declared.point.Point.{Point}
 use Rattle.timetable.specs.declared.network.Footpath.{Footpath}
 use Rattle.timetable.specs.declared.query.Query.{Query}
 use Rattle.timetable.specs.TimetableValue.{TimetableValue}
-use Rattle.profile_scan.specs.Answered.{IsAnswered}
+use Rattle.timetable.specs.Journeys.{start_end}
+use Rattle.profile_scan.specs.Answered.{IsAnswered, IsAnsweredBetween}
+use Rattle.profile_scan.specs.Between.{BetweenValue}
 use Rattle.profile_scan.specs.Found.{Answers, criterion_of_found, listed, nodes_of, query_of, timetable_of, walk_of_found}
+use Rattle.profile_scan.specs.Found.{AnswersBetween, criterion_between, listed_between, nodes_between, query_between, timetable_between, walk_between}
 use Rattle.profile_scan.specs.declared.found.Found.{Found}
+use Rattle.profile_scan.specs.declared.found_between.FoundBetween.{FoundBetween}
 use Rattle.timetable.specs.JourneyValue.{RideValue, JourneyValue}
 use Rattle.profile_scan.specs.Continuations.{Aboard}
 use Rattle.profile_scan.specs.Steps.{boarded}
@@ -18,7 +23,8 @@ use Rattle.profile_scan.specs.Nodes.{Spelled, nothing, spelled, spells, changed_
 use Rattle.profile_scan.specs.declared.nodes.Node.{Node}
 use Rattle.profile_scan.specs.declared.nodes.Node.TheVariants.{Ends, Changes, Boards, SetsOut}
 use Rattle.profile_scan.proofs.NodeLemmas.{spelled_at, spelled_past}
-use Rattle.journeys.specs.Extracted.{rides_on, Attains}
+use Rattle.profile_scan.proofs.Single.{plain_at}
+use Rattle.journeys.specs.Extracted.{rides_on, Attains, AttainsBetween}
 
 module _ (nodes : List Node) (k : ℕ) where
   -- no node, no spelling
@@ -237,6 +243,54 @@ always_spelled criterion rules t q found i p point here none answers at =
     let a = attained criterion rules t q found i p answers at in
     let same : point ≡ p = same_Some point p (sym here ∙ at) in
     let none_p : (spelled (nodes_of found) p.tag).journey ≡ None = subst (λ (x : Point _). (spelled (nodes_of found) x.tag).journey ≡ None) same none in
+    let some_p = a.1 in
+    cc
+
+-- the same of the answer of a query between sets
+pub between_answers_its_own : {K V : Type 0} {c : _} (rules : Rules V) (found : FoundBetween K V c)
+    → IsAnsweredBetween rules (timetable_between found) (query_between found) (listed_between found) (nodes_between found) (walk_between found)
+    → AnswersBetween (criterion_between found) rules (timetable_between found) (query_between found) found
+between_answers_its_own rules found is = record { answered = is; keeps = (refl, refl, refl) }
+
+between_attained : {K V : Type 0} {c : _} (criterion : K) (rules : Rules V) (t : TimetableValue) (b : BetweenValue) (found : FoundBetween K V c) (i : ℕ)
+    (p : Point V) → AnswersBetween criterion rules t b found → slice_get (listed_between found) i ≡ Some p
+    → (j : JourneyValue) × ((spelled (nodes_between found) p.tag).journey ≡ Some j) × AttainsBetween rules t b p j
+between_attained criterion rules t b found i p answers at =
+    let a = answers.answered.attained p (contains_at (listed_between found) i p at) in
+    let pair = a.there.pair in (
+      a.way,
+      a.spells,
+      record {
+        pair = pair;
+        attains = record {
+          counts = a.there.counts;
+          plain = plain_at t (Contains b.targets) pair.target (start_end pair.source a.way.start) 0 a.way.rides a.there.counts.journey.leads
+              pair.is_target a.plain;
+          worth = a.worth;
+        };
+        plain = a.plain;
+      },
+    )
+
+pub between_attains : {K V : Type 0} {c : _} (criterion : K) (rules : Rules V) (t : TimetableValue) (b : BetweenValue) (found : FoundBetween K V c) (i : ℕ)
+    (p point : Point V) (j : JourneyValue) → slice_get (listed_between found) i ≡ Some point
+    → (spelled (nodes_between found) point.tag).journey ≡ Some j → AnswersBetween criterion rules t b found → slice_get (listed_between found) i ≡ Some p
+    → AttainsBetween rules t b p j
+between_attains criterion rules t b found i p point j here spells answers at =
+    let a = between_attained criterion rules t b found i p answers at in
+    let same : point ≡ p = same_Some point p (sym here ∙ at) in
+    let spells_p : (spelled (nodes_between found) p.tag).journey ≡ Some j =
+    subst (λ (x : Point _). (spelled (nodes_between found) x.tag).journey ≡ Some j) same spells in
+    subst (AttainsBetween rules t b p) (same_Some a.0 j (sym a.1 ∙ spells_p)) a.2
+
+pub between_always_spelled : {K V : Type 0} {c : _} (criterion : K) (rules : Rules V) (t : TimetableValue) (b : BetweenValue) (found : FoundBetween K V c)
+    (i : ℕ) (p point : Point V) → slice_get (listed_between found) i ≡ Some point
+    → (spelled (nodes_between found) point.tag).journey ≡ None → AnswersBetween criterion rules t b found → slice_get (listed_between found) i ≡ Some p → ⊥
+between_always_spelled criterion rules t b found i p point here none answers at =
+    let a = between_attained criterion rules t b found i p answers at in
+    let same : point ≡ p = same_Some point p (sym here ∙ at) in
+    let none_p : (spelled (nodes_between found) p.tag).journey ≡ None =
+    subst (λ (x : Point _). (spelled (nodes_between found) x.tag).journey ≡ None) same none in
     let some_p = a.1 in
     cc
 

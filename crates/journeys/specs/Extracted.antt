@@ -1,5 +1,5 @@
 -- The journey that a point of an answer stands for.
-use Rattle.std.specs.Prelude.{◌≡◌, ℕ, ◌<◌, List, [], Option, Some, None}
+use Rattle.std.specs.Prelude.{◌≡◌, ℕ, ◌<◌, List, [], Contains, Option, Some, None}
 use Rattle.criteria.specs.Laws.{Rules}
 use Rattle.bags.specs.declared.point.Point.{Point}
 use Rattle.timetable.specs.TimetableValue.{TimetableValue}
@@ -7,7 +7,8 @@ use Rattle.timetable.specs.JourneyValue.{RideValue, JourneyValue}
 use Rattle.timetable.specs.Journeys.{Counts}
 use Rattle.timetable.specs.declared.query.Query.{Query}
 use Rattle.profile_scan.specs.Values.{journey_value}
-use Rattle.profile_scan.specs.Plain.{IsPlain}
+use Rattle.profile_scan.specs.Between.{BetweenValue, Pair, query_of_pair}
+use Rattle.profile_scan.specs.Plain.{IsPlain, IsPlainOf}
 use Rattle.profile_scan.specs.Continuations.{Aboard}
 use Rattle.profile_scan.specs.Steps.{boarded}
 use Rattle.profile_scan.specs.Nodes.{spelled, changed_at, boarded_after, walk_of}
@@ -21,6 +22,13 @@ pub record Attains {V : Type 0} (rules : Rules V) (t : TimetableValue) (q : Quer
   pub counts : Counts t q p.departure j
   pub plain : IsPlain t q.target j
   pub worth : p.value ≡ journey_value rules t j
+
+-- a journey attains a point of a query between sets: it attains it for the query of a pair, a source where it begins and a target where it ends; and with
+-- regard to all targets it is plain: after its last leg it walks on only if that leg ends at none of them
+pub record AttainsBetween {V : Type 0} (rules : Rules V) (t : TimetableValue) (b : BetweenValue) (p : Point V) (j : JourneyValue) : Type 0 where
+  pub pair : Pair b
+  pub attains : Attains rules t (query_of_pair b pair) p j
+  pub plain : IsPlainOf t (Contains b.targets) j
 
 -- the journey that is spelled; if none is, the one without rides
 abbrev pub or_none : Option JourneyValue → JourneyValue

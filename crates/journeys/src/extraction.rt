@@ -1,17 +1,47 @@
 //! The journey that a point of an answer stands for.
 
-ghost use Rattle.std.specs.Prelude.{◌≡◌, ◌<◌, ◌++◌, ◌∷◌, [], None, Some, IfOk, OnOk, MatchOption, length, slice_get};
+ghost use Rattle.std.specs.Prelude.{◌≡◌, ◌<◌, ◌++◌, ◌∷◌, [], List, None, Some, IfOk, OnOk, MatchOption, length};
+ghost use Rattle.std.specs.Prelude.{slice_get};
 ghost use Rattle.timetable.specs.TimetableValue.{TimetableValue};
 ghost use Rattle.timetable.specs.declared.query.Query.{Query};
 ghost use Rattle.profile_scan.specs.Continuations.{Aboard};
+ghost use Rattle.profile_scan.specs.Between.{BetweenValue};
 ghost use Rattle.profile_scan.specs.Found.{Answers, criterion_of_found, listed, nodes_of, query_of, timetable_of};
+ghost use Rattle.profile_scan.specs.Found.{AnswersBetween, criterion_between, listed_between, nodes_between};
+ghost use Rattle.profile_scan.specs.Found.{query_between, timetable_between};
 ghost use Rattle.profile_scan.specs.Nodes.{spelled, walk_of};
-ghost use Rattle.journeys.specs.Extracted.{Attains, IsAlighting, IsBoarding, or_none, rides_on};
+ghost use Rattle.profile_scan.specs.declared.nodes.Node.{Node};
+ghost use Rattle.journeys.specs.Extracted.{Attains, AttainsBetween, IsAlighting, IsBoarding, or_none, rides_on};
 
 use criteria::Criterion;
-use profile_scan::{Found, Node};
+use profile_scan::{Found, FoundBetween, Node};
 use std::alloc::{AllocError, Global};
 use timetable::{Footpath, Journey, Leg, Ride};
+
+// An answer, of which the nodes alone are read here.
+trait Spells {
+    ghost nodes: { Self → List Node };
+
+    // The node of a number, if there is one.
+    fn node_at(&self, number: usize) -> Option<Node>
+        ensures { result ≡ slice_get (nodes self.now) number };
+}
+
+impl<C: Criterion> Spells for Found<C> {
+    ghost nodes = { λ found. nodes_of found };
+
+    fn node_at(&self, number: usize) -> Option<Node> {
+        self.node(number)
+    }
+}
+
+impl<C: Criterion> Spells for FoundBetween<C> {
+    ghost nodes = { λ found. nodes_between found };
+
+    fn node_at(&self, number: usize) -> Option<Node> {
+        self.node(number)
+    }
+}
 
 // A footpath to a connection that is boarded, and the node by which one goes on in its trip.
 #[derive(Clone, Copy)]
@@ -30,11 +60,11 @@ enum Alighting {
 
 // The boarding that a node says, if it says one.
 #[tactic(auto, using(crate::proofs::SpellLemmas::nothing_said))]
-fn boards_at<C: Criterion>(found: &Found<C>, number: usize) -> Option<Boarding>
-    ensures { MatchOption result ((spelled (nodes_of found.now) number).onward
-        ≡ None) (λ boarding. IsBoarding (nodes_of found.now) number boarding) }
+fn boards_at<F: Spells>(found: &F, number: usize) -> Option<Boarding>
+    ensures { MatchOption result ((spelled (F.nodes found.now) number).onward
+        ≡ None) (λ boarding. IsBoarding (F.nodes found.now) number boarding) }
 {
-    match found.node(number) {
+    match found.node_at(number) {
         Some(Node::Boards { walk, first, next }) => {
             if next < number {
                 Some(Boarding { walk, first, next })
@@ -51,11 +81,11 @@ fn boards_at<C: Criterion>(found: &Found<C>, number: usize) -> Option<Boarding>
 
 // How one gets off, as a node and earlier ones say, if they say it.
 #[tactic(auto, using(crate::proofs::SpellLemmas::nothing_said))]
-fn gets_off_at<C: Criterion>(found: &Found<C>, number: usize) -> Option<Alighting>
-    ensures { MatchOption result ((spelled (nodes_of found.now) number).aboard
-        ≡ None) (λ alighting. IsAlighting (nodes_of found.now) number alighting) }
+fn gets_off_at<F: Spells>(found: &F, number: usize) -> Option<Alighting>
+    ensures { MatchOption result ((spelled (F.nodes found.now) number).aboard
+        ≡ None) (λ alighting. IsAlighting (F.nodes found.now) number alighting) }
 {
-    match found.node(number) {
+    match found.node_at(number) {
         Some(Node::Ends { last, walk }) => Some(Alighting::Ends { last, walk }),
         Some(Node::Changes { last, next }) => {
             if next >= number {
@@ -73,8 +103,8 @@ fn gets_off_at<C: Criterion>(found: &Found<C>, number: usize) -> Option<Alightin
 }
 
 // The number of rides that follow the leg which ends as a node says, if the node spells any.
-fn rides_after<C: Criterion>(found: &Found<C>, from: usize) -> usize
-    ensures { (x : Aboard) → (spelled (nodes_of found.now) from).aboard ≡ Some x → result ≡ length x.rides }
+fn rides_after<F: Spells>(found: &F, from: usize) -> usize
+    ensures { (x : Aboard) → (spelled (F.nodes found.now) from).aboard ≡ Some x → result ≡ length x.rides }
 {
     let mut rides = 0usize;
     let mut number = from;
@@ -108,14 +138,14 @@ fn ride(
 }
 
 // The rides of a passenger who boards a connection and goes on as a node says; `None` if it spells none.
-fn rides_from<C: Criterion>(
+fn rides_from<F: Spells>(
     alloc: Global,
-    found: &Found<C>,
+    found: &F,
     boards: u32,
     from: usize,
 ) -> Result<Option<Vec<Ride>>, AllocError>
-    ensures { IfOk result (λ rides. MatchOption rides (rides_on boards (spelled (nodes_of found.now) from).aboard
-        ≡ None) (λ rides. rides_on boards (spelled (nodes_of found.now) from).aboard ≡ Some rides.items)) }
+    ensures { IfOk result (λ rides. MatchOption rides (rides_on boards (spelled (F.nodes found.now) from).aboard
+        ≡ None) (λ rides. rides_on boards (spelled (F.nodes found.now) from).aboard ≡ Some rides.items)) }
 {
     let mut rides = Vec::with_capacity(alloc, rides_after(found, from).saturating_add(1))?;
     let mut first = boards;
@@ -138,15 +168,15 @@ fn rides_from<C: Criterion>(
 
 // The journey that a node spells, if it spells one.
 #[tactic(auto, using(crate::proofs::SpellLemmas::nothing_said))]
-fn spelled_at<C: Criterion>(
+fn spelled_at<F: Spells>(
     alloc: Global,
-    found: &Found<C>,
+    found: &F,
     number: usize,
 ) -> Result<Option<Journey>, AllocError>
-    ensures { IfOk result (λ journey. MatchOption journey ((spelled (nodes_of found.now) number).journey
-        ≡ None) (λ journey. (spelled (nodes_of found.now) number).journey ≡ Some journey)) }
+    ensures { IfOk result (λ journey. MatchOption journey ((spelled (F.nodes found.now) number).journey
+        ≡ None) (λ journey. (spelled (F.nodes found.now) number).journey ≡ Some journey)) }
 {
-    match found.node(number) {
+    match found.node_at(number) {
         Some(Node::SetsOut { start, first, next }) => {
             if next >= number {
                 return Ok(None);
@@ -187,6 +217,39 @@ pub fn extract<C: Criterion>(
 {
     let points = found.points();
     let point = points[i];
+    match spelled_at(alloc, found, point.tag)? {
+        Some(journey) => Ok(journey),
+        None => Ok(Journey {
+            start: None,
+            rides: Vec::new(alloc),
+        }),
+    }
+}
+
+/// Returns the journey of the point at an index of the answer of a query between sets: it counts for the query between
+/// one of the sources and one of the targets, where it begins and ends; departs when the point does, and is worth the
+/// point's value. Each change is one footpath, and after the last leg there is one only if that leg doesn't end at a
+/// target.
+///
+/// The only error is that memory runs out.
+pub fn extract_between<C: Criterion>(
+    alloc: Global,
+    found: &FoundBetween<C>,
+    i: usize,
+) -> Result<Journey, AllocError>
+    requires { i < length (listed_between found.now) }
+    ensures spelled { IfOk result (λ journey. (p : _) → slice_get (listed_between found.now) i ≡ Some p
+        → journey ≡ or_none (spelled (nodes_between found.now) p.tag).journey) }
+    // It attains the point, for the query and the timetable that the answer keeps.
+    ensures kept { IfOk result (λ journey. (p : _) → slice_get (listed_between found.now) i ≡ Some p
+        → ∥ AttainsBetween (C.rules (criterion_between found.now)) (timetable_between found.now)
+        (query_between found.now) p journey ∥₁) }
+    // So it does for the query and the timetable of which the caller knows that this is their answer.
+    ensures attains { IfOk result (λ journey. (criterion : _) (t : TimetableValue) (b : BetweenValue) (p : _)
+        → AnswersBetween criterion (C.rules criterion) t b found.now → slice_get (listed_between found.now) i ≡ Some p
+        → AttainsBetween (C.rules criterion) t b p journey) }
+{
+    let point = found.point(i);
     match spelled_at(alloc, found, point.tag)? {
         Some(journey) => Ok(journey),
         None => Ok(Journey {

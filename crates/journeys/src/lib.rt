@@ -20,7 +20,7 @@ mod way;
 pub use answering::{Answer, Departure, answer_query, departures_from, window_len};
 pub use counts::{check, faultless_counts};
 pub use destinations::destination_named;
-pub use extraction::extract;
+pub use extraction::{extract, extract_between};
 pub use fault::JourneyFault;
 pub use question::{Window, query_of};
 pub use text::{journey_parse, journey_string, journey_text, one_text, plain_texts};

@@ -4,8 +4,8 @@ use Rattle.criteria.specs.Laws.{Rules, Laws, Admits, NoWorse}
 use Rattle.bags.specs.declared.point.Point.{Point}
 use Rattle.timetable.specs.TimetableValue.{TimetableValue}
 use Rattle.timetable.specs.JourneyValue.{RideValue, JourneyValue}
-use Rattle.timetable.specs.Journeys.{connection_at, walk_end, walk_secs, Leads, final_time, time_after, stop_after, start_end, Counts, arrival}
-use Rattle.timetable.specs.declared.query.Query.{Query}
+use Rattle.timetable.specs.Journeys.{connection_at, walk_end, walk_secs, Leads, final_time, time_after, stop_after, start_end, arrival}
+use Rattle.profile_scan.specs.Between.{BetweenValue, CountsBetween, IsPointBetween}
 use Rattle.profile_scan.specs.Values.{walked, ridden, journey_value}
 use Rattle.profile_scan.specs.Points.{IsPoint, Covers}
 use Rattle.profile_scan.specs.Continuations.{Onward, Aboard, IsOnward, IsAboard, onward_value, aboard_value, time_off, time_there}
@@ -17,7 +17,7 @@ use Rattle.profile_scan.proofs.Chains.{walked_admits, started_admits}
 abbrev pub AreAdmitted : {V : Type 0} → Rules V → List (Point V) → Type 0
 AreAdmitted {V} rules points = (p : Point V) → Contains points p → Admits rules p.value
 
-module _ {V : Type 0} (rules : Rules V) (laws : Laws rules) (t : TimetableValue) (q : Query) (can : CanScan t q) where
+module _ {V : Type 0} (rules : Rules V) (laws : Laws rules) (t : TimetableValue) (q : BetweenValue) (can : CanScan t q) where
   pub ridden_admits : (goal stop time final : ℕ) (rides : List RideValue) → final ≤ q.by → Leads t goal stop time rides
       → Admits rules (ridden rules final rides)
   ridden_admits goal stop time final [] le leads = let small = can.in_time in laws.arrive_admits final (omega arith)
@@ -29,19 +29,19 @@ module _ {V : Type 0} (rules : Rules V) (laws : Laws rules) (t : TimetableValue)
   pub onward_admits : (i stop time : ℕ) (x : Onward) → IsOnward t q i stop time x → Admits rules (onward_value rules t x)
   onward_admits i stop time x on =
       walked_admits rules laws t can.limits stop x.walk (ridden rules (final_time t 0 x.rides) x.rides) on.is_walk
-      (ridden_admits q.target (walk_end stop x.walk) (time + walk_secs x.walk) (final_time t 0 x.rides) x.rides on.arrives on.leads)
+      (ridden_admits on.goal (walk_end stop x.walk) (time + walk_secs x.walk) (final_time t 0 x.rides) x.rides on.arrives on.leads)
 
   pub aboard_admits : (i trip : ℕ) (x : Aboard) → IsAboard t q i trip x → Admits rules (aboard_value rules t x)
   aboard_admits i trip x a =
       walked_admits rules laws t can.limits (connection_at t x.last).to x.walk (ridden rules (time_there t x) x.rides) a.is_walk
-      (ridden_admits q.target (walk_end (connection_at t x.last).to x.walk) (time_off t x) (time_there t x) x.rides a.arrives a.leads)
+      (ridden_admits a.goal (walk_end (connection_at t x.last).to x.walk) (time_off t x) (time_there t x) x.rides a.arrives a.leads)
 
-  pub journey_admits : (departure : ℕ) (j : JourneyValue) → Counts t q departure j → Admits rules (journey_value rules t j)
+  pub journey_admits : (departure : ℕ) (j : JourneyValue) → CountsBetween t q departure j → Admits rules (journey_value rules t j)
   journey_admits departure j counts =
-      started_admits rules laws t can.limits q.source j.start (ridden rules (arrival t j) j.rides) counts.journey.starts
-      (ridden_admits q.target (start_end q.source j.start) 0 (arrival t j) j.rides counts.arrives counts.journey.leads)
+      started_admits rules laws t can.limits counts.pair.source j.start (ridden rules (arrival t j) j.rides) counts.counts.journey.starts
+      (ridden_admits counts.pair.target (start_end counts.pair.source j.start) 0 (arrival t j) j.rides counts.counts.arrives counts.counts.journey.leads)
 
-  pub point_admits : (departure : ℕ) (v : V) → IsPoint rules t q departure v → Admits rules v
+  pub point_admits : (departure : ℕ) (v : V) → IsPointBetween rules t q departure v → Admits rules v
   point_admits departure v p = subst (Admits rules) (sym p.2) (journey_admits departure p.0 p.1)
 
 -- points that are attained by admitted ways are admitted

@@ -8,12 +8,12 @@ use Rattle.criteria.specs.Laws.{Rules, Laws, Admits, NoWorse}
 use Rattle.bags.specs.Dominance.{Dominates, Apart, IsBag}
 use Rattle.bags.specs.declared.point.Point.{Point}
 use Rattle.timetable.specs.TimetableValue.{TimetableValue}
-use Rattle.timetable.specs.declared.query.Query.{Query}
 use Rattle.profile_scan.specs.Values.{journey_value}
-use Rattle.profile_scan.specs.Points.{IsPoint, IsUndominated, Lists, Covers, Before, IsAnswer, untagged}
+use Rattle.profile_scan.specs.Points.{IsUndominatedOf, Lists, Covers, Before, untagged}
 use Rattle.sources.specs.FirstAt.{IsFirstAt}
+use Rattle.profile_scan.specs.Between.{BetweenValue, IsPointBetween, IsAnswerBetween}
 use Rattle.profile_scan.specs.Continuations.{CountsFrom}
-use Rattle.profile_scan.specs.Plain.{IsPlain}
+use Rattle.profile_scan.specs.Plain.{IsPlainOf}
 use Rattle.profile_scan.specs.Matching.{Spelling, Matches}
 use Rattle.profile_scan.specs.LawStatements.{CanScan, MatchIsTheAnswer, OneAnswer}
 use Rattle.profile_scan.proofs.Admitted.{AreAdmitted, point_admits}
@@ -35,20 +35,20 @@ only_itself rules points apart p q in_p in_q d =
           (subst (Dominates rules p) (sym (get_or_default points j p q in_q.1 ∙ in_q.2)) d)))
     ]
 
-module _ {V : Type 0} (rules : Rules V) (laws : Laws rules) (t : TimetableValue) (q : Query) (can : CanScan t q) where
+module _ {V : Type 0} (rules : Rules V) (laws : Laws rules) (t : TimetableValue) (q : BetweenValue) (can : CanScan t q) where
   module _ (start : ℕ) (is_start : IsFirstAt t q.from start) (tags : Spelling) (found : List (Point V))
-      (matches : Matches rules tags.journey (CountsFrom t q start) (IsPlain t q.target) (journey_value rules t) found)
+      (matches : Matches rules tags.journey (CountsFrom t q start) (IsPlainOf t (Contains q.targets)) (journey_value rules t) found)
       (bag : IsBag rules found) where
     -- each point found is one of the query
-    found_is_point : (p : Point V) → Contains found p → IsPoint rules t q p.departure p.value
+    found_is_point : (p : Point V) → Contains found p → IsPointBetween rules t q p.departure p.value
     found_is_point p is = let a = matches.sound p is in (a.way, a.there.counts, a.worth)
 
     -- each point of the query is covered
-    point_covered : (departure : ℕ) (v : V) → IsPoint rules t q departure v → Covers rules found departure v
+    point_covered : (departure : ℕ) (v : V) → IsPointBetween rules t q departure v → Covers rules found departure v
     point_covered departure v p = subst (Covers rules found departure) (sym p.2)
         (matches.complete departure p.0 (counts_in_window t q start departure p.0 is_start p.1))
 
-    found_is_undominated : (p : Point V) → Contains found p → IsUndominated rules t q p.departure p.value
+    found_is_undominated : (p : Point V) → Contains found p → IsUndominatedOf rules (IsPointBetween rules t q) p.departure p.value
     found_is_undominated p in_p = record {
       is_point = found_is_point p in_p;
       only_itself = λ d w point late no_worse.
@@ -66,11 +66,11 @@ module _ {V : Type 0} (rules : Rules V) (laws : Laws rules) (t : TimetableValue)
           (omega (arith, got.2, late), laws.antisymmetric w p.value w_admits p_admits no_worse worse);
     }
 
-    pub found_is_answer : AllPairs (Before rules) found → IsAnswer rules t q found
+    pub found_is_answer : AllPairs (Before rules) found → IsAnswerBetween rules t q found
     found_is_answer ordered = record {
       exactly = λ departure v. (
-        (λ listed. subst (λ (n : ℕ). IsUndominated rules t q n v) listed.2
-            (subst (IsUndominated rules t q listed.0.departure) listed.3 (found_is_undominated listed.0 listed.1))),
+        (λ listed. subst (λ (n : ℕ). IsUndominatedOf rules (IsPointBetween rules t q) n v) listed.2
+            (subst (IsUndominatedOf rules (IsPointBetween rules t q) listed.0.departure) listed.3 (found_is_undominated listed.0 listed.1))),
         (λ undominated.
             let got = point_covered departure v undominated.is_point in
             let p = got.0 in
@@ -82,7 +82,7 @@ module _ {V : Type 0} (rules : Rules V) (laws : Laws rules) (t : TimetableValue)
     }
 
   -- the values that an answer lists are admitted
-  pub answer_admitted : (points : List (Point V)) → IsAnswer rules t q points → AreAdmitted rules points
+  pub answer_admitted : (points : List (Point V)) → IsAnswerBetween rules t q points → AreAdmitted rules points
   answer_admitted points answer p is = point_admits rules laws t q can p.departure p.value ((answer.exactly p.departure p.value).0 (p, is, refl, refl)).is_point
 
 pub match_is_the_answer : {V : Type 0} (rules : Rules V) → Laws rules → MatchIsTheAnswer rules

@@ -6,18 +6,17 @@ use Rattle.criteria.specs.Laws.{Rules, Laws, NoWorse}
 use Rattle.bags.specs.Dominance.{IsBag}
 use Rattle.bags.specs.declared.point.Point.{Point}
 use Rattle.timetable.specs.TimetableValue.{TimetableValue}
-use Rattle.timetable.specs.declared.query.Query.{Query}
+use Rattle.timetable.specs.declared.network.Footpath.{Footpath}
 use Rattle.sources.specs.FirstAt.{IsFirstAt}
 use Rattle.profile_scan.specs.Values.{journey_value}
 use Rattle.profile_scan.specs.Continuations.{CountsFrom}
-use Rattle.profile_scan.specs.Plain.{IsPlain}
-use Rattle.profile_scan.specs.Points.{Before, IsAnswer, untagged}
-use Rattle.timetable.specs.Journeys.{Counts}
+use Rattle.profile_scan.specs.Between.{BetweenValue, CountsBetween, IsDirectWalk, IsPointBetween}
+use Rattle.profile_scan.specs.Plain.{IsPlainOf}
+use Rattle.profile_scan.specs.Points.{Before, IsAnswerOf, untagged}
 use Rattle.profile_scan.specs.Matching.{Matches}
 use Rattle.profile_scan.specs.Story.{Story, told}
 use Rattle.profile_scan.specs.Telling.{IsJourneyTold, IsRetold}
-use Rattle.profile_scan.specs.Kept.{IsWay}
-use Rattle.profile_scan.specs.Answered.{IsAnswered}
+use Rattle.profile_scan.specs.Answered.{IsAnsweredBetween}
 use Rattle.profile_scan.specs.LawStatements.{CanScan}
 use Rattle.profile_scan.specs.declared.nodes.Node.{Node}
 use Rattle.profile_scan.proofs.Answer.{match_is_the_answer}
@@ -55,9 +54,9 @@ retold_before {V} rules old new same pairs i j d lt within =
       ap (λ (v : V). rules.list_order v s.value) (sym (ap (λ (x : ℕ × V). x.1) e)) ∙ ap (rules.list_order p.value) (sym (ap (λ (x : ℕ × V). x.1) f)) ∙ less,
     )
 
-pub retold_answer : {V : Type 0} (rules : Rules V) (t : TimetableValue) (q : Query) (old new : List (Point V))
-    → map untagged new ≡ map untagged old → IsAnswer rules t q old → IsAnswer rules t q new
-retold_answer {V} rules t q old new same is = record {
+pub retold_answer : {V : Type 0} (rules : Rules V) (IsThere : ℕ → V → Type 0) (old new : List (Point V))
+    → map untagged new ≡ map untagged old → IsAnswerOf rules IsThere old → IsAnswerOf rules IsThere new
+retold_answer {V} rules IsThere old new same is = record {
   exactly = λ d v. (
     (λ listed. let r = retold_in old new same listed.0 listed.1 in (is.exactly d v).0 (r.0, r.1, r.2 ∙ listed.2, r.3 ∙ listed.3)),
     (λ undominated. let listed = (is.exactly d v).1 undominated in let r =
@@ -72,18 +71,18 @@ retold_answer {V} rules t q old new same is = record {
 }
 
 -- points that match at the start of the window, listed in order and told in nodes
-pub answered : {V : Type 0} (rules : Rules V) → Laws rules → (t : TimetableValue) (q : Query) → CanScan t q
+pub answered : {V : Type 0} (rules : Rules V) → Laws rules → (t : TimetableValue) (q : BetweenValue) → CanScan t q
     → (start : ℕ) → IsFirstAt t q.from start
-    → (s : Story) (nodes : List Node) (found points retold : List (Point V)) (walk : Option ℕ)
-    → Matches rules (told t.footpaths s).journey (CountsFrom t q start) (IsPlain t q.target) (journey_value rules t) found → IsBag rules found
+    → (s : Story) (nodes : List Node) (found points retold : List (Point V)) (walk : Option Footpath)
+    → Matches rules (told t.footpaths s).journey (CountsFrom t q start) (IsPlainOf t (Contains q.targets)) (journey_value rules t) found → IsBag rules found
     → AllPairs (Before rules) points → ((p : Point V) → Contains points p → Contains found p) → ((p : Point V) → Contains found p → Contains points p)
     → map untagged retold ≡ map untagged points → ((p : Point V) → Contains retold p → IsRetold t.footpaths s points nodes p)
-    → IsWay t q.target q.source walk → IsAnswered rules t q retold nodes walk
+    → IsDirectWalk t q walk → IsAnsweredBetween rules t q retold nodes walk
 answered rules laws t q can start is_start s nodes found points retold walk matches bag ordered only each same says way =
     let tags = told t.footpaths s in
     record {
-      answer = retold_answer rules t q points retold same (match_is_the_answer rules laws t q can start is_start tags points
-          (listed_match rules tags.journey (CountsFrom t q start) (IsPlain t q.target) (journey_value rules t) found points only each matches)
+      answer = retold_answer rules (IsPointBetween rules t q) points retold same (match_is_the_answer rules laws t q can start is_start tags points
+          (listed_match rules tags.journey (CountsFrom t q start) (IsPlainOf t (Contains q.targets)) (journey_value rules t) found points only each matches)
           (listed_bag rules laws found points bag ordered only)
           ordered);
       attained = λ p h.
@@ -93,7 +92,7 @@ answered rules laws t q can start is_start s nodes found points retold walk matc
             way = a.way;
             spells = r.says a.way a.spells;
             there =
-                subst (λ (n : ℕ). Counts t q n a.way) (sym r.departs) a.there.counts;
+                subst (λ (n : ℕ). CountsBetween t q n a.way) (sym r.departs) a.there.counts;
             plain = a.plain;
             worth =
                 r.worth ∙ a.worth;
@@ -102,8 +101,8 @@ answered rules laws t q can start is_start s nodes found points retold walk matc
     }
 
 -- each point found is told
-pub journeys_told : {V : Type 0} (rules : Rules V) (t : TimetableValue) (q : Query) (start : ℕ) (s : Story)
+pub journeys_told : {V : Type 0} (rules : Rules V) (t : TimetableValue) (q : BetweenValue) (start : ℕ) (s : Story)
     (found points : List (Point V)) → Matches rules (told t.footpaths s).journey (CountsFrom t q start)
-    (IsPlain t q.target) (journey_value rules t) found → ((p : Point V) → Contains points p → Contains found p)
+    (IsPlainOf t (Contains q.targets)) (journey_value rules t) found → ((p : Point V) → Contains points p → Contains found p)
     → (p : Point V) → Contains points p → IsJourneyTold t.footpaths s p.tag
 journeys_told rules t q start s found points matches only p h = let a = matches.sound p (only p h) in (a.way, a.spells)

@@ -7,12 +7,12 @@ use Rattle.criteria.specs.Laws.{Rules, Laws, Admits, IsSecs}
 use Rattle.bags.specs.declared.point.Point.{Point}
 use Rattle.timetable.specs.declared.network.Connection.{Connection}
 use Rattle.timetable.specs.declared.network.Footpath.{Footpath}
-use Rattle.timetable.specs.declared.query.Query.{Query}
 use Rattle.timetable.specs.TimetableValue.{TimetableValue}
 use Rattle.timetable.specs.Legal.{At}
 use Rattle.timetable.specs.Limits.{IsWithinLimits}
 use Rattle.timetable.specs.Journeys.{connection_at, IsStart, start_end, start_secs}
 use Rattle.timetable.proofs.LegalLemmas.{Contains-At, At-Contains}
+use Rattle.profile_scan.specs.Between.{BetweenValue}
 use Rattle.profile_scan.specs.Values.{started}
 use Rattle.profile_scan.specs.Matching.{Spellings}
 use Rattle.profile_scan.specs.Steps.{Offer, TakesIn, boardings, settings_out, MayBoard, MaySetOut}
@@ -92,7 +92,7 @@ module _ {V : Type 0} (rules : Rules V) (laws : Laws rules) (t : TimetableValue)
       (between_more t.footpaths begin place) (place, low, omega arith, at) (λ y. between_split t.footpaths begin place x y at)
       (boarding_admits tags i c stop begin place) before here
 
-  pub starts_next : (tags : Spellings) (i : ℕ) (c : Connection) (q : Query) (begin place : ℕ) (x : Footpath)
+  pub starts_next : (tags : Spellings) (i : ℕ) (c : Connection) (q : BetweenValue) (begin place : ℕ) (x : Footpath)
       (old mid new : List (Point V)) → begin ≤ place → At t.footpaths place x
       → TakesIn rules (each_of (IsTried t.footpaths begin place) (settings_out_by rules tags i c q labels)) old mid
       → TakesIn rules (settings_out_by rules tags i c q labels (Some x)) mid new
@@ -102,35 +102,46 @@ module _ {V : Type 0} (rules : Rules V) (laws : Laws rules) (t : TimetableValue)
       (tried_more t.footpaths begin place) (place, low, omega arith, at) (λ y. tried_split t.footpaths begin place x y at)
       (λ y label s opened. start_secs_allowed begin place y (rules.ride label.value) s (laws.ride_admits label.value (admitted label opened.1))) before here
 
--- a start from the source
-is_start : (t : TimetableValue) (q : Query) (c : Connection) (begin end : ℕ) (start : Option Footpath)
-    → IsTried t.footpaths begin end start → StartsFrom q c start → IsStart t q.source start
+-- where one sets out by a start
+abbrev begins_at : Connection → Option Footpath → ℕ
+begins_at c None = c.from
+begins_at c (Some f) = f.from
+
+-- a start from a source
+begins_at_source : (q : BetweenValue) (c : Connection) (start : Option Footpath) → StartsFrom q c start → Contains q.sources (begins_at c start)
+begins_at_source q c None s = s
+begins_at_source q c (Some f) s = s.0
+
+is_start : (t : TimetableValue) (q : BetweenValue) (c : Connection) (begin end : ℕ) (start : Option Footpath)
+    → IsTried t.footpaths begin end start → StartsFrom q c start → IsStart t (begins_at c start) start
 is_start t q c begin end None tried s = tt
-is_start t q c begin end (Some f) tried s = (Contains-At t.footpaths tried.0 f tried.3, s.0, s.1)
+is_start t q c begin end (Some f) tried s = (Contains-At t.footpaths tried.0 f tried.3, refl, s.1)
 
-starts_from : (t : TimetableValue) (q : Query) (c : Connection) (start : Option Footpath) → IsStart t q.source start
-    → start_end q.source start ≡ c.from → StartsFrom q c start
-starts_from t q c None is leads = sym leads
-starts_from t q c (Some f) is leads = (is.1, is.2)
+starts_from : (t : TimetableValue) (q : BetweenValue) (c : Connection) (source : ℕ) (start : Option Footpath)
+    → Contains q.sources source → IsStart t source start → start_end source start ≡ c.from → StartsFrom q c start
+starts_from t q c source None is_source is leads = subst (Contains q.sources) leads is_source
+starts_from t q c source (Some f) is_source is leads = (subst (Contains q.sources) (sym is.1) is_source, λ e. is.2 (e ∙ is.1))
 
--- no footpath leads to the connection from the source: only no start does
-module _ {V : Type 0} (rules : Rules V) (t : TimetableValue) (tags : Spellings) (i : ℕ) (q : Query) (labels : List (Point V)) (old new : List (Point V)) where
-  by_start : (start : Option Footpath) (label : Point V) → (IsLed t q.source (connection_at t i).from → ⊥)
+-- no footpath leads to the connection from a source: only no start does
+module _ {V : Type 0} (rules : Rules V) (t : TimetableValue) (tags : Spellings) (i : ℕ) (q : BetweenValue) (labels : List (Point V))
+    (old new : List (Point V)) where
+  by_start : (start : Option Footpath) (label : Point V) → (IsLed t q.sources (connection_at t i).from → ⊥)
       → TakesIn rules (settings_out_by rules tags i (connection_at t i) q labels None) old new
       → MaySetOut t q i labels (record { start = start; label = label })
       → Covers rules new ((connection_at t i).dep - start_secs start) (started rules start (rules.ride label.value))
   by_start None label none here may = here.covered label (
     record {
-      starts = starts_from t q (connection_at t i) None may.is_start may.leads;
+      starts = starts_from t q (connection_at t i) may.source None may.is_source may.is_start may.leads;
       fits = may.fits;
       not_early = may.not_early;
       not_late = may.not_late;
     },
     may.is_label,
   )
-  by_start (Some f) label none here may = absurd (none (f, may.is_start, may.leads))
+  by_start (Some f) label none here may =
+      absurd (none (f, may.is_start.0, starts_from t q (connection_at t i) may.source (Some f) may.is_source may.is_start may.leads, may.leads))
 
-  no_start_taken : (IsLed t q.source (connection_at t i).from → ⊥) → (connection_at t i).board ≡ true
+  no_start_taken : (IsLed t q.sources (connection_at t i).from → ⊥) → (connection_at t i).board ≡ true
       → TakesIn rules (settings_out_by rules tags i (connection_at t i) q labels None) old new → TakesIn rules (settings_out rules t q tags i labels) old new
   no_start_taken none boards here =
       takes_as rules (settings_out_by rules tags i (connection_at t i) q labels None) (settings_out rules t q tags i labels) old new
@@ -138,8 +149,10 @@ module _ {V : Type 0} (rules : Rules V) (t : TimetableValue) (tags : Spellings) 
         there = record { start = None; label = label };
         is_open = record {
           boards = boards;
+          source = (connection_at t i).from;
+          is_source = opened.0.starts;
           is_start = tt;
-          leads = sym opened.0.starts;
+          leads = refl;
           fits = opened.0.fits;
           not_early = opened.0.not_early;
           not_late = opened.0.not_late;
@@ -152,11 +165,11 @@ module _ {V : Type 0} (rules : Rules V) (t : TimetableValue) (tags : Spellings) 
       (λ way may. by_start way.start way.label none here may)
       here
 
-  pub alone_taken : (c : Connection) → c ≡ connection_at t i → c.board ≡ true → (led : Bool) → led ≡ false → SaysLed t q.source c.from led
+  pub alone_taken : (c : Connection) → c ≡ connection_at t i → c.board ≡ true → (led : Bool) → led ≡ false → SaysLed t q.sources c.from led
       → TakesIn rules (settings_out_by rules tags i c q labels None) old new → TakesIn rules (settings_out rules t q tags i labels) old new
   alone_taken c is boards led not_led says takes =
       no_start_taken
-      (subst (λ (x : Connection). SaysLed t q.source x.from false) is (subst (SaysLed t q.source c.from) not_led says))
+      (subst (λ (x : Connection). SaysLed t q.sources x.from false) is (subst (SaysLed t q.sources c.from) not_led says))
       (subst (λ (x : Connection). x.board ≡ true) is boards)
       (subst (λ (x : Connection). TakesIn rules (settings_out_by rules tags i x q labels None) old new) is takes)
 
@@ -186,16 +199,16 @@ module _ {V : Type 0} (rules : Rules V) (t : TimetableValue) (tags : Spellings) 
   leads_into : (f : Footpath) → StandsBetween t.footpaths begin end f → f.to ≡ (connection_at t i).from
   leads_into f at = (into_there at.0 f at.3).1 (at.1, at.2)
 
-  tried : (q : Query) (start : Option Footpath) → IsStart t q.source start
-      → start_end q.source start ≡ (connection_at t i).from → IsTried t.footpaths begin end start
-  tried q None starts leads = tt
-  tried q (Some f) starts leads = between f starts.0 leads
+  tried : (source : ℕ) (start : Option Footpath) → IsStart t source start
+      → start_end source start ≡ (connection_at t i).from → IsTried t.footpaths begin end start
+  tried source None starts leads = tt
+  tried source (Some f) starts leads = between f starts.0 leads
 
   -- a start that leads to the connection
-  leads_there : (q : Query) (start : Option Footpath) → IsTried t.footpaths begin end start
-      → StartsFrom q (connection_at t i) start → start_end q.source start ≡ (connection_at t i).from
-  leads_there q None at s = sym s
-  leads_there q (Some f) at s = leads_into f at
+  leads_there : (start : Option Footpath) → IsTried t.footpaths begin end start
+      → start_end (begins_at (connection_at t i) start) start ≡ (connection_at t i).from
+  leads_there None at = refl
+  leads_there (Some f) at = leads_into f at
 
   may_board : (stop : ℕ) (walk : Footpath) (label : Point V) → StandsBetween t.footpaths begin end walk
       → (boardings_by rules tags i (connection_at t i) stop labels walk).is_open label
@@ -229,20 +242,22 @@ module _ {V : Type 0} (rules : Rules V) (t : TimetableValue) (tags : Spellings) 
       (λ way opened. here.covered (way.walk, way.label) (between way.walk opened.is_footpath opened.leads, ((opened.leaves, opened.fits), opened.is_label)))
       here
 
-  may_set_out : (q : Query) (start : Option Footpath) (label : Point V) → IsTried t.footpaths begin end start
+  may_set_out : (q : BetweenValue) (start : Option Footpath) (label : Point V) → IsTried t.footpaths begin end start
       → MayStart q (connection_at t i) start → Contains labels label
       → MaySetOut t q i labels (record { start = start; label = label })
   may_set_out q start label at may is = record {
     boards = boards_there;
+    source = begins_at (connection_at t i) start;
+    is_source = begins_at_source q (connection_at t i) start may.starts;
     is_start = is_start t q (connection_at t i) begin end start at may.starts;
-    leads = leads_there q start at may.starts;
+    leads = leads_there start at;
     fits = may.fits;
     not_early = may.not_early;
     not_late = may.not_late;
     is_label = is;
   }
 
-  pub settings_out_taken : (q : Query) (old new : List (Point V))
+  pub settings_out_taken : (q : BetweenValue) (old new : List (Point V))
       → TakesIn rules (each_of (IsTried t.footpaths begin end) (settings_out_by rules tags i c q labels)) old new
       → TakesIn rules (settings_out rules t q tags i labels) old new
   settings_out_taken q old new takes =
@@ -260,10 +275,10 @@ module _ {V : Type 0} (rules : Rules V) (t : TimetableValue) (tags : Spellings) 
       })
       (λ way opened.
       let may : MayStart q (connection_at t i) way.start = record {
-        starts = starts_from t q (connection_at t i) way.start opened.is_start opened.leads;
+        starts = starts_from t q (connection_at t i) opened.source way.start opened.is_source opened.is_start opened.leads;
         fits = opened.fits;
         not_early = opened.not_early;
         not_late = opened.not_late;
       } in
-      here.covered (way.start, way.label) (tried q way.start opened.is_start opened.leads, (may, opened.is_label)))
+      here.covered (way.start, way.label) (tried opened.source way.start opened.is_start opened.leads, (may, opened.is_label)))
       here

@@ -8,7 +8,7 @@ use Rattle.timetable.specs.declared.network.Footpath.{Footpath}
 use Rattle.timetable.specs.TimetableValue.{TimetableValue}
 use Rattle.timetable.specs.JourneyValue.{RideValue, JourneyValue}
 use Rattle.timetable.specs.Journeys.{connection_at, IsWalk, walk_end, walk_secs, Leads, final_time, start_end, start_secs}
-use Rattle.timetable.specs.declared.query.Query.{Query}
+use Rattle.profile_scan.specs.Between.{BetweenValue}
 use Rattle.profile_scan.specs.Values.{walked, ridden, started, journey_value}
 use Rattle.profile_scan.specs.Points.{Covers}
 use Rattle.profile_scan.specs.Continuations.{Onward, Aboard, IsOnward, IsAboard, CountsFrom, onward_value, aboard_value}
@@ -18,14 +18,15 @@ use Rattle.profile_scan.specs.LawStatements.{CanScan}
 use Rattle.profile_scan.proofs.Chains.{step_admits, step_monotone, walked_admits, walked_worsens, started_admits}
 use Rattle.profile_scan.proofs.Chains.{started_monotone, started_worsens, chain_gives_way}
 use Rattle.profile_scan.proofs.Outdone.{outdone_worse, outdone_ride, outdone_down}
+use Rattle.profile_scan.proofs.Listed.{cases_listed}
 use Rattle.profile_scan.proofs.Times.{boards_later}
 use Rattle.profile_scan.proofs.Admitted.{AreAdmitted, aboard_admits, covers_weaker}
 
-module _ {V : Type 0} (rules : Rules V) (laws : Laws rules) (t : TimetableValue) (q : Query) (can : CanScan t q) (i : ℕ) where
+module _ {V : Type 0} (rules : Rules V) (laws : Laws rules) (t : TimetableValue) (q : BetweenValue) (can : CanScan t q) (i : ℕ) where
   -- leaving the trip at place i and ending after a walk of any length
   ending_covered : (bag labels : List (Point V)) (admitted : AreAdmitted rules labels)
       (open_covered : (way : Leaving V) → MayLeave t q i bag way → Covers rules labels 0 (leaving_value rules t i way))
-      (walk : List Footpath) → IsWalk t (connection_at t i).to walk → walk_end (connection_at t i).to walk ≡ q.target
+      (walk : List Footpath) → IsWalk t (connection_at t i).to walk → Contains q.targets (walk_end (connection_at t i).to walk)
       → (connection_at t i).arr + walk_secs walk ≤ q.by
       → Covers rules labels 0 (walked rules walk (rules.arrive ((connection_at t i).arr + walk_secs walk)))
   ending_covered bag labels admitted open_covered [] is at le =
@@ -37,7 +38,7 @@ module _ {V : Type 0} (rules : Rules V) (laws : Laws rules) (t : TimetableValue)
       let there = laws.arrive_admits final (omega arith) in
       let v = walked rules (f ∷ fs) (rules.arrive final) in
       let v_admitted : Admits rules v = walked_admits rules laws t can.limits c.to (f ∷ fs) (rules.arrive final) is there in
-      elim (cases_eq c.to q.target) [
+      elim (cases_listed q.targets c.to) [
         | inl e ↦
             let here = laws.arrive_admits c.arr (omega arith) in
             covers_weaker rules laws labels admitted 0 0 (rules.arrive c.arr) v here v_admitted (omega arith)
@@ -60,7 +61,7 @@ module _ {V : Type 0} (rules : Rules V) (laws : Laws rules) (t : TimetableValue)
             (step_monotone rules laws t can.limits h (rules.arrive soon) (rules.arrive final) instead.is_footpath
             soon_there there (laws.arrive_monotone soon final (omega arith) (omega arith) (omega arith)))
             (instead.no_worse (rules.arrive final) there))
-            (open_covered (ends_after h) (instead.is_footpath, instead.leaves, instead.leads ∙ at, other, omega arith))
+            (open_covered (ends_after h) (instead.is_footpath, instead.leaves, subst (Contains q.targets) (sym instead.leads) at, other, omega arith))
       ]
 
   -- leaving it there and riding on later
@@ -77,7 +78,9 @@ module _ {V : Type 0} (rules : Rules V) (laws : Laws rules) (t : TimetableValue)
       record {
         walks = walks;
         is_walk = a.is_walk;
-        boards = boards_later t can.legal q.target (walk_end c.to x.walk) (c.arr + walk_secs x.walk) i (ride ∷ rides) in_i (omega arith) (λ e. cc) a.leads;
+        boards = boards_later t can.legal a.goal (walk_end c.to x.walk) (c.arr + walk_secs x.walk) i (ride ∷ rides) in_i (omega arith) (λ e. cc) a.leads;
+        goal = a.goal;
+        is_goal = a.is_goal;
         leads = a.leads;
         arrives = a.arrives;
       }
@@ -97,7 +100,7 @@ module _ {V : Type 0} (rules : Rules V) (laws : Laws rules) (t : TimetableValue)
       → IsAboard t q i (connection_at t i).trip (record { last = i; walk = walk; rides = rides })
       → InLabels found labels (aboard_value rules t (record { last = i; walk = walk; rides = rides }))
   leaving_covered found bag carried labels found_admitted admitted bag_admitted carries open_covered onward walk [] in_i
-      a = inl (ending_covered carried labels admitted open_covered walk a.is_walk a.leads a.arrives)
+      a = inl (ending_covered carried labels admitted open_covered walk a.is_walk (subst (Contains q.targets) (sym a.leads) a.is_goal) a.arrives)
   leaving_covered found bag carried labels found_admitted admitted bag_admitted carries open_covered onward walk (ride ∷ rides) in_i a =
       let x : Aboard = record { last = i; walk = walk; rides = ride ∷ rides } in
       let v : V = aboard_value rules t x in
@@ -132,6 +135,8 @@ module _ {V : Type 0} (rules : Rules V) (laws : Laws rules) (t : TimetableValue)
               a.alights;
           is_walk = a.is_walk;
           walks = a.walks;
+          goal = a.goal;
+          is_goal = a.is_goal;
           leads = a.leads;
           arrives = a.arrives;
         })
@@ -174,9 +179,9 @@ module _ {V : Type 0} (rules : Rules V) (laws : Laws rules) (t : TimetableValue)
   boarded_here : (found : List (Point V)) (stop time : ℕ) (labels : List (Point V)) (aboard : (x : Aboard)
       → IsAboard t q i (connection_at t i).trip x
       → InLabels found labels (aboard_value rules t x)) (ride : RideValue) (rides : List RideValue)
-      → Leads t q.target stop time (ride ∷ rides) → final_time t 0 (ride ∷ rides) ≤ q.by → i ≡ ride.leg.first
+      → (goal : ℕ) → Contains q.targets goal → Leads t goal stop time (ride ∷ rides) → final_time t 0 (ride ∷ rides) ≤ q.by → i ≡ ride.leg.first
       → IsBoardedHere found stop time labels (walked rules ride.walk (ridden rules (final_time t 0 (ride ∷ rides)) rides))
-  boarded_here found stop time labels aboard ride rides leads le e =
+  boarded_here found stop time labels aboard ride rides goal is_goal leads le e =
       let x : Aboard = record { last = ride.leg.last; walk = ride.walk; rides = rides } in
       let on : IsAboard t q i (connection_at t i).trip x = record {
         later = let rising = leads.0.rising in omega arith;
@@ -185,6 +190,8 @@ module _ {V : Type 0} (rules : Rules V) (laws : Laws rules) (t : TimetableValue)
         alights = leads.0.alights;
         is_walk = leads.3;
         walks = leads.4;
+        goal = goal;
+        is_goal = is_goal;
         leads = leads.5;
         arrives = le;
       } in
@@ -211,7 +218,7 @@ module _ {V : Type 0} (rules : Rules V) (laws : Laws rules) (t : TimetableValue)
   boarding_covered found stop labels carried new found_admitted labels_admitted admitted carries aboard open_covered
       time [] ride rides on e = absurd (on.walks refl)
   boarding_covered found stop labels carried new found_admitted labels_admitted admitted carries aboard open_covered time (f ∷ fs) ride rides on e =
-      let here = boarded_here found (walk_end stop (f ∷ fs)) (time + walk_secs (f ∷ fs)) labels aboard ride rides on.leads on.arrives e in
+      let here = boarded_here found (walk_end stop (f ∷ fs)) (time + walk_secs (f ∷ fs)) labels aboard ride rides on.goal on.is_goal on.leads on.arrives e in
       let way = chain_gives_way rules laws t can.limits can.legal stop f fs on.is_walk in
       let h = way.0 in
       let instead = way.1 in
@@ -274,6 +281,8 @@ module _ {V : Type 0} (rules : Rules V) (laws : Laws rules) (t : TimetableValue)
           is_walk =
               on.is_walk;
           boards = omega arith;
+          goal = on.goal;
+          is_goal = on.is_goal;
           leads = on.leads;
           arrives = on.arrives;
         })
@@ -297,33 +306,37 @@ module _ {V : Type 0} (rules : Rules V) (laws : Laws rules) (t : TimetableValue)
         | inl lt ↦ later departure (record { start = start; rides = ride ∷ rides }) (record { counts = c.counts; boards = omega arith })
         | inr ge ↦
             let e : i ≡ ride.leg.first = let from = c.boards in omega arith in
-            let counts = c.counts in
-            let here = boarded_here new (start_end q.source start) 0 labels aboard ride rides counts.journey.leads counts.arrives e in
+            let pair = c.counts.pair in
+            let counts = c.counts.counts in
+            let here = boarded_here new (start_end pair.source start) 0 labels aboard ride rides pair.target pair.is_target counts.journey.leads
+            counts.arrives e in
             let departs : departure + start_secs start ≡ (connection_at t i).dep = counts.departs ∙ ap (λ (n : ℕ). (connection_at t n).dep) (sym e) in
             let early = counts.not_early in
             let late = counts.not_late in
             let v : V = walked rules ride.walk (ridden rules (final_time t 0 (ride ∷ rides)) rides) in
             let ride_v = laws.ride_admits v here.admits in
-            let whole = started_admits rules laws t can.limits q.source start (rules.ride v) counts.journey.starts ride_v in
+            let whole = started_admits rules laws t can.limits pair.source start (rules.ride v) counts.journey.starts ride_v in
             elim here.label [
               | inr o ↦ (
                   let in_time = o.in_time i (omega arith) in
                   covers_weaker rules laws new admitted o.by.departure departure (rules.ride v) (started rules start (rules.ride v)) ride_v whole (omega arith)
-                  (started_worsens rules laws t can.limits q.source start (rules.ride v) counts.journey.starts ride_v)
+                  (started_worsens rules laws t can.limits pair.source start (rules.ride v) counts.journey.starts ride_v)
                   (o.by, o.is_found, omega arith, o.no_worse))
               | inl (l, label) ↦ (
                   let l_admitted = labels_admitted l label.is_label in
                   let ride_l = laws.ride_admits l.value l_admitted in
                   covers_weaker rules laws new admitted ((connection_at t i).dep - start_secs start) departure
                   (started rules start (rules.ride l.value)) (started rules start (rules.ride v))
-                  (started_admits rules laws t can.limits q.source start (rules.ride l.value) counts.journey.starts ride_l)
+                  (started_admits rules laws t can.limits pair.source start (rules.ride l.value) counts.journey.starts ride_l)
                   whole
                   (omega arith)
-                  (started_monotone rules laws t can.limits q.source start (rules.ride l.value) (rules.ride v)
+                  (started_monotone rules laws t can.limits pair.source start (rules.ride l.value) (rules.ride v)
                   counts.journey.starts ride_l ride_v
                   (laws.ride_monotone l.value v l_admitted here.admits label.no_worse))
                   (open_covered (record { start = start; label = l }) (record {
                     boards = here.boards;
+                    source = pair.source;
+                    is_source = pair.is_source;
                     is_start =
                         counts.journey.starts;
                     leads = sym here.stands;

@@ -6,10 +6,10 @@ use Rattle.timetable.specs.TimetableValue.{TimetableValue}
 use Rattle.timetable.specs.JourneyValue.{RideValue, JourneyValue}
 use Rattle.timetable.specs.Legal.{IsLegal}
 use Rattle.timetable.specs.Journeys.{connection_at, walk_end, walk_secs, Leads, final_time, time_after, stop_after}
-use Rattle.timetable.specs.Journeys.{first_departure, start_end, start_secs, Counts}
-use Rattle.timetable.specs.declared.query.Query.{Query}
+use Rattle.timetable.specs.Journeys.{first_departure, start_end, start_secs}
 use Rattle.timetable.proofs.LegalLemmas.{hop_takes_time}
 use Rattle.sources.specs.FirstAt.{IsFirstAt}
+use Rattle.profile_scan.specs.Between.{BetweenValue, CountsBetween}
 use Rattle.profile_scan.specs.Continuations.{Onward, Aboard, BoardsFrom, IsOnward, IsAboard, CountsFrom, time_off}
 use Rattle.profile_scan.specs.Matching.{Matches, MatchesBut}
 use Rattle.profile_scan.specs.LawStatements.{NothingFollows, CutIsTheSources}
@@ -27,24 +27,24 @@ rides_too_late t legal goal stop time by end is_end (ride ∷ rides) from leads 
     let later = final_is_later t legal goal (stop_after t ride) (time_after t ride) rides leads.5 in
     omega arith
 
-none_onward : (t : TimetableValue) (q : Query) → IsLegal t → (end stop time : ℕ) → IsFirstAt t q.by end → (x : Onward) → IsOnward t q end stop time x → ⊥
+none_onward : (t : TimetableValue) (q : BetweenValue) → IsLegal t → (end stop time : ℕ) → IsFirstAt t q.by end → (x : Onward) → IsOnward t q end stop time x → ⊥
 none_onward t q legal end stop time is_end x on =
-    rides_too_late t legal q.target (walk_end stop x.walk) (time + walk_secs x.walk) q.by end is_end x.rides on.boards
+    rides_too_late t legal on.goal (walk_end stop x.walk) (time + walk_secs x.walk) q.by end is_end x.rides on.boards
     on.leads on.arrives
 
-none_aboard : (t : TimetableValue) (q : Query) → IsLegal t → (end trip : ℕ) → IsFirstAt t q.by end → (x : Aboard) → IsAboard t q end trip x → ⊥
+none_aboard : (t : TimetableValue) (q : BetweenValue) → IsLegal t → (end trip : ℕ) → IsFirstAt t q.by end → (x : Aboard) → IsAboard t q end trip x → ⊥
 none_aboard t q legal end trip is_end x a =
     let late = is_end.after x.last a.later a.in_range in
     let hop = hop_takes_time t legal x.last a.in_range in
-    let later = final_is_later t legal q.target (walk_end (connection_at t x.last).to x.walk) (time_off t x) x.rides a.leads in
+    let later = final_is_later t legal a.goal (walk_end (connection_at t x.last).to x.walk) (time_off t x) x.rides a.leads in
     let by = a.arrives in
     omega arith
 
-none_counts : (t : TimetableValue) (q : Query) → IsLegal t → (end departure : ℕ) → IsFirstAt t q.by end
+none_counts : (t : TimetableValue) (q : BetweenValue) → IsLegal t → (end departure : ℕ) → IsFirstAt t q.by end
     → (j : JourneyValue) → CountsFrom t q end departure j → ⊥
 none_counts t q legal end departure is_end j c =
-    rides_too_late t legal q.target (start_end q.source j.start) 0 q.by end is_end j.rides c.boards
-    c.counts.journey.leads c.counts.arrives
+    rides_too_late t legal c.counts.pair.target (start_end c.counts.pair.source j.start) 0 q.by end is_end j.rides c.boards
+    c.counts.counts.journey.leads c.counts.counts.arrives
 
 -- where nothing is there, no points match
 empty_matches : {V X : Type 0} (rules : Rules V) (spelled : ℕ → Option X) (IsThere : ℕ → X → Type 0) (IsPlainWay : X
@@ -80,18 +80,26 @@ boards_in_window t time start departure secs is_start (ride ∷ rides) some earl
     ]
 
 -- a journey that counts boards in the window
-pub counts_in_window : (t : TimetableValue) (q : Query) (start departure : ℕ) (j : JourneyValue)
-    → IsFirstAt t q.from start → Counts t q departure j → CountsFrom t q start departure j
+pub counts_in_window : (t : TimetableValue) (q : BetweenValue) (start departure : ℕ) (j : JourneyValue)
+    → IsFirstAt t q.from start → CountsBetween t q departure j → CountsFrom t q start departure j
 counts_in_window t q start departure j is_start c =
     record {
       counts = c;
       boards = boards_in_window t q.from start departure (start_secs j.start) is_start j.rides
-          c.journey.has_rides c.not_early c.departs;
+          c.counts.journey.has_rides c.counts.not_early c.counts.departs;
     }
 
-pub cut_is_the_sources : CutIsTheSources Counts
+pub cut_is_the_sources : CutIsTheSources CountsBetween
 cut_is_the_sources = record {
-  onward = λ t q until i stop time x on. record { walks = on.walks; is_walk = on.is_walk; boards = on.boards; leads = on.leads; arrives = on.arrives };
+  onward = λ t q until i stop time x on. record {
+    walks = on.walks;
+    is_walk = on.is_walk;
+    boards = on.boards;
+    goal = on.goal;
+    is_goal = on.is_goal;
+    leads = on.leads;
+    arrives = on.arrives;
+  };
   aboard = λ t q until i trip x a. record {
     later = a.later;
     in_range = a.in_range;
@@ -100,15 +108,25 @@ cut_is_the_sources = record {
         a.alights;
     is_walk = a.is_walk;
     walks = a.walks;
+    goal = a.goal;
+    is_goal = a.is_goal;
     leads = a.leads;
     arrives = a.arrives;
   };
-  is_cut = λ t q departure j c. c.not_late;
+  is_cut = λ t q departure j c. c.counts.not_late;
   at_source = λ t q until departure j le c. record {
-    journey = record { starts = c.journey.starts; has_rides = c.journey.has_rides; leads = c.journey.leads };
-    departs = c.departs;
-    not_early = c.not_early;
-    not_late = le;
-    arrives = c.arrives;
+    pair = record {
+      source = c.pair.source;
+      target = c.pair.target;
+      is_source = c.pair.is_source;
+      is_target = c.pair.is_target;
+    };
+    counts = record {
+      journey = c.counts.journey;
+      departs = c.counts.departs;
+      not_early = c.counts.not_early;
+      not_late = le;
+      arrives = c.counts.arrives;
+    };
   };
 }

@@ -11,16 +11,16 @@ use Rattle.bags.specs.Bag.{points_of}
 use Rattle.bags.specs.Dominance.{IsBag}
 use Rattle.bags.specs.declared.point.Point.{Point}
 use Rattle.timetable.specs.TimetableValue.{TimetableValue}
-use Rattle.timetable.specs.declared.network.Connection.{Connection}
 use Rattle.timetable.specs.declared.query.Query.{Query}
 use Rattle.timetable.specs.Journeys.{Counts}
 use Rattle.sources.specs.FirstAt.{IsFirstAt}
+use Rattle.profile_scan.specs.Between.{BetweenValue, CountsBetween, IsAnswerBetween}
 use Rattle.profile_scan.specs.Values.{journey_value}
 use Rattle.profile_scan.specs.Continuations.{CountsFrom}
-use Rattle.profile_scan.specs.Plain.{IsPlain}
-use Rattle.profile_scan.specs.Points.{IsAnswer, untagged}
+use Rattle.profile_scan.specs.Plain.{IsPlain, IsPlainOf}
+use Rattle.profile_scan.specs.Points.{IsAnswer, IsPoint, untagged}
 use Rattle.profile_scan.specs.Matching.{IsAttained, Matches, Spellings}
-use Rattle.profile_scan.specs.Steps.{AreCarried, IsIdle, Leaving, MayLeave, TakesIn, changes, ends, ends_after, leavings}
+use Rattle.profile_scan.specs.Steps.{AreCarried, Leaving, MayLeave, TakesIn, changes, ends, ends_after, leavings}
 use Rattle.profile_scan.specs.Bound.{carried, is_bettered}
 use Rattle.profile_scan.specs.Story.{Story, told}
 use Rattle.profile_scan.specs.Telling.{IsJourneyTold, IsRetold}
@@ -49,19 +49,19 @@ carried_by_none {V} rules t found i values none points =
     }
 
 -- where one may leave a trip doesn't depend on where one set out
-leave_from : {V : Type 0} (t : TimetableValue) (q : Query) (stop i : ℕ) (bag : List (Point V)) (way : Leaving V) → MayLeave t q i bag way → MayLeave t
+leave_from : {V : Type 0} (t : TimetableValue) (q : BetweenValue) (stop i : ℕ) (bag : List (Point V)) (way : Leaving V) → MayLeave t q i bag way → MayLeave t
     (from_stop q stop) i bag way
 leave_from t q stop i bag ends may = may
 leave_from t q stop i bag (ends_after f) may = may
 leave_from t q stop i bag (changes p) may = may
 
-leave_back : {V : Type 0} (t : TimetableValue) (q : Query) (stop i : ℕ) (bag : List (Point V)) (way : Leaving V) → MayLeave t
+leave_back : {V : Type 0} (t : TimetableValue) (q : BetweenValue) (stop i : ℕ) (bag : List (Point V)) (way : Leaving V) → MayLeave t
     (from_stop q stop) i bag way → MayLeave t q i bag way
 leave_back t q stop i bag ends may = may
 leave_back t q stop i bag (ends_after f) may = may
 leave_back t q stop i bag (changes p) may = may
 
-pub leavings_from : {V : Type 0} (rules : Rules V) (t : TimetableValue) (q : Query) (stop : ℕ) (tags : Spellings) (i : ℕ)
+pub leavings_from : {V : Type 0} (rules : Rules V) (t : TimetableValue) (q : BetweenValue) (stop : ℕ) (tags : Spellings) (i : ℕ)
     (bag old new : List (Point V)) → TakesIn rules (leavings rules t q tags i bag) old new → TakesIn rules
     (leavings rules t (from_stop q stop) tags i bag) old new
 leavings_from rules t q stop tags i bag old new takes =
@@ -69,11 +69,6 @@ leavings_from rules t q stop tags i bag old new takes =
     (λ way opened. record { there = way; is_open = (opened.0, leave_from t q stop i bag way opened.1); departs = refl; worth = refl; fits = λ tag h. h })
     (λ way opened. takes.covered way (opened.0, leave_back t q stop i bag way opened.1))
     takes
-
--- nor does whether nothing is offered
-pub idle_from : {V : Type 0} (q : Query) (stop : ℕ) (c : Connection) (way : Option ℕ) (labels bag : List (Point V)) → IsIdle q c way labels bag
-    → IsIdle (from_stop q stop) c way labels bag
-idle_from q stop c way labels bag idle = record { no_labels = idle.no_labels; ends_here = idle.ends_here }
 
 -- points in order are those found from a stop
 pub in_order_from : {K V : Type 0} {d : _} (rules : Rules V) (origins : Origins K V d) (stop : ℕ) (o : Origin K V d) (points : List (Point V))
@@ -127,16 +122,18 @@ all_listed_to {V} rules found n lists are past stop = elim (slice_get_cases list
     no_points = record { ordered = λ i j e lt within. absurd (omega (arith, within)); only = λ p h. h; each = λ p h. h }
 
 -- points that match at the start of the window, in order, are the answer, and each is attained by what its tag tells
-pub answered_from : {V : Type 0} (rules : Rules V) → Laws rules → (t : TimetableValue) (q : Query) → CanScan t q → (start : ℕ)
+pub answered_from : {V : Type 0} (rules : Rules V) → Laws rules → (t : TimetableValue) (q : BetweenValue) → CanScan t q → (start : ℕ)
     → IsFirstAt t q.from start → (s : Story) (found points : List (Point V))
-    → Matches rules (told t.footpaths s).journey (CountsFrom t q start) (IsPlain t q.target) (journey_value rules t) found → IsBag rules found
+    → Matches rules (told t.footpaths s).journey (CountsFrom t q start) (IsPlainOf t (Contains q.targets)) (journey_value rules t) found → IsBag rules found
     → AreInOrder rules found points
-    → IsAnswer rules t q points × ((p : Point V) → Contains points p → IsAttained (told t.footpaths s).journey (Counts t q) (IsPlain t q.target)
+    → IsAnswerBetween rules t q points × ((p : Point V) → Contains points p → IsAttained (told t.footpaths s).journey (CountsBetween t q)
+    (IsPlainOf t (Contains q.targets))
     (journey_value rules t) p)
 answered_from rules laws t q can start is_start s found points matches bag are =
     let tags = told t.footpaths s in (
       match_is_the_answer rules laws t q can start is_start tags points
-          (listed_match rules tags.journey (CountsFrom t q start) (IsPlain t q.target) (journey_value rules t) found points are.only are.each matches)
+          (listed_match rules tags.journey (CountsFrom t q start) (IsPlainOf t (Contains q.targets))
+          (journey_value rules t) found points are.only are.each matches)
           (listed_bag rules laws found points bag are.ordered are.only)
           are.ordered,
       λ p h. let a = matches.sound p (are.only p h) in record { way = a.way; spells = a.spells; there = a.there.counts; plain = a.plain; worth = a.worth },
@@ -150,7 +147,7 @@ pub answered_in_nodes : {V : Type 0} (rules : Rules V) (t : TimetableValue) (q :
     → map untagged retold ≡ map untagged points → ((p : Point V) → Contains retold p → IsRetold t.footpaths s points nodes p)
     → IsWay t q.target q.source walk → IsAnswered rules t q retold nodes walk
 answered_in_nodes rules t q s nodes points retold walk answer attained same says way = record {
-  answer = retold_answer rules t q points retold same answer;
+  answer = retold_answer rules (IsPoint rules t q) points retold same answer;
   attained = λ p h.
       let r = says p h in
       let a = attained r.of r.is_there in

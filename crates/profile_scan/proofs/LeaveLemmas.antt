@@ -1,118 +1,139 @@
 -- Leaving a trip: the ends and the changes that code takes in are those of the step.
-use Rattle.std.proofs.Common.{◌≡◌, ◌≢◌, ◌⊎◌, ℕ, ◌+◌, ◌≤◌, true, List, Contains, Option, Some, None, IfSome, refl, sym, ◌∙◌, ap, subst, inl, inr, add-zero}
-use Rattle.criteria.specs.Laws.{Rules, IsSecs}
+use Rattle.std.proofs.Common.{◌≡◌, ◌⊎◌, ℕ, ◌+◌, ◌≤◌, true, List, Contains, Option, Some, None, IfSome, refl, sym, ap, subst, inl, inr, add-zero, arith}
+use Rattle.reasoning.proofs.ListLemmas.{contains_at, at_contains}
+use Rattle.criteria.specs.Laws.{Rules, Laws, Admits, IsSecs}
 use Rattle.bags.specs.declared.point.Point.{Point}
 use Rattle.timetable.specs.declared.network.Connection.{Connection}
 use Rattle.timetable.specs.declared.network.Footpath.{Footpath}
-use Rattle.timetable.specs.declared.query.Query.{Query}
 use Rattle.timetable.specs.TimetableValue.{TimetableValue}
-use Rattle.timetable.specs.Legal.{IsLegal}
 use Rattle.timetable.specs.Limits.{IsWithinLimits}
 use Rattle.timetable.specs.Journeys.{connection_at}
-use Rattle.timetable.proofs.LegalLemmas.{one_footpath, walk_limit}
+use Rattle.timetable.proofs.LegalLemmas.{walk_limit}
+use Rattle.profile_scan.specs.Between.{BetweenValue}
 use Rattle.profile_scan.specs.Points.{Covers}
 use Rattle.profile_scan.specs.Matching.{Spellings}
-use Rattle.profile_scan.specs.Steps.{TakesIn, Leaving, ends, ends_after, changes, leaving_value, leavings}
+use Rattle.profile_scan.specs.Steps.{Offer, TakesIn, Leaving, ends, ends_after, changes, MayLeave, leaving_value, leavings}
+use Rattle.profile_scan.specs.LawStatements.{CanScan}
 use Rattle.profile_scan.specs.Adding.{only_if, endings_and_changes, value_in, departure_in, endings, changes_from}
-use Rattle.profile_scan.specs.Kept.{IsWay}
+use Rattle.profile_scan.specs.Kept.{IsNearest, IsWayTo}
+use Rattle.profile_scan.specs.declared.ways.Way.{Way}
+use Rattle.profile_scan.proofs.Chains.{step_admits}
 use Rattle.profile_scan.proofs.Offers.{takes_as, IsPart}
 
 -- the seconds of a way are those of a footpath
-pub way_secs : (t : TimetableValue) → IsWithinLimits t → (target stop : ℕ) (way : Option ℕ) → IsWay t target stop way → IfSome way (λ secs. IsSecs secs)
-way_secs t limits target stop None is = tt
-way_secs t limits target stop (Some secs) is = walk_limit t limits (record { from = stop; to = target; secs = secs }) is
+pub way_within : (t : TimetableValue) → IsWithinLimits t → (targets : List ℕ) (stop : ℕ) (way : Option Way) → IsWayTo t targets stop way
+    → IfSome way (λ w. IsSecs w.secs)
+way_within t limits targets stop None is = tt
+way_within t limits targets stop (Some way) is = walk_limit t limits (record { from = stop; to = way.to; secs = way.secs }) is.is_footpath
 
--- a footpath to the target is the way
-way_of : (t : TimetableValue) → IsLegal t → (target stop : ℕ) (way : Option ℕ) → IsWay t target stop way
-    → (f : Footpath) → Contains t.footpaths f → f.from ≡ stop → f.to ≡ target → way ≡ Some f.secs
-way_of t legal target stop None is f in_f from to = absurd (is f in_f from to)
-way_of t legal target stop (Some secs) is f in_f from to =
-    let same = one_footpath t legal (record { from = stop; to = target; secs = secs }) f is in_f (sym from) (sym to) in
-    ap (λ (x : Footpath). Some x.secs) same
-
--- a way is a footpath to the target
-is_there : (t : TimetableValue) (target stop : ℕ) (way : Option ℕ) → IsWay t target stop way → (f : Footpath)
-    → way ≡ Some f.secs → f.from ≡ stop → f.to ≡ target → Contains t.footpaths f
-is_there t target stop way is f e from to =
-    let there : Contains t.footpaths (record { from = stop; to = target; secs = f.secs }) = subst (IsWay t target stop) e is in
-    let at_from : Contains t.footpaths (record { from = f.from; to = target; secs = f.secs }) =
-    subst (λ (n : ℕ). Contains t.footpaths (record { from = n; to = target; secs = f.secs })) (sym from) there in
-    subst (λ (n : ℕ). Contains t.footpaths (record { from = f.from; to = n; secs = f.secs })) (sym to) at_from
-
-module _ {V : Type 0} (rules : Rules V) (t : TimetableValue) (legal : IsLegal t) (q : Query) (tags : Spellings) (i : ℕ)
-    (c : Connection) (is : c ≡ connection_at t i) (way : Option ℕ) (is_way : IsWay t q.target c.to way)
+module _ {V : Type 0} (rules : Rules V) (laws : Laws rules) (t : TimetableValue) (q : BetweenValue) (can : CanScan t q) (tags : Spellings) (i : ℕ)
     (bag : List (Point V)) where
-  alights : c.alight ≡ true → (connection_at t i).alight ≡ true
-  alights a = ap (λ (x : Connection). x.alight) (sym is) ∙ a
+  -- the ends and changes that code takes in where a connection ends
+  abbrev Taken : Option Way → Offer (Option Footpath ⊎ Point V) V
+  Taken way = only_if ((connection_at t i).alight ≡ true) (endings_and_changes rules tags i (connection_at t i) q way bag)
 
-  part : (w : Option Footpath ⊎ Point V) → (only_if (c.alight
-      ≡ true) (endings_and_changes rules tags i c q way bag)).is_open w
-      → IsPart rules (only_if (c.alight ≡ true) (endings_and_changes rules tags i c q way bag))
-      (leavings rules t q tags i bag) w
-  part (inl None) opened = record {
+  -- each is a way to leave
+  part : (way : Option Way) → IsWayTo t q.targets (connection_at t i).to way → (w : Option Footpath ⊎ Point V)
+      → (Taken way).is_open w → IsPart rules (Taken way) (leavings rules t q tags i bag) w
+  part None is (inl walk) opened = absurd opened.1
+  part (Some way) is (inl None) opened = record {
     there = ends;
-    is_open = (alights opened.0, (ap (λ (x : Connection). x.to) (sym is) ∙ opened.1.0, subst (λ (x : Connection). x.arr ≤ q.by) is opened.1.1));
+    is_open = (
+      opened.0,
+      (subst (Contains q.targets) opened.1.0 (contains_at q.targets is.place way.to is.leads), opened.1.1),
+    );
     departs = refl;
-    worth = ap rules.arrive (add-zero c.arr) ∙ ap (λ (x : Connection). rules.arrive x.arr) is;
+    worth = ap rules.arrive (add-zero (connection_at t i).arr);
     fits = λ tag h. h;
   }
-  part (inl (Some f)) opened = record {
+  part (Some way) is (inl (Some f)) opened = record {
     there = ends_after f;
     is_open = (
-      alights opened.0,
+      opened.0,
       (
-        is_there t q.target c.to way is_way f opened.1.1 opened.1.2 opened.1.3,
-        opened.1.2 ∙ ap (λ (x : Connection). x.to) is,
-        opened.1.3,
-        subst (λ (x : Connection). x.to ≢ q.target) is opened.1.0,
-        subst (λ (x : Connection). x.arr + f.secs ≤ q.by) is opened.1.4,
+        subst (Contains t.footpaths) (sym opened.1.1) is.is_footpath,
+        ap (λ (x : Footpath). x.from) opened.1.1,
+        subst (λ (x : Footpath). Contains q.targets x.to) (sym opened.1.1) (contains_at q.targets is.place way.to is.leads),
+        (λ here. opened.1.0 (is.own here)),
+        opened.1.2,
       ),
     );
     departs = refl;
-    worth = ap (λ (x : Connection). rules.walk f.secs (rules.arrive (x.arr + f.secs))) is;
+    worth = refl;
     fits = λ tag h. h;
   }
-  part (inr p) opened = record {
+  part way is (inr p) opened = record {
     there = changes p;
-    is_open = (alights opened.0, (opened.1.0, subst (λ (x : Connection). x.arr ≤ p.departure) is opened.1.1));
+    is_open = (opened.0, (opened.1.0, opened.1.1));
     departs = refl;
     worth = refl;
     fits = λ tag h. h;
   }
 
-  covered : (new : List (Point V)) → ((w : Option Footpath ⊎ Point V)
-      → (only_if (c.alight ≡ true) (endings_and_changes rules tags i c q way bag)).is_open w
-      → Covers rules new (departure_in (endings rules tags i c q way) (changes_from tags i c.arr bag) w)
-      (value_in (endings rules tags i c q way) (changes_from tags i c.arr bag) w))
-      → (l : Leaving V) → (leavings rules t q tags i bag).is_open l → Covers rules new 0 (leaving_value rules t i l)
-  covered new takes ends opened =
-      subst (Covers rules new 0) (ap rules.arrive (add-zero c.arr) ∙ ap (λ (x : Connection). rules.arrive x.arr) is)
-      (takes (inl None) (
-        ap (λ (x : Connection). x.alight) is ∙ opened.0,
-        (
-          ap (λ (x : Connection). x.to) is ∙ opened.1.0,
-          subst (λ (x : Connection). x.arr ≤ q.by) (sym is) opened.1.1,
-        ),
-      ))
-  covered new takes (ends_after f) opened =
-      let from : f.from ≡ c.to = opened.1.1 ∙ ap (λ (x : Connection). x.to) (sym is) in
-      subst (λ (x : Connection). Covers rules new 0 (rules.walk f.secs (rules.arrive (x.arr + f.secs)))) is
-      (takes (inl (Some f)) (
-        ap (λ (x : Connection). x.alight) is ∙ opened.0,
-        (
-          subst (λ (x : Connection). x.to ≢ q.target) (sym is) opened.1.3,
-          way_of t legal q.target c.to way is_way f opened.1.0 from opened.1.2,
-          from,
-          opened.1.2,
-          subst (λ (x : Connection). x.arr + f.secs ≤ q.by) (sym is) opened.1.4,
-        ),
-      ))
-  covered new takes (changes p) opened =
-      takes (inr p) (ap (λ (x : Connection). x.alight) is ∙ opened.0, (opened.1.0, subst (λ (x : Connection). x.arr ≤ p.departure) (sym is) opened.1.1))
+  -- ending by the way covers ending by any footpath to a target
+  way_covers : (way : Way) → IsNearest t q.targets (connection_at t i).to way → (new : List (Point V))
+      → ((p : Point V) → Contains new p → Admits rules p.value)
+      → ((w : Option Footpath ⊎ Point V) → (Taken (Some way)).is_open w
+      → Covers rules new 0 (value_in (endings rules tags i (connection_at t i) q (Some way)) (changes_from tags i (connection_at t i).arr bag) w))
+      → (connection_at t i).alight ≡ true → (f : Footpath) → MayLeave t q i bag (ends_after f)
+      → Covers rules new 0 (leaving_value rules t i (ends_after f))
+  way_covers way is new admitted takes alights f may =
+      let arr = (connection_at t i).arr in
+      let small = can.in_time in
+      let by = may.4 in
+      let at = at_contains q.targets f.to may.2 in
+      let no_longer : way.secs ≤ f.secs = elim (is.least may.3 at.0 f at.1 may.0 may.1) [
+        | inl shorter ↦ omega (arith, shorter)
+        | inr same ↦ (let e = same.0 in omega (arith, e))
+      ] in
+      let near : Footpath = record { from = (connection_at t i).to; to = way.to; secs = way.secs } in
+      let is_target : Contains q.targets way.to = contains_at q.targets is.place way.to is.leads in
+      let other : way.to ≡ (connection_at t i).to → ⊥ = λ e. may.3 (subst (Contains q.targets) e is_target) in
+      let c = takes (inl (Some near)) (alights, (other, refl, omega (arith, no_longer, by))) in
+      let soon = laws.arrive_admits (arr + way.secs) (omega (arith, no_longer, by, small)) in
+      let late = laws.arrive_admits (arr + f.secs) (omega (arith, by, small)) in
+      let near_admits = step_admits rules laws t can.limits near (rules.arrive (arr + way.secs)) is.is_footpath soon in
+      let far_admits = step_admits rules laws t can.limits f (rules.arrive (arr + f.secs)) may.0 late in (
+        c.0,
+        c.1,
+        c.2,
+        laws.transitive c.0.value (rules.walk way.secs (rules.arrive (arr + way.secs))) (rules.walk f.secs (rules.arrive (arr + f.secs)))
+            (admitted c.0 c.1) near_admits far_admits c.3
+            (laws.walk_monotone way.secs f.secs (rules.arrive (arr + way.secs)) (rules.arrive (arr + f.secs))
+            (walk_limit t can.limits near is.is_footpath) (walk_limit t can.limits f may.0) soon late no_longer
+            (laws.arrive_monotone (arr + way.secs) (arr + f.secs) (omega (arith, no_longer, by, small)) (omega (arith, by, small))
+            (omega (arith, no_longer)))),
+      )
 
-  pub leavings_taken : (old new : List (Point V))
-      → TakesIn rules (only_if (c.alight ≡ true) (endings_and_changes rules tags i c q way bag)) old new
-      → TakesIn rules (leavings rules t q tags i bag) old new
-  leavings_taken old new takes =
-      takes_as rules (only_if (c.alight ≡ true) (endings_and_changes rules tags i c q way bag))
-      (leavings rules t q tags i bag) old new part (covered new takes.covered) takes
+  covered : (way : Option Way) → IsWayTo t q.targets (connection_at t i).to way → (new : List (Point V))
+      → ((p : Point V) → Contains new p → Admits rules p.value)
+      → ((w : Option Footpath ⊎ Point V) → (Taken way).is_open w
+      → Covers rules new (departure_in (endings rules tags i (connection_at t i) q way) (changes_from tags i (connection_at t i).arr bag) w)
+      (value_in (endings rules tags i (connection_at t i) q way) (changes_from tags i (connection_at t i).arr bag) w))
+      → (l : Leaving V) → (leavings rules t q tags i bag).is_open l → Covers rules new 0 (leaving_value rules t i l)
+  covered None is new admitted takes ends opened = absurd (is.0 opened.1.0)
+  covered (Some way) is new admitted takes ends opened =
+      subst (Covers rules new 0) (ap rules.arrive (add-zero (connection_at t i).arr))
+      (takes (inl None) (opened.0, (is.own opened.1.0, opened.1.1)))
+  covered None is new admitted takes (ends_after f) opened = absurd (is.1 f opened.1.0 opened.1.1 opened.1.2)
+  covered (Some way) is new admitted takes (ends_after f) opened = way_covers way is new admitted ends_by opened.0 f opened.1
+    where
+      ends_by : (w : Option Footpath ⊎ Point V) → (Taken (Some way)).is_open w
+          → Covers rules new 0 (value_in (endings rules tags i (connection_at t i) q (Some way)) (changes_from tags i (connection_at t i).arr bag) w)
+      ends_by (inl w) o = takes (inl w) o
+      ends_by (inr p) o = takes (inr p) o
+  covered way is new admitted takes (changes p) opened = takes (inr p) (opened.0, (opened.1.0, opened.1.1))
+
+-- the nearest target is enough: labels that take in these have taken in every way to leave, to any target
+pub leavings_taken : {V : Type 0} (rules : Rules V) → Laws rules → (t : TimetableValue) (q : BetweenValue) → CanScan t q
+    → (tags : Spellings) (i : ℕ) (c : Connection) → c ≡ connection_at t i → (way : Option Way) → IsWayTo t q.targets c.to way
+    → (bag old new : List (Point V)) → ((p : Point V) → Contains new p → Admits rules p.value)
+    → TakesIn rules (only_if (c.alight ≡ true) (endings_and_changes rules tags i c q way bag)) old new
+    → TakesIn rules (leavings rules t q tags i bag) old new
+leavings_taken {V} rules laws t q can tags i c is way is_way bag old new admitted takes =
+    let way_there : IsWayTo t q.targets (connection_at t i).to way = subst (λ (x : Connection). IsWayTo t q.targets x.to way) is is_way in
+    let here : TakesIn rules (Taken rules laws t q can tags i bag way) old new =
+    subst (λ (x : Connection). TakesIn rules (only_if (x.alight ≡ true) (endings_and_changes rules tags i x q way bag)) old new) is takes in
+    takes_as rules (Taken rules laws t q can tags i bag way) (leavings rules t q tags i bag) old new
+    (part rules laws t q can tags i bag way way_there)
+    (covered rules laws t q can tags i bag way way_there new admitted here.covered) here

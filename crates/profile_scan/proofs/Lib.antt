@@ -28,6 +28,7 @@ pub mod Complete
 pub mod StepLemmas
 pub mod Ends
 pub mod Answer
+pub mod Listed
 pub mod Single
 pub mod AnsweredLemmas
 pub mod Windows

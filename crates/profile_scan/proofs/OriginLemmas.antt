@@ -4,30 +4,58 @@ use Rattle.std.proofs.Common.{subst, inl, inr, arith, length-set}
 use Rattle.std.proofs.lemmas.Bool.{cases_eq}
 use Rattle.std.proofs.lemmas.Option.{same_Some, slice_get_within, slice_get_cases, slice_get_past}
 use Rattle.std.proofs.lemmas.List.{length_push}
-use Rattle.reasoning.proofs.ListLemmas.{extends_none, extends_on, slice_get-front, slice_get-last, slice_get-set_same, slice_get-set_other}
+use Rattle.reasoning.proofs.ListLemmas.{contains_first, contains_only, extends_none, extends_on, slice_get-front, slice_get-last, slice_get-set_same}
+use Rattle.reasoning.proofs.ListLemmas.{slice_get-set_other}
 use Rattle.criteria.specs.Laws.{Rules}
 use Rattle.bags.specs.Bag.{criterion_of, points_of}
 use Rattle.bags.specs.Dominance.{IsBag}
 use Rattle.timetable.specs.declared.network.Connection.{Connection}
 use Rattle.timetable.specs.declared.network.Footpath.{Footpath}
-use Rattle.timetable.specs.declared.query.Query.{Query}
 use Rattle.fronts.specs.Front.{Extends}
 use Rattle.fronts.specs.declared.entry.Step.{Step}
+use Rattle.profile_scan.specs.Between.{BetweenValue}
 use Rattle.profile_scan.specs.Matching.{Spellings, from_to}
 use Rattle.profile_scan.specs.Steps.{Offer}
 use Rattle.profile_scan.specs.Story.{story, told}
-use Rattle.profile_scan.specs.Adding.{MayStart, Takes, only_if}
+use Rattle.profile_scan.specs.Adding.{IsInTime, MayStart, StartsFrom, Takes, only_if}
 use Rattle.profile_scan.specs.Parts.{ChangesOrigin, OriginTakes}
-use Rattle.profile_scan.specs.Origins.{AreUnder, ChangesOrigins, SourceTakes, found_by, found_from, from_stop, set_outs_by, set_outs_from, starts_at}
+use Rattle.profile_scan.specs.Origins.{IsLoop, AreUnder, ChangesOrigins, SourceTakes, found_by, found_from, from_stop, set_outs_by, set_outs_from, starts_at}
 use Rattle.profile_scan.specs.declared.origin.Origin.{Origin}
 use Rattle.profile_scan.specs.declared.origins.Origins.{Origins}
 use Rattle.profile_scan.specs.declared.story.Exit.{Exit}
 use Rattle.profile_scan.proofs.Offers.{takes_unless}
 
 -- one sets out by a start from the stop where it begins, and from no other
-pub other_start : (q : Query) (c : Connection) (start : Option Footpath) (stop : ℕ) → stop ≢ starts_at c start → MayStart (from_stop q stop) c start → ⊥
-other_start q c None stop other may = other (sym may.starts)
-other_start q c (Some walk) stop other may = other (sym may.starts.0)
+pub other_start : (q : BetweenValue) (c : Connection) (start : Option Footpath) (stop : ℕ) → stop ≢ starts_at c start → MayStart (from_stop q stop) c start → ⊥
+other_start q c None stop other may = other (sym (contains_only stop c.from may.starts))
+other_start q c (Some walk) stop other may = other (sym (contains_only stop walk.from may.starts.0))
+
+-- from there one does, unless the start is a loop
+pub own_start : (q : BetweenValue) (c : Connection) (start : Option Footpath) → (IsLoop start → ⊥) → IsInTime q.from q.until c start
+    → MayStart (from_stop q (starts_at c start)) c start
+own_start q c None loop is = record {
+  starts = contains_first c.from [];
+  fits = is.fits;
+  not_early = is.not_early;
+  not_late = is.not_late;
+}
+own_start q c (Some walk) loop is = record {
+  starts = (contains_first walk.from [], loop);
+  fits = is.fits;
+  not_early = is.not_early;
+  not_late = is.not_late;
+}
+
+-- no start is a loop
+pub no_loop : (q : BetweenValue) (c : Connection) (start : Option Footpath) → IsLoop start → MayStart q c start → ⊥
+no_loop q c None loop may = loop
+no_loop q c (Some walk) loop may = may.starts.1 loop
+
+pub may_start : (q : BetweenValue) (c : Connection) (start : Option Footpath) → StartsFrom q c start → IsInTime q.from q.until c start → MayStart q c start
+may_start q c start from is = record { starts = from; fits = is.fits; not_early = is.not_early; not_late = is.not_late }
+
+pub in_time : (q : BetweenValue) (c : Connection) (start : Option Footpath) → MayStart q c start → IsInTime q.from q.until c start
+in_time q c start may = record { fits = may.fits; not_early = may.not_early; not_late = may.not_late }
 
 -- no stop has changed
 pub origins_none : {K V : Type 0} {d : _} (criterion : K) (a : Origins K V d) → AreUnder criterion a → ChangesOrigins criterion a a

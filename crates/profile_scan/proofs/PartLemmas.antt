@@ -7,19 +7,19 @@ use Rattle.criteria.specs.Laws.{Rules}
 use Rattle.timetable.specs.Limits.{IsWithinLimits}
 use Rattle.timetable.specs.TimetableValue.{TimetableValue}
 use Rattle.timetable.specs.declared.network.Connection.{Connection}
-use Rattle.timetable.specs.declared.query.Query.{Query}
 use Rattle.timetable.proofs.LegalLemmas.{arrival_limit}
 use Rattle.criteria.specs.Laws.{IsTime}
 use Rattle.profile_scan.specs.Hops.{IsHop, IsHopOf}
 use Rattle.profile_scan.specs.Parts.{HasTrip, ChangesTrip, ChangesOrigin, ChangesLists}
 use Rattle.profile_scan.specs.Kept.{AreStops}
 use Rattle.fronts.specs.Lists.{steps_of}
+use Rattle.profile_scan.specs.Between.{BetweenValue}
 use Rattle.profile_scan.specs.declared.stops.Stops.{Stops}
 use Rattle.profile_scan.specs.declared.hop.Hop.{Hop}
 use Rattle.profile_scan.specs.declared.origin.Origin.{Origin}
 use Rattle.profile_scan.specs.declared.trips.Trips.{Trips}
 use Rattle.profile_scan.proofs.LabelLemmas.{relabelled_none, relabelled_on}
-use Rattle.profile_scan.proofs.LeaveLemmas.{way_secs}
+use Rattle.profile_scan.proofs.LeaveLemmas.{way_within}
 
 module _ {K V : Type 0} (rules : Rules V) (trip : ℕ) where
   pub changes_none : (a : Trips K V) → HasTrip rules trip a → ChangesTrip rules trip a a
@@ -52,11 +52,12 @@ module _ {K V : Type 0} (rules_of : K → Rules V) (criterion : K) (count : ℕ)
   }
 
 -- a hop of a timetable within the limits is of times and seconds that laws speak of
-pub hop_within : {V : Type 0} (rules : Rules V) (t : TimetableValue) → IsWithinLimits t → (q : Query) (hop : Hop V) → IsHopOf rules t q hop → IsHop rules q hop
+pub hop_within : {V : Type 0} (rules : Rules V) (t : TimetableValue) → IsWithinLimits t → (q : BetweenValue) (hop : Hop V) → IsHopOf rules t q hop
+    → IsHop rules q hop
 hop_within rules t limits q hop is = record {
   arrival = subst (λ (x : Connection). IsTime x.arr) (sym is.stands.is) (arrival_limit t limits hop.place is.stands.in_range);
   by = is.by;
-  secs = way_secs t limits q.target hop.connection.to hop.way is.way;
+  secs = way_within t limits q.targets hop.connection.to hop.way is.way;
   bound = is.bound;
 }
 

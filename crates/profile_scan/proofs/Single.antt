@@ -1,15 +1,24 @@
 -- A query between a single source and a single target is a plain query.
-use Rattle.std.proofs.Common.{◌≡◌, ◌≢◌, ◌↔◌, ◌<◌, ◌≤◌, ℕ, zero, List, [], ◌∷◌, Contains, AllPairs, arith, refl, sym, ◌∙◌, subst}
-use Rattle.reasoning.proofs.ListLemmas.{contains_first, contains_only, not_in_nil}
+use Rattle.std.proofs.Common.{◌≡◌, ◌↔◌, ◌<◌, ◌≤◌, ℕ, zero, List, [], ◌∷◌, Contains, Option, Some, None, refl, sym, ◌∙◌, ap}
+use Rattle.std.proofs.Common.{subst, inl, inr}
+use Rattle.reasoning.proofs.ListLemmas.{contains_at, contains_first, contains_only}
 use Rattle.criteria.specs.Laws.{Rules, NoWorse}
 use Rattle.bags.specs.declared.point.Point.{Point}
 use Rattle.timetable.specs.TimetableValue.{TimetableValue}
-use Rattle.timetable.specs.JourneyValue.{JourneyValue}
-use Rattle.timetable.specs.Journeys.{Counts}
+use Rattle.timetable.specs.JourneyValue.{RideValue, JourneyValue}
+use Rattle.timetable.specs.Journeys.{connection_at, walk_end, stop_after, time_after, Leads, start_end, Counts}
+use Rattle.timetable.specs.declared.network.Footpath.{Footpath}
 use Rattle.timetable.specs.Queries.{IsAskable}
 use Rattle.timetable.specs.declared.query.Query.{Query}
 use Rattle.profile_scan.specs.Points.{IsUndominatedOf, IsAnswerOf, IsPoint, Lists}
-use Rattle.profile_scan.specs.Between.{pair_of, between_one, IsAskableBetween, CountsBetween, IsPointBetween, OneIsPlain}
+use Rattle.profile_scan.specs.Between.{pair_of, between_one, IsAskableBetween, CountsBetween, IsPointBetween, IsDirectWalk, secs_of, OneIsPlain}
+use Rattle.profile_scan.specs.Values.{journey_value}
+use Rattle.profile_scan.specs.Plain.{ArePlain, IsPlain, IsPlainOf}
+use Rattle.profile_scan.specs.Matching.{IsAttained}
+use Rattle.profile_scan.specs.Nodes.{spelling}
+use Rattle.profile_scan.specs.Kept.{IsWay}
+use Rattle.profile_scan.specs.Answered.{IsAnswered, IsAnsweredBetween}
+use Rattle.profile_scan.specs.declared.nodes.Node.{Node}
 
 -- two sets with the same points have the same answer
 module _ {V : Type 0} (rules : Rules V) (There Here : ℕ → V → Type 0) (into : (d : ℕ) (v : V) → There d v → Here d v)
@@ -31,12 +40,6 @@ module _ {V : Type 0} (rules : Rules V) (There Here : ℕ → V → Type 0) (int
     unbeaten = λ d v point. is.unbeaten d v (back d v point);
     ordered = is.ordered;
   }
-
-not_empty : (x : ℕ) → x ∷ [] ≡ [] → ⊥
-not_empty x e = not_in_nil x (subst (λ (xs : List ℕ). Contains xs x) e (contains_first x []))
-
-one_alone : (x : ℕ) → AllPairs ◌≢◌ (x ∷ [])
-one_alone x i j d lt within = absurd (omega (arith, lt, within))
 
 module _ (t : TimetableValue) (q : Query) where
   pub from_one : (departure : ℕ) (j : JourneyValue) → CountsBetween t (between_one q) departure j → Counts t q departure j
@@ -68,12 +71,8 @@ askable_one q stops a = record {
 
 pub one_askable : (q : Query) (stops : ℕ) → IsAskable stops q → IsAskableBetween stops (between_one q)
 one_askable q stops a = record {
-  some_source = not_empty q.source;
-  some_target = not_empty q.target;
   sources = λ s is. subst (λ (x : ℕ). x < stops) (sym (contains_only q.source s is)) a.source;
   targets = λ s is. subst (λ (x : ℕ). x < stops) (sym (contains_only q.target s is)) a.target;
-  sources_once = one_alone q.source;
-  targets_once = one_alone q.target;
   differ = λ s is_s is_t. a.differ (sym (contains_only q.source s is_s) ∙ contains_only q.target s is_t);
   window = a.window;
   in_time = a.in_time;
@@ -92,7 +91,7 @@ module _ {V : Type 0} (rules : Rules V) (t : TimetableValue) (q : Query) where
   answer_from points = answer_as rules (IsPointBetween rules t (between_one q)) (IsPoint rules t q) point_from point_to points
       (undominated_as rules (IsPoint rules t q) (IsPointBetween rules t (between_one q)) point_to point_from)
 
-  answer_to : (points : List (Point V)) → IsAnswerOf rules (IsPoint rules t q) points
+  pub answer_to : (points : List (Point V)) → IsAnswerOf rules (IsPoint rules t q) points
       → IsAnswerOf rules (IsPointBetween rules t (between_one q)) points
   answer_to points = answer_as rules (IsPoint rules t q) (IsPointBetween rules t (between_one q)) point_to point_from points
       (undominated_as rules (IsPointBetween rules t (between_one q)) (IsPoint rules t q) point_from point_to)
@@ -104,3 +103,56 @@ module _ {V : Type 0} (rules : Rules V) (t : TimetableValue) (q : Query) where
     points = λ d v. (point_from d v, point_to d v);
     answers = λ points. (answer_from points, answer_to points);
   }
+
+-- journeys that are plain with regard to several goals are so with regard to the one where they end
+pub plain_at : (t : TimetableValue) (IsGoal : ℕ → Type 0) (goal stop time : ℕ) (rides : List RideValue) → Leads t goal stop time rides
+    → IsGoal goal → ArePlain t IsGoal rides → ArePlain t (λ s. s ≡ goal) rides
+plain_at t IsGoal goal stop time [] leads is plain = tt
+plain_at t IsGoal goal stop time (ride ∷ []) leads is plain =
+    let last = (connection_at t ride.leg.last).to in (
+      elim plain.0 [
+        | inl here ↦ inl (ap (walk_end last) (sym here.1) ∙ leads.5, here.1)
+        | inr other ↦ inr (λ e. other.0 (subst IsGoal (sym e) is), other.1)
+      ],
+      tt,
+    )
+plain_at t IsGoal goal stop time (ride ∷ next ∷ rides) leads is plain =
+    (plain.0, plain_at t IsGoal goal (stop_after t ride) (time_after t ride) (next ∷ rides) leads.5 is plain.1)
+
+-- a point that is attained for a query between single stops
+pub attained_one : {V : Type 0} (rules : Rules V) (t : TimetableValue) (q : Query) (spelled : ℕ → Option JourneyValue) (p : Point V)
+    → IsAttained spelled (CountsBetween t (between_one q)) (IsPlainOf t (Contains (q.target ∷ []))) (journey_value rules t) p
+    → IsAttained spelled (Counts t q) (IsPlain t q.target) (journey_value rules t) p
+attained_one rules t q spelled p a =
+    let counts = from_one t q p.departure a.way a.there in
+    record {
+      way = a.way;
+      spells = a.spells;
+      there = counts;
+      plain = plain_at t (Contains (q.target ∷ [])) q.target (start_end q.source a.way.start) 0 a.way.rides counts.journey.leads
+          (contains_first q.target []) a.plain;
+      worth = a.worth;
+    }
+
+-- the direct walk between single stops is the footpath from the one to the other
+direct_one : (t : TimetableValue) (q : Query) (walk : Option Footpath) → IsDirectWalk t (between_one q) walk
+    → IsWay t q.target q.source (secs_of walk)
+direct_one t q None none = λ f is from to. none 0 0 f (record {
+  is_footpath = is;
+  leaves = ap Some (sym from);
+  leads = ap Some (sym to);
+})
+direct_one t q (Some f) is =
+    let from = contains_only q.source f.from (contains_at (q.source ∷ []) is.0 f.from is.2.leaves) in
+    let to = contains_only q.target f.to (contains_at (q.target ∷ []) is.1 f.to is.2.leads) in
+    subst (λ (a : ℕ). Contains t.footpaths (record { from = a; to = q.target; secs = f.secs })) from
+    (subst (λ (z : ℕ). Contains t.footpaths (record { from = f.from; to = z; secs = f.secs })) to is.2.is_footpath)
+
+-- an answer between single stops is an answer of the plain query
+pub answered_one : {V : Type 0} (rules : Rules V) (t : TimetableValue) (q : Query) (points : List (Point V)) (nodes : List Node)
+    (walk : Option Footpath) → IsAnsweredBetween rules t (between_one q) points nodes walk → IsAnswered rules t q points nodes (secs_of walk)
+answered_one rules t q points nodes walk is = record {
+  answer = answer_from rules t q points is.answer;
+  attained = λ p h. attained_one rules t q (spelling nodes).journey p (is.attained p h);
+  direct = direct_one t q walk is.direct;
+}

@@ -7,54 +7,55 @@ use Rattle.bags.specs.declared.point.Point.{Point}
 use Rattle.timetable.specs.declared.network.Connection.{Connection}
 use Rattle.timetable.specs.TimetableValue.{TimetableValue}
 use Rattle.timetable.specs.Journeys.{connection_at}
-use Rattle.timetable.specs.declared.query.Query.{Query}
+use Rattle.profile_scan.specs.Between.{BetweenValue}
 use Rattle.profile_scan.specs.Values.{journey_value}
 use Rattle.profile_scan.specs.Continuations.{IsOnward, CountsFrom, onward_value, aboard_value}
-use Rattle.profile_scan.specs.Plain.{IsPlainOnward, IsPlainAboard, IsPlain}
+use Rattle.profile_scan.specs.Plain.{IsPlainOnward, IsPlainAboard, IsPlainOf}
 use Rattle.profile_scan.specs.Matching.{Spelling, from_to, ScanValue, Matches, MatchesBut, MatchesFrom, IsLabelled, IsOutdone}
 use Rattle.profile_scan.specs.Steps.{Leaving, ends, ends_after, changes, MayLeave, leavings, boardings, settings_out, IsIdle, IsStep}
-use Rattle.profile_scan.specs.Kept.{IsWay}
+use Rattle.profile_scan.specs.Kept.{IsWayTo}
+use Rattle.profile_scan.specs.declared.ways.Way.{Way}
 use Rattle.profile_scan.proofs.Offers.{takes_none}
 use Rattle.profile_scan.proofs.Outdone.{all_carried}
 use Rattle.profile_scan.proofs.StepLemmas.{keeps_none}
 
 -- what is kept alike matches alike
-module _ {V : Type 0} (rules : Rules V) (t : TimetableValue) (q : Query) (tags : Spelling) (i : ℕ) where
+module _ {V : Type 0} (rules : Rules V) (t : TimetableValue) (q : BetweenValue) (tags : Spelling) (i : ℕ) where
   pub matches_alike : (old new : ScanValue V) → ((stop : ℕ) → new.bag stop ≡ old.bag stop)
       → ((trip : ℕ) → new.labels trip ≡ old.labels trip) → new.found ≡ old.found → MatchesFrom rules t q tags i old
       → MatchesFrom rules t q tags i new
   matches_alike old new bags labels found m = record {
     at_stops = λ stop lt.
         subst (λ (points : List (Point V)). MatchesBut rules tags.onward (IsOnward t q i stop)
-        (IsPlainOnward t q.target) (onward_value rules t) (IsOutdone rules t new.found i) points) (sym (bags stop))
-        (subst (λ (f : List (Point V)). MatchesBut rules tags.onward (IsOnward t q i stop) (IsPlainOnward t q.target)
+        (IsPlainOnward t (Contains q.targets)) (onward_value rules t) (IsOutdone rules t new.found i) points) (sym (bags stop))
+        (subst (λ (f : List (Point V)). MatchesBut rules tags.onward (IsOnward t q i stop) (IsPlainOnward t (Contains q.targets))
         (onward_value rules t) (IsOutdone rules t f i) (old.bag stop)) (sym found) (m.at_stops stop lt));
     in_trips = λ trip lt.
         subst (λ (points : List (Point V)). MatchesBut rules tags.aboard (IsLabelled t q i trip)
-        (IsPlainAboard t q.target) (aboard_value rules t) (λ v. IsOutdone rules t new.found i (rules.ride v))
+        (IsPlainAboard t (Contains q.targets)) (aboard_value rules t) (λ v. IsOutdone rules t new.found i (rules.ride v))
         points) (sym (labels trip))
-        (subst (λ (f : List (Point V)). MatchesBut rules tags.aboard (IsLabelled t q i trip) (IsPlainAboard t q.target)
+        (subst (λ (f : List (Point V)). MatchesBut rules tags.aboard (IsLabelled t q i trip) (IsPlainAboard t (Contains q.targets))
         (aboard_value rules t) (λ v. IsOutdone rules t f i (rules.ride v)) (old.labels trip)) (sym found)
         (m.in_trips trip lt));
     at_source = subst (λ (points : List (Point V)).
-        Matches rules tags.journey (CountsFrom t q i) (IsPlain t q.target) (journey_value rules t) points) (sym found)
+        Matches rules tags.journey (CountsFrom t q i) (IsPlainOf t (Contains q.targets)) (journey_value rules t) points) (sym found)
         m.at_source;
   }
 
 none_in : {X : Type 0} (xs : List X) → xs ≡ [] → (x : X) → Contains xs x → ⊥
 none_in xs e x h = let long = ap length e in omega (arith, h.1, long)
 
-no_leave : {V : Type 0} (t : TimetableValue) (q : Query) (i : ℕ) (bag : List (Point V)) (way : Option ℕ)
-    → IsWay t q.target (connection_at t i).to way → ((connection_at t i).to ≢ q.target) × (way ≡ None) × (bag ≡ [])
+no_leave : {V : Type 0} (t : TimetableValue) (q : BetweenValue) (i : ℕ) (bag : List (Point V)) (way : Option Way)
+    → IsWayTo t q.targets (connection_at t i).to way → (way ≡ None) × (bag ≡ [])
     → (leaving : Leaving V) → MayLeave t q i bag leaving → ⊥
-no_leave t q i bag way is none ends may = none.0 may.0
-no_leave t q i bag way is none (ends_after f) may = subst (IsWay t q.target (connection_at t i).to) none.1 is f may.0 may.1 may.2
-no_leave t q i bag way is none (changes p) may = none_in bag none.2 p may.0
+no_leave t q i bag way is none ends may = (subst (IsWayTo t q.targets (connection_at t i).to) none.0 is).0 may.0
+no_leave t q i bag way is none (ends_after f) may = (subst (IsWayTo t q.targets (connection_at t i).to) none.0 is).1 f may.0 may.1 may.2
+no_leave t q i bag way is none (changes p) may = none_in bag none.1 p may.0
 
 -- where nothing is offered, all stays
-step_idle : {V : Type 0} (rules : Rules V) (t : TimetableValue) (q : Query) (a : Spelling) (i : ℕ) (scan : ScanValue V)
-    (way : Option ℕ) → IsWay t q.target (connection_at t i).to way
-    → IsIdle q (connection_at t i) way (scan.labels (connection_at t i).trip) (scan.bag (connection_at t i).to)
+step_idle : {V : Type 0} (rules : Rules V) (t : TimetableValue) (q : BetweenValue) (a : Spelling) (i : ℕ) (scan : ScanValue V)
+    (way : Option Way) → IsWayTo t q.targets (connection_at t i).to way
+    → IsIdle (connection_at t i) way (scan.labels (connection_at t i).trip) (scan.bag (connection_at t i).to)
     → IsStep rules t q (from_to a a) i scan scan
 step_idle rules t q a i scan way is idle =
     let trip = (connection_at t i).trip in
@@ -77,12 +78,12 @@ step_idle rules t q a i scan way is idle =
     }
 
 -- the same, of the connection by another name
-pub step_idle_at : {V : Type 0} (rules : Rules V) (t : TimetableValue) (q : Query) (a : Spelling) (i : ℕ)
-    (scan : ScanValue V) (way : Option ℕ) (c : Connection) → c ≡ connection_at t i → IsWay t q.target c.to way
-    → IsIdle q c way (scan.labels c.trip) (scan.bag c.to) → IsStep rules t q (from_to a a) i scan scan
+pub step_idle_at : {V : Type 0} (rules : Rules V) (t : TimetableValue) (q : BetweenValue) (a : Spelling) (i : ℕ)
+    (scan : ScanValue V) (way : Option Way) (c : Connection) → c ≡ connection_at t i → IsWayTo t q.targets c.to way
+    → IsIdle c way (scan.labels c.trip) (scan.bag c.to) → IsStep rules t q (from_to a a) i scan scan
 step_idle_at rules t q a i scan way c e is idle =
-    step_idle rules t q a i scan way (subst (λ (x : Connection). IsWay t q.target x.to way) e is)
-    (subst (λ (x : Connection). IsIdle q x way (scan.labels x.trip) (scan.bag x.to)) e idle)
+    step_idle rules t q a i scan way (subst (λ (x : Connection). IsWayTo t q.targets x.to way) e is)
+    (subst (λ (x : Connection). IsIdle x way (scan.labels x.trip) (scan.bag x.to)) e idle)
 
 -- where a connection of a legal timetable begins and ends, and its trip, are of that timetable
 module _ (t : TimetableValue) (legal : IsLegal t) (i : ℕ) (in_i : i < length t.connections) (c : Connection) (is : c ≡ connection_at t i) where

@@ -5,12 +5,12 @@ use Rattle.criteria.specs.Laws.{Rules, Laws, Admits}
 use Rattle.bags.specs.declared.point.Point.{Point}
 use Rattle.timetable.specs.TimetableValue.{TimetableValue}
 use Rattle.timetable.specs.Journeys.{connection_at}
-use Rattle.timetable.specs.declared.query.Query.{Query}
 use Rattle.timetable.proofs.LegalLemmas.{connection_at-stands}
+use Rattle.profile_scan.specs.Between.{BetweenValue}
 use Rattle.profile_scan.specs.Values.{journey_value}
 use Rattle.profile_scan.specs.Points.{Covers}
 use Rattle.profile_scan.specs.Continuations.{Aboard, IsOnward, IsAboard, CountsFrom, onward_value, aboard_value}
-use Rattle.profile_scan.specs.Plain.{IsPlainOnward, IsPlainAboard, IsPlain}
+use Rattle.profile_scan.specs.Plain.{IsPlainOnward, IsPlainAboard, IsPlainOf}
 use Rattle.profile_scan.specs.Matching.{Spelling, Spellings, Keeps, from_to, IsAttained, IsLabelled, IsOutdone, Matches, MatchesBut}
 use Rattle.profile_scan.specs.Steps.{TakesIn, leavings, boardings, settings_out, AreCarried, IsStep}
 use Rattle.profile_scan.specs.LawStatements.{CanScan, OneIndexDown, TagsMayCome}
@@ -34,50 +34,51 @@ attained_more spelled respelled Was IsThere IsPlainWay value more p stays a =
       worth = a.worth;
     }
 
-module _ {V : Type 0} (rules : Rules V) (laws : Laws rules) (t : TimetableValue) (q : Query) (can : CanScan t q) (i : ℕ) where
+module _ {V : Type 0} (rules : Rules V) (laws : Laws rules) (t : TimetableValue) (q : BetweenValue) (can : CanScan t q) (i : ℕ) where
   -- a point of a bag, of labels, of the points found
   abbrev InBag : Spelling → ℕ → ℕ → Point V → Type 0
-  InBag tags from stop p = IsAttained tags.onward (IsOnward t q from stop) (IsPlainOnward t q.target) (onward_value rules t) p
+  InBag tags from stop p = IsAttained tags.onward (IsOnward t q from stop) (IsPlainOnward t (Contains q.targets)) (onward_value rules t) p
 
   abbrev InLabels : Spelling → ℕ → ℕ → Point V → Type 0
-  InLabels tags from trip p = IsAttained tags.aboard (IsLabelled t q from trip) (IsPlainAboard t q.target) (aboard_value rules t) p
+  InLabels tags from trip p = IsAttained tags.aboard (IsLabelled t q from trip) (IsPlainAboard t (Contains q.targets)) (aboard_value rules t) p
 
   abbrev InFound : Spelling → ℕ → Point V → Type 0
-  InFound tags from p = IsAttained tags.journey (CountsFrom t q from) (IsPlain t q.target) (journey_value rules t) p
+  InFound tags from p = IsAttained tags.journey (CountsFrom t q from) (IsPlainOf t (Contains q.targets)) (journey_value rules t) p
 
   -- all of them, but for what is outdone, in a trip from place n on
   abbrev BagMatches : Spelling → List (Point V) → ℕ → ℕ → List (Point V) → Type 0
   BagMatches tags found from stop points = MatchesBut rules tags.onward (IsOnward t q from stop)
-      (IsPlainOnward t q.target) (onward_value rules t) (IsOutdone rules t found from) points
+      (IsPlainOnward t (Contains q.targets)) (onward_value rules t) (IsOutdone rules t found from) points
 
   abbrev LabelsMatch : Spelling → List (Point V) → ℕ → ℕ → ℕ → List (Point V) → Type 0
   LabelsMatch tags found from n trip points =
-      MatchesBut rules tags.aboard (IsLabelled t q from trip) (IsPlainAboard t q.target) (aboard_value rules t)
+      MatchesBut rules tags.aboard (IsLabelled t q from trip) (IsPlainAboard t (Contains q.targets)) (aboard_value rules t)
       (λ v. IsOutdone rules t found n (rules.ride v)) points
 
   abbrev FoundMatches : Spelling → ℕ → List (Point V) → Type 0
-  FoundMatches tags from points = Matches rules tags.journey (CountsFrom t q from) (IsPlain t q.target) (journey_value rules t) points
+  FoundMatches tags from points = Matches rules tags.journey (CountsFrom t q from) (IsPlainOf t (Contains q.targets)) (journey_value rules t) points
 
   bag_admitted : (tags : Spelling) (from stop : ℕ) (points : List (Point V))
       → ((p : Point V) → Contains points p → InBag tags from stop p) → AreAdmitted rules points
   bag_admitted tags from stop points sound =
-      attained_admits rules tags.onward (IsOnward t q from stop) (IsPlainOnward t q.target) (onward_value rules t)
+      attained_admits rules tags.onward (IsOnward t q from stop) (IsPlainOnward t (Contains q.targets)) (onward_value rules t)
       (λ time x on. onward_admits rules laws t q can from stop time x on) points sound
 
   labels_admitted : (tags : Spelling) (from trip : ℕ) (points : List (Point V))
       → ((p : Point V) → Contains points p → InLabels tags from trip p) → AreAdmitted rules points
   labels_admitted tags from trip points sound =
-      attained_admits rules tags.aboard (IsLabelled t q from trip) (IsPlainAboard t q.target) (aboard_value rules t)
+      attained_admits rules tags.aboard (IsLabelled t q from trip) (IsPlainAboard t (Contains q.targets)) (aboard_value rules t)
       (λ _ x on. aboard_admits rules laws t q can from trip x on.aboard) points sound
 
   found_admitted : (tags : Spelling) (from : ℕ) (points : List (Point V)) → ((p : Point V) → Contains points p → InFound tags from p) → AreAdmitted rules points
-  found_admitted tags from points sound = attained_admits rules tags.journey (CountsFrom t q from) (IsPlain t q.target)
+  found_admitted tags from points sound = attained_admits rules tags.journey (CountsFrom t q from) (IsPlainOf t (Contains q.targets))
       (journey_value rules t) (λ departure j c. journey_admits rules laws t q can departure j c.counts) points sound
 
   -- labels that were attained later in their trip
   label_stays : (before after : Spelling) (trip : ℕ) → Keeps before after → (p : Point V) → InLabels before (i + 1) trip p → InLabels after i trip p
   label_stays before after trip keeps p a =
-      attained_more before.aboard after.aboard (IsLabelled t q (i + 1) trip) (IsLabelled t q i trip) (IsPlainAboard t q.target) (aboard_value rules t)
+      attained_more before.aboard after.aboard (IsLabelled t q (i + 1) trip) (IsLabelled t q i trip) (IsPlainAboard t (Contains q.targets))
+      (aboard_value rules t)
       (λ d x l. record { departed = l.departed; aboard = aboard_more t q i trip x l.aboard }) p (keeps.aboard p.tag) a
 
   aboard_ride_admits : (from trip : ℕ) (x : Aboard) → IsAboard t q from trip x → Admits rules (rules.ride (aboard_value rules t x))
@@ -118,7 +119,7 @@ module _ {V : Type 0} (rules : Rules V) (laws : Laws rules) (t : TimetableValue)
       → LabelsMatch after now i m trip points
   labels_kept before after found now n m trip points keeps kept le is = record {
     sound = λ p in_points. attained_more before.aboard after.aboard (IsLabelled t q i trip) (IsLabelled t q i trip)
-        (IsPlainAboard t q.target) (aboard_value rules t) (λ d x l. l) p (keeps.aboard p.tag) (is.sound p in_points);
+        (IsPlainAboard t (Contains q.targets)) (aboard_value rules t) (λ d x l. l) p (keeps.aboard p.tag) (is.sound p in_points);
     complete = λ departure x l. elim (is.complete departure x l) [
       | inl c ↦ inl c
       | inr o ↦ inr (outdone_on rules laws t found now n m (rules.ride (aboard_value rules t x)) (aboard_ride_admits i trip x l.aboard) le kept o)
@@ -144,6 +145,8 @@ module _ {V : Type 0} (rules : Rules V) (laws : Laws rules) (t : TimetableValue)
             alights = a.alights;
             is_walk = a.is_walk;
             walks = a.walks;
+            goal = a.goal;
+            is_goal = a.is_goal;
             leads =
                 a.leads;
             arrives = a.arrives;
@@ -164,7 +167,7 @@ module _ {V : Type 0} (rules : Rules V) (laws : Laws rules) (t : TimetableValue)
       let trip = (connection_at t i).trip in
       let sound : (p : Point V) → Contains new p → InBag tags.later i stop p = λ p is. elim (takes.only p is) [
         | inl was ↦ attained_more first.onward tags.later.onward (IsOnward t q (i + 1) stop) (IsOnward t q i stop)
-            (IsPlainOnward t q.target) (onward_value rules t) (onward_more t q i stop) p
+            (IsPlainOnward t (Contains q.targets)) (onward_value rules t) (onward_more t q i stop) p
             (λ x e. kept_then.onward p.tag x (kept_first.onward p.tag x e)) (old_is.sound p was)
         | inr offered ↦ boarding_attained rules t q tags i stop carried (λ l h. labels_are.sound l (carries.only l h)) p offered
       ] in
@@ -193,7 +196,7 @@ module _ {V : Type 0} (rules : Rules V) (laws : Laws rules) (t : TimetableValue)
       let trip = (connection_at t i).trip in
       let sound : (p : Point V) → Contains new p → InFound tags.later i p = λ p is. elim (takes.only p is) [
         | inl was ↦ attained_more first.journey tags.later.journey (CountsFrom t q (i + 1)) (CountsFrom t q i)
-            (IsPlain t q.target) (journey_value rules t) (counts_more t q i) p
+            (IsPlainOf t (Contains q.targets)) (journey_value rules t) (counts_more t q i) p
             (λ j e. kept_then.journey p.tag j (kept_first.journey p.tag j e)) (old_is.sound p was)
         | inr offered ↦ setting_out_attained rules t q tags i labels labels_are.sound p offered
       ] in
@@ -240,12 +243,12 @@ one_index_down rules laws t q can tags i in_i old new matched step =
           step.boarding_are labels (matched.at_stops stop in_stops) (step.boards stop in_stops);
       in_trips = λ trip in_trips. elim (cases_eq trip c.trip) [
         | inl same ↦ subst (λ (k : ℕ). MatchesBut rules tags.later.aboard (IsLabelled t q i k)
-            (IsPlainAboard t q.target) (aboard_value rules t) (λ v. IsOutdone rules t new.found i (rules.ride v))
+            (IsPlainAboard t (Contains q.targets)) (aboard_value rules t) (λ v. IsOutdone rules t new.found i (rules.ride v))
             (new.labels k)) (sym same)
             (labels_kept rules laws t q can i step.between tags.later new.found new.found (i + 1) i c.trip
             (new.labels c.trip) step.kept_then (λ d w b covers. covers) (omega arith) labels)
         | inr other ↦ subst (λ points. MatchesBut rules tags.later.aboard (IsLabelled t q i trip)
-            (IsPlainAboard t q.target) (aboard_value rules t) (λ v. IsOutdone rules t new.found i (rules.ride v))
+            (IsPlainAboard t (Contains q.targets)) (aboard_value rules t) (λ v. IsOutdone rules t new.found i (rules.ride v))
             points) (sym (step.other_trips trip other))
             (other_labels rules laws t q can i tags.earlier tags.later old.found new.found trip (old.labels trip)
             (keeps_on tags.earlier step.between tags.later step.kept_first step.kept_then) kept other
@@ -276,11 +279,12 @@ respelled_but rules a b IsThere IsPlainWay value Outdone points stay is = record
 
 pub tags_may_come : {V : Type 0} (rules : Rules V) → TagsMayCome rules
 tags_may_come rules t q a b i scan stay is = record {
-  at_stops = λ stop in_stops. respelled_but rules a.onward b.onward (IsOnward t q i stop) (IsPlainOnward t q.target)
+  at_stops = λ stop in_stops. respelled_but rules a.onward b.onward (IsOnward t q i stop) (IsPlainOnward t (Contains q.targets))
       (onward_value rules t) (IsOutdone rules t scan.found i) (scan.bag stop) (stay.at_stops stop)
       (is.at_stops stop in_stops);
-  in_trips = λ trip in_trips. respelled_but rules a.aboard b.aboard (IsLabelled t q i trip) (IsPlainAboard t q.target)
+  in_trips = λ trip in_trips. respelled_but rules a.aboard b.aboard (IsLabelled t q i trip) (IsPlainAboard t (Contains q.targets))
       (aboard_value rules t) (λ v. IsOutdone rules t scan.found i (rules.ride v)) (scan.labels trip)
       (stay.in_trips trip) (is.in_trips trip in_trips);
-  at_source = respelled rules a.journey b.journey (CountsFrom t q i) (IsPlain t q.target) (journey_value rules t) scan.found stay.at_source is.at_source;
+  at_source = respelled rules a.journey b.journey (CountsFrom t q i) (IsPlainOf t (Contains q.targets))
+      (journey_value rules t) scan.found stay.at_source is.at_source;
 }

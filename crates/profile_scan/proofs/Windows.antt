@@ -11,9 +11,8 @@ use Rattle.std.proofs.lemmas.List.FromFn.{length-range_with_len, get_or-range_wi
 use Rattle.timetable.specs.TimetableValue.{TimetableValue}
 use Rattle.timetable.specs.Legal.{IsLegal}
 use Rattle.timetable.specs.Journeys.{connection_at}
-use Rattle.timetable.specs.declared.query.Query.{Query}
 use Rattle.timetable.proofs.LegalLemmas.{departures_rise}
-use Rattle.profile_scan.specs.Window.{departs_inside, window, falling}
+use Rattle.profile_scan.specs.Window.{departs_inside, window_of, falling}
 use Rattle.sources.specs.FirstAt.{IsFirstAt}
 use Rattle.profile_scan.specs.LawStatements.{WindowIsReadBackward}
 
@@ -64,27 +63,27 @@ passing_falls p low high m passes only (suc n) le = passing_more p n ∙ elim (c
       ∙ ap (falling low) (falling_stays p low high n passes not_n)
 ]
 
-module _ (t : TimetableValue) (q : Query) where
+module _ (t : TimetableValue) (from by : ℕ) where
   -- a place of the list of connections is inside the window where it stands between the first ones at the two times
-  window_falls : (start end : ℕ) → IsFirstAt t q.from start → IsFirstAt t q.by end → reverse (window t q) ≡ falling start (end - start)
+  pub window_falls : (start end : ℕ) → IsFirstAt t from start → IsFirstAt t by end → reverse (window_of t from by) ≡ falling start (end - start)
   window_falls start end is_start is_end =
       let n = length t.connections in
       let in_end = is_end.in_range in
       let all : min n end - start ≡ end - start = omega arith in
-      passing_falls (departs_inside t q) start end n passes only n (omega arith) ∙ ap (falling start) all
+      passing_falls (departs_inside t from by) start end n passes only n (omega arith) ∙ ap (falling start) all
     where
-      passes : (k : ℕ) → start ≤ k → k < end → departs_inside t q k ≡ true
+      passes : (k : ℕ) → start ≤ k → k < end → departs_inside t from by k ≡ true
       passes k late early =
           let dep = (connection_at t k).dep in
           let in_end = is_end.in_range in
-          and_from (nat_le q.from dep) (nat_lt dep q.by) (le-leb q.from dep (is_start.after k late (omega arith))) (lt-ltb dep q.by (is_end.before k early))
+          and_from (nat_le from dep) (nat_lt dep by) (le-leb from dep (is_start.after k late (omega arith))) (lt-ltb dep by (is_end.before k early))
 
-      only : (k : ℕ) → k < length t.connections → departs_inside t q k ≡ true → (start ≤ k) × (k < end)
+      only : (k : ℕ) → k < length t.connections → departs_inside t from by k ≡ true → (start ≤ k) × (k < end)
       only k in_k inside =
           let dep = (connection_at t k).dep in
-          let both = and_parts (nat_le q.from dep) (nat_lt dep q.by) inside in
-          let not_early = leb-true q.from dep both.0 in
-          let not_late = ltb-true dep q.by both.1 in (
+          let both = and_parts (nat_le from dep) (nat_lt dep by) inside in
+          let not_early = leb-true from dep both.0 in
+          let not_late = ltb-true dep by both.1 in (
             elim (cases_lt k start) [ inl lt ↦ absurd (omega (arith, is_start.before k lt)) | inr ge ↦ ge ],
             elim (cases_lt k end) [ inl lt ↦ lt | inr ge ↦ absurd (omega (arith, is_end.after k ge in_k)) ],
           )
@@ -120,11 +119,11 @@ AllPairs-backward R xs all i j d lt in_j =
 
 pub window_is_read_backward : WindowIsReadBackward
 window_is_read_backward t legal q = record {
-  falls = window_falls t q;
-  in_range = All-backward (λ (i : ℕ). i < length t.connections) (window t q)
-      (All-filter (departs_inside t q) (λ (i : ℕ). i < length t.connections) (range_with_len 0 (length t.connections))
-      (places_in_range t q));
-  never_rises = AllPairs-backward (λ (i j : ℕ). (connection_at t i).dep ≤ (connection_at t j).dep) (window t q)
-      (AllPairs-filter (λ (i j : ℕ). (connection_at t i).dep ≤ (connection_at t j).dep) (departs_inside t q)
-      (range_with_len 0 (length t.connections)) (places_rise t q legal));
+  falls = window_falls t q.from q.by;
+  in_range = All-backward (λ (i : ℕ). i < length t.connections) (window_of t q.from q.by)
+      (All-filter (departs_inside t q.from q.by) (λ (i : ℕ). i < length t.connections) (range_with_len 0 (length t.connections))
+      (places_in_range t q.from q.by));
+  never_rises = AllPairs-backward (λ (i j : ℕ). (connection_at t i).dep ≤ (connection_at t j).dep) (window_of t q.from q.by)
+      (AllPairs-filter (λ (i j : ℕ). (connection_at t i).dep ≤ (connection_at t j).dep) (departs_inside t q.from q.by)
+      (range_with_len 0 (length t.connections)) (places_rise t q.from q.by legal));
 }

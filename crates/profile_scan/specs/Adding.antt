@@ -6,7 +6,6 @@ use Rattle.criteria.specs.Laws.{Rules}
 use Rattle.bags.specs.declared.point.Point.{Point}
 use Rattle.timetable.specs.declared.network.Connection.{Connection}
 use Rattle.timetable.specs.declared.network.Footpath.{Footpath}
-use Rattle.timetable.specs.declared.query.Query.{Query}
 use Rattle.timetable.specs.TimetableValue.{TimetableValue}
 use Rattle.timetable.specs.Legal.{At}
 use Rattle.timetable.specs.Journeys.{start_secs}
@@ -17,10 +16,12 @@ use Rattle.profile_scan.specs.Steps.{Offer, TakesIn, boarded}
 use Rattle.profile_scan.specs.Nodes.{SpellsEnd, SpellsChange}
 use Rattle.profile_scan.specs.Story.{Story, Grows, told}
 use Rattle.profile_scan.specs.declared.story.SetOut.{SetOut}
+use Rattle.profile_scan.specs.declared.ways.Way.{Way}
 use Rattle.fronts.specs.declared.entry.Ridden.{Ridden}
 use Rattle.fronts.specs.declared.labels.Label.{Label}
 use Rattle.fronts.specs.declared.labels.Labels.{Labels}
 use Rattle.fronts.specs.Labels.{AreLabels, labels_at, trips_of}
+use Rattle.profile_scan.specs.Between.{BetweenValue}
 
 -- an offer of one way
 abbrev pub one_way : {V : Type 0} → ℕ → V → (ℕ → Type 0) → Offer (Unit {0}) V
@@ -143,14 +144,15 @@ only_if P offer = record {
   fits_tag = offer.fits_tag;
 }
 
--- how one may end where a connection ends: at the target, or after a footpath of `way` seconds to it, and in time for the query
-abbrev pub IsEnding : Connection → Query → Option ℕ → Option Footpath → Type 0
-IsEnding c q way None = (c.to ≡ q.target) × (c.arr ≤ q.by)
-IsEnding c q way (Some f) = (c.to ≢ q.target) × (way ≡ Some f.secs) × (f.from ≡ c.to) × (f.to ≡ q.target)
+-- how one may end by a way from where a connection ends, in time for the query: at once, if the way is the loop there, or else after its footpath
+abbrev pub IsEnding : Connection → BetweenValue → Option Way → Option Footpath → Type 0
+IsEnding c q None walk = ⊥
+IsEnding c q (Some way) None = (way.to ≡ c.to) × (c.arr ≤ q.by)
+IsEnding c q (Some way) (Some f) = (way.to ≢ c.to) × (f ≡ record { from = c.to; to = way.to; secs = way.secs })
     × (c.arr + f.secs ≤ q.by)
 
 -- offered to labels: each way to end where a connection ends; the trip is left at connection i
-abbrev pub endings : {V : Type 0} → Rules V → Spellings → ℕ → Connection → Query → Option ℕ → Offer (Option Footpath) V
+abbrev pub endings : {V : Type 0} → Rules V → Spellings → ℕ → Connection → BetweenValue → Option Way → Offer (Option Footpath) V
 endings rules tags i c q way = record {
   is_open = IsEnding c q way;
   departure = λ _. 0;
@@ -159,17 +161,23 @@ endings rules tags i c q way = record {
 }
 
 -- the two ways to leave a trip where a connection ends: to end, or to change
-abbrev pub endings_and_changes : {V : Type 0} → Rules V → Spellings → ℕ → Connection → Query → Option ℕ
+abbrev pub endings_and_changes : {V : Type 0} → Rules V → Spellings → ℕ → Connection → BetweenValue → Option Way
     → List (Point V) → Offer (Option Footpath ⊎ Point V) V
 endings_and_changes rules tags i c q way bag = either (endings rules tags i c q way) (changes_from tags i c.arr bag)
 
--- a start leads to a connection from the source in time, and departs when the query allows: none if the connection starts at the source, or else one footpath
--- to another stop
-abbrev pub StartsFrom : Query → Connection → Option Footpath → Type 0
-StartsFrom q c None = c.from ≡ q.source
-StartsFrom q c (Some f) = (f.from ≡ q.source) × (f.to ≢ q.source)
+-- a start leads from a source to a connection in time, and departs when the query allows: none if the connection starts at a source, or else one footpath from
+-- a source to another stop, which may be a source as well
+abbrev pub StartsFrom : BetweenValue → Connection → Option Footpath → Type 0
+StartsFrom q c None = Contains q.sources c.from
+StartsFrom q c (Some f) = Contains q.sources f.from × (f.to ≢ f.from)
 
-pub record MayStart (q : Query) (c : Connection) (start : Option Footpath) : Type 0 where
+-- a start fits before a connection, and one departs by it between two times
+pub record IsInTime (from until : ℕ) (c : Connection) (start : Option Footpath) : Type 0 where
+  pub fits : start_secs start ≤ c.dep
+  pub not_early : from ≤ c.dep - start_secs start
+  pub not_late : c.dep - start_secs start ≤ until
+
+pub record MayStart (q : BetweenValue) (c : Connection) (start : Option Footpath) : Type 0 where
   pub starts : StartsFrom q c start
   pub fits : start_secs start ≤ c.dep
   pub not_early : q.from ≤ c.dep - start_secs start
@@ -198,7 +206,7 @@ boardings_by rules tags i c stop labels walk = only_if ((walk.from ≡ stop) × 
     (boardings_after rules tags i (c.dep - walk.secs) walk labels)
 
 -- what one start offers to the points found: nothing, unless `MayStart` allows it
-abbrev pub settings_out_by : {V : Type 0} → Rules V → Spellings → ℕ → Connection → Query → List (Point V)
+abbrev pub settings_out_by : {V : Type 0} → Rules V → Spellings → ℕ → Connection → BetweenValue → List (Point V)
     → Option Footpath → Offer (Point V) V
 settings_out_by rules tags i c q labels start = only_if (MayStart q c start)
     (settings_out_after rules tags i (c.dep - start_secs start) start labels)

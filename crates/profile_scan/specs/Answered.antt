@@ -5,9 +5,11 @@ use Rattle.bags.specs.declared.point.Point.{Point}
 use Rattle.timetable.specs.TimetableValue.{TimetableValue}
 use Rattle.timetable.specs.declared.query.Query.{Query}
 use Rattle.timetable.specs.Journeys.{Counts}
+use Rattle.timetable.specs.declared.network.Footpath.{Footpath}
+use Rattle.profile_scan.specs.Between.{BetweenValue, CountsBetween, IsAnswerBetween, IsDirectWalk}
 use Rattle.profile_scan.specs.Points.{IsAnswer}
 use Rattle.profile_scan.specs.Values.{journey_value}
-use Rattle.profile_scan.specs.Plain.{IsPlain}
+use Rattle.profile_scan.specs.Plain.{IsPlain, IsPlainOf}
 use Rattle.profile_scan.specs.Matching.{IsAttained}
 use Rattle.profile_scan.specs.Nodes.{spelling}
 use Rattle.profile_scan.specs.Kept.{IsWay}
@@ -22,7 +24,21 @@ pub record IsAnswered {V : Type 0} (rules : Rules V) (t : TimetableValue) (q : Q
       → IsAttained (spelling nodes).journey (Counts t q) (IsPlain t q.target) (journey_value rules t) p
   pub direct : IsWay t q.target q.source walk
 
--- the same as a mere fact: all its proofs are equal
+-- points are the answer of a query between sets over a timetable; each point's tag spells, by the nodes, a journey that counts for a pair, with the point's
+-- departure and value, and is plain with regard to all targets: after its last leg it walks on only if that leg ends at none of them; and `walk` is the direct
+-- walk
+pub record IsAnsweredBetween {V : Type 0} (rules : Rules V) (t : TimetableValue) (b : BetweenValue) (points : List (Point V))
+    (nodes : List Node) (walk : Option Footpath) : Type 0 where
+  pub answer : IsAnswerBetween rules t b points
+  pub attained : (p : Point V) → Contains points p
+      → IsAttained (spelling nodes).journey (CountsBetween t b) (IsPlainOf t (Contains b.targets)) (journey_value rules t) p
+  pub direct : IsDirectWalk t b walk
+
+-- the same as mere facts: all their proofs are equal
 abbrev pub Answer : {V : Type 0}
     → Rules V → TimetableValue → Query → List (Point V) → List Node → Option ℕ → Type 0
 Answer rules t q points nodes walk = ∥ IsAnswered rules t q points nodes walk ∥₁
+
+abbrev pub AnswerBetween : {V : Type 0}
+    → Rules V → TimetableValue → BetweenValue → List (Point V) → List Node → Option Footpath → Type 0
+AnswerBetween rules t b points nodes walk = ∥ IsAnsweredBetween rules t b points nodes walk ∥₁

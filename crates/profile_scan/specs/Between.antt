@@ -1,5 +1,5 @@
 -- Queries between sets of stops: from any of these to any of those.
-use Rattle.std.specs.Prelude.{◌≡◌, ◌≢◌, ◌⊎◌, ◌↔◌, ℕ, ◌<◌, ◌≤◌, List, [], ◌∷◌, Contains, AllPairs, Option, Some, None, slice_get}
+use Rattle.std.specs.Prelude.{◌≡◌, ◌⊎◌, ◌↔◌, ℕ, ◌<◌, ◌≤◌, List, [], ◌∷◌, Contains, Option, Some, None, slice_get}
 use Rattle.criteria.specs.Laws.{Rules}
 use Rattle.bags.specs.declared.point.Point.{Point}
 use Rattle.timetable.specs.declared.limits.TheConstants.{TIME_END}
@@ -39,15 +39,11 @@ pair_of b source target = record { source = source; target = target; from = b.fr
 abbrev pub between_one : Query → BetweenValue
 between_one q = record { sources = q.source ∷ []; targets = q.target ∷ []; from = q.from; until = q.until; by = q.by }
 
--- there is a source and a target; each is a stop of a timetable with this many stops, and is named once on its side and not on the other; and the times are
--- possible
+-- the stops are stops of a timetable with this many, no source is a target, and the times are possible. A stop may be named twice on a side, which changes
+-- nothing, and a side may have none: then there is no journey
 pub record IsAskableBetween (stops : ℕ) (b : BetweenValue) : Type 0 where
-  pub some_source : b.sources ≢ []
-  pub some_target : b.targets ≢ []
   pub sources : (stop : ℕ) → Contains b.sources stop → stop < stops
   pub targets : (stop : ℕ) → Contains b.targets stop → stop < stops
-  pub sources_once : AllPairs ◌≢◌ b.sources
-  pub targets_once : AllPairs ◌≢◌ b.targets
   pub differ : (stop : ℕ) → Contains b.sources stop → Contains b.targets stop → ⊥
   pub window : b.from ≤ b.until
   pub in_time : b.from ≤ b.by

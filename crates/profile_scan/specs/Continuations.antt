@@ -1,11 +1,11 @@
--- How one may go on to the target over the later connections: from a stop, in a trip, or with a whole journey.
-use Rattle.std.specs.Prelude.{◌≡◌, ◌≢◌, ℕ, ◌+◌, ◌<◌, ◌≤◌, true, List, [], ◌∷◌, length}
+-- How one may go on to a target over the later connections: from a stop, in a trip, or with a whole journey.
+use Rattle.std.specs.Prelude.{◌≡◌, ◌≢◌, ℕ, ◌+◌, ◌<◌, ◌≤◌, true, List, [], ◌∷◌, length, Contains}
 use Rattle.criteria.specs.Laws.{Rules}
 use Rattle.timetable.specs.declared.network.Footpath.{Footpath}
 use Rattle.timetable.specs.TimetableValue.{TimetableValue}
 use Rattle.timetable.specs.JourneyValue.{RideValue, JourneyValue}
-use Rattle.timetable.specs.Journeys.{connection_at, IsWalk, walk_end, walk_secs, Leads, final_time, Counts}
-use Rattle.timetable.specs.declared.query.Query.{Query}
+use Rattle.timetable.specs.Journeys.{connection_at, IsWalk, walk_end, walk_secs, Leads, final_time}
+use Rattle.profile_scan.specs.Between.{BetweenValue, CountsBetween}
 use Rattle.profile_scan.specs.Values.{walked, ridden}
 
 -- from a stop: a walk, and rides after it
@@ -24,12 +24,14 @@ abbrev pub BoardsFrom : ℕ → List RideValue → Type 0
 BoardsFrom i [] = ⊥
 BoardsFrom i (ride ∷ rides) = i ≤ ride.leg.first
 
--- from the stop, at the time, one walks over one or more footpaths, boards connection i or a later one, and is at the target by the query's latest arrival
-pub record IsOnward (t : TimetableValue) (q : Query) (i stop time : ℕ) (x : Onward) : Type 0 where
+-- from the stop, at the time, one walks over one or more footpaths, boards connection i or a later one, and is at a target by the query's latest arrival
+pub record IsOnward (t : TimetableValue) (q : BetweenValue) (i stop time : ℕ) (x : Onward) : Type 0 where
   pub walks : x.walk ≢ []
   pub is_walk : IsWalk t stop x.walk
   pub boards : BoardsFrom i x.rides
-  pub leads : Leads t q.target (walk_end stop x.walk) (time + walk_secs x.walk) x.rides
+  pub goal : ℕ
+  pub is_goal : Contains q.targets goal
+  pub leads : Leads t goal (walk_end stop x.walk) (time + walk_secs x.walk) x.rides
   pub arrives : final_time t 0 x.rides ≤ q.by
 
 -- when the walk after the trip is over, and when the rides after it are
@@ -39,20 +41,22 @@ time_off t x = (connection_at t x.last).arr + walk_secs x.walk
 abbrev pub time_there : TimetableValue → Aboard → ℕ
 time_there t x = final_time t (time_off t x) x.rides
 
--- in the trip, one stays up to connection i or a later one, gets off there, and is at the target by the query's latest arrival; before a further ride one walks
-pub record IsAboard (t : TimetableValue) (q : Query) (i trip : ℕ) (x : Aboard) : Type 0 where
+-- in the trip, one stays up to connection i or a later one, gets off there, and is at a target by the query's latest arrival; before a further ride one walks
+pub record IsAboard (t : TimetableValue) (q : BetweenValue) (i trip : ℕ) (x : Aboard) : Type 0 where
   pub later : i ≤ x.last
   pub in_range : x.last < length t.connections
   pub on_trip : (connection_at t x.last).trip ≡ trip
   pub alights : (connection_at t x.last).alight ≡ true
   pub is_walk : IsWalk t (connection_at t x.last).to x.walk
   pub walks : x.rides ≢ [] → x.walk ≢ []
-  pub leads : Leads t q.target (walk_end (connection_at t x.last).to x.walk) (time_off t x) x.rides
+  pub goal : ℕ
+  pub is_goal : Contains q.targets goal
+  pub leads : Leads t goal (walk_end (connection_at t x.last).to x.walk) (time_off t x) x.rides
   pub arrives : time_there t x ≤ q.by
 
 -- a journey that counts and boards connection i or a later one
-pub record CountsFrom (t : TimetableValue) (q : Query) (i departure : ℕ) (j : JourneyValue) : Type 0 where
-  pub counts : Counts t q departure j
+pub record CountsFrom (t : TimetableValue) (q : BetweenValue) (i departure : ℕ) (j : JourneyValue) : Type 0 where
+  pub counts : CountsBetween t q departure j
   pub boards : BoardsFrom i j.rides
 
 -- the values of these; in a trip, that of what comes after it, without the ride in it

@@ -1,15 +1,20 @@
 -- Queries from every stop at once, and when they can be asked.
-use Rattle.std.specs.Prelude.{ℕ, ◌<◌, ◌≤◌}
+use Rattle.std.specs.Prelude.{ℕ, ◌<◌, ◌≤◌, [], ◌∷◌}
 use Rattle.timetable.specs.declared.limits.TheConstants.{TIME_END}
 use Rattle.timetable.specs.declared.query.Query.{Query}
 use Rattle.timetable.specs.declared.query.QueryFault.{QueryFault}
 use Rattle.timetable.specs.declared.query.QueryFault.TheVariants.{UnknownStop, SameStop, BadWindow}
 use Rattle.timetable.specs.Queries.{HasBadWindow}
+use Rattle.profile_scan.specs.Between.{BetweenValue}
 use Rattle.profile_scan.specs.declared.destination.Destination.{Destination}
 
 -- the query from a stop
 abbrev pub query_from : Destination → ℕ → Query
 query_from d stop = record { source = stop; target = d.target; from = d.from; until = d.until; by = d.by }
+
+-- the query between no source and the target, for a scan that finds answers from every stop
+abbrev pub question_to : Destination → BetweenValue
+question_to d = record { sources = []; targets = d.target ∷ []; from = d.from; until = d.until; by = d.by }
 
 -- the target is a stop of a timetable with this many stops, and the times are possible
 pub record CanBeAsked (stops : ℕ) (d : Destination) : Type 0 where

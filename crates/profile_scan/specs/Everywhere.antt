@@ -9,14 +9,15 @@ use Rattle.timetable.specs.declared.query.Query.{Query}
 use Rattle.timetable.specs.Journeys.{Counts}
 use Rattle.fronts.specs.Labels.{AreLabels, trips_of}
 use Rattle.fronts.specs.Lists.{steps_of}
+use Rattle.profile_scan.specs.Between.{BetweenValue}
 use Rattle.profile_scan.specs.Values.{journey_value}
 use Rattle.profile_scan.specs.Continuations.{CountsFrom}
-use Rattle.profile_scan.specs.Plain.{IsPlain}
+use Rattle.profile_scan.specs.Plain.{IsPlain, IsPlainOf}
 use Rattle.profile_scan.specs.Points.{Before, IsAnswer}
 use Rattle.profile_scan.specs.Matching.{IsAttained, Matches, ScanValue}
 use Rattle.profile_scan.specs.Adding.{trip_points}
 use Rattle.profile_scan.specs.Story.{Story, story, told}
-use Rattle.profile_scan.specs.Kept.{AreStops, IsWay, points_at, ways_of}
+use Rattle.profile_scan.specs.Kept.{AreStops, IsWay, points_at, way_secs, ways_of}
 use Rattle.profile_scan.specs.Destinations.{query_from}
 use Rattle.profile_scan.specs.Origins.{AreOrigins, found_from, from_stop, set_outs_from}
 use Rattle.profile_scan.specs.declared.destination.Destination.{Destination}
@@ -45,10 +46,10 @@ pub record IsStateOfAll {K V : Type 0} {c : _} (rules_of : K → Rules V) (crite
   pub origins : AreOrigins criterion stops state.origins
 
 -- the points found from a stop match every journey from there that boards connection `start` or a later one
-abbrev pub HasFoundFrom : {K V : Type 0} {c : _} → Rules V → TimetableValue → Query → ℕ → StateOfAll K V c → ℕ → Type 0
+abbrev pub HasFoundFrom : {K V : Type 0} {c : _} → Rules V → TimetableValue → BetweenValue → ℕ → StateOfAll K V c → ℕ → Type 0
 HasFoundFrom rules t q start state stop =
     Matches rules (told t.footpaths (story_from state stop)).journey
-    (CountsFrom t (from_stop q stop) start) (IsPlain t q.target) (journey_value rules t) (found_from state.origins stop)
+    (CountsFrom t (from_stop q stop) start) (IsPlainOf t (Contains q.targets)) (journey_value rules t) (found_from state.origins stop)
 
 -- points are those of another list, in order
 pub record AreInOrder {V : Type 0} (rules : Rules V) (found points : List (Point V)) : Type 0 where
@@ -76,7 +77,7 @@ criterion_of_profiles profiles = profiles.asked.criterion
 
 -- the seconds of the footpath from a stop to the target, if there is one
 abbrev pub walk_from : {K V : Type 0} {c : _} → Profiles K V c → ℕ → Option ℕ
-walk_from profiles stop = slice_index_or (ways_of profiles.asked.ways) stop None
+walk_from profiles stop = way_secs (slice_index_or (ways_of profiles.asked.ways) stop None)
 
 -- from the query's source: its list is the answer of the query, each point's tag tells a plain journey that counts, with the point's departure and value, and
 -- the walk is the footpath from there to the target

@@ -11,7 +11,11 @@ use Rattle.profile_scan.specs.Plain.{IsPlain}
 use Rattle.profile_scan.specs.Matching.{IsAttained}
 use Rattle.profile_scan.specs.Nodes.{spelling}
 use Rattle.profile_scan.specs.Kept.{IsWay}
+use Rattle.timetable.specs.declared.network.Footpath.{Footpath}
+use Rattle.profile_scan.specs.Answered.{IsAnsweredBetween}
+use Rattle.profile_scan.specs.Between.{BetweenValue, question}
 use Rattle.profile_scan.specs.declared.found.Found.{Found}
+use Rattle.profile_scan.specs.declared.found_between.FoundBetween.{FoundBetween}
 use Rattle.profile_scan.specs.declared.nodes.Node.{Node}
 
 -- its points, in order
@@ -47,3 +51,28 @@ pub record Answers {K V : Type 0} {c : _} (criterion : K) (rules : Rules V) (t :
       → IsAttained (spelling (nodes_of found)).journey (Counts t q) (IsPlain t q.target) (journey_value rules t) p
   pub direct : IsWay t q.target q.source (walk_of_found found)
   pub keeps : (criterion_of_found found ≡ criterion) × (timetable_of found ≡ t) × (query_of found ≡ q)
+
+-- what contracts see of the answer of a query between sets: its points, nodes, direct walk, timetable, query and criterion
+abbrev pub listed_between : {K V : Type 0} {c : _} → FoundBetween K V c → List (Point V)
+listed_between found = found.points.items
+
+abbrev pub nodes_between : {K V : Type 0} {c : _} → FoundBetween K V c → List Node
+nodes_between found = found.nodes.items
+
+abbrev pub walk_between : {K V : Type 0} {c : _} → FoundBetween K V c → Option Footpath
+walk_between found = found.walk
+
+abbrev pub timetable_between : {K V : Type 0} {c : _} → FoundBetween K V c → TimetableValue
+timetable_between found = found.timetable.value
+
+abbrev pub query_between : {K V : Type 0} {c : _} → FoundBetween K V c → BetweenValue
+query_between found = question found.query.value
+
+abbrev pub criterion_between : {K V : Type 0} {c : _} → FoundBetween K V c → K
+criterion_between found = found.criterion
+
+-- it is the answer of a query between sets over a timetable, under a criterion
+pub record AnswersBetween {K V : Type 0} {c : _} (criterion : K) (rules : Rules V) (t : TimetableValue) (b : BetweenValue)
+    (found : FoundBetween K V c) : Type 0 where
+  pub answered : IsAnsweredBetween rules t b (listed_between found) (nodes_between found) (walk_between found)
+  pub keeps : (criterion_between found ≡ criterion) × (timetable_between found ≡ t) × (query_between found ≡ b)

@@ -1,21 +1,24 @@
 -- What a scan is asked, and the connection that it has come to.
-use Rattle.std.specs.Prelude.{◌≡◌, ℕ, ◌<◌, ◌≤◌, length, Contains, IfSome}
+use Rattle.std.specs.Prelude.{◌≡◌, ℕ, ◌<◌, ◌≤◌, List, Option, Some, length, slice_get, Contains, IfSome}
 use Rattle.criteria.specs.Laws.{Rules, Admits, IsTime, IsSecs}
 use Rattle.timetable.specs.declared.network.Connection.{Connection}
-use Rattle.timetable.specs.declared.query.Query.{Query}
+use Rattle.timetable.specs.declared.network.Footpath.{Footpath}
 use Rattle.timetable.specs.TimetableValue.{TimetableValue}
 use Rattle.timetable.specs.Journeys.{connection_at}
 use Rattle.sources.specs.FirstAt.{IsFirstAt}
-use Rattle.profile_scan.specs.Kept.{AreWays, IsWay, ways_of}
-use Rattle.profile_scan.specs.Starts.{AreStarts, SaysLed}
+use Rattle.profile_scan.specs.Between.{BetweenValue, question}
+use Rattle.profile_scan.specs.Kept.{AreWays, IsWayTo, ways_of}
+use Rattle.profile_scan.specs.Starts.{AreStarts, IsLead, SaysSource}
 use Rattle.profile_scan.specs.declared.hop.Asked.{Asked}
 use Rattle.profile_scan.specs.declared.hop.Hop.{Hop}
+use Rattle.profile_scan.specs.declared.starts.Lead.{Lead}
+use Rattle.profile_scan.specs.declared.starts.Starts.{Starts}
 
--- the query's latest arrival is a time, the starts lead from its source, and the ways to its target
+-- the query's latest arrival is a time, the starts lead from its sources, and the ways to its targets
 pub record IsAsked {K : Type 0} (t : TimetableValue) (asked : Asked K) : Type 0 where
   pub by : IsTime asked.query.by
-  pub starts : AreStarts t asked.query.source asked.starts
-  pub ways : AreWays t asked.query.target (ways_of asked.ways)
+  pub starts : AreStarts t (question asked.query).sources asked.starts
+  pub ways : AreWays t (question asked.query).targets (ways_of asked.ways)
 
 -- the indices from `start` on, before `end`, which is the first of a connection that departs at the latest arrival or later
 pub record IsWindow {K : Type 0} (t : TimetableValue) (asked : Asked K) (start end : ℕ) : Type 0 where
@@ -29,16 +32,23 @@ pub record StandsAt (t : TimetableValue) (place : ℕ) (c : Connection) : Type 0
   pub is : c ≡ connection_at t place
 
 -- the hop's numbers and values are within what the laws are about; nothing here ties them to a timetable
-pub record IsHop {V : Type 0} (rules : Rules V) (q : Query) (hop : Hop V) : Type 0 where
+pub record IsHop {V : Type 0} (rules : Rules V) (q : BetweenValue) (hop : Hop V) : Type 0 where
   pub arrival : IsTime hop.connection.arr
   pub by : IsTime q.by
-  pub secs : IfSome hop.way (λ secs. IsSecs secs)
+  pub secs : IfSome hop.way (λ way. IsSecs way.secs)
   pub bound : (b : V) → Contains hop.bound.now b → Admits rules b
 
--- the connection is at its index, it is known whether a footpath leads there from the source, and the way leads from where it ends to the target
-pub record IsHopOf {V : Type 0} (rules : Rules V) (t : TimetableValue) (q : Query) (hop : Hop V) : Type 0 where
+-- whether a start is from a source can be looked up: of where the connection begins it is in the hop, and of where a footpath begins in a table
+pub record CanTry {V : Type 0} (sources : List ℕ) (hop : Hop V) (starts : Starts) (start : Option Footpath) : Type 0 where
+  pub here : SaysSource sources hop.connection.from hop.lead.here
+  pub within : IfSome start (λ walk. walk.from < length starts.leads.items)
+  pub says : (stop : ℕ) (lead : Lead) → slice_get starts.leads.items stop ≡ Some lead → SaysSource sources stop lead.here
+
+-- the connection is at its index, it is known whether it begins at a source and whether a footpath leads there from one, and the way leads from where it ends
+-- to a target
+pub record IsHopOf {V : Type 0} (rules : Rules V) (t : TimetableValue) (q : BetweenValue) (hop : Hop V) : Type 0 where
   pub stands : StandsAt t hop.place hop.connection
   pub by : IsTime q.by
-  pub led : SaysLed t q.source hop.connection.from hop.led
-  pub way : IsWay t q.target hop.connection.to hop.way
+  pub lead : IsLead t q.sources hop.connection.from hop.lead
+  pub way : IsWayTo t q.targets hop.connection.to hop.way
   pub bound : (b : V) → Contains hop.bound.now b → Admits rules b

@@ -1,5 +1,5 @@
 -- What the vectors of a scan keep for each stop and each trip.
-use Rattle.std.specs.Prelude.{◌≡◌, ℕ, ◌<◌, List, length, vec_len, Contains, slice_get, slice_index, slice_index_or}
+use Rattle.std.specs.Prelude.{◌≡◌, ◌⊎◌, ℕ, ◌<◌, ◌≤◌, List, length, vec_len, Contains, slice_get, slice_index, slice_index_or}
 use Rattle.std.specs.Prelude.{Option, Some, None, Bool, true, false, nat_le, map}
 use Rattle.bags.specs.Bag.{criterion_of, points_of}
 use Rattle.bags.specs.declared.point.Point.{Point}
@@ -18,6 +18,7 @@ use Rattle.profile_scan.specs.declared.stops.Stops.{Stops}
 use Rattle.profile_scan.specs.Bound.{AreBounds}
 use Rattle.profile_scan.specs.declared.scan.Scan.{Scan}
 use Rattle.profile_scan.specs.declared.scan.State.{State}
+use Rattle.profile_scan.specs.declared.ways.Way.{Way}
 use Rattle.profile_scan.specs.declared.ways.Ways.{Ways}
 
 -- the points of a stop's list
@@ -46,22 +47,43 @@ abbrev pub IsWay : TimetableValue → ℕ → ℕ → Option ℕ → Type 0
 IsWay t target stop None = (f : Footpath) → Contains t.footpaths f → f.from ≡ stop → f.to ≡ target → ⊥
 IsWay t target stop (Some secs) = Contains t.footpaths (record { from = stop; to = target; secs = secs })
 
--- what a word says: the seconds of a footpath, or that there is none, if it is more than a footpath takes
-abbrev pub way_if : Bool → ℕ → Option ℕ
+-- what a word says: a way, or that there is none, if its seconds are more than a footpath takes
+abbrev pub way_if : Bool → Way → Option Way
 way_if true word = Some word
 way_if false word = None
 
-abbrev pub way_in : ℕ → Option ℕ
-way_in word = way_if (nat_le word MAX_WALK_SECS) word
+abbrev pub way_in : Way → Option Way
+way_in word = way_if (nat_le word.secs MAX_WALK_SECS) word
 
--- the seconds of the footpath from each stop
-abbrev pub ways_of : Ways → List (Option ℕ)
-ways_of ways = map way_in ways.seconds.items
+-- the way from each stop
+abbrev pub ways_of : Ways → List (Option Way)
+ways_of ways = map way_in ways.words.items
+
+-- the seconds of a way, if there is one
+abbrev pub way_secs : Option Way → Option ℕ
+way_secs None = None
+way_secs (Some way) = Some way.secs
+
+-- a way from a stop leads to the target at index `place`. From a target it is the loop; from another stop no footpath to a target is shorter, and of equal ones
+-- it leads to the target that is named first
+pub record IsNearest (t : TimetableValue) (targets : List ℕ) (stop : ℕ) (way : Way) : Type 0 where
+  pub place : ℕ
+  pub leads : slice_get targets place ≡ Some way.to
+  pub is_footpath : Contains t.footpaths (record { from = stop; to = way.to; secs = way.secs })
+  pub own : Contains targets stop → way.to ≡ stop
+  pub least : (Contains targets stop → ⊥) → (k : ℕ) (f : Footpath) → slice_get targets k ≡ Some f.to → Contains t.footpaths f
+      → f.from ≡ stop → (way.secs < f.secs) ⊎ ((way.secs ≡ f.secs) × (place ≤ k))
+
+-- how one ends a journey at a stop: by its way; or not at all, if it isn't a target and no footpath leads from there to one
+abbrev pub IsWayTo : TimetableValue → List ℕ → ℕ → Option Way → Type 0
+IsWayTo t targets stop None = (Contains targets stop → ⊥)
+    × ((f : Footpath) → Contains t.footpaths f → f.from ≡ stop → Contains targets f.to → ⊥)
+IsWayTo t targets stop (Some way) = IsNearest t targets stop way
 
 -- there is an entry for each stop, which is right
-pub record AreWays (t : TimetableValue) (target : ℕ) (ways : List (Option ℕ)) : Type 0 where
+pub record AreWays (t : TimetableValue) (targets : List ℕ) (ways : List (Option Way)) : Type 0 where
   pub long : length ways ≡ t.stops
-  pub each : (stop : ℕ) → stop < t.stops → IsWay t target stop (slice_index_or ways stop None)
+  pub each : (stop : ℕ) → stop < t.stops → IsWayTo t targets stop (slice_index_or ways stop None)
 
 -- there is a list for the stop, and the lists of all stops are as `AreStops` says
 pub record HasStop {K V : Type 0} (rules_of : K → Rules V) (criterion : K) (stop : ℕ) (kept : Stops K V) : Type 0 where

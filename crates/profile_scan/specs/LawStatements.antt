@@ -7,21 +7,22 @@ use Rattle.bags.specs.declared.point.Point.{Point}
 use Rattle.timetable.specs.declared.network.Footpath.{Footpath}
 use Rattle.timetable.specs.declared.limits.TheConstants.{TIME_END}
 use Rattle.timetable.specs.TimetableValue.{TimetableValue}
+use Rattle.timetable.specs.declared.query.Query.{Query}
 use Rattle.timetable.specs.JourneyValue.{RideValue, JourneyValue}
 use Rattle.timetable.specs.Legal.{IsLegal}
 use Rattle.timetable.specs.Limits.{IsWithinLimits}
 use Rattle.timetable.specs.Journeys.{connection_at, IsWalk, walk_end, walk_secs, Leads}
-use Rattle.timetable.specs.declared.query.Query.{Query}
 use Rattle.profile_scan.specs.Values.{walked, journey_value}
-use Rattle.profile_scan.specs.Points.{IsAnswer, Before, untagged}
+use Rattle.profile_scan.specs.Points.{Before, untagged}
 use Rattle.profile_scan.specs.Window.{window, falling}
 use Rattle.sources.specs.FirstAt.{IsFirstAt}
+use Rattle.profile_scan.specs.Between.{BetweenValue, IsAnswerBetween}
 use Rattle.profile_scan.specs.Continuations.{Onward, Aboard, IsOnward, IsAboard, CountsFrom}
-use Rattle.profile_scan.specs.Plain.{IsPlain}
+use Rattle.profile_scan.specs.Plain.{IsPlainOf}
 use Rattle.profile_scan.specs.Matching.{Spelling, Spellings, Matches, ScanValue, MatchesFrom}
 
 -- a legal timetable within the limits, and a query whose latest arrival is a time
-pub record CanScan (t : TimetableValue) (q : Query) : Type 0 where
+pub record CanScan (t : TimetableValue) (q : BetweenValue) : Type 0 where
   pub legal : IsLegal t
   pub limits : IsWithinLimits t
   pub in_time : q.by < TIME_END
@@ -56,9 +57,9 @@ TogetherNeverContinue = (t : TimetableValue) → IsLegal t → DeparturesRise t
 
 -- if what is kept matches all ways to go on over the later connections, then after the step of one connection it matches those that begin with this one, too
 abbrev pub OneIndexDown : {V : Type 0} → Rules V
-    → (TimetableValue → Query → Spellings → ℕ → ScanValue V → ScanValue V → Type 0) → Type 0
+    → (TimetableValue → BetweenValue → Spellings → ℕ → ScanValue V → ScanValue V → Type 0) → Type 0
 OneIndexDown {V} rules Step =
-    (t : TimetableValue) (q : Query) → CanScan t q
+    (t : TimetableValue) (q : BetweenValue) → CanScan t q
     → (tags : Spellings) (i : ℕ) → i < length t.connections
     → (old new : ScanValue V) → MatchesFrom rules t q tags.earlier (i + 1) old → Step t q tags i old new
     → MatchesFrom rules t q tags.later i new
@@ -75,43 +76,43 @@ pub record StaySpelled {V : Type 0} (a b : Spelling) (scan : ScanValue V) : Type
 -- what matches still does if further tags come to spell something
 abbrev pub TagsMayCome : {V : Type 0} → Rules V → Type 0
 TagsMayCome {V} rules =
-    (t : TimetableValue) (q : Query) (a b : Spelling) (i : ℕ) (scan : ScanValue V)
+    (t : TimetableValue) (q : BetweenValue) (a b : Spelling) (i : ℕ) (scan : ScanValue V)
     → StaySpelled a b scan → MatchesFrom rules t q a i scan → MatchesFrom rules t q b i scan
 
 -- the latest departure matters only at the source: ways to go on from a stop or in a trip don't depend on it; a journey that counts departs no later, and
 -- counts for any other latest departure that isn't before its own
-pub record CutIsTheSources (JourneyCounts : TimetableValue → Query → ℕ → JourneyValue → Type 0) : Type 0 where
-  pub onward : (t : TimetableValue) (q : Query) (until i stop time : ℕ) (x : Onward) → IsOnward t q i stop time x
+pub record CutIsTheSources (JourneyCounts : TimetableValue → BetweenValue → ℕ → JourneyValue → Type 0) : Type 0 where
+  pub onward : (t : TimetableValue) (q : BetweenValue) (until i stop time : ℕ) (x : Onward) → IsOnward t q i stop time x
       → IsOnward t (record q { until = until }) i stop time x
-  pub aboard : (t : TimetableValue) (q : Query) (until i trip : ℕ) (x : Aboard) → IsAboard t q i trip x
+  pub aboard : (t : TimetableValue) (q : BetweenValue) (until i trip : ℕ) (x : Aboard) → IsAboard t q i trip x
       → IsAboard t (record q { until = until }) i trip x
-  pub is_cut : (t : TimetableValue) (q : Query) (departure : ℕ) (j : JourneyValue) → JourneyCounts t q departure j
+  pub is_cut : (t : TimetableValue) (q : BetweenValue) (departure : ℕ) (j : JourneyValue) → JourneyCounts t q departure j
       → departure ≤ q.until
-  pub at_source : (t : TimetableValue) (q : Query) (until departure : ℕ) (j : JourneyValue) → departure ≤ until
+  pub at_source : (t : TimetableValue) (q : BetweenValue) (until departure : ℕ) (j : JourneyValue) → departure ≤ until
       → JourneyCounts t q departure j → JourneyCounts t (record q { until = until }) departure j
 
 -- points found that match at the window's start, none of which dominates another, in order, are the answer
 abbrev pub MatchIsTheAnswer : {V : Type 0} → Rules V → Type 0
 MatchIsTheAnswer {V} rules =
-    (t : TimetableValue) (q : Query) → CanScan t q
+    (t : TimetableValue) (q : BetweenValue) → CanScan t q
     → (start : ℕ) → IsFirstAt t q.from start
     → (tags : Spelling) (found : List (Point V))
-    → Matches rules tags.journey (CountsFrom t q start) (IsPlain t q.target) (journey_value rules t) found
+    → Matches rules tags.journey (CountsFrom t q start) (IsPlainOf t (Contains q.targets)) (journey_value rules t) found
     → IsBag rules found → AllPairs (Before rules) found
-    → IsAnswer rules t q found
+    → IsAnswerBetween rules t q found
 
 -- past the window's end nothing follows, so empty lists match
 abbrev pub NothingFollows : {V : Type 0} → Rules V → Type 0
 NothingFollows {V} rules =
-    (t : TimetableValue) (q : Query) → CanScan t q
+    (t : TimetableValue) (q : BetweenValue) → CanScan t q
     → (end : ℕ) → IsFirstAt t q.by end
     → (tags : Spelling) → MatchesFrom rules t q tags end (record { bag = λ _. []; labels = λ _. []; found = [] })
 
 -- there is only one answer, tags aside
 abbrev pub OneAnswer : {V : Type 0} → Rules V → Type 0
 OneAnswer {V} rules =
-    (t : TimetableValue) (q : Query) → CanScan t q
-    → (a b : List (Point V)) → IsAnswer rules t q a → IsAnswer rules t q b
+    (t : TimetableValue) (q : BetweenValue) → CanScan t q
+    → (a b : List (Point V)) → IsAnswerBetween rules t q a → IsAnswerBetween rules t q b
     → map untagged a ≡ map untagged b
 
 -- a window read backward: its indices lie between the first ones at two times, each is that of a connection, and departures never rise

@@ -15,6 +15,7 @@ pub mod Adding
 pub mod Starts
 pub mod Hops
 pub mod Kept
+pub mod Nearest
 pub mod Telling
 pub mod Answered
 pub mod Found

@@ -5,11 +5,11 @@ use Rattle.bags.specs.declared.point.Point.{Point}
 use Rattle.timetable.specs.TimetableValue.{TimetableValue}
 use Rattle.timetable.specs.JourneyValue.{JourneyValue}
 use Rattle.timetable.specs.Journeys.{connection_at}
-use Rattle.timetable.specs.declared.query.Query.{Query}
+use Rattle.profile_scan.specs.Between.{BetweenValue}
 use Rattle.profile_scan.specs.Values.{journey_value}
 use Rattle.profile_scan.specs.Points.{Covers}
 use Rattle.profile_scan.specs.Continuations.{Onward, Aboard, IsOnward, IsAboard, CountsFrom, onward_value, aboard_value}
-use Rattle.profile_scan.specs.Plain.{IsPlainOnward, IsPlainAboard, IsPlain}
+use Rattle.profile_scan.specs.Plain.{IsPlainOnward, IsPlainAboard, IsPlainOf}
 
 -- what the tags of the points of stops, of labels and of the points found spell: how one goes on, or nothing
 pub record Spelling : Type 0 where
@@ -65,7 +65,7 @@ pub record MatchesBut {V X : Type 0} (rules : Rules V) (spelled : ℕ → Option
       ⊎ Outdone (value x)
 
 -- who sits in a trip has departed: labels have departure 0
-pub record IsLabelled (t : TimetableValue) (q : Query) (i trip departure : ℕ) (x : Aboard) : Type 0 where
+pub record IsLabelled (t : TimetableValue) (q : BetweenValue) (i trip departure : ℕ) (x : Aboard) : Type 0 where
   pub departed : departure ≡ 0
   pub aboard : IsAboard t q i trip x
 
@@ -76,12 +76,12 @@ pub record ScanValue (V : Type 0) : Type 0 where
   pub found : List (Point V)
 
 -- it matches every way to go on over the connections from index i on; at stops and in trips except those that the points found outdo, in a trip after the ride
-pub record MatchesFrom {V : Type 0} (rules : Rules V) (t : TimetableValue) (q : Query) (tags : Spelling) (i : ℕ)
+pub record MatchesFrom {V : Type 0} (rules : Rules V) (t : TimetableValue) (q : BetweenValue) (tags : Spelling) (i : ℕ)
     (scan : ScanValue V) : Type 0 where
   pub at_stops : (stop : ℕ) → stop < t.stops
-      → MatchesBut rules tags.onward (IsOnward t q i stop) (IsPlainOnward t q.target) (onward_value rules t)
+      → MatchesBut rules tags.onward (IsOnward t q i stop) (IsPlainOnward t (Contains q.targets)) (onward_value rules t)
       (IsOutdone rules t scan.found i) (scan.bag stop)
   pub in_trips : (trip : ℕ) → trip < t.trips
-      → MatchesBut rules tags.aboard (IsLabelled t q i trip) (IsPlainAboard t q.target) (aboard_value rules t)
+      → MatchesBut rules tags.aboard (IsLabelled t q i trip) (IsPlainAboard t (Contains q.targets)) (aboard_value rules t)
       (λ v. IsOutdone rules t scan.found i (rules.ride v)) (scan.labels trip)
-  pub at_source : Matches rules tags.journey (CountsFrom t q i) (IsPlain t q.target) (journey_value rules t) scan.found
+  pub at_source : Matches rules tags.journey (CountsFrom t q i) (IsPlainOf t (Contains q.targets)) (journey_value rules t) scan.found

@@ -1,13 +1,13 @@
 -- What a scan keeps for each stop as a source.
-use Rattle.std.specs.Prelude.{◌≡◌, ℕ, List, [], length, Option, Some, None, slice_get}
+use Rattle.std.specs.Prelude.{◌≡◌, ℕ, List, [], ◌∷◌, length, Option, Some, None, slice_get}
 use Rattle.criteria.specs.Laws.{Rules}
 use Rattle.bags.specs.Bag.{criterion_of, points_of}
 use Rattle.bags.specs.declared.point.Point.{Point}
 use Rattle.timetable.specs.declared.network.Connection.{Connection}
 use Rattle.timetable.specs.declared.network.Footpath.{Footpath}
-use Rattle.timetable.specs.declared.query.Query.{Query}
 use Rattle.fronts.specs.Front.{Extends}
 use Rattle.fronts.specs.declared.entry.Step.{Step}
+use Rattle.profile_scan.specs.Between.{BetweenValue}
 use Rattle.profile_scan.specs.Matching.{Spellings}
 use Rattle.profile_scan.specs.Steps.{Offer}
 use Rattle.profile_scan.specs.Adding.{Takes}
@@ -18,13 +18,17 @@ use Rattle.profile_scan.specs.declared.story.Exit.{Exit}
 use Rattle.profile_scan.specs.declared.story.SetOut.{SetOut}
 
 -- the same query from another stop
-abbrev pub from_stop : Query → ℕ → Query
-from_stop q stop = record q { source = stop }
+abbrev pub from_stop : BetweenValue → ℕ → BetweenValue
+from_stop q stop = record q { sources = stop ∷ [] }
 
 -- the stop where one sets out by a start to board a connection
 abbrev pub starts_at : Connection → Option Footpath → ℕ
 starts_at c None = c.from
 starts_at c (Some walk) = walk.from
+
+abbrev pub IsLoop : Option Footpath → Type 0
+IsLoop None = ⊥
+IsLoop (Some walk) = walk.to ≡ walk.from
 
 abbrev pub found_by : {K V : Type 0} {c : _} → Option (Origin K V c) → List (Point V)
 found_by None = []

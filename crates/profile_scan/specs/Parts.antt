@@ -4,7 +4,6 @@ use Rattle.criteria.specs.Laws.{Rules, Admits}
 use Rattle.bags.specs.Bag.{criterion_of, points_of}
 use Rattle.bags.specs.declared.point.Point.{Point}
 use Rattle.timetable.specs.declared.network.Footpath.{Footpath}
-use Rattle.timetable.specs.declared.query.Query.{Query}
 use Rattle.timetable.specs.TimetableValue.{TimetableValue}
 use Rattle.timetable.specs.Journeys.{connection_at}
 use Rattle.fronts.specs.Front.{Extends}
@@ -13,9 +12,10 @@ use Rattle.fronts.specs.Lists.{steps_of}
 use Rattle.fronts.specs.declared.entry.Ridden.{Ridden}
 use Rattle.fronts.specs.declared.entry.Step.{Step}
 use Rattle.fronts.specs.declared.labels.Label.{Label}
+use Rattle.profile_scan.specs.Between.{BetweenValue}
 use Rattle.profile_scan.specs.Values.{journey_value}
 use Rattle.profile_scan.specs.Continuations.{CountsFrom}
-use Rattle.profile_scan.specs.Plain.{IsPlain}
+use Rattle.profile_scan.specs.Plain.{IsPlainOf}
 use Rattle.profile_scan.specs.Matching.{Matches, Spellings}
 use Rattle.profile_scan.specs.Steps.{Offer, leavings, boardings, settings_out}
 use Rattle.profile_scan.specs.Adding.{Takes, IsRelabelled, AreRidden, StandsBetween, each_of, boardings_by}
@@ -118,7 +118,7 @@ points_of_trip state hop = trip_points state.trips.labels hop.connection.trip
 
 -- a state takes a connection in, in the order of the code: alighting changes the labels of its trip; by these one sets out, which changes the points found, and
 -- boards, which changes the points of every stop
-pub record TakesConnection {K V : Type 0} {c : _} (rules : Rules V) (t : TimetableValue) (q : Query) (hop : Hop V)
+pub record TakesConnection {K V : Type 0} {c : _} (rules : Rules V) (t : TimetableValue) (q : BetweenValue) (hop : Hop V)
     (old new : State K V c) : Type 0 where
   pub between : Story
   pub grows_first : Grows (story_of old) between
@@ -136,9 +136,9 @@ pub record TakesConnection {K V : Type 0} {c : _} (rules : Rules V) (t : Timetab
       (points_at old.stops stop) (points_at new.stops stop)
 
 -- points found, under a criterion, match every journey that boards connection `start` or a later one
-pub record HasFound {K V : Type 0} {c : _} (rules_of : K → Rules V) (t : TimetableValue) (criterion : K) (q : Query)
+pub record HasFound {K V : Type 0} {c : _} (rules_of : K → Rules V) (t : TimetableValue) (criterion : K) (q : BetweenValue)
     (start : ℕ) (state : State K V c) : Type 0 where
   pub same : criterion_of state.origin.found ≡ criterion
   pub matches : Matches (rules_of criterion) (told t.footpaths (story_of state)).journey
-      (CountsFrom t q start) (IsPlain t q.target) (journey_value (rules_of criterion) t)
+      (CountsFrom t q start) (IsPlainOf t (Contains q.targets)) (journey_value (rules_of criterion) t)
       (points_of state.origin.found)

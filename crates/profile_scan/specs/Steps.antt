@@ -7,10 +7,11 @@ use Rattle.timetable.specs.declared.network.Footpath.{Footpath}
 use Rattle.timetable.specs.TimetableValue.{TimetableValue}
 use Rattle.timetable.specs.JourneyValue.{RideValue}
 use Rattle.timetable.specs.Journeys.{connection_at, IsStart, start_end, start_secs}
-use Rattle.timetable.specs.declared.query.Query.{Query}
+use Rattle.profile_scan.specs.Between.{BetweenValue}
 use Rattle.profile_scan.specs.Values.{started}
 use Rattle.profile_scan.specs.Points.{Covers}
 use Rattle.profile_scan.specs.Continuations.{Onward, Aboard}
+use Rattle.profile_scan.specs.declared.ways.Way.{Way}
 use Rattle.profile_scan.specs.Matching.{Spelling, Spellings, Keeps, from_to, IsOutdone, ScanValue}
 
 -- what is offered to a list of points: those of the ways A that are open, and for each a departure, a value, and the tags that fit
@@ -34,20 +35,20 @@ pub record TakesIn {A V : Type 0} (rules : Rules V) (offer : Offer A V) (old new
   pub kept : (departure : ℕ) (v : V) → Admits rules v → Covers rules old departure v → Covers rules new departure v
   pub covered : (way : A) → offer.is_open way → Covers rules new (offer.departure way) (offer.value way)
 
--- how a passenger may leave a trip where a connection ends: at the target; one footpath before the target; or to change, as a point of that stop does
+-- how a passenger may leave a trip where a connection ends: at a target; one footpath before a target; or to change, as a point of that stop does
 pub data Leaving (V : Type 0) : Type 0 where
   ends : Leaving V
   ends_after : Footpath → Leaving V
   changes : Point V → Leaving V
 
 -- whether that way is open, given the points of the stop
-abbrev pub MayLeave : {V : Type 0} → TimetableValue → Query → ℕ → List (Point V) → Leaving V → Type 0
-MayLeave t q i bag ends = ((connection_at t i).to ≡ q.target) × ((connection_at t i).arr ≤ q.by)
+abbrev pub MayLeave : {V : Type 0} → TimetableValue → BetweenValue → ℕ → List (Point V) → Leaving V → Type 0
+MayLeave t q i bag ends = Contains q.targets (connection_at t i).to × ((connection_at t i).arr ≤ q.by)
 MayLeave t q i bag (ends_after f) =
     Contains t.footpaths f
     × (f.from ≡ (connection_at t i).to)
-    × (f.to ≡ q.target)
-    × ((connection_at t i).to ≢ q.target)
+    × Contains q.targets f.to
+    × (Contains q.targets (connection_at t i).to → ⊥)
     × ((connection_at t i).arr + f.secs ≤ q.by)
 MayLeave t q i bag (changes p) = Contains bag p × ((connection_at t i).arr ≤ p.departure)
 
@@ -66,7 +67,7 @@ LeavingTag tags i (changes p) tag =
     → tags.later.aboard tag ≡ Some (record { last = i; walk = x.walk; rides = x.rides })
 
 -- offered to the labels of the connection's trip: each way to leave it, if passengers may get off
-abbrev pub leavings : {V : Type 0} → Rules V → TimetableValue → Query → Spellings → ℕ → List (Point V)
+abbrev pub leavings : {V : Type 0} → Rules V → TimetableValue → BetweenValue → Spellings → ℕ → List (Point V)
     → Offer (Leaving V) V
 leavings rules t q tags i bag = record {
   is_open = λ way. ((connection_at t i).alight ≡ true) × MayLeave t q i bag way;
@@ -110,24 +111,26 @@ pub record SettingOut (V : Type 0) : Type 0 where
   pub start : Option Footpath
   pub label : Point V
 
--- one may set out by a start of some kind; only here the query's earliest and latest departure matter
-pub record MaySetOutBy {V : Type 0} (IsOfKind : Option Footpath → Type 0) (t : TimetableValue) (q : Query) (i : ℕ)
+-- one may set out from a source by a start of some kind; only here the query's earliest and latest departure matter
+pub record MaySetOutBy {V : Type 0} (IsOfKind : ℕ → Option Footpath → Type 0) (t : TimetableValue) (q : BetweenValue) (i : ℕ)
     (labels : List (Point V))
     (way : SettingOut V) : Type 0 where
   pub boards : (connection_at t i).board ≡ true
-  pub is_start : IsOfKind way.start
-  pub leads : start_end q.source way.start ≡ (connection_at t i).from
+  pub source : ℕ
+  pub is_source : Contains q.sources source
+  pub is_start : IsOfKind source way.start
+  pub leads : start_end source way.start ≡ (connection_at t i).from
   pub fits : start_secs way.start ≤ (connection_at t i).dep
   pub not_early : q.from ≤ (connection_at t i).dep - start_secs way.start
   pub not_late : (connection_at t i).dep - start_secs way.start ≤ q.until
   pub is_label : Contains labels way.label
 
 -- the start is none or one footpath to another stop, never a loop
-abbrev pub MaySetOut : {V : Type 0} → TimetableValue → Query → ℕ → List (Point V) → SettingOut V → Type 0
-MaySetOut t q = MaySetOutBy (IsStart t q.source) t q
+abbrev pub MaySetOut : {V : Type 0} → TimetableValue → BetweenValue → ℕ → List (Point V) → SettingOut V → Type 0
+MaySetOut t q = MaySetOutBy (IsStart t) t q
 
 -- offered to the points found: each label, after each start
-abbrev pub settings_out : {V : Type 0} → Rules V → TimetableValue → Query → Spellings → ℕ → List (Point V)
+abbrev pub settings_out : {V : Type 0} → Rules V → TimetableValue → BetweenValue → Spellings → ℕ → List (Point V)
     → Offer (SettingOut V) V
 settings_out rules t q tags i labels = record {
   is_open = MaySetOut t q i labels;
@@ -148,7 +151,7 @@ pub record AreCarried {V : Type 0} (rules : Rules V) (t : TimetableValue) (found
 -- the step of one connection, from what a scan keeps of the later ones: first the labels of its trip change, by the points of the stop where it ends; then, by
 -- these labels and what their tags spell in between, the points found and the points of every stop. All labels are offered to the points found; what these
 -- outdo isn't carried on to labels and stops
-pub record IsStep {V : Type 0} (rules : Rules V) (t : TimetableValue) (q : Query) (tags : Spellings) (i : ℕ)
+pub record IsStep {V : Type 0} (rules : Rules V) (t : TimetableValue) (q : BetweenValue) (tags : Spellings) (i : ℕ)
     (old new : ScanValue V) : Type 0 where
   pub between : Spelling
   pub kept_first : Keeps tags.earlier between
@@ -165,9 +168,8 @@ pub record IsStep {V : Type 0} (rules : Rules V) (t : TimetableValue) (q : Query
   pub sets_out : TakesIn rules
       (settings_out rules t q (from_to between tags.later) i (new.labels (connection_at t i).trip)) old.found new.found
 
--- a connection at which nothing is offered: its trip has no labels, and whoever gets off can neither be at the target nor go on, on foot or by a point of the
--- stop
-pub record IsIdle {V : Type 0} (q : Query) (c : Connection) (way : Option ℕ)
+-- a connection at which nothing is offered: its trip has no labels, and whoever gets off can neither end there nor go on, on foot or by a point of the stop
+pub record IsIdle {V : Type 0} (c : Connection) (way : Option Way)
     (labels bag : List (Point V)) : Type 0 where
   pub no_labels : labels ≡ []
-  pub ends_here : c.alight ≡ true → (c.to ≢ q.target) × (way ≡ None) × (bag ≡ [])
+  pub ends_here : c.alight ≡ true → (way ≡ None) × (bag ≡ [])

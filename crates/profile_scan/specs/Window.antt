@@ -5,13 +5,17 @@ use Rattle.timetable.specs.TimetableValue.{TimetableValue}
 use Rattle.timetable.specs.Journeys.{connection_at}
 use Rattle.timetable.specs.declared.query.Query.{Query}
 
--- a connection departs no earlier than journeys may, and before they must have arrived
-abbrev pub departs_inside : TimetableValue → Query → ℕ → Bool
-departs_inside t q i = nat_le q.from (connection_at t i).dep && nat_lt (connection_at t i).dep q.by
+-- a connection departs at one time or later, and before another
+abbrev pub departs_inside : TimetableValue → ℕ → ℕ → ℕ → Bool
+departs_inside t from by i = nat_le from (connection_at t i).dep && nat_lt (connection_at t i).dep by
 
 -- the indices of all such connections, rising
+abbrev pub window_of : TimetableValue → ℕ → ℕ → List ℕ
+window_of t from by = filter (departs_inside t from by) (range_with_len 0 (length t.connections))
+
+-- those that depart no earlier than journeys may, and before they must have arrived
 abbrev pub window : TimetableValue → Query → List ℕ
-window t q = filter (departs_inside t q) (range_with_len 0 (length t.connections))
+window t q = window_of t q.from q.by
 
 -- n indices from low on, the last first
 abbrev pub falling : ℕ → ℕ → List ℕ

@@ -2,10 +2,14 @@
 
 ghost use Rattle.std.specs.Prelude.{◌≡◌, ◌++◌, ℕ, IfOk, OnOk, OnErr, reverse, take};
 ghost use Rattle.timetable.specs.Queries.{IsAskable};
-ghost use Rattle.profile_scan.specs.Window.{window};
-ghost use Rattle.profile_scan.specs.Found.{Answers};
+ghost use Rattle.profile_scan.specs.Between.{IsAskableBetween, question};
+ghost use Rattle.profile_scan.specs.Window.{window, window_of};
+ghost use Rattle.profile_scan.specs.Found.{Answers, AnswersBetween};
+ghost use Rattle.profile_scan.specs.Hops.{IsAsked};
 
+use crate::between::Between;
 use crate::found::{Found, in_order};
+use crate::found_between::FoundBetween;
 use crate::hop::Asked;
 use crate::scan::scan_window;
 use crate::starts::starts_from;
@@ -46,16 +50,37 @@ pub fn profile<S: ConnSource, C: Criterion>(
     ensures err { OnErr result ((n : ℕ)
         × (S.log source.new ≡ S.log source.old ++ take n (reverse (window (S.timetable source.old) query.now)))) }
 {
+    let between = Between::one(alloc, query)?;
+    let found = profile_between(alloc, source, criterion, &between)?;
+    Ok(found.of_one(query))
+}
+
+/// Finds the answer of a query between sets that can be asked: exactly the points of all journeys that count for some
+/// pair of a source and a target which no other such point dominates, in order.
+///
+/// Each point has a tag that spells a journey which attains it, and the direct walk is beside them: of the footpaths
+/// from a source to a target the shortest, and of equal ones the first in the order of the lists. However many stops
+/// there are, each connection that departs at `from` or later and before `by` is asked for once, from the last to the
+/// first. The only error is that memory runs out, or that a number would need more than 32 bits; then only a first part
+/// of these connections was asked for.
+pub fn profile_between<S: ConnSource, C: Criterion>(
+    alloc: Global,
+    source: &mut S,
+    criterion: &C,
+    query: &Between,
+) -> Result<FoundBetween<C>, AllocError>
+    requires { IsAskableBetween (S.timetable source.old).stops (question query.now) }
+    ensures timetable { S.timetable source.new ≡ S.timetable source.old }
+    ensures answers { IfOk result (λ found.
+        AnswersBetween criterion.now (C.rules criterion.now) (S.timetable source.old) (question query.now) found) }
+    ensures log { OnOk result (S.log source.new ≡ S.log source.old
+        ++ reverse (window_of (S.timetable source.old) query.now.from query.now.by)) }
+    ensures err { OnErr result ((n : ℕ) × (S.log source.new ≡ S.log source.old
+        ++ take n (reverse (window_of (S.timetable source.old) query.now.from query.now.by)))) }
+{
     let start = source.first_at(query.from);
     let end = source.first_at(query.by);
-    let starts = starts_from(alloc, source, query.source)?;
-    let ways = ways_to(alloc, source, query.target)?;
-    let asked = Asked {
-        criterion: *criterion,
-        query: *query,
-        starts,
-        ways,
-    };
+    let asked = ask(alloc, source, criterion, query)?;
     let scan = scan_window(alloc, source, &asked, start..end)?;
     let points = in_order(alloc, criterion, &scan.state.origin.found)?;
     let view = View {
@@ -64,12 +89,35 @@ pub fn profile<S: ConnSource, C: Criterion>(
         origin: &scan.state.origin,
     };
     let told = tell_journeys(alloc, source, &view, &points)?;
-    Ok(Found {
+    Ok(FoundBetween {
         criterion: *criterion,
         points: told.points,
         nodes: told.nodes,
-        walk: asked.ways.secs_from(query.source),
+        walk: asked.ways.direct_walk(&query.sources),
         timetable: timetable_of(source),
         query: Kept::of(query),
+    })
+}
+
+// Makes what a scan asks: how one sets out from the sources, and the ways to the targets.
+fn ask<S: ConnSource, C: Criterion>(
+    alloc: Global,
+    source: &S,
+    criterion: &C,
+    query: &Between,
+) -> Result<Asked<C>, AllocError>
+    requires { IsAskableBetween (S.timetable source.now).stops (question query.now) }
+    ensures asked { IfOk result (λ asked. IsAsked (S.timetable source.now) asked) }
+    ensures keeps { IfOk result (λ asked. (asked.criterion ≡ criterion.now)
+        × (question asked.query ≡ question query.now)) }
+{
+    let starts = starts_from(alloc, source, &query.sources)?;
+    let ways = ways_to(alloc, source, &query.targets)?;
+    let query = query.copy()?;
+    Ok(Asked {
+        criterion: *criterion,
+        query,
+        starts,
+        ways,
     })
 }

@@ -22,6 +22,19 @@ impl Between {
     ghost use Rattle.std.specs.Prelude.{◌≡◌, IfOk};
     ghost use Rattle.profile_scan.specs.Between.{between_one, question};
 
+    // A copy of the query.
+    pub(crate) fn copy(&self) -> Result<Self, AllocError>
+        ensures { IfOk result (λ copy. question copy ≡ question self.now) }
+    {
+        Ok(Between {
+            sources: self.sources.clone()?,
+            targets: self.targets.clone()?,
+            from: self.from,
+            until: self.until,
+            by: self.by,
+        })
+    }
+
     /// The query between one source and one target. The only error is that memory runs out.
     pub fn one(alloc: Global, query: &Query) -> Result<Self, AllocError>
         ensures { IfOk result (λ between. question between ≡ between_one query.now) }

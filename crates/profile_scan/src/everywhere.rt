@@ -10,6 +10,7 @@ use crate::origins::Origins;
 use crate::scan::ends_nothing;
 use crate::stops::Stops;
 use crate::trips::Trips;
+use crate::ways::Way;
 use criteria::Criterion;
 use fronts::{label_count, labels_of};
 use sources::ConnSource;
@@ -27,6 +28,7 @@ pub struct StateOfAll<C: Criterion> {
 }
 
 impl<C: Criterion> StateOfAll<C> {
+    ghost use Rattle.profile_scan.specs.Between.{question};
     ghost use Rattle.std.specs.Prelude.{◌≡◌, ◌<◌, [], ℕ, IfOk, OnOk, true};
     ghost use Rattle.profile_scan.specs.Matching.{from_to};
     ghost use Rattle.profile_scan.specs.Steps.{IsIdle, IsStep};
@@ -56,17 +58,17 @@ impl<C: Criterion> StateOfAll<C> {
     }
 
     // Returns true only if the connection can add nothing, as many can't; false is always safe.
-    fn is_idle(&self, asked: &Asked<C>, connection: &Connection, way: Option<u32>) -> bool
+    fn is_idle(&self, asked: &Asked<C>, connection: &Connection, way: Option<Way>) -> bool
         requires trip { HasTrip (C.rules asked.now.criterion) connection.now.trip self.now.trips }
         requires stop { HasStop C.rules asked.now.criterion connection.now.to self.now.stops }
-        ensures { result ≡ true → IsIdle asked.now.query connection.now way
+        ensures { result ≡ true → IsIdle connection.now way
             (trip_points self.now.trips.labels connection.now.trip) (points_at self.now.stops connection.now.to) }
     {
         if label_count(&asked.criterion, &self.trips.labels, connection.trip) > 0 {
             return false;
         }
         let head = self.stops.head(connection.to);
-        ends_nothing(connection, asked.query.target, way, head)
+        ends_nothing(connection, way, head)
     }
 
     // Takes one connection in, with no bound: alights where it ends; then, by the labels that its trip has now, sets
@@ -77,14 +79,15 @@ impl<C: Criterion> StateOfAll<C> {
         source: &S,
         hop: &Hop<C::V>,
     ) -> Result<(), AllocError>
-        requires hop { IsHopOf (C.rules asked.now.criterion) (S.timetable source.now) asked.now.query hop.now }
+        requires hop { IsHopOf (C.rules asked.now.criterion) (S.timetable source.now)
+            (question asked.now.query) hop.now }
         requires no_bound { hop.now.bound.now ≡ [] }
         requires state { IsStateOfAll C.rules asked.now.criterion
             (S.timetable source.now).stops (S.timetable source.now).trips self.old }
         ensures state { OnOk result (IsStateOfAll C.rules asked.now.criterion
             (S.timetable source.now).stops (S.timetable source.now).trips self.new) }
         ensures steps { OnOk result ((stop : ℕ)
-            → IsStep (C.rules asked.now.criterion) (S.timetable source.now) (from_stop asked.now.query stop)
+            → IsStep (C.rules asked.now.criterion) (S.timetable source.now) (from_stop (question asked.now.query) stop)
             (from_to (told (S.timetable source.now).footpaths (story_from self.old stop))
             (told (S.timetable source.now).footpaths (story_from self.new stop)))
             hop.now.place (kept_from self.old stop) (kept_from self.new stop)) }
@@ -99,9 +102,8 @@ impl<C: Criterion> StateOfAll<C> {
         Ok(())
     }
 
-    // Takes in the connection at index `place`, unless it can add nothing. `none` is an empty bound. Here the target
-    // stands in for the source, so `hop.led` and `asked.query.source` mean nothing; `Trips::alight`, `Origins::set_out`
-    // and `Stops::board` read neither.
+    // Takes in the connection at index `place`, unless it can add nothing. `none` is an empty bound. What was asked has
+    // no sources, so `hop.lead` says no; `Trips::alight`, `Origins::set_out` and `Stops::board` don't read it.
     fn step<S: ConnSource>(
         &mut self,
         asked: &Asked<C>,
@@ -118,19 +120,19 @@ impl<C: Criterion> StateOfAll<C> {
         ensures state { OnOk result (IsStateOfAll C.rules asked.now.criterion
             (S.timetable source.now).stops (S.timetable source.now).trips self.new) }
         ensures steps { OnOk result ((stop : ℕ)
-            → IsStep (C.rules asked.now.criterion) (S.timetable source.now) (from_stop asked.now.query stop)
+            → IsStep (C.rules asked.now.criterion) (S.timetable source.now) (from_stop (question asked.now.query) stop)
             (from_to (told (S.timetable source.now).footpaths (story_from self.old stop))
             (told (S.timetable source.now).footpaths (story_from self.new stop)))
             place (kept_from self.old stop) (kept_from self.new stop)) }
     {
-        let way = asked.ways.secs_from(connection.to);
+        let way = asked.ways.way_from(connection.to);
         if self.is_idle(asked, connection, way) {
             return Ok(());
         }
         let hop = Hop {
             connection: *connection,
             place,
-            led: asked.starts.lead_to(connection.from),
+            lead: asked.starts.lead_to(connection.from),
             way,
             bound: none,
         };
@@ -140,6 +142,7 @@ impl<C: Criterion> StateOfAll<C> {
 
 ghost use Rattle.std.specs.Prelude.{◌-◌, ◌++◌, ℕ, IfOk, OnOk, OnErr, take};
 ghost use Rattle.profile_scan.specs.Hops.{IsWindow};
+ghost use Rattle.profile_scan.specs.Between.{question};
 ghost use Rattle.profile_scan.specs.Window.{falling};
 ghost use Rattle.profile_scan.specs.Everywhere.{HasFoundFrom, IsStateOfAll};
 
@@ -156,7 +159,7 @@ pub fn scan_for_all<S: ConnSource, C: Criterion>(
     ensures state { IfOk result (λ state. IsStateOfAll C.rules asked.now.criterion
         (S.timetable source.old).stops (S.timetable source.old).trips state) }
     ensures found { IfOk result (λ state. (stop : ℕ) → HasFoundFrom (C.rules asked.now.criterion)
-        (S.timetable source.old) asked.now.query window.start state stop) }
+        (S.timetable source.old) (question asked.now.query) window.start state stop) }
     ensures log { OnOk result
         (S.log source.new ≡ S.log source.old ++ falling window.start (window.end - window.start)) }
     ensures err { OnErr result ((n : ℕ)

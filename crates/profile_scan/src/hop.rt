@@ -1,19 +1,20 @@
 //! What a scan is asked, and one connection of it.
 
-use crate::starts::Starts;
-use crate::ways::Ways;
-use timetable::{Connection, Query};
+use crate::between::Between;
+use crate::starts::{Lead, Starts};
+use crate::ways::{Way, Ways};
+use timetable::Connection;
 
 /// What a scan is asked, the same at each connection.
 #[derive(Drop)]
 pub struct Asked<C> {
     // by which values are compared
     pub criterion: C,
-    // in a scan for all sources the target is also the source
-    pub query: Query,
-    // for each stop whether a footpath that isn't a loop leads there from the query's source
+    // in a scan for all sources it has none
+    pub query: Between,
+    // for each stop whether it is a source, and whether a footpath that isn't a loop leads there from one
     pub starts: Starts,
-    // for each stop the seconds of the footpath from there to the query's target
+    // for each stop the footpath from there to the nearest target
     pub ways: Ways,
 }
 
@@ -24,12 +25,11 @@ pub struct Hop<'a, V> {
     pub connection: Connection,
     // the connection's index in the timetable
     pub place: u32,
-    // whether a footpath that isn't a loop leads from the query's source to the stop where the connection begins; read
-    // only by `Origin::set_out`
-    pub led: bool,
-    // the seconds of the footpath from the stop where the connection ends to the target (a loop, if it ends there), or
-    // `None` if there is none
-    pub way: Option<u32>,
+    // how one may set out for the stop where the connection begins; read only by `Origin::set_out`
+    pub lead: Lead,
+    // the footpath from the stop where the connection ends to the nearest target (its loop, if it is one), or `None` if
+    // there is none
+    pub way: Option<Way>,
     // the bound, renewed before this connection is taken in: values of points found that depart no earlier than it. A
     // change or a label isn't carried further if one of them is no worse than its value after the ride. Empty in a scan
     // for all sources

@@ -4,10 +4,9 @@
 //! the definitions alone; `found_answers` is about one answer, and the last two run the scan over two sources.
 
 ghost use Rattle.std.specs.Prelude.{◌≡◌, ◌++◌, ℕ, IfOk, OnOk, OnErr, map, reverse, take};
-ghost use Rattle.timetable.specs.Journeys.{Counts};
 ghost use Rattle.timetable.specs.TimetableValue.{TimetableValue};
 ghost use Rattle.timetable.specs.declared.query.Query.{Query};
-ghost use Rattle.profile_scan.specs.Between.{OneIsPlain};
+ghost use Rattle.profile_scan.specs.Between.{CountsBetween, OneIsPlain};
 ghost use Rattle.timetable.specs.Queries.{IsAskable};
 ghost use Rattle.profile_scan.specs.Answered.{IsAnswered};
 ghost use Rattle.profile_scan.specs.Found.{Answers, criterion_of_found, listed, nodes_of, query_of, timetable_of};
@@ -55,7 +54,7 @@ pub fn tags_may_come<C: Criterion>(_criterion: &C)
 /// The latest departure matters only at the source: no way to go on depends on it, and of a journey only its own
 /// departure.
 pub fn cut_is_the_sources()
-    ensures { CutIsTheSources Counts }
+    ensures { CutIsTheSources CountsBetween }
 {}
 
 /// Points found that match at the window's start, none of which dominates another, in order, are the answer.
@@ -63,7 +62,7 @@ pub fn match_is_the_answer<C: Criterion>(_criterion: &C)
     ensures { MatchIsTheAnswer (C.rules _criterion.now) }
 {}
 
-/// A query has only one answer, tags aside.
+/// A query between sets has only one answer, tags aside.
 pub fn one_answer<C: Criterion>(_criterion: &C)
     ensures { OneAnswer (C.rules _criterion.now) }
 {}

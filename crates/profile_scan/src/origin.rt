@@ -1,11 +1,14 @@
 //! What a scan keeps for the source: the points found, and how one sets out for each.
 
-ghost use Rattle.std.specs.Prelude.{◌≡◌, ◌-◌, IfSome, MatchOption};
+ghost use Rattle.std.specs.Prelude.{◌≡◌, ◌-◌, IfSome, MatchBool, MatchOption};
 ghost use Rattle.criteria.specs.Laws.{Admits, IsSecs};
 ghost use Rattle.timetable.specs.Journeys.{start_secs};
 ghost use Rattle.profile_scan.specs.Values.{started};
-ghost use Rattle.profile_scan.specs.Adding.{MayStart};
+ghost use Rattle.profile_scan.specs.Adding.{IsInTime, StartsFrom};
+ghost use Rattle.profile_scan.specs.Between.{question};
+ghost use Rattle.profile_scan.specs.Hops.{CanTry};
 
+use crate::between::Between;
 use crate::hop::{Asked, Hop};
 use crate::riding::label_at;
 use crate::story::SetOut;
@@ -14,7 +17,7 @@ use criteria::Criterion;
 use fronts::Label;
 use sources::ConnSource;
 use std::alloc::{AllocError, Global};
-use timetable::{Connection, Footpath, Query};
+use timetable::{Connection, Footpath};
 
 /// The points found. A point's tag is its index in `set_outs`.
 #[derive(Drop)]
@@ -24,6 +27,7 @@ pub struct Origin<C: Criterion> {
 }
 
 impl<C: Criterion> Origin<C> {
+    ghost use Rattle.profile_scan.specs.Between.{question};
     ghost use Rattle.std.specs.Prelude.{◌≡◌, ◌-◌, [], List, OnOk, IfSome, Contains};
     ghost use Rattle.criteria.specs.Laws.{Admits, IsSecs};
     ghost use Rattle.bags.specs.Bag.{criterion_of, points_of};
@@ -32,7 +36,8 @@ impl<C: Criterion> Origin<C> {
     ghost use Rattle.timetable.specs.Journeys.{start_secs};
     ghost use Rattle.profile_scan.specs.Adding.{label_points, only_if, set_out_way, settings_out_after, MayStart};
     ghost use Rattle.profile_scan.specs.Steps.{settings_out};
-    ghost use Rattle.profile_scan.specs.Hops.{IsHopOf};
+    ghost use Rattle.profile_scan.specs.Hops.{CanTry, IsHopOf};
+    ghost use Rattle.profile_scan.specs.Starts.{AreStarts};
     ghost use Rattle.profile_scan.specs.Parts.{AdmitsLabels, ChangesOrigin, OriginTakes};
 
     /// Makes an origin without points.
@@ -101,7 +106,7 @@ impl<C: Criterion> Origin<C> {
     }
 
     // Offers to the points found each label of the connection's trip, boarded after `start`; nothing if that isn't a
-    // start from the source, or departs at a time that the query doesn't allow.
+    // start from a source, or departs at a time that the query doesn't allow.
     #[inline(always)]
     fn set_out_by(
         &mut self,
@@ -111,15 +116,19 @@ impl<C: Criterion> Origin<C> {
         labels: &[Label<C::V>],
     ) -> Result<(), AllocError>
         requires secs { IfSome start (λ walk. IsSecs walk.secs) }
+        requires lead { CanTry (question asked.now.query).sources hop.now asked.now.starts start }
         requires found { criterion_of self.old.found ≡ asked.now.criterion }
         requires labels { AdmitsLabels (C.rules asked.now.criterion) labels.now }
         ensures origin { OnOk result (ChangesOrigin asked.now.criterion self.old self.new) }
         ensures takes { OnOk result ((walks : List Footpath) → OriginTakes (C.rules asked.now.criterion) walks
-            (λ tags. only_if (MayStart asked.now.query hop.now.connection start)
+            (λ tags. only_if (MayStart (question asked.now.query) hop.now.connection start)
             (settings_out_after (C.rules asked.now.criterion) tags hop.now.place
             (hop.now.connection.dep - start_secs start) start (label_points labels.now)))
             self.old self.new) }
     {
+        if !is_from_source(asked, hop, start) {
+            return Ok(());
+        }
         match departure_by(&asked.query, &hop.connection, start) {
             None => Ok(()),
             Some(departure) => self.set_out_after(asked, hop, departure, labels),
@@ -127,8 +136,8 @@ impl<C: Criterion> Origin<C> {
     }
 
     /// Sets out for a connection, if passengers may get on there: offers to the points found each label of its trip,
-    /// without a start if it begins at the source, and after each footpath from the source to where it begins, except
-    /// a loop.
+    /// without a start if it begins at a source, and after each footpath from a source to where it begins, except a
+    /// loop.
     pub fn set_out<S: ConnSource>(
         &mut self,
         asked: &Asked<C>,
@@ -136,12 +145,14 @@ impl<C: Criterion> Origin<C> {
         hop: &Hop<C::V>,
         labels: &[Label<C::V>],
     ) -> Result<(), AllocError>
-        requires hop { IsHopOf (C.rules asked.now.criterion) (S.timetable source.now) asked.now.query hop.now }
+        requires hop { IsHopOf (C.rules asked.now.criterion) (S.timetable source.now)
+            (question asked.now.query) hop.now }
+        requires starts { AreStarts (S.timetable source.now) (question asked.now.query).sources asked.now.starts }
         requires found { criterion_of self.old.found ≡ asked.now.criterion }
         requires labels { AdmitsLabels (C.rules asked.now.criterion) labels.now }
         ensures origin { OnOk result (ChangesOrigin asked.now.criterion self.old self.new) }
         ensures takes { OnOk result (OriginTakes (C.rules asked.now.criterion) (S.timetable source.now).footpaths
-            (λ tags. settings_out (C.rules asked.now.criterion) (S.timetable source.now) asked.now.query tags
+            (λ tags. settings_out (C.rules asked.now.criterion) (S.timetable source.now) (question asked.now.query) tags
             hop.now.place (label_points labels.now))
             self.old self.new) }
     {
@@ -149,7 +160,7 @@ impl<C: Criterion> Origin<C> {
             return Ok(());
         }
         self.set_out_by(asked, hop, None, labels)?;
-        if !hop.led {
+        if !hop.lead.led {
             return Ok(());
         }
         let (begin, end) = source.walks_into(hop.connection.from as usize);
@@ -168,31 +179,38 @@ pub struct Departure {
     pub time: u32,
 }
 
-/// How one sets out from the source by a start to board a connection, if the start is from there and the query allows
-/// that departure. Few starts are from the source, so that is tested first.
+// Whether a start for the connection of a hop begins at a source and isn't a loop.
+#[inline(always)]
+fn is_from_source<C: Criterion>(asked: &Asked<C>, hop: &Hop<C::V>, start: Option<Footpath>) -> bool
+    requires { CanTry (question asked.now.query).sources hop.now asked.now.starts start }
+    ensures { MatchBool result (StartsFrom (question asked.now.query) hop.now.connection start)
+        (StartsFrom (question asked.now.query) hop.now.connection start → ⊥) }
+{
+    match start {
+        None => hop.lead.here,
+        Some(walk) => {
+            if walk.to == walk.from {
+                return false;
+            }
+            asked.starts.lead_to(walk.from).here
+        },
+    }
+}
+
+/// How one sets out by a start to board a connection, if the query allows that departure.
 #[inline(always)]
 pub fn departure_by(
-    query: &Query,
+    query: &Between,
     connection: &Connection,
     start: Option<Footpath>,
 ) -> Option<Departure>
-    ensures { MatchOption result (MayStart query.now connection.now start → ⊥)
-        (λ departure. MayStart query.now connection.now start × (departure.start ≡ start)
+    ensures { MatchOption result (IsInTime query.now.from query.now.until connection.now start → ⊥)
+        (λ departure. IsInTime query.now.from query.now.until connection.now start × (departure.start ≡ start)
         × (departure.time ≡ connection.now.dep - start_secs start)) }
 {
     let secs = match start {
-        None => {
-            if connection.from != query.source {
-                return None;
-            }
-            0
-        },
-        Some(walk) => {
-            if walk.from != query.source || walk.to == query.source {
-                return None;
-            }
-            walk.secs
-        },
+        None => 0,
+        Some(walk) => walk.secs,
     };
     if secs > connection.dep {
         return None;

@@ -1,7 +1,7 @@
 //! What a scan keeps for each stop as a source: the points found from there, and how one sets out for each.
 
-ghost use Rattle.std.specs.Prelude.{◌≡◌};
-ghost use Rattle.profile_scan.specs.Origins.{starts_at};
+ghost use Rattle.std.specs.Prelude.{◌≡◌, MatchBool};
+ghost use Rattle.profile_scan.specs.Origins.{IsLoop, starts_at};
 
 use crate::hop::{Asked, Hop};
 use crate::origin::{Departure, Origin, departure_by};
@@ -9,7 +9,7 @@ use criteria::Criterion;
 use fronts::Label;
 use sources::ConnSource;
 use std::alloc::{AllocError, Global};
-use timetable::{Connection, Footpath, Query};
+use timetable::{Connection, Footpath};
 
 /// The points found from each stop.
 #[derive(Drop)]
@@ -18,6 +18,7 @@ pub struct Origins<C: Criterion> {
 }
 
 impl<C: Criterion> Origins<C> {
+    ghost use Rattle.profile_scan.specs.Between.{question};
     ghost use Rattle.std.specs.Prelude.{◌≡◌, ◌≢◌, ◌-◌, ◌<◌, [], ℕ, List, IfOk, IfSome, OnOk, vec_len, slice_get};
     ghost use Rattle.criteria.specs.Laws.{IsSecs};
     ghost use Rattle.timetable.specs.declared.network.Footpath.{Footpath};
@@ -82,17 +83,16 @@ impl<C: Criterion> Origins<C> {
         ensures origins { OnOk result (ChangesOrigins asked.now.criterion self.old self.new) }
         ensures takes { OnOk result ((walks : List Footpath) (stop : ℕ)
             → SourceTakes (C.rules asked.now.criterion) walks stop
-            (λ tags. only_if (MayStart (from_stop asked.now.query stop) hop.now.connection start)
+            (λ tags. only_if (MayStart (from_stop (question asked.now.query) stop) hop.now.connection start)
             (settings_out_after (C.rules asked.now.criterion) tags hop.now.place
             (hop.now.connection.dep - start_secs start) start (label_points labels.now)))
             self.old self.new) }
     {
+        if is_loop(start) {
+            return Ok(());
+        }
         let stop = source_of(&hop.connection, start);
-        let query = Query {
-            source: stop,
-            ..asked.query
-        };
-        match departure_by(&query, &hop.connection, start) {
+        match departure_by(&asked.query, &hop.connection, start) {
             None => Ok(()),
             Some(departure) => self.set_out_from(asked, hop, stop, departure, labels),
         }
@@ -108,14 +108,15 @@ impl<C: Criterion> Origins<C> {
         hop: &Hop<C::V>,
         labels: &[Label<C::V>],
     ) -> Result<(), AllocError>
-        requires hop { IsHopOf (C.rules asked.now.criterion) (S.timetable source.now) asked.now.query hop.now }
+        requires hop { IsHopOf (C.rules asked.now.criterion) (S.timetable source.now)
+            (question asked.now.query) hop.now }
         requires origins { AreOrigins asked.now.criterion (S.timetable source.now).stops self.old }
         requires labels { AdmitsLabels (C.rules asked.now.criterion) labels.now }
         ensures origins { OnOk result (ChangesOrigins asked.now.criterion self.old self.new) }
         ensures takes { OnOk result ((stop : ℕ)
             → SourceTakes (C.rules asked.now.criterion) (S.timetable source.now).footpaths stop
             (λ tags. settings_out (C.rules asked.now.criterion) (S.timetable source.now)
-            (from_stop asked.now.query stop) tags hop.now.place (label_points labels.now))
+            (from_stop (question asked.now.query) stop) tags hop.now.place (label_points labels.now))
             self.old self.new) }
     {
         if !hop.connection.board {
@@ -128,6 +129,17 @@ impl<C: Criterion> Origins<C> {
             self.set_out_by(asked, hop, Some(walk), labels)?;
         }
         Ok(())
+    }
+}
+
+// Whether a start is a loop.
+#[inline(always)]
+fn is_loop(start: Option<Footpath>) -> bool
+    ensures { MatchBool result (IsLoop start) (IsLoop start → ⊥) }
+{
+    match start {
+        None => false,
+        Some(walk) => walk.to == walk.from,
     }
 }
 

@@ -1,13 +1,16 @@
 //! The answers from all stops to one target, by one scan.
 
 ghost use Rattle.std.specs.Prelude.{◌≡◌, ◌++◌, ℕ, IfOk, OnOk, OnErr, length, reverse, slice_get, take};
-ghost use Rattle.profile_scan.specs.Destinations.{CanBeAsked, query_from};
+ghost use Rattle.profile_scan.specs.Between.{question};
+ghost use Rattle.profile_scan.specs.Destinations.{CanBeAsked, query_from, question_to};
+ghost use Rattle.profile_scan.specs.Hops.{IsAsked};
 ghost use Rattle.profile_scan.specs.Window.{window};
 ghost use Rattle.profile_scan.specs.Origins.{AreUnder, found_from};
 ghost use Rattle.profile_scan.specs.Everywhere.{AnswerAll, AreInOrder, criterion_of_profiles, destination_of};
 ghost use Rattle.profile_scan.specs.Everywhere.{points_in};
 
 use crate::answering::timetable_of;
+use crate::between::Between;
 use crate::destination::Destination;
 use crate::everywhere::{StateOfAll, scan_for_all};
 use crate::found::{Found, in_order};
@@ -102,6 +105,35 @@ impl<C: Criterion> Profiles<C> {
     }
 }
 
+// Makes what a scan for all sources asks: a query without sources, to one target.
+fn ask_from_all<S: ConnSource, C: Criterion>(
+    alloc: Global,
+    source: &S,
+    criterion: &C,
+    destination: &Destination,
+) -> Result<Asked<C>, AllocError>
+    requires { CanBeAsked (S.timetable source.now).stops destination.now }
+    ensures asked { IfOk result (λ asked. IsAsked (S.timetable source.now) asked) }
+    ensures keeps { IfOk result (λ asked. (asked.criterion ≡ criterion.now)
+        × (question asked.query ≡ question_to destination.now)) }
+{
+    let query = Between {
+        sources: Vec::new(alloc),
+        targets: vec![in alloc; destination.target]?,
+        from: destination.from,
+        until: destination.until,
+        by: destination.by,
+    };
+    let starts = starts_from(alloc, source, &query.sources)?;
+    let ways = ways_to(alloc, source, &query.targets)?;
+    Ok(Asked {
+        criterion: *criterion,
+        query,
+        starts,
+        ways,
+    })
+}
+
 // Returns the points found from each stop, in order.
 fn lists_in_order<C: Criterion>(
     alloc: Global,
@@ -147,16 +179,7 @@ pub fn profiles_to<S: ConnSource, C: Criterion>(
 {
     let start = source.first_at(destination.from);
     let end = source.first_at(destination.by);
-    // The target is the query's source. Where footpaths lead from there is of no use to this scan: `starts` is made
-    // only because `Asked` has it.
-    let starts = starts_from(alloc, source, destination.target)?;
-    let ways = ways_to(alloc, source, destination.target)?;
-    let asked = Asked {
-        criterion: *criterion,
-        query: destination.query_from(destination.target),
-        starts,
-        ways,
-    };
+    let asked = ask_from_all(alloc, source, criterion, destination)?;
     let state = scan_for_all(alloc, source, &asked, start..end)?;
     let lists = lists_in_order(alloc, criterion, &state.origins)?;
     Ok(Profiles {

@@ -1,12 +1,13 @@
 //! One scan of a window, from its last connection to its first.
 
-ghost use Rattle.std.specs.Prelude.{◌≡◌, ◌↔◌, ◌≢◌, None, true};
+ghost use Rattle.std.specs.Prelude.{◌≡◌, ◌↔◌, None, true};
 
 use crate::bound::Bound;
 use crate::hop::{Asked, Hop};
 use crate::origin::Origin;
 use crate::stops::Stops;
 use crate::trips::Trips;
+use crate::ways::Way;
 use criteria::Criterion;
 use fronts::{label_count, labels_of};
 use sources::ConnSource;
@@ -23,11 +24,13 @@ pub struct State<C: Criterion> {
 }
 
 impl<C: Criterion> State<C> {
+    ghost use Rattle.profile_scan.specs.Between.{question};
     ghost use Rattle.std.specs.Prelude.{◌≡◌, ◌<◌, [], ℕ, IfOk, OnOk, true, length, vec_len};
     ghost use Rattle.bags.specs.Bag.{points_of};
     ghost use Rattle.profile_scan.specs.Steps.{IsIdle};
     ghost use Rattle.profile_scan.specs.Kept.{HasStop, IsState, kept_by};
     ghost use Rattle.profile_scan.specs.Hops.{IsHopOf};
+    ghost use Rattle.profile_scan.specs.Starts.{AreStarts};
     ghost use Rattle.profile_scan.specs.Parts.{HasTrip, TakesConnection};
 
     // A state for `stops` stops and `trips` trips, before any connection is read.
@@ -48,17 +51,17 @@ impl<C: Criterion> State<C> {
     }
 
     // Returns true only if the connection can add nothing, as most can't; false is always safe.
-    fn is_idle(&self, asked: &Asked<C>, connection: &Connection, way: Option<u32>) -> bool
+    fn is_idle(&self, asked: &Asked<C>, connection: &Connection, way: Option<Way>) -> bool
         requires trip { HasTrip (C.rules asked.now.criterion) connection.now.trip self.now.trips }
         requires stop { HasStop C.rules asked.now.criterion connection.now.to self.now.stops }
-        ensures { result ≡ true → IsIdle asked.now.query connection.now way
+        ensures { result ≡ true → IsIdle connection.now way
             ((kept_by self.now).labels connection.now.trip) ((kept_by self.now).bag connection.now.to) }
     {
         if label_count(&asked.criterion, &self.trips.labels, connection.trip) > 0 {
             return false;
         }
         let head = self.stops.head(connection.to);
-        ends_nothing(connection, asked.query.target, way, head)
+        ends_nothing(connection, way, head)
     }
 
     // Takes one connection in: alights where it ends; then, by the labels that its trip has now, sets out for it and
@@ -69,13 +72,15 @@ impl<C: Criterion> State<C> {
         source: &S,
         hop: &Hop<C::V>,
     ) -> Result<(), AllocError>
-        requires hop { IsHopOf (C.rules asked.now.criterion) (S.timetable source.now) asked.now.query hop.now }
+        requires hop { IsHopOf (C.rules asked.now.criterion) (S.timetable source.now)
+            (question asked.now.query) hop.now }
+        requires starts { AreStarts (S.timetable source.now) (question asked.now.query).sources asked.now.starts }
         requires state { IsState C.rules asked.now.criterion
             (S.timetable source.now).stops (S.timetable source.now).trips self.old }
         ensures state { OnOk result (IsState C.rules asked.now.criterion
             (S.timetable source.now).stops (S.timetable source.now).trips self.new) }
         ensures takes { OnOk result (TakesConnection (C.rules asked.now.criterion) (S.timetable source.now)
-            asked.now.query hop.now self.old self.new) }
+            (question asked.now.query) hop.now self.old self.new) }
     {
         self.trips.alight(asked, hop, &self.stops)?;
         let labels = labels_of(&asked.criterion, &self.trips.labels, hop.connection.trip);
@@ -88,23 +93,21 @@ impl<C: Criterion> State<C> {
     }
 }
 
-/// Whether getting off where a connection ends leads nowhere: nobody may get off there; or that stop isn't the target,
-/// has no footpath to the target, and has no points by which one would go on. `way` is the seconds of that footpath,
-/// `head` the head of the stop's list, which is 0 if it has no points. Whether the connection's trip has labels isn't
-/// asked.
-pub fn ends_nothing(connection: &Connection, target: u32, way: Option<u32>, head: u32) -> bool
-    ensures { (result ≡ true)
-        ↔ (connection.now.alight ≡ true → (connection.now.to ≢ target) × (way ≡ None) × (head ≡ 0)) }
+/// Whether getting off where a connection ends leads nowhere: nobody may get off there; or that stop has no footpath to
+/// a target, as each target has, and no points by which one would go on. `way` is that footpath, `head` the head of the
+/// stop's list, which is 0 if it has no points. Whether the connection's trip has labels isn't asked.
+pub fn ends_nothing(connection: &Connection, way: Option<Way>, head: u32) -> bool
+    ensures { (result ≡ true) ↔ (connection.now.alight ≡ true → (way ≡ None) × (head ≡ 0)) }
 {
     if !connection.alight {
         return true;
     }
-    if connection.to == target || head > 0 {
+    if head > 0 {
         return false;
     }
     match way {
         None => true,
-        Some(_secs) => false,
+        Some(_way) => false,
     }
 }
 
@@ -116,6 +119,7 @@ pub struct Scan<C: Criterion> {
 }
 
 impl<C: Criterion> Scan<C> {
+    ghost use Rattle.profile_scan.specs.Between.{question};
     ghost use Rattle.std.specs.Prelude.{◌≡◌, ◌+◌, OnOk};
     ghost use Rattle.profile_scan.specs.Matching.{from_to};
     ghost use Rattle.profile_scan.specs.Steps.{IsStep};
@@ -137,12 +141,12 @@ impl<C: Criterion> Scan<C> {
         requires scan { IsScan C.rules asked.now.criterion (S.timetable source.now) (place + 1) self.old }
         ensures scan { OnOk result (IsScan C.rules asked.now.criterion (S.timetable source.now) place self.new) }
         ensures step { OnOk result
-            (IsStep (C.rules asked.now.criterion) (S.timetable source.now) asked.now.query
+            (IsStep (C.rules asked.now.criterion) (S.timetable source.now) (question asked.now.query)
             (from_to (told (S.timetable source.now).footpaths (story_of self.old.state))
             (told (S.timetable source.now).footpaths (story_of self.new.state)))
             place (kept_by self.old.state) (kept_by self.new.state)) }
     {
-        let way = asked.ways.secs_from(connection.to);
+        let way = asked.ways.way_from(connection.to);
         if self.state.is_idle(asked, connection, way) {
             return Ok(());
         }
@@ -156,7 +160,7 @@ impl<C: Criterion> Scan<C> {
         let hop = Hop {
             connection: *connection,
             place,
-            led: asked.starts.lead_to(connection.from),
+            lead: asked.starts.lead_to(connection.from),
             way,
             bound: &self.bound.values,
         };
@@ -167,6 +171,7 @@ impl<C: Criterion> Scan<C> {
 
 ghost use Rattle.std.specs.Prelude.{◌-◌, ◌++◌, ℕ, IfOk, OnOk, OnErr, take};
 ghost use Rattle.profile_scan.specs.Hops.{IsWindow};
+ghost use Rattle.profile_scan.specs.Between.{question};
 ghost use Rattle.profile_scan.specs.Window.{falling};
 ghost use Rattle.profile_scan.specs.Parts.{HasFound};
 
@@ -180,7 +185,8 @@ pub fn scan_window<S: ConnSource, C: Criterion>(
     requires { IsWindow (S.timetable source.old) asked.now window.start window.end }
     ensures timetable { S.timetable source.new ≡ S.timetable source.old }
     ensures found { IfOk result (λ scan.
-        HasFound C.rules (S.timetable source.old) asked.now.criterion asked.now.query window.start scan.state) }
+        HasFound C.rules (S.timetable source.old) asked.now.criterion (question asked.now.query)
+        window.start scan.state) }
     ensures log { OnOk result
         (S.log source.new ≡ S.log source.old ++ falling window.start (window.end - window.start)) }
     ensures err { OnErr result ((n : ℕ)

@@ -1,65 +1,103 @@
-//! Where one may walk to from a query's source.
+//! Where one may set out: at a query's sources, and after a footpath from one.
 
-ghost use Rattle.std.specs.Prelude.{◌≡◌, ◌≢◌, ◌<◌, IfOk, MatchBool, Some, length, slice_get, vec_len};
-ghost use Rattle.profile_scan.specs.Starts.{AreStarts, IsLed};
+ghost use Rattle.std.specs.Prelude.{◌≡◌, ◌<◌, ℕ, IfOk, MatchBool, Some, Contains, length, slice_get};
+ghost use Rattle.profile_scan.specs.Starts.{AreMarked, AreStarts, IsFromMarked, IsLeadBy, IsLedBy};
 
+use fronts::copies;
 use sources::ConnSource;
 use std::alloc::{AllocError, Global};
 use timetable::Footpath;
 
-/// For each stop whether a footpath that isn't a loop leads there from the source. To most stops none does, so
-/// setting out mostly skips the footpaths.
+/// How one may set out for the connections that begin at a stop.
+#[derive(Clone, Copy, Drop)]
+pub struct Lead {
+    /// whether the stop is a source
+    pub here: bool,
+    /// whether a footpath that isn't a loop leads there from a source
+    pub led: bool,
+}
+
+/// For each stop how one may set out from there. To most stops no footpath leads from a source, so setting out mostly
+/// skips the footpaths.
 #[derive(Drop)]
 pub struct Starts {
-    led: Vec<bool>,
+    leads: Vec<Lead>,
 }
 
 impl Starts {
-    /// Whether a footpath that isn't a loop leads from the source to a stop.
-    pub fn lead_to(&self, stop: u32) -> bool
-        requires { stop < vec_len self.now.led }
-        ensures { slice_get self.now.led.items stop ≡ Some result }
+    /// How one may set out for the connections that begin at a stop.
+    pub fn lead_to(&self, stop: u32) -> Lead
+        requires { stop < length self.now.leads.items }
+        ensures { slice_get self.now.leads.items stop ≡ Some result }
     {
-        self.led[stop as usize]
+        self.leads[stop as usize]
     }
 }
 
-// Whether a footpath begins at the source and isn't its loop.
-fn is_start(walk: &Footpath, from: u32) -> bool
-    ensures { MatchBool result ((walk.now.from ≡ from) × (walk.now.to ≢ from))
-        ((walk.now.from ≡ from) × (walk.now.to ≢ from) → ⊥) }
+// Whether each of `stops` stops is a source.
+fn marks(alloc: Global, sources: &[u32], stops: usize) -> Result<Vec<bool>, AllocError>
+    requires { (stop : ℕ) → Contains sources.now stop → stop < stops }
+    ensures { IfOk result (λ marked. AreMarked sources.now (length sources.now) stops marked.items) }
 {
-    walk.from == from && walk.to != from
+    let mut marked = copies(alloc, false, stops)?;
+    for k in 0..sources.len() {
+        let stop = sources[k];
+        marked[stop as usize] = true;
+    }
+    Ok(marked)
 }
 
-// Whether a footpath that isn't a loop leads from the source, `from`, to a stop.
-fn is_led<S: ConnSource>(source: &S, from: u32, stop: u32) -> bool
-    requires { stop < (S.timetable source.now).stops }
-    ensures { MatchBool result (IsLed (S.timetable source.now) from stop)
-        (IsLed (S.timetable source.now) from stop → ⊥) }
+// Whether a footpath begins at a marked stop and isn't a loop.
+fn is_start(marked: &[bool], walk: &Footpath) -> bool
+    requires { walk.now.from < length marked.now }
+    ensures { MatchBool result (IsFromMarked marked.now walk.now) (IsFromMarked marked.now walk.now → ⊥) }
+{
+    walk.to != walk.from && marked[walk.from as usize]
+}
+
+// Whether a footpath that isn't a loop leads from a marked stop to a stop.
+fn is_led<S: ConnSource>(source: &S, marked: &[bool], stop: u32) -> bool
+    requires stop { stop < (S.timetable source.now).stops }
+    requires long { length marked.now ≡ (S.timetable source.now).stops }
+    ensures { MatchBool result (IsLedBy (S.timetable source.now) marked.now stop)
+        (IsLedBy (S.timetable source.now) marked.now stop → ⊥) }
 {
     let (begin, end) = source.walks_into(stop as usize);
     for place in begin..end {
         let walk = source.footpath_into(stop as usize, place);
-        if is_start(&walk, from) {
+        if is_start(marked, &walk) {
             return true;
         }
     }
     false
 }
 
-/// Finds for each stop whether a footpath that isn't a loop leads there from the source.
+// How one may set out for the connections that begin at a stop, from the marked stops.
+fn lead_of<S: ConnSource>(source: &S, marked: &[bool], stop: u32) -> Lead
+    requires stop { stop < (S.timetable source.now).stops }
+    requires long { length marked.now ≡ (S.timetable source.now).stops }
+    ensures { IsLeadBy (S.timetable source.now) marked.now stop result }
+{
+    Lead {
+        here: marked[stop as usize],
+        led: is_led(source, marked, stop),
+    }
+}
+
+/// Finds for each stop how one may set out from the sources for the connections that begin there.
 pub fn starts_from<S: ConnSource>(
     alloc: Global,
     source: &S,
-    from: u32,
+    sources: &[u32],
 ) -> Result<Starts, AllocError>
-    ensures { IfOk result (λ starts. AreStarts (S.timetable source.now) from starts) }
+    requires { (stop : ℕ) → Contains sources.now stop → stop < (S.timetable source.now).stops }
+    ensures { IfOk result (λ starts. AreStarts (S.timetable source.now) sources.now starts) }
 {
-    let mut led = Vec::new(alloc);
+    let marked = marks(alloc, sources, source.stops() as usize)?;
+    let mut leads = Vec::new(alloc);
     for stop in 0..source.stops() {
-        let is = is_led(source, from, stop);
-        led.push(is)?;
+        let lead = lead_of(source, &marked, stop);
+        leads.push(lead)?;
     }
-    Ok(Starts { led })
+    Ok(Starts { leads })
 }

@@ -34,6 +34,7 @@ impl<C: Criterion> Stops<C> {
     ghost use Rattle.profile_scan.specs.Steps.{boardings};
     ghost use Rattle.profile_scan.specs.Kept.{AreStops, points_at};
     ghost use Rattle.profile_scan.specs.Hops.{IsHopOf};
+    ghost use Rattle.profile_scan.specs.Between.{question};
     ghost use Rattle.profile_scan.specs.Parts.{AdmitsLabels, AreReady, ChangesLists, ChangesStops, StopTakes};
     ghost use Rattle.profile_scan.specs.Parts.{BoardsAfter};
     ghost use Rattle.profile_scan.specs.Parts.{BoardsAfterEach};
@@ -216,7 +217,8 @@ impl<C: Criterion> Stops<C> {
         hop: &Hop<C::V>,
         label: &Label<C::V>,
     ) -> Result<(), AllocError>
-        requires hop { IsHopOf (C.rules asked.now.criterion) (S.timetable source.now) asked.now.query hop.now }
+        requires hop { IsHopOf (C.rules asked.now.criterion) (S.timetable source.now)
+            (question asked.now.query) hop.now }
         requires boards { hop.now.connection.board ≡ true }
         requires stops { AreStops C.rules asked.now.criterion (S.timetable source.now).stops self.old }
         requires label { Admits (C.rules asked.now.criterion) label.now.value }
@@ -251,7 +253,8 @@ impl<C: Criterion> Stops<C> {
         hop: &Hop<C::V>,
         labels: &[Label<C::V>],
     ) -> Result<(), AllocError>
-        requires hop { IsHopOf (C.rules asked.now.criterion) (S.timetable source.now) asked.now.query hop.now }
+        requires hop { IsHopOf (C.rules asked.now.criterion) (S.timetable source.now)
+            (question asked.now.query) hop.now }
         requires stops { AreStops C.rules asked.now.criterion (S.timetable source.now).stops self.old }
         requires labels { AdmitsLabels (C.rules asked.now.criterion) labels.now }
         ensures stops { OnOk result

@@ -1,6 +1,6 @@
 //! What a scan keeps for each trip: labels, which have the value of sitting in the trip, and how one leaves it.
 //!
-//! A trip is left where a connection ends: at the target, one footpath before it, or to change.
+//! A trip is left where a connection ends: at a target, one footpath before one, or to change.
 
 ghost use Rattle.std.specs.Prelude.{◌≡◌, ◌+◌, ◌≤◌, [], ℕ, true, false, IfOk, IfSome, MatchOption, OnOk, Option};
 ghost use Rattle.criteria.specs.Laws.{Admits, IsTime, IsSecs};
@@ -12,16 +12,19 @@ ghost use Rattle.profile_scan.specs.Bound.{is_bettered, carried};
 ghost use Rattle.profile_scan.specs.Story.{IsExit};
 ghost use Rattle.profile_scan.specs.declared.story.Exit.TheVariants.{Changes};
 ghost use Rattle.profile_scan.specs.Adding.{IsEnding, trip_points};
+ghost use Rattle.profile_scan.specs.Between.{question};
 
+use crate::between::Between;
 use crate::bound::is_bettered;
 use crate::hop::{Asked, Hop};
 use crate::stops::Stops;
 use crate::story::Exit;
+use crate::ways::Way;
 use bags::Point;
 use criteria::Criterion;
 use fronts::{Labels, labels_of, no_labels, offer_label, some_no_worse};
 use std::alloc::{AllocError, Global};
-use timetable::{Connection, Footpath, Query};
+use timetable::{Connection, Footpath};
 
 /// The labels of each trip. A label's tag is its index in `exits`.
 #[derive(Drop)]
@@ -31,6 +34,7 @@ pub struct Trips<C: Criterion> {
 }
 
 impl<C: Criterion> Trips<C> {
+    ghost use Rattle.profile_scan.specs.Between.{question};
     ghost use Rattle.std.specs.Prelude.{◌≡◌, [], ℕ, true, false, IfOk, OnOk};
     ghost use Rattle.criteria.specs.Laws.{Admits};
     ghost use Rattle.fronts.specs.Labels.{AreLabels, trips_of};
@@ -81,7 +85,7 @@ impl<C: Criterion> Trips<C> {
         hop: &Hop<C::V>,
         point: &Point<C::V>,
     ) -> Result<(), AllocError>
-        requires hop { IsHop (C.rules asked.now.criterion) asked.now.query hop.now }
+        requires hop { IsHop (C.rules asked.now.criterion) (question asked.now.query) hop.now }
         requires trip { HasTrip (C.rules asked.now.criterion) hop.now.connection.trip self.old }
         requires point { Admits (C.rules asked.now.criterion) point.now.value }
         ensures trip { OnOk result
@@ -119,7 +123,7 @@ impl<C: Criterion> Trips<C> {
         hop: &Hop<C::V>,
         stops: &Stops<C>,
     ) -> Result<(), AllocError>
-        requires hop { IsHop (C.rules asked.now.criterion) asked.now.query hop.now }
+        requires hop { IsHop (C.rules asked.now.criterion) (question asked.now.query) hop.now }
         requires trip { HasTrip (C.rules asked.now.criterion) hop.now.connection.trip self.old }
         requires stop { HasStop C.rules asked.now.criterion hop.now.connection.to stops.now }
         ensures trip { OnOk result
@@ -146,15 +150,15 @@ impl<C: Criterion> Trips<C> {
         Ok(())
     }
 
-    // Offers to the labels of the connection's trip the end, if one is at the target in time.
+    // Offers to the labels of the connection's trip the end, if one is at a target in time.
     fn end(&mut self, asked: &Asked<C>, hop: &Hop<C::V>) -> Result<(), AllocError>
-        requires hop { IsHop (C.rules asked.now.criterion) asked.now.query hop.now }
+        requires hop { IsHop (C.rules asked.now.criterion) (question asked.now.query) hop.now }
         requires trip { HasTrip (C.rules asked.now.criterion) hop.now.connection.trip self.old }
         ensures trip { OnOk result
             (ChangesTrip (C.rules asked.now.criterion) hop.now.connection.trip self.old self.new) }
         ensures takes { OnOk result (TripTakes (C.rules asked.now.criterion) hop.now.connection.trip
             (λ tags. endings (C.rules asked.now.criterion) tags hop.now.place
-            hop.now.connection asked.now.query hop.now.way)
+            hop.now.connection (question asked.now.query) hop.now.way)
             self.old self.new) }
     {
         match end_of(&hop.connection, &asked.query, hop.way) {
@@ -180,7 +184,7 @@ impl<C: Criterion> Trips<C> {
         hop: &Hop<C::V>,
         stops: &Stops<C>,
     ) -> Result<(), AllocError>
-        requires hop { IsHop (C.rules asked.now.criterion) asked.now.query hop.now }
+        requires hop { IsHop (C.rules asked.now.criterion) (question asked.now.query) hop.now }
         requires trip { HasTrip (C.rules asked.now.criterion) hop.now.connection.trip self.old }
         requires stop { HasStop C.rules asked.now.criterion hop.now.connection.to stops.now }
         ensures trip { OnOk result
@@ -188,7 +192,7 @@ impl<C: Criterion> Trips<C> {
         ensures takes { OnOk result (TripTakes (C.rules asked.now.criterion) hop.now.connection.trip
             (λ tags. only_if (hop.now.connection.alight ≡ true)
             (endings_and_changes (C.rules asked.now.criterion) tags hop.now.place
-            hop.now.connection asked.now.query hop.now.way
+            hop.now.connection (question asked.now.query) hop.now.way
             (carried (C.rules asked.now.criterion) hop.now.bound.now
             (points_at stops.now hop.now.connection.to))))
             self.old self.new) }
@@ -202,24 +206,26 @@ impl<C: Criterion> Trips<C> {
     }
 }
 
-// How to end: the walk to the target, and when it is over.
+// How to end: the walk to a target, and when it is over.
 #[derive(Clone, Copy)]
 struct Ending {
     walk: Option<Footpath>,
     time: u32,
 }
 
-// The end of a journey that gets off where a connection ends, if it reaches the target by `query.by`; `way` is the
-// seconds of the footpath from that stop to the target.
-fn end_of(connection: &Connection, query: &Query, way: Option<u32>) -> Option<Ending>
+// The end of a journey that gets off where a connection ends, if it reaches a target by `query.by`; `way` is the
+// footpath from that stop to the nearest target, which is its loop if it is a target itself.
+fn end_of(connection: &Connection, query: &Between, way: Option<Way>) -> Option<Ending>
     requires arrival { IsTime connection.now.arr }
-    requires secs { IfSome way (λ secs. IsSecs secs) }
-    ensures { MatchOption result ((walk : Option Footpath) → IsEnding connection.now query.now way walk → ⊥)
-        (λ end. IsEnding connection.now query.now way end.walk × (end.time ≡ connection.now.arr + start_secs end.walk)
+    requires secs { IfSome way (λ way. IsSecs way.secs) }
+    ensures { MatchOption result ((walk : Option Footpath) → IsEnding connection.now (question query.now) way walk → ⊥)
+        (λ end. IsEnding connection.now (question query.now) way end.walk
+        × (end.time ≡ connection.now.arr + start_secs end.walk)
         × (end.time ≤ query.now.by)
-        × ((walk : Option Footpath) → IsEnding connection.now query.now way walk → walk ≡ end.walk)) }
+        × ((walk : Option Footpath) → IsEnding connection.now (question query.now) way walk → walk ≡ end.walk)) }
 {
-    if connection.to == query.target {
+    let way = way?;
+    if way.to == connection.to {
         if connection.arr > query.by {
             return None;
         }
@@ -228,15 +234,14 @@ fn end_of(connection: &Connection, query: &Query, way: Option<u32>) -> Option<En
             time: connection.arr,
         });
     }
-    let secs = way?;
-    let time = connection.arr + secs;
+    let time = connection.arr + way.secs;
     if time > query.by {
         return None;
     }
     let walk = Footpath {
         from: connection.to,
-        to: query.target,
-        secs,
+        to: way.to,
+        secs: way.secs,
     };
     Some(Ending {
         walk: Some(walk),

@@ -1,57 +1,170 @@
-//! The footpaths to a query's target.
+//! The footpaths to a query's targets.
 
-ghost use Rattle.std.specs.Prelude.{◌≡◌, ◌<◌, ◌≤◌, ◌↔◌, ℕ, IfOk, length, replicate, slice_index_or, None};
+ghost use Rattle.std.specs.Prelude.{◌≡◌, ◌+◌, ◌<◌, ℕ, IfOk, Contains, MatchBool, None, length, map, replicate};
+ghost use Rattle.std.specs.Prelude.{slice_index_or};
+ghost use Rattle.criteria.specs.Laws.{IsSecs};
 ghost use Rattle.profile_scan.specs.Kept.{AreWays, way_in, ways_of};
+ghost use Rattle.profile_scan.specs.Nearest.{AreNearest, IsDoneTo, Replaces, TakesWalk, no_word, shorter_of};
 
+use fronts::copies;
 use sources::ConnSource;
 use std::alloc::{AllocError, Global};
+use timetable::Footpath;
 use timetable::limits::MAX_WALK_SECS;
 
-/// For each stop the seconds of the footpath from it to the target, if there is one. Each stop has a word, since a
-/// scan asks for one at each connection.
+/// The footpath from a stop to a target: where it leads, and its seconds.
+#[derive(Clone, Copy, Drop)]
+pub struct Way {
+    pub to: u32,
+    pub secs: u32,
+}
+
+/// For each stop the footpath from it to the nearest target, if there is one: from a target its own loop. Each stop has
+/// a word, since a scan asks for one at each connection.
 #[derive(Drop)]
 pub struct Ways {
-    // `u32::MAX` if there is none
-    seconds: Vec<u32>,
+    // a stop without one has a way of more seconds than a footpath takes
+    words: Vec<Way>,
 }
 
 impl Ways {
-    /// The seconds of the footpath from a stop, if there is one.
-    pub fn secs_from(&self, stop: u32) -> Option<u32>
+    ghost use Rattle.std.specs.Prelude.{◌≡◌, ◌<◌, ℕ, Contains, None, length, slice_index_or};
+    ghost use Rattle.profile_scan.specs.Kept.{way_secs, ways_of};
+    ghost use Rattle.profile_scan.specs.Nearest.{IsShortestWay};
+
+    /// The footpath from a stop to the nearest target, if there is one.
+    pub fn way_from(&self, stop: u32) -> Option<Way>
         requires { stop < length (ways_of self.now) }
         ensures { result ≡ slice_index_or (ways_of self.now) stop None }
     {
-        way_of(self.seconds[stop as usize])
+        way_of(self.words[stop as usize])
+    }
+
+    /// The seconds of the footpath from a stop to the nearest target, if there is one.
+    pub fn secs_from(&self, stop: u32) -> Option<u32>
+        requires { stop < length (ways_of self.now) }
+        ensures { result ≡ way_secs (slice_index_or (ways_of self.now) stop None) }
+    {
+        let way = self.way_from(stop)?;
+        Some(way.secs)
+    }
+
+    /// The shortest of the ways from these stops, none of which is a target, if there is any; of equal ones the first.
+    pub fn direct_walk(&self, sources: &[u32]) -> Option<Footpath>
+        requires { (stop : ℕ) → Contains sources.now stop → stop < length (ways_of self.now) }
+        ensures { IsShortestWay (ways_of self.now) sources.now (length sources.now) result }
+    {
+        let mut best = None;
+        for k in 0..sources.len() {
+            let stop = sources[k];
+            let way = self.way_from(stop);
+            best = shorter(best, stop, way);
+        }
+        best
     }
 }
 
-// What a word says: the seconds of a footpath, or that there is none, if it is more than a footpath takes.
-fn way_of(word: u32) -> Option<u32>
+// The footpath `best`, or, if it is shorter, the way from a stop.
+fn shorter(best: Option<Footpath>, stop: u32, way: Option<Way>) -> Option<Footpath>
+    ensures { result ≡ shorter_of best stop way }
+{
+    let Some(way) = way else {
+        return best;
+    };
+    let walk = Footpath {
+        from: stop,
+        to: way.to,
+        secs: way.secs,
+    };
+    match best {
+        None => Some(walk),
+        Some(first) => if walk.secs < first.secs {
+            Some(walk)
+        } else {
+            Some(first)
+        },
+    }
+}
+
+// What a word says: a way, or that there is none, if it is longer than a footpath can be.
+fn way_of(word: Way) -> Option<Way>
     ensures { result ≡ way_in word }
 {
-    if word <= MAX_WALK_SECS {
+    if word.secs <= MAX_WALK_SECS {
         return Some(word);
     }
     None
 }
 
-/// For each stop the seconds of the footpath from it to the target, if there is one.
-pub fn ways_to<S: ConnSource>(alloc: Global, source: &S, target: u32) -> Result<Ways, AllocError>
-    requires { target < (S.timetable source.now).stops }
-    ensures { IfOk result (λ ways. AreWays (S.timetable source.now) target (ways_of ways)) }
+// Whether a footpath takes the place of a way from the stop where it begins: the loop always does; another does if it
+// is shorter, but not that of a loop.
+fn replaces(old: Option<Way>, walk: &Footpath) -> bool
+    ensures { MatchBool result (Replaces old walk.now) (Replaces old walk.now → ⊥) }
 {
-    let mut seconds = no_ways(alloc, source.stops() as usize)?;
+    match old {
+        None => true,
+        Some(way) => walk.to == walk.from || (way.to != walk.from && walk.secs < way.secs),
+    }
+}
+
+// Takes a footpath to a target in.
+fn take_walk(words: &mut Vec<Way>, walk: &Footpath)
+    requires from { walk.now.from < length words.old.items }
+    requires secs { IsSecs walk.now.secs }
+    ensures { TakesWalk walk.now (map way_in words.old.items) (map way_in words.new.items) }
+{
+    let from = walk.from as usize;
+    let word = words[from];
+    let old = way_of(word);
+    if !replaces(old, walk) {
+        return;
+    }
+    words[from] = Way {
+        to: walk.to,
+        secs: walk.secs,
+    };
+}
+
+// Takes in the footpaths to the target at index `k`, after those to the targets before it.
+fn take_target<S: ConnSource>(source: &S, targets: &[u32], k: usize, words: &mut Vec<Way>)
+    requires k { k < length targets.now }
+    requires targets { (stop : ℕ) → Contains targets.now stop → stop < (S.timetable source.now).stops }
+    requires before { AreNearest (S.timetable source.now) (IsDoneTo (S.timetable source.now) targets.now k)
+        (map way_in words.old.items) }
+    ensures { AreNearest (S.timetable source.now) (IsDoneTo (S.timetable source.now) targets.now (k + 1))
+        (map way_in words.new.items) }
+{
+    let target = targets[k];
     let (begin, end) = source.walks_into(target as usize);
     for place in begin..end {
         let walk = source.footpath_into(target as usize, place);
-        seconds[walk.from as usize] = walk.secs;
+        take_walk(words, &walk);
     }
-    Ok(Ways { seconds })
+}
+
+/// Finds for each stop the footpath from it to the nearest target, if there is one.
+pub fn ways_to<S: ConnSource>(
+    alloc: Global,
+    source: &S,
+    targets: &[u32],
+) -> Result<Ways, AllocError>
+    requires { (stop : ℕ) → Contains targets.now stop → stop < (S.timetable source.now).stops }
+    ensures { IfOk result (λ ways. AreWays (S.timetable source.now) targets.now (ways_of ways)) }
+{
+    let mut words = no_ways(alloc, source.stops() as usize)?;
+    for k in 0..targets.len() {
+        take_target(source, targets, k, &mut words);
+    }
+    Ok(Ways { words })
 }
 
 // Returns the words of `stops` stops without a footpath.
-fn no_ways(alloc: Global, stops: usize) -> Result<Vec<u32>, AllocError>
-    ensures { IfOk result (λ seconds. seconds.items ≡ replicate stops 4294967295) }
+fn no_ways(alloc: Global, stops: usize) -> Result<Vec<Way>, AllocError>
+    ensures { IfOk result (λ words. words.items ≡ replicate stops no_word) }
 {
-    vec![in alloc; u32::MAX; stops]
+    let none = Way {
+        to: 0,
+        secs: u32::MAX,
+    };
+    copies(alloc, none, stops)
 }

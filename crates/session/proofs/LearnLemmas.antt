@@ -11,7 +11,7 @@ use Rattle.epochs.specs.Seats.{SeatValue, PinStep, ReleaseStep, JoinStep}
 use Rattle.epochs.proofs.GrowthLemmas.{grows_same, growths_join, published_stay}
 use Rattle.orders.specs.Ordering.{OrderValue}
 use Rattle.session_texts.specs.Requests.{AskValue, pin, release, profile, load}
-use Rattle.answer_replies.specs.declared.point_form.PointForm.{PointForm}
+use Rattle.session.specs.declared.reply_form.ReplyForm.{ReplyForm}
 use Rattle.session.specs.Lines.{Asked, too_long, no_json, no_request, asks, IsAsked, memory_line}
 use Rattle.session.specs.SeatSteps.{Follows, SeatMove, answered, joined, answers_in}
 use Rattle.session.specs.Sessions.{AreTurns, LastRelease, moves_of}
@@ -141,7 +141,7 @@ held_published number k a b (joined version ∷ moves) (m, step, rest) held are 
     held_published number k m b moves rest (held_so k a m a.held held (ap held_by step)) are
 
 -- a profile is answered from what was published
-profile_from : (k : Known) (form : PointForm) (held : Option (ℕ × ImageValue)) (ask : AskValue) (moves : List SeatMove) (reply : List ℕ)
+profile_from : (k : Known) (form : ReplyForm) (held : Option (ℕ × ImageValue)) (ask : AskValue) (moves : List SeatMove) (reply : List ℕ)
     → ProfileIsMet form held ask moves reply → IsPublishedIfHeld k held → ArePublished k (answers_in moves) → IsFromPublished k form (asks (profile ask)) reply
 profile_from k form (Some h) ask moves reply met held are = inl (h.0, h.1, held, met.1)
 profile_from k form None ask moves reply (inl met) held are =
@@ -150,7 +150,7 @@ profile_from k form None ask moves reply (inl met) held are =
     inl (met.version, met.image, subst (λ (i : ImageValue). IsPublished k met.version i) met.once.image_is once.0, met.told)
 profile_from k form None ask moves reply (inr refused) held are = inr (refused.fault, refused.reply_is)
 
-request_from : (k : Known) (form : PointForm) (held : Option (ℕ × ImageValue)) (asked : Asked) (moves : List SeatMove) (orders : List OrderValue)
+request_from : (k : Known) (form : ReplyForm) (held : Option (ℕ × ImageValue)) (asked : Asked) (moves : List SeatMove) (orders : List OrderValue)
     (reply : List ℕ) → Meets form held asked moves orders reply → IsPublishedIfHeld k held
     → ArePublished k (answers_in moves) → IsFromPublished k form asked reply
 request_from k form held too_long moves orders reply met is are = tt
@@ -166,7 +166,7 @@ answers_in-append [] ys = refl
 answers_in-append (answered answer ∷ xs) ys = ap (λ (zs : List Answer). answer ∷ zs) (answers_in-append xs ys)
 answers_in-append (joined version ∷ xs) ys = answers_in-append xs ys
 
-asked_from : (k : Known) (form : PointForm) (held : Option (ℕ × ImageValue)) (asked : Asked) (t : Turn) → IsAsked t.line asked
+asked_from : (k : Known) (form : ReplyForm) (held : Option (ℕ × ImageValue)) (asked : Asked) (t : Turn) → IsAsked t.line asked
     → WantsMemory asked t.moves t.orders t.reply ⊎ Meets form held asked t.moves t.orders t.reply
     → IsPublishedIfHeld k held → ArePublished k (answers_in t.moves)
     → (t.reply ≡ memory_line) ⊎ ((asked : Asked) × IsAsked t.line asked × IsFromPublished k form asked t.reply)
@@ -174,7 +174,7 @@ asked_from k form held asked t is (inl memory) published are = inl memory.0
 asked_from k form held asked t is (inr met) published are =
     inr (asked, is, request_from k form held asked t.moves t.orders t.reply met published are)
 
-turns_from : (k : Known) (form : PointForm) (number : ℕ) (a b : SeatValue) (asked asked_then : List OrderValue) (turns : List Turn)
+turns_from : (k : Known) (form : ReplyForm) (number : ℕ) (a b : SeatValue) (asked asked_then : List OrderValue) (turns : List Turn)
     → AreTurns form number a asked turns b asked_then → IsPublishedIfHeld k a.held → ArePublished k (answers_in (moves_of turns))
     → AreFromPublished k form turns
 turns_from k form number a b asked asked_then [] same held are = tt

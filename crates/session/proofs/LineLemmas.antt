@@ -12,7 +12,7 @@ use Rattle.lines.specs.declared.reader.LineReader.{LineReader}
 use Rattle.lines.proofs.CutLemmas.{IsCut-lines, IsCut-rest, IsCut-whole, lines_of-some}
 use Rattle.lines.proofs.GivenLemmas.{HasGiven-start, HasGiven-read, HasGiven-ended, HasGiven-rest, HasGiven-nothing}
 use Rattle.orders.specs.Ordering.{OrderValue}
-use Rattle.answer_replies.specs.declared.point_form.PointForm.{PointForm}
+use Rattle.session.specs.declared.reply_form.ReplyForm.{ReplyForm}
 use Rattle.session.specs.declared.fault.Ended.{Ended}
 use Rattle.session.specs.declared.fault.SessionFault.{SessionFault}
 use Rattle.session.specs.Sessions.{AnswerLines, AreShort, AreTurns, EndsSo, IsCutShort, Serves, lines_in, text_of}
@@ -20,7 +20,7 @@ use Rattle.session.specs.Turns.{Turn, TurnsTo}
 use Rattle.session.proofs.TurnLemmas.{AreTurns-more, lines_in-more, text_of-more}
 
 -- the lines that were given are answered, and the replies written
-pub record SoFar (form : PointForm) (number : ℕ) (to_read read_then : Option (List ℕ)) (unread : List ℕ) (contents contents_then : Option (List ℕ))
+pub record SoFar (form : ReplyForm) (number : ℕ) (to_read read_then : Option (List ℕ)) (unread : List ℕ) (contents contents_then : Option (List ℕ))
     (a : SeatValue) (asked : List OrderValue) (b : SeatValue) (asked_then : List OrderValue) (count : ℕ) : Type 0 where
   pub turns : List Turn
   pub given : HasGiven to_read read_then unread (lines_in turns)
@@ -29,13 +29,13 @@ pub record SoFar (form : PointForm) (number : ℕ) (to_read read_then : Option (
   pub many : length turns ≡ count
   pub short : AreShort turns
 
-pub SoFar-start : {form : PointForm} (number : ℕ) (known : Option (List ℕ)) (unread : List ℕ) (contents : Option (List ℕ)) (a : SeatValue)
+pub SoFar-start : {form : ReplyForm} (number : ℕ) (known : Option (List ℕ)) (unread : List ℕ) (contents : Option (List ℕ)) (a : SeatValue)
     (asked : List OrderValue) → unread ≡ [] → SoFar form number known known unread contents contents a asked a asked 0
 SoFar-start {form} number known unread contents a asked none =
     record { turns = []; given = HasGiven-start known unread none; writes = Appends-nil contents; does = (refl, refl); many = refl; short = tt }
 
 -- a turn for a line: what it does, and how much of its reply is written
-pub record TurnOf (form : PointForm) (number : ℕ) (line : List ℕ) (b : SeatValue) (between : List OrderValue) (after : SeatValue)
+pub record TurnOf (form : ReplyForm) (number : ℕ) (line : List ℕ) (b : SeatValue) (between : List OrderValue) (after : SeatValue)
     (asked_then : List OrderValue) (contents contents_then : Option (List ℕ)) (written : ℕ) : Type 0 where
   pub turn : Turn
   pub line_is : turn.line ≡ line
@@ -67,7 +67,7 @@ first_of given rest all is = sym (ap (λ (ls : List (List ℕ)). take (length gi
     ∙ take-append-le (length given) given rest (omega arith) ∙ take_all (length given) given (omega arith))
 
 -- a line is answered and its reply is written
-pub SoFar-more : {form : PointForm} (number : ℕ) (to_read known later : Option (List ℕ)) (unread bytes : List ℕ) (contents wrote writes : Option (List ℕ))
+pub SoFar-more : {form : ReplyForm} (number : ℕ) (to_read known later : Option (List ℕ)) (unread bytes : List ℕ) (contents wrote writes : Option (List ℕ))
     (a b after : SeatValue) (asked between asked_then : List OrderValue) (count : ℕ) (new : LineReader)
     → SoFar form number to_read known unread contents wrote a asked b between count → Consumes known later bytes → (gives : GivesEnded (unread ++ bytes) new)
     → (t : Turn) → t.line ≡ gives.line → TurnsTo form number b between t after asked_then → Appends wrote writes t.reply
@@ -95,7 +95,7 @@ pub not_rose : (first now : ℕ) → now ≡ first → ¬ (first < now)
 not_rose first now same up = absurd (omega (arith, same, up))
 
 -- a session that ends so behind the lines that are answered
-serves_so_far : {form : PointForm} (number : ℕ) (result : Result Ended SessionFault) (to_read known later : Option (List ℕ)) (unread bytes : List ℕ)
+serves_so_far : {form : ReplyForm} (number : ℕ) (result : Result Ended SessionFault) (to_read known later : Option (List ℕ)) (unread bytes : List ℕ)
     (contents wrote : Option (List ℕ)) (a b : SeatValue) (asked asked_then : List OrderValue) (count : ℕ) (read_failed write_failed : Type 0)
     → count ≤ 1_000_000 → (so_far : SoFar form number to_read known unread contents wrote a asked b asked_then count)
     → (more : HasGiven to_read later (unread ++ bytes) (lines_in so_far.turns))
@@ -115,7 +115,7 @@ serves_so_far {form} number result to_read known later unread bytes contents wro
     }
 
 -- nothing is left
-pub ends_at_end : {form : PointForm} (number : ℕ) (to_read known later : Option (List ℕ)) (unread bytes : List ℕ) (contents wrote : Option (List ℕ))
+pub ends_at_end : {form : ReplyForm} (number : ℕ) (to_read known later : Option (List ℕ)) (unread bytes : List ℕ) (contents wrote : Option (List ℕ))
     (a b : SeatValue) (asked asked_then : List OrderValue) (count : ℕ) (read_failed write_failed : Type 0) (ended : Ended)
     → count ≤ 1_000_000 → SoFar form number to_read known unread contents wrote a asked b asked_then count → Consumes known later bytes → unread ++ bytes ≡ []
     → IsAtEnd later → (¬ read_failed) → (¬ write_failed)
@@ -128,7 +128,7 @@ ends_at_end {form} number to_read known later unread bytes contents wrote a b as
     (end, no_read, no_write, sym (HasGiven-nothing to_read later (unread ++ bytes) (lines_in so_far.turns) more none), refl)
 
 -- the rest was the last line
-pub ends_with_rest : {form : PointForm} (number : ℕ) (to_read known later : Option (List ℕ)) (unread bytes : List ℕ)
+pub ends_with_rest : {form : ReplyForm} (number : ℕ) (to_read known later : Option (List ℕ)) (unread bytes : List ℕ)
     (contents wrote writes : Option (List ℕ)) (a b after : SeatValue) (asked between asked_then : List OrderValue)
     (count : ℕ) (new : LineReader) (read_failed write_failed : Type 0) (ended : Ended)
     → count < 1_000_000 → SoFar form number to_read known unread contents wrote a asked b between count → Consumes known later bytes
@@ -167,7 +167,7 @@ AnswerLines-more turns t read line at_end line_is (inl whole) =
 AnswerLines-more turns t read line at_end line_is (inr all) = inr (all.0, more_lines turns t line line_is ∙ sym all.1)
 
 -- a reply isn't wholly written: these bytes were read, and of their lines those given are the first
-cut_short : {form : PointForm} (number : ℕ) (to_read later : Option (List ℕ)) (read : List ℕ) (line : List ℕ)
+cut_short : {form : ReplyForm} (number : ℕ) (to_read later : Option (List ℕ)) (read : List ℕ) (line : List ℕ)
     (contents wrote writes : Option (List ℕ)) (a b after : SeatValue) (asked between asked_then : List OrderValue)
     (read_failed write_failed : Type 0) (turns : List Turn)
     → Consumes to_read later read → AreTurns form number a asked turns b between → Appends contents wrote (text_of turns)
@@ -194,7 +194,7 @@ cut_short {form} number to_read later read line contents wrote writes a b after 
       ends = (failed, no_read, AnswerLines-more turns t read line (IsAtEnd later) line_is all, cut);
     }
 
-pub cut_short_at_line : {form : PointForm} (number : ℕ) (to_read known later : Option (List ℕ)) (unread bytes : List ℕ)
+pub cut_short_at_line : {form : ReplyForm} (number : ℕ) (to_read known later : Option (List ℕ)) (unread bytes : List ℕ)
     (contents wrote writes : Option (List ℕ)) (a b after : SeatValue) (asked between asked_then : List OrderValue)
     (count : ℕ) (new : LineReader) (read_failed write_failed : Type 0)
     → count < 1_000_000 → SoFar form number to_read known unread contents wrote a asked b between count → Consumes known later bytes
@@ -211,7 +211,7 @@ cut_short_at_line {form} number to_read known later unread bytes contents wrote 
     (inl (whole_lines (unread_of new), whole))
     (omega (arith, few, so_far.many)) so_far.short gives.short t line_is turn n written no_read failed
 
-pub cut_short_at_rest : {form : PointForm} (number : ℕ) (to_read known later : Option (List ℕ)) (unread bytes : List ℕ)
+pub cut_short_at_rest : {form : ReplyForm} (number : ℕ) (to_read known later : Option (List ℕ)) (unread bytes : List ℕ)
     (contents wrote writes : Option (List ℕ)) (a b after : SeatValue) (asked between asked_then : List OrderValue)
     (count : ℕ) (new : LineReader) (read_failed write_failed : Type 0)
     → count < 1_000_000 → SoFar form number to_read known unread contents wrote a asked b between count → Consumes known later bytes
@@ -229,7 +229,7 @@ cut_short_at_rest {form} number to_read known later unread bytes contents wrote 
     (omega (arith, few, so_far.many)) so_far.short gives.short t line_is turn n written no_read failed
 
 -- a line can't be read: the lines before it are answered
-pub read_fails : {form : PointForm} (number : ℕ) (to_read known later : Option (List ℕ)) (unread bytes : List ℕ) (contents wrote : Option (List ℕ))
+pub read_fails : {form : ReplyForm} (number : ℕ) (to_read known later : Option (List ℕ)) (unread bytes : List ℕ) (contents wrote : Option (List ℕ))
     (a b : SeatValue) (asked asked_then : List OrderValue) (count : ℕ) (read_failed write_failed : Type 0)
     → count ≤ 1_000_000 → SoFar form number to_read known unread contents wrote a asked b asked_then count → Consumes known later bytes
     → IsOneLine (unread ++ bytes) → read_failed ⊎ (length (unread ++ bytes) ≡ 16_777_217) → (¬ write_failed)
@@ -244,7 +244,7 @@ read_fails {form} number to_read known later unread bytes contents wrote a b ask
     (why, no_write, sym (IsCut-whole more.read (unread ++ bytes) (lines_in so_far.turns) one more.cut), refl)
 
 -- a million lines are answered, and a byte is there
-pub too_many : {form : PointForm} (number : ℕ) (to_read known later : Option (List ℕ)) (unread bytes : List ℕ) (contents wrote : Option (List ℕ))
+pub too_many : {form : ReplyForm} (number : ℕ) (to_read known later : Option (List ℕ)) (unread bytes : List ℕ) (contents wrote : Option (List ℕ))
     (a b : SeatValue) (asked asked_then : List OrderValue) (count : ℕ) (read_failed write_failed : Type 0)
     → count ≡ 1_000_000 → SoFar form number to_read known unread contents wrote a asked b asked_then count → Consumes known later bytes
     → 0 < length (unread ++ bytes) → (¬ read_failed) → (¬ write_failed)
@@ -288,7 +288,7 @@ read_stops first before now long Left same (inl failed) = one_failed first befor
 read_stops first before now long Left same (inr too_long) = none_failed first now Left (too_long.0 ∙ same)
 
 -- the seat's number stays
-pub TurnsTo-number : {form : PointForm} (n number : ℕ) (b after : SeatValue) (between asked_then : List OrderValue) (t : Turn) → n ≡ number
+pub TurnsTo-number : {form : ReplyForm} (n number : ℕ) (b after : SeatValue) (between asked_then : List OrderValue) (t : Turn) → n ≡ number
     → TurnsTo form n b between t after asked_then → TurnsTo form number b between t after asked_then
 TurnsTo-number {form} n number b after between asked_then t same turn = subst (λ (k : ℕ). TurnsTo form k b between t after asked_then) same turn
 

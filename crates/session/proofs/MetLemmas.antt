@@ -7,7 +7,7 @@ use Rattle.session.specs.SeatSteps.{HoldsInSome}
 use Rattle.epochs.specs.Seats.{SeatValue, PinStep, ReleaseStep}
 use Rattle.session_texts.specs.Replies.{pin_text, release_text}
 use Rattle.session_texts.specs.Requests.{AskValue, pin, release, profile}
-use Rattle.answer_replies.specs.declared.point_form.PointForm.{PointForm}
+use Rattle.session.specs.declared.reply_form.ReplyForm.{ReplyForm}
 use Rattle.session.specs.Lines.{Asked, asks, memory_line, pin_fault_line}
 use Rattle.session.specs.Profiles.{IsProfileReply}
 use Rattle.session.specs.SeatSteps.{answered}
@@ -15,7 +15,7 @@ use Rattle.session.specs.Turns.{IsMet, MayPin, ProfileIsMet, ProfileIsMetOnce, P
 use Rattle.session.proofs.SeatLemmas.{is_pinned, is_released, pins_once, some_is_held}
 
 -- a pin is told
-pub pin_met : {form : PointForm} (number : ℕ) (a m : SeatValue) (v : ℕ) (image : ImageValue) (reply : List ℕ) → PinStep a (Ok tt) m
+pub pin_met : {form : ReplyForm} (number : ℕ) (a m : SeatValue) (v : ℕ) (image : ImageValue) (reply : List ℕ) → PinStep a (Ok tt) m
     → HoldsInSome number m.held → m.held ≡ Some (v, image)
     → reply ≡ pin_text image.names.base v ++ 10 ∷ [] → IsMet form number a (asks pin) reply m
 pin_met {form} number a m v image reply step known held told =
@@ -28,14 +28,14 @@ pin_met {form} number a m v image reply step known held told =
     } in
     record { moves = answered (Answer.Pinned v pinned.shown) ∷ []; meets = inr (refl, inl met); seat = (m, pinned.step, refl) }
 
-pub pin_refused : {form : PointForm} (number : ℕ) (a b : SeatValue) (fault : PinFault) (reply : List ℕ) → PinStep a (Err fault) b → reply ≡ pin_fault_line fault
+pub pin_refused : {form : ReplyForm} (number : ℕ) (a b : SeatValue) (fault : PinFault) (reply : List ℕ) → PinStep a (Err fault) b → reply ≡ pin_fault_line fault
     → IsMet form number a (asks pin) reply b
 pin_refused {form} number a b fault reply step told =
     let met : PinIsRefused (answered (Answer.PinRefused fault) ∷ []) reply = record { fault = fault; moves_are = refl; reply_is = told } in
     record { moves = answered (Answer.PinRefused fault) ∷ []; meets = inr (refl, inr met); seat = (b, step, refl) }
 
 -- where memory is wanting, what was pinned is given back
-given_back : {form : PointForm} (number : ℕ) (asked : Asked) → MayPin asked → (a m b : SeatValue) (v : ℕ) (image : ImageValue)
+given_back : {form : ReplyForm} (number : ℕ) (asked : Asked) → MayPin asked → (a m b : SeatValue) (v : ℕ) (image : ImageValue)
     (r : Result (Unit {0}) PinFault) (reply : List ℕ) → PinStep a (Ok tt) m → HoldsInSome number m.held → m.held ≡ Some (v, image)
     → ReleaseStep m r b → reply ≡ memory_line → IsMet form number a asked reply b
 given_back {form} number asked may a m b v image r reply step known held back told =
@@ -49,23 +49,23 @@ given_back {form} number asked may a m b v image r reply step known held back to
     }
 
 -- a pin that can't be told
-pub pin_given_back : {form : PointForm} (number : ℕ) (a m b : SeatValue) (v : ℕ) (image : ImageValue) (r : Result (Unit {0}) PinFault) (reply : List ℕ)
+pub pin_given_back : {form : ReplyForm} (number : ℕ) (a m b : SeatValue) (v : ℕ) (image : ImageValue) (r : Result (Unit {0}) PinFault) (reply : List ℕ)
     → PinStep a (Ok tt) m → HoldsInSome number m.held → m.held ≡ Some (v, image)
     → ReleaseStep m r b → reply ≡ memory_line → IsMet form number a (asks pin) reply b
 pin_given_back {form} number a m b v image r reply step known held back told = given_back number (asks pin) tt a m b v image r reply step known held back told
 
-pub release_met : {form : PointForm} (number : ℕ) (a b : SeatValue) (reply : List ℕ) → ReleaseStep a (Ok tt) b → reply ≡ release_text
+pub release_met : {form : ReplyForm} (number : ℕ) (a b : SeatValue) (reply : List ℕ) → ReleaseStep a (Ok tt) b → reply ≡ release_text
     → IsMet form number a (asks release) reply b
 release_met {form} number a b reply step told = record { moves = answered Answer.Released ∷ []; meets = inr (refl, inl (refl, told)); seat = (b, step, refl) }
 
-pub release_refused : {form : PointForm} (number : ℕ) (a b : SeatValue) (fault : PinFault) (reply : List ℕ) → ReleaseStep a (Err fault) b
+pub release_refused : {form : ReplyForm} (number : ℕ) (a b : SeatValue) (fault : PinFault) (reply : List ℕ) → ReleaseStep a (Err fault) b
     → reply ≡ pin_fault_line fault → IsMet form number a (asks release) reply b
 release_refused {form} number a b fault reply step told =
     let met : ReleaseIsRefused (answered (Answer.ReleaseRefused fault) ∷ []) reply = record { fault = fault; moves_are = refl; reply_is = told } in
     record { moves = answered (Answer.ReleaseRefused fault) ∷ []; meets = inr (refl, inr met); seat = (b, step, refl) }
 
 -- a profile for which no version can be pinned
-pub profile_refused : {form : PointForm} (number : ℕ) (a b : SeatValue) (fault : PinFault) (ask : AskValue) (reply : List ℕ) → a.held ≡ None
+pub profile_refused : {form : ReplyForm} (number : ℕ) (a b : SeatValue) (fault : PinFault) (ask : AskValue) (reply : List ℕ) → a.held ≡ None
     → PinStep a (Err fault) b → reply ≡ pin_fault_line fault → IsMet form number a (asks (profile ask)) reply b
 profile_refused {form} number a b fault ask reply empty step told =
     let refused : PinIsRefused (answered (Answer.PinRefused fault) ∷ []) reply = record { fault = fault; moves_are = refl; reply_is = told } in
@@ -74,7 +74,7 @@ profile_refused {form} number a b fault ask reply empty step told =
     record { moves = answered (Answer.PinRefused fault) ∷ []; meets = inr (refl, met); seat = (b, step, refl) }
 
 -- a profile from what is held
-pub profile_met : {form : PointForm} (number : ℕ) (a : SeatValue) (v : ℕ) (image : ImageValue) (ask : AskValue) (reply : List ℕ) → a.held ≡ Some (v, image)
+pub profile_met : {form : ReplyForm} (number : ℕ) (a : SeatValue) (v : ℕ) (image : ImageValue) (ask : AskValue) (reply : List ℕ) → a.held ≡ Some (v, image)
     → (IsProfileReply form image v ask reply ⊎ (reply ≡ memory_line))
     → IsMet form number a (asks (profile ask)) reply a
 profile_met {form} number a v image ask reply held (inl told) =
@@ -83,7 +83,7 @@ profile_met {form} number a v image ask reply held (inl told) =
 profile_met {form} number a v image ask reply held (inr memory) = record { moves = []; meets = inl (memory, refl, inl refl); seat = refl }
 
 -- and from a version that is pinned for it
-pub profile_met_once : {form : PointForm} (number : ℕ) (a m b : SeatValue) (v : ℕ) (image : ImageValue) (r : Result (Unit {0}) PinFault) (ask : AskValue)
+pub profile_met_once : {form : ReplyForm} (number : ℕ) (a m b : SeatValue) (v : ℕ) (image : ImageValue) (r : Result (Unit {0}) PinFault) (ask : AskValue)
     (reply : List ℕ) → PinStep a (Ok tt) m → HoldsInSome number m.held
     → m.held ≡ Some (v, image) → ReleaseStep m r b → (IsProfileReply form image v ask reply ⊎ (reply ≡ memory_line))
     → IsMet form number a (asks (profile ask)) reply b

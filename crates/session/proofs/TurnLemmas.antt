@@ -10,7 +10,7 @@ use Rattle.session_texts.specs.Judging.{IsJson, IsNoJson}
 use Rattle.session_texts.specs.Requests.{Asks, RequestValue, load, request_value}
 use Rattle.session_texts.specs.declared.requests.Request.{Request}
 use Rattle.session_texts.specs.declared.refusals.Refusal.{Refusal}
-use Rattle.answer_replies.specs.declared.point_form.PointForm.{PointForm}
+use Rattle.session.specs.declared.reply_form.ReplyForm.{ReplyForm}
 use Rattle.session.specs.Lines.{Asked, too_long, no_json, no_request, asks, IsAsked, memory_line, refusal_line}
 use Rattle.session.specs.SeatSteps.{Follows, SeatMove}
 use Rattle.session.specs.Sessions.{AreTurns, moves_of, lines_in, orders_of, text_of}
@@ -20,22 +20,22 @@ use Rattle.session.proofs.SeatLemmas.{Follows-append}
 abbrev turn_of : List ℕ → List SeatMove → List OrderValue → List ℕ → Turn
 turn_of line moves orders reply = record { line = line; moves = moves; orders = orders; reply = reply }
 
-has_turn : {form : PointForm} (number : ℕ) (a b : SeatValue) (asked asked_then : List OrderValue) (t : Turn) → IsTurn form a.held t → Follows number a t.moves b
+has_turn : {form : ReplyForm} (number : ℕ) (a b : SeatValue) (asked asked_then : List OrderValue) (t : Turn) → IsTurn form a.held t → Follows number a t.moves b
     → asked_then ≡ asked ++ t.orders → HasTurn form number t.line t.reply a asked b asked_then
 has_turn {form} number a b asked asked_then t is seat orders =
     let turns : TurnsTo form number a asked t b asked_then = record { is = is; seat = seat; orders = orders } in
     (t, refl, refl, turns)
 
 -- nothing was done
-idle_turn : {form : PointForm} (number : ℕ) (a : SeatValue) (asked : List OrderValue) (line reply : List ℕ) → IsTurn form a.held (turn_of line [] [] reply)
+idle_turn : {form : ReplyForm} (number : ℕ) (a : SeatValue) (asked : List OrderValue) (line reply : List ℕ) → IsTurn form a.held (turn_of line [] [] reply)
     → HasTurn form number line reply a asked a asked
 idle_turn {form} number a asked line reply is = has_turn number a a asked asked (turn_of line [] [] reply) is refl (sym (append-nil asked))
 
-pub memory_turn : {form : PointForm} (number : ℕ) (a : SeatValue) (asked : List OrderValue) (line reply : List ℕ) → reply ≡ memory_line
+pub memory_turn : {form : ReplyForm} (number : ℕ) (a : SeatValue) (asked : List OrderValue) (line reply : List ℕ) → reply ≡ memory_line
     → HasTurn form number line reply a asked a asked
 memory_turn {form} number a asked line reply told = idle_turn number a asked line reply (inl (told, refl, refl))
 
-pub too_long_turn : {form : PointForm} (number : ℕ) (a : SeatValue) (asked : List OrderValue) (shown : Line) (line reply : List ℕ) → shown ≡ TooLong
+pub too_long_turn : {form : ReplyForm} (number : ℕ) (a : SeatValue) (asked : List OrderValue) (shown : Line) (line reply : List ℕ) → shown ≡ TooLong
     → ShowsLine shown line → reply ≡ refusal_line Refusal.LineTooLong → HasTurn form number line reply a asked a asked
 too_long_turn {form} number a asked shown line reply is shows told =
     let long : ShowsLine TooLong line = subst (λ (x : Line). ShowsLine x line) is shows in
@@ -45,12 +45,12 @@ too_long_turn {form} number a asked shown line reply is shows told =
 pub whole : (shown : Line) (bytes : _) (line : List ℕ) → shown ≡ Whole bytes → ShowsLine shown line → (bytes.now ≡ line) × (length line ≤ 65_536)
 whole shown bytes line is shows = subst (λ (x : Line). ShowsLine x line) is shows
 
-pub bad_json_turn : {form : PointForm} (number : ℕ) (a : SeatValue) (asked : List OrderValue) (bytes line reply : List ℕ)
+pub bad_json_turn : {form : ReplyForm} (number : ℕ) (a : SeatValue) (asked : List OrderValue) (bytes line reply : List ℕ)
     → (bytes ≡ line) × (length line ≤ 65_536) → IsNoJson bytes → reply ≡ refusal_line Refusal.BadJson → HasTurn form number line reply a asked a asked
 bad_json_turn {form} number a asked bytes line reply here bad told =
     idle_turn number a asked line reply (inr (no_json, (here.1, subst IsNoJson here.0 bad), inr (refl, refl, told)))
 
-pub bad_request_turn : {form : PointForm} (number : ℕ) (a : SeatValue) (asked : List OrderValue) (bytes line reply : List ℕ) (d : Data)
+pub bad_request_turn : {form : ReplyForm} (number : ℕ) (a : SeatValue) (asked : List OrderValue) (bytes line reply : List ℕ) (d : Data)
     → (bytes ≡ line) × (length line ≤ 65_536) → IsJson bytes d → ((request : RequestValue) → ¬ Asks d request)
     → reply ≡ refusal_line Refusal.BadRequest → HasTurn form number line reply a asked a asked
 bad_request_turn {form} number a asked bytes line reply d here json none told =
@@ -69,12 +69,12 @@ pub waits_not : (d : Data) (feed : List ℕ) (waits : Bool) → waits ≡ false 
 waits_not d feed waits is asks_it = subst (λ (b : Bool). Asks d (load feed b)) is asks_it
 
 -- a request of the seat is met
-meets_turn : {form : PointForm} (number : ℕ) (a b : SeatValue) (what : Asked) (line reply : List ℕ) → IsAsked line what
+meets_turn : {form : ReplyForm} (number : ℕ) (a b : SeatValue) (what : Asked) (line reply : List ℕ) → IsAsked line what
     → (met : IsMet form number a what reply b)
     → IsTurn form a.held (turn_of line met.moves [] reply)
 meets_turn {form} number a b what line reply is met = inr (what, is, met.meets)
 
-pub seat_turn : {form : PointForm} (number : ℕ) (a b : SeatValue) (asked : List OrderValue) (bytes line reply : List ℕ) (d : Data) (request : RequestValue)
+pub seat_turn : {form : ReplyForm} (number : ℕ) (a b : SeatValue) (asked : List OrderValue) (bytes line reply : List ℕ) (d : Data) (request : RequestValue)
     → (bytes ≡ line) × (length line ≤ 65_536) → IsJson bytes d → Asks d request
     → IsMet form number a (asks request) reply b → HasTurn form number line reply a asked b asked
 seat_turn {form} number a b asked bytes line reply d request here json asks_it met =
@@ -82,7 +82,7 @@ seat_turn {form} number a b asked bytes line reply d request here json asks_it m
     has_turn number a b asked asked (turn_of line met.moves [] reply) (meets_turn number a b (asks request) line reply is met) met.seat (sym (append-nil asked))
 
 -- a feed is ordered
-pub order_turn : {form : PointForm} (number : ℕ) (a : SeatValue) (asked asked_then put : List OrderValue) (bytes line reply feed : List ℕ) (d : Data)
+pub order_turn : {form : ReplyForm} (number : ℕ) (a : SeatValue) (asked asked_then put : List OrderValue) (bytes line reply feed : List ℕ) (d : Data)
     → (bytes ≡ line)
     × (length line ≤ 65_536) → IsJson bytes d → Asks d (load feed false)
     → asked_then ≡ asked ++ put → OrderIsMet feed put reply ⊎ ((put ≡ []) × (reply ≡ memory_line)) → HasTurn form number line reply a asked a asked_then
@@ -93,7 +93,7 @@ order_turn {form} number a asked asked_then put bytes line reply feed d here jso
     has_turn number a a asked asked_then (turn_of line [] put reply) (inl (memory.1, memory.0, refl)) refl grown
 
 -- and is waited for
-pub load_turn : {form : PointForm} (number : ℕ) (a b : SeatValue) (asked asked_then put : List OrderValue) (bytes line reply feed : List ℕ) (d : Data)
+pub load_turn : {form : ReplyForm} (number : ℕ) (a b : SeatValue) (asked asked_then put : List OrderValue) (bytes line reply feed : List ℕ) (d : Data)
     → (bytes ≡ line)
     × (length line ≤ 65_536) → IsJson bytes d → Asks d (load feed true)
     → asked_then ≡ asked ++ put → IsLoaded number a feed put reply b → HasTurn form number line reply a asked b asked_then
@@ -110,7 +110,7 @@ pub text_of-more : (turns : List Turn) (t : Turn) → text_of (turns ++ t ∷ []
 text_of-more [] t = append-nil t.reply
 text_of-more (u ∷ turns) t = ap (λ (xs : List ℕ). u.reply ++ xs) (text_of-more turns t) ∙ sym (append_assoc u.reply (text_of turns) t.reply)
 
-pub AreTurns-more : {form : PointForm} (number : ℕ) (a m b : SeatValue) (asked between asked_then : List OrderValue) (turns : List Turn) (t : Turn)
+pub AreTurns-more : {form : ReplyForm} (number : ℕ) (a m b : SeatValue) (asked between asked_then : List OrderValue) (turns : List Turn) (t : Turn)
     → AreTurns form number a asked turns m between → TurnsTo form number m between t b asked_then
     → AreTurns form number a asked (turns ++ t ∷ []) b asked_then
 AreTurns-more {form} number a m b asked between asked_then [] t same turn = (
@@ -124,14 +124,14 @@ AreTurns-more {form} number a m b asked between asked_then (u ∷ turns) t (n, m
     (n, middle, first, AreTurns-more number n m b middle between asked_then turns t rest turn)
 
 -- the lists grow by the turns' own
-pub moves_follow : (form : PointForm) (number : ℕ) (a b : SeatValue) (asked asked_then : List OrderValue) (turns : List Turn)
+pub moves_follow : (form : ReplyForm) (number : ℕ) (a b : SeatValue) (asked asked_then : List OrderValue) (turns : List Turn)
     → AreTurns form number a asked turns b asked_then
     → Follows number a (moves_of turns) b
 moves_follow form number a b asked asked_then [] same = same.0
 moves_follow form number a b asked asked_then (t ∷ turns) (m, between, turn, rest) =
     Follows-append number a m b t.moves (moves_of turns) turn.seat (moves_follow form number m b between asked_then turns rest)
 
-pub orders_grow : (form : PointForm) (number : ℕ) (a b : SeatValue) (asked asked_then : List OrderValue) (turns : List Turn)
+pub orders_grow : (form : ReplyForm) (number : ℕ) (a b : SeatValue) (asked asked_then : List OrderValue) (turns : List Turn)
     → AreTurns form number a asked turns b asked_then → asked_then ≡ asked ++ orders_of turns
 orders_grow form number a b asked asked_then [] same = same.1 ∙ sym (append-nil asked)
 orders_grow form number a b asked asked_then (t ∷ turns) (m, between, turn, rest) =

@@ -8,7 +8,7 @@ use Rattle.epochs.specs.SeatHistory.{Grows, IsPublished}
 use Rattle.epochs.specs.Seats.{SeatValue}
 use Rattle.orders.specs.Ordering.{OrderValue}
 use Rattle.session_texts.specs.Requests.{profile}
-use Rattle.answer_replies.specs.declared.point_form.PointForm.{PointForm}
+use Rattle.session.specs.declared.reply_form.ReplyForm.{ReplyForm}
 use Rattle.session.specs.Lines.{Asked, asks, IsAsked, memory_line, pin_fault_line}
 use Rattle.session.specs.Profiles.{IsProfileReply}
 use Rattle.session.specs.Sessions.{AreTurns, LastRelease}
@@ -35,14 +35,14 @@ pub record Learns (known : Known) (a : SeatValue) (known_then : Known) (b : Seat
   pub published : ArePublished known_then answers
 
 -- a profile is answered over the image that this history published as the version that is told; or no version could be pinned
-abbrev pub IsFromPublished : Known → PointForm → Asked → List ℕ → Type 0
+abbrev pub IsFromPublished : Known → ReplyForm → Asked → List ℕ → Type 0
 IsFromPublished known form (asks (profile ask)) reply =
     ((version : ℕ) × (image : ImageValue) × IsPublished known version image × IsProfileReply form image version ask reply)
     ⊎ ((fault : PinFault) × (reply ≡ pin_fault_line fault))
 IsFromPublished known form _ reply = Unit {0}
 
 -- each profile that is asked for in these turns is answered so, or want of memory is replied
-abbrev pub AreFromPublished : Known → PointForm → List Turn → Type 0
+abbrev pub AreFromPublished : Known → ReplyForm → List Turn → Type 0
 AreFromPublished known form [] = Unit {0}
 AreFromPublished known form (t ∷ turns) =
     ((t.reply ≡ memory_line) ⊎ ((asked : Asked) × IsAsked t.line asked × IsFromPublished known form asked t.reply)) × AreFromPublished known form turns
@@ -51,7 +51,7 @@ AreFromPublished known form (t ∷ turns) =
 -- published, if what the seat held before them was published in it
 abbrev pub TellPublished : Known → SeatValue → SeatValue → Type 0
 TellPublished known a b =
-    (form : PointForm) (number : ℕ) (asked asked_then : List OrderValue) (turns : List Turn) (last : SeatValue)
+    (form : ReplyForm) (number : ℕ) (asked asked_then : List OrderValue) (turns : List Turn) (last : SeatValue)
     → AreTurns form number a asked turns last asked_then → LastRelease number last b → IsPublishedIfHeld known a.held
     → AreFromPublished known form turns
 

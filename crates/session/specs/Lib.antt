@@ -6,3 +6,4 @@ pub mod Turns
 pub mod Sessions
 pub mod Learning
 pub mod Feeds
+pub mod Forms

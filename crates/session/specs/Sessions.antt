@@ -5,14 +5,14 @@ use Rattle.epochs.specs.declared.seats.Answer.{Answer}
 use Rattle.epochs.specs.Seats.{SeatValue}
 use Rattle.orders.specs.Ordering.{OrderValue}
 use Rattle.lines.specs.Cutting.{lines_of, rest_of, whole_lines}
-use Rattle.answer_replies.specs.declared.point_form.PointForm.{PointForm}
+use Rattle.session.specs.declared.reply_form.ReplyForm.{ReplyForm}
 use Rattle.session.specs.declared.fault.Ended.{Ended}
 use Rattle.session.specs.declared.fault.SessionFault.{SessionFault}
 use Rattle.session.specs.SeatSteps.{AnswerStep, IsGivenBack, SeatMove}
 use Rattle.session.specs.Turns.{Turn, TurnsTo}
 
 -- turns one after the other: each begins with the seat and the orders as the one before left them
-abbrev pub AreTurns : PointForm → ℕ → SeatValue → List OrderValue → List Turn → SeatValue → List OrderValue → Type 0
+abbrev pub AreTurns : ReplyForm → ℕ → SeatValue → List OrderValue → List Turn → SeatValue → List OrderValue → Type 0
 AreTurns form number a asked [] b asked_then = (b ≡ a) × (asked_then ≡ asked)
 AreTurns form number a asked (t ∷ turns) b asked_then =
     (m : SeatValue) × (between : List OrderValue) × TurnsTo form number a asked t m between × AreTurns form number m between turns b asked_then
@@ -74,7 +74,7 @@ EndsSo (Err SessionFault.TooManyRequests) read written turns at_end read_failed 
 
 -- what a session reads, does and writes: a million lines at most. Where the bytes of its reader or its writer aren't known, `None` stands for them;
 -- `read_failed` and `write_failed` say whether a read or a write failed
-pub record Serves (form : PointForm) (number : ℕ) (result : Result Ended SessionFault)
+pub record Serves (form : ReplyForm) (number : ℕ) (result : Result Ended SessionFault)
     (to_read read_then contents contents_then : Option (List ℕ)) (read_failed write_failed : Type 0)
     (a : SeatValue) (asked : List OrderValue) (b : SeatValue) (asked_then : List OrderValue) : Type 0 where
   pub read : List ℕ

@@ -10,7 +10,7 @@ use Rattle.orders.specs.Ordering.{IsNotTaken, OrderValue, order_value, waited_va
 use Rattle.session_texts.specs.Replies.{line_of, load_data, loaded_data, pin_text, release_text}
 use Rattle.session_texts.specs.Requests.{AskValue, pin, release, profile, load}
 use Rattle.session_texts.specs.declared.refusals.Refusal.{Refusal}
-use Rattle.answer_replies.specs.declared.point_form.PointForm.{PointForm}
+use Rattle.session.specs.declared.reply_form.ReplyForm.{ReplyForm}
 use Rattle.session.specs.Lines.{Asked, too_long, no_json, no_request, asks, IsAsked, memory_line, order_fault_line, pin_fault_line, refusal_line}
 use Rattle.session.specs.Profiles.{IsProfileReply}
 use Rattle.session.specs.SeatSteps.{Follows, PinsOnce, SeatMove, answered, joined}
@@ -65,14 +65,14 @@ LoadIsMet false feed moves orders reply = (moves ≡ []) × OrderIsMet feed orde
 LoadIsMet true feed moves orders reply = VersionIsMet feed moves orders reply ⊎ NoVersionIsMet feed moves orders reply
 
 -- a profile is answered from a version that is pinned for it and given back
-pub record ProfileIsMetOnce (form : PointForm) (ask : AskValue) (moves : List SeatMove) (reply : List ℕ) : Type 0 where
+pub record ProfileIsMetOnce (form : ReplyForm) (ask : AskValue) (moves : List SeatMove) (reply : List ℕ) : Type 0 where
   pub version : ℕ
   pub image : ImageValue
   pub once : PinsOnce moves version image
   pub told : IsProfileReply form image version ask reply
 
 -- a profile is answered from what is held; or, if nothing is, from a version that is pinned for it, unless the pin is refused
-abbrev pub ProfileIsMet : PointForm → Option (ℕ × ImageValue) → AskValue → List SeatMove → List ℕ → Type 0
+abbrev pub ProfileIsMet : ReplyForm → Option (ℕ × ImageValue) → AskValue → List SeatMove → List ℕ → Type 0
 ProfileIsMet form (Some held) ask moves reply = (moves ≡ []) × IsProfileReply form held.1 held.0 ask reply
 ProfileIsMet form None ask moves reply = ProfileIsMetOnce form ask moves reply ⊎ PinIsRefused moves reply
 
@@ -81,7 +81,7 @@ abbrev pub IsRefused : Refusal → List SeatMove → List OrderValue → List �
 IsRefused refusal moves orders reply = (moves ≡ []) × (orders ≡ []) × (reply ≡ refusal_line refusal)
 
 -- what was asked, at a seat that holds this, is met by these moves and orders, with this reply
-abbrev pub Meets : PointForm → Option (ℕ × ImageValue) → Asked → List SeatMove → List OrderValue → List ℕ → Type 0
+abbrev pub Meets : ReplyForm → Option (ℕ × ImageValue) → Asked → List SeatMove → List OrderValue → List ℕ → Type 0
 Meets form held too_long moves orders reply = IsRefused Refusal.LineTooLong moves orders reply
 Meets form held no_json moves orders reply = IsRefused Refusal.BadJson moves orders reply
 Meets form held no_request moves orders reply = IsRefused Refusal.BadRequest moves orders reply
@@ -104,7 +104,7 @@ WantsMemory asked moves orders reply =
     × ((moves ≡ []) ⊎ (MayPin asked × ((version : ℕ) × (image : ImageValue) × PinsOnce moves version image)))
 
 -- what was asked is met without an order, with this reply, or want of memory is told; the moves that this takes lead the seat from `a` to `b`
-pub record IsMet (form : PointForm) (number : ℕ) (a : SeatValue) (asked : Asked) (reply : List ℕ) (b : SeatValue) : Type 0 where
+pub record IsMet (form : ReplyForm) (number : ℕ) (a : SeatValue) (asked : Asked) (reply : List ℕ) (b : SeatValue) : Type 0 where
   pub moves : List SeatMove
   pub meets : WantsMemory asked moves [] reply ⊎ Meets form a.held asked moves [] reply
   pub seat : Follows number a moves b
@@ -120,19 +120,19 @@ abbrev pub AgreeOnNotices : {N : Type 0} → (N → ℕ) → (N → ℕ) → Typ
 AgreeOnNotices {N} told noted = (notice : N) → told notice ≡ noted notice
 
 -- what the line asks is met, or there was no memory for that; or there was none even to find out what it asks, and nothing is done
-abbrev pub IsTurn : PointForm → Option (ℕ × ImageValue) → Turn → Type 0
+abbrev pub IsTurn : ReplyForm → Option (ℕ × ImageValue) → Turn → Type 0
 IsTurn form held t =
     ((t.reply ≡ memory_line) × (t.orders ≡ []) × (t.moves ≡ []))
     ⊎ ((asked : Asked) × IsAsked t.line asked
     × (WantsMemory asked t.moves t.orders t.reply ⊎ Meets form held asked t.moves t.orders t.reply))
 
 -- the turn's moves lead the seat from `a` to `b`, and the list of orders grows by the turn's orders
-pub record TurnsTo (form : PointForm) (number : ℕ) (a : SeatValue) (asked : List OrderValue) (t : Turn) (b : SeatValue)
+pub record TurnsTo (form : ReplyForm) (number : ℕ) (a : SeatValue) (asked : List OrderValue) (t : Turn) (b : SeatValue)
     (asked_then : List OrderValue) : Type 0 where
   pub is : IsTurn form a.held t
   pub seat : Follows number a t.moves b
   pub orders : asked_then ≡ asked ++ t.orders
 
 -- there is such a turn of this line and this reply
-abbrev pub HasTurn : PointForm → ℕ → List ℕ → List ℕ → SeatValue → List OrderValue → SeatValue → List OrderValue → Type 0
+abbrev pub HasTurn : ReplyForm → ℕ → List ℕ → List ℕ → SeatValue → List OrderValue → SeatValue → List OrderValue → Type 0
 HasTurn form number line reply a asked b asked_then = (t : Turn) × (t.line ≡ line) × (t.reply ≡ reply) × TurnsTo form number a asked t b asked_then

@@ -2,8 +2,9 @@
 
 ghost use Rattle.std.specs.Prelude.{◌≡◌};
 ghost use Rattle.lines.specs.Counting.{failures_of, inner_of};
-ghost use Rattle.answer_replies.specs.declared.point_form.PointForm.TheVariants.{Bare};
+ghost use Rattle.session.specs.Forms.{bare};
 
+use crate::reply_form::ReplyForm;
 use answer_replies::PointForm;
 use lines::Counted;
 use std::alloc::Global;
@@ -15,20 +16,20 @@ pub struct Desk<'a, T, G> {
     pub alloc: Global,
     pub shelves: &'a T,
     pub gate: &'a G,
-    pub form: PointForm,
+    pub form: ReplyForm,
 }
 
 impl<'a, T, G> Desk<'a, T, G> {
-    /// With these shelves and this gate; its replies are bare.
+    /// With these shelves and this gate; its replies are bare, over windows of any length.
     pub fn new(alloc: Global, shelves: &'a T, gate: &'a G) -> Desk<'a, T, G>
         ensures shelves { result.shelves.now ≡ shelves.now }
-        ensures form { result.form ≡ Bare }
+        ensures form { result.form ≡ bare }
     {
         Desk {
             alloc,
             shelves,
             gate,
-            form: PointForm::Bare,
+            form: ReplyForm::of(PointForm::Bare),
         }
     }
 }

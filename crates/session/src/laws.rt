@@ -5,7 +5,7 @@ ghost use Rattle.epochs.specs.Seats.{SeatValue};
 ghost use Rattle.orders.specs.Ordering.{OrderValue};
 ghost use Rattle.session.specs.Learning.{LearningTells};
 ghost use Rattle.session.specs.Lines.{Asked, IsAsked};
-ghost use Rattle.answer_replies.specs.declared.point_form.PointForm.{PointForm};
+ghost use Rattle.session.specs.declared.reply_form.ReplyForm.{ReplyForm};
 ghost use Rattle.session.specs.SeatSteps.{Follows, NeverFalls, SeatMove, answers_in};
 ghost use Rattle.session.specs.Sessions.{AreTurns, moves_of, orders_of};
 ghost use Rattle.session.specs.Turns.{Turn};
@@ -30,12 +30,12 @@ pub fn versions_never_fall()
 /// The moves of all turns, in order, lead the seat from its value before the turns to its value after them. Its list of
 /// answers grows by the answers among these moves, and the list of orders by the orders of all turns.
 pub fn lists_grow_by_the_turns()
-    ensures seat { (form : PointForm) (number : ℕ) (a b : SeatValue) (asked asked_then : List OrderValue)
+    ensures seat { (form : ReplyForm) (number : ℕ) (a b : SeatValue) (asked asked_then : List OrderValue)
         (turns : List Turn)
         → AreTurns form number a asked turns b asked_then → Follows number a (moves_of turns) b }
     ensures answers { (number : ℕ) (a b : SeatValue) (moves : List SeatMove) → Follows number a moves b
         → b.answers ≡ a.answers ++ answers_in moves }
-    ensures orders { (form : PointForm) (number : ℕ) (a b : SeatValue) (asked asked_then : List OrderValue)
+    ensures orders { (form : ReplyForm) (number : ℕ) (a b : SeatValue) (asked asked_then : List OrderValue)
         (turns : List Turn) → AreTurns form number a asked turns b asked_then
         → asked_then ≡ asked ++ orders_of turns }
 {}

@@ -10,13 +10,15 @@ ghost use Rattle.session.specs.Turns.{IsMet};
 
 use crate::desk::Desk;
 use crate::reply::Reply;
-use answer_replies::{PointForm, reply_by_name};
+use crate::reply_form::ReplyForm;
+use answer_replies::reply_by_name;
 use epochs::{Edition, Versions};
 use image_verifier::Verified;
 use journeys::{Window, query_of};
 use orders::Gate;
 use session_texts::{Ask, Refusal};
 use std::alloc::Global;
+use timetable::QueryFault;
 
 impl<'a, T: Versions, G: Gate> Desk<'a, T, G> {
     /// Answers from the version that the seat holds. If it holds none, the current one is pinned for this answer, and
@@ -57,10 +59,11 @@ impl<'a, T: Versions, G: Gate> Desk<'a, T, G> {
     }
 }
 
-// Answers from an edition. What is asked is judged before anything is scanned.
+// Answers from an edition. What is asked is judged before anything is scanned. A window that is too long is refused as
+// one that is none.
 fn answer_from<G: Gate>(
     alloc: Global,
-    form: PointForm,
+    form: ReplyForm,
     edition: &Edition,
     gate: &G,
     ask: &Ask<'_>,
@@ -81,8 +84,18 @@ fn answer_from<G: Gate>(
         Ok(query) => query,
         Err(fault) => return Reply::query_fault(fault),
     };
+    if form.excludes(ask.after, ask.by) {
+        return Reply::query_fault(QueryFault::BadWindow);
+    }
     gate.enter();
-    match reply_by_name(alloc, form, image, ask.criterion, &query, edition.version) {
+    match reply_by_name(
+        alloc,
+        form.points,
+        image,
+        ask.criterion,
+        &query,
+        edition.version,
+    ) {
         Ok(line) => Reply::made(line).after_scan(),
         Err(_) => Reply::refusal(Refusal::OutOfMemory).after_scan(),
     }

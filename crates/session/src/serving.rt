@@ -5,10 +5,10 @@ ghost use Rattle.std.specs.Io.KnownBytes.{Appends};
 ghost use Rattle.lines.specs.Counting.{HasFailed, StopsAtFailure, failures_of, inner_of};
 ghost use Rattle.lines.specs.Showing.{ShowsLine};
 ghost use Rattle.epochs.specs.Seats.{SeatValue};
+ghost use Rattle.session.specs.Forms.{bare};
 ghost use Rattle.session.specs.Learning.{Learns, TellPublished};
 ghost use Rattle.session.specs.Sessions.{LastRelease, Serves};
 ghost use Rattle.session.specs.Turns.{AgreeOnNotices, Turn, TurnsTo};
-ghost use Rattle.answer_replies.specs.declared.point_form.PointForm.TheVariants.{Bare};
 
 use crate::desk::{Desk, Streams};
 use crate::fault::{Ended, SessionFault};
@@ -50,7 +50,7 @@ pub fn serve<
     ensures profiles { TellPublished (T.known seat.new) (T.value seat.old) (T.value seat.new) }
     ensures released { (T.value seat.new).held ≡ None }
     ensures session { (last : SeatValue) × LastRelease (T.number seat.old) last (T.value seat.new)
-        × Serves Bare (T.number seat.old) result (In.remaining (inner_of reader.old))
+        × Serves bare (T.number seat.old) result (In.remaining (inner_of reader.old))
         (In.remaining (inner_of reader.new)) (Out.contents (inner_of writer.old))
         (Out.contents (inner_of writer.new))
         (failures_of reader.old < failures_of reader.new) (failures_of writer.old < failures_of writer.new) (T.value seat.old) (O.asked orders.old) last (O.asked orders.new) }

@@ -14,7 +14,7 @@ use Rattle.timetable.specs.TimetableValue.{TimetableValue}
 use Rattle.timetable.specs.declared.query.Query.{Query}
 use Rattle.timetable.specs.JourneyValue.{JourneyValue}
 use Rattle.timetable.specs.Journeys.{Counts}
-use Rattle.profile_scan.specs.Between.{BetweenValue, IsAnswerBetween, IsPointBetween, Pair, pair_of, query_of_pair}
+use Rattle.profile_scan.specs.Between.{BetweenValue, IsAnswerBetween, IsPointBetween, Pair, between_one, pair_of, query_of_pair}
 use Rattle.profile_scan.specs.Destinations.{query_from}
 use Rattle.profile_scan.specs.declared.destination.Destination.{Destination}
 use Rattle.profile_scan.specs.Found.{Answers, listed}
@@ -22,9 +22,10 @@ use Rattle.profile_scan.specs.LawStatements.{CanScan}
 use Rattle.profile_scan.specs.Points.{Before, Covers, IsPoint}
 use Rattle.profile_scan.specs.declared.found.Found.{Found}
 use Rattle.profile_scan.proofs.Admitted.{point_admits}
+use Rattle.profile_scan.proofs.Single.{to_one}
 use Rattle.journeys.specs.Extracted.{Attains}
 use Rattle.station_answers.specs.Asking.{IsToTarget, destination_to}
-use Rattle.station_answers.specs.Attaining.{AttainsBetween}
+use Rattle.station_answers.specs.Attaining.{AttainsPair}
 use Rattle.station_answers.specs.Merging.{MergesFirst, TakesFound, IsOfFounds, AnswersPair, IsMerged, CoversQuery, CoversAll, KeepsCovered}
 use Rattle.station_answers.specs.declared.merging.Merged.{Merged}
 use Rattle.station_answers.specs.declared.merging.Origin.{Origin}
@@ -163,7 +164,7 @@ pub attained_between : {K V : Type 0} {c : _} (rules_of : K → Rules V) (criter
     (p : Point V) (origin : Origin) (found : Found K V c) (point : Point V) (j : JourneyValue) → IsMerged rules_of criterion t b merged
     → slice_get merged.founds.items origin.found ≡ Some found → point.departure ≡ p.departure → point.value ≡ p.value
     → ((q : Query) → Answers criterion (rules_of criterion) t q found → Attains (rules_of criterion) t q point j)
-    → AttainsBetween (rules_of criterion) t b p j
+    → AttainsPair (rules_of criterion) t b p j
 attained_between rules_of criterion t b merged p origin found point j is at departs worth attains =
     let a = is.founds origin.found found at in
     let x = attains (query_of_pair b a.pair) a.answers in
@@ -195,7 +196,7 @@ pub journey_attains : {K V : Type 0} {c : _} (rules_of : K → Rules V) (merged 
     → (o : Origin) (f : Found K V c) → o ≡ get_or merged.origins.items p.tag o → f ≡ get_or merged.founds.items o.found f → (j : JourneyValue)
     → ((criterion : K) (t : TimetableValue) (q : Query) (x : Point V) → Answers criterion (rules_of criterion) t q f
     → slice_get (listed f) o.place ≡ Some x → Attains (rules_of criterion) t q x j)
-    → (criterion : K) (t : TimetableValue) (b : BetweenValue) → IsMerged rules_of criterion t b merged → AttainsBetween (rules_of criterion) t b p j
+    → (criterion : K) (t : TimetableValue) (b : BetweenValue) → IsMerged rules_of criterion t b merged → AttainsPair (rules_of criterion) t b p j
 journey_attains {K} {V} {c} rules_of merged p of o f origin_read found_read j attains criterion t b is =
     let origin_is : o ≡ of.origin = origin_read ∙ get_or_from_slice_get merged.origins.items p.tag of.origin o of.noted in
     let there : slice_get merged.founds.items o.found ≡ Some of.found =
@@ -246,8 +247,14 @@ module _ {K V : Type 0} {c : _} (rules_of : K → Rules V) (criterion : K) (t : 
         worth = of.worth;
       }
 
+-- a point of a query between two stops is admitted
+plain_admits : {V : Type 0} (rules : Rules V) → Laws rules → (t : TimetableValue) (q : Query) → CanScan t (between_one q) → (departure : ℕ) (v : V)
+    → IsPoint rules t q departure v → Admits rules v
+plain_admits rules laws t q can departure v point =
+    point_admits rules laws t (between_one q) can departure v (point.0, to_one t q departure point.0 point.1, point.2)
+
 -- the points of an answer that is taken in are covered
-pub take_covers : {K V : Type 0} {c : _} (rules : Rules V) → Laws rules → (t : TimetableValue) (q : Query) → CanScan t q
+pub take_covers : {K V : Type 0} {c : _} (rules : Rules V) → Laws rules → (t : TimetableValue) (q : Query) → CanScan t (between_one q)
     → (criterion : K) (found : Found K V c) (old new : Merged K V c) → IsBag rules (points_of new.best)
     → ((p : Point V) → Contains (listed found) p → Admits rules p.value)
     → Answers criterion rules t q found → TakesFound rules found old new → CoversQuery rules t new q
@@ -261,25 +268,25 @@ take_covers {K} {V} rules laws t q can criterion found old new bag admits answer
       then.1,
       omega (arith, first.2, then.2),
       laws.transitive s.value r.value v (bag.admitted s then.1) (admits r first.1)
-          (point_admits rules laws t q can departure v point) then.3 first.3,
+          (plain_admits rules laws t q can departure v point) then.3 first.3,
     )
 
 -- the points of an answer are admitted
-pub listed_admitted : {K V : Type 0} {c : _} (rules : Rules V) → Laws rules → (t : TimetableValue) (q : Query) → CanScan t q
+pub listed_admitted : {K V : Type 0} {c : _} (rules : Rules V) → Laws rules → (t : TimetableValue) (q : Query) → CanScan t (between_one q)
     → (criterion : K) (found : Found K V c) → Answers criterion rules t q found
     → (p : Point V) → Contains (listed found) p → Admits rules p.value
 listed_admitted rules laws t q can criterion found answers p h =
-    point_admits rules laws t q can p.departure p.value ((answers.answer.exactly p.departure p.value).0 (p, h, refl, refl)).is_point
+    plain_admits rules laws t q can p.departure p.value ((answers.answer.exactly p.departure p.value).0 (p, h, refl, refl)).is_point
 
 -- what was covered of a query stays covered
-pub still_covers : {K V : Type 0} {c : _} (rules : Rules V) → Laws rules → (t : TimetableValue) (q : Query) → CanScan t q
+pub still_covers : {K V : Type 0} {c : _} (rules : Rules V) → Laws rules → (t : TimetableValue) (q : Query) → CanScan t (between_one q)
     → (old new : Merged K V c) → KeepsCovered rules old new → CoversQuery rules t old q → CoversQuery rules t new q
 still_covers rules laws t q can old new keeps covers departure v point =
-    keeps departure v (point_admits rules laws t q can departure v point) (covers departure v point)
+    keeps departure v (plain_admits rules laws t q can departure v point) (covers departure v point)
 
 -- the best points of all pairs, in order, are the answer
 pub merged_answers : {K V : Type 0} {c : _} (rules_of : K → Rules V) (criterion : K) → Laws (rules_of criterion)
-    → (t : TimetableValue) (b : BetweenValue) → ((pair : Pair b) → CanScan t (query_of_pair b pair))
+    → (t : TimetableValue) (b : BetweenValue) → CanScan t b
     → (merged : Merged K V c) (points : List (Point V)) → IsMerged rules_of criterion t b merged → CoversAll (rules_of criterion) t b merged
     → IsBag (rules_of criterion) points → AllPairs (Before (rules_of criterion)) points
     → ((p : Point V) → Contains points p → Contains (points_of merged.best) p) → ((p : Point V) → Contains (points_of merged.best) p → Contains points p)
@@ -291,8 +298,7 @@ merged_answers {K} {V} rules_of criterion laws t b can merged points is covers b
     rules = rules_of criterion
 
     admits : (d : ℕ) (v : V) → IsPointBetween rules t b d v → Admits rules v
-    admits d v point = let pair = point.1.pair in
-        point_admits rules laws t (query_of_pair b pair) (can pair) d v (point.0, point.1.counts, point.2)
+    admits d v point = point_admits rules laws t b can d v point
 
     sound : (p : Point V) → Contains points p → IsPointBetween rules t b p.departure p.value
     sound p h =
@@ -312,7 +318,7 @@ merged_answers {K} {V} rules_of criterion laws t b can merged points is covers b
 
 -- one target more
 pub next_target : {K V : Type 0} {c : _} (rules_of : K → Rules V) (criterion used : K) → Laws (rules_of criterion) → (t now : TimetableValue) (b : BetweenValue)
-    → ((s g : ℕ) → CanScan t (pair_of b s g)) → (d dest : Destination) (n target : ℕ) (old new : Merged K V c)
+    → ((s g : ℕ) → CanScan t (between_one (pair_of b s g))) → (d dest : Destination) (n target : ℕ) (old new : Merged K V c)
     → now ≡ t → used ≡ criterion → d ≡ dest → dest ≡ destination_to b target → slice_get b.targets n ≡ Some target
     → KeepsCovered (rules_of used) old new → ((s : ℕ) → Contains b.sources s → CoversQuery (rules_of used) now new (query_from d s))
     → ((k g s : ℕ) → k < n → slice_get b.targets k ≡ Some g → Contains b.sources s → CoversQuery (rules_of criterion) t old (pair_of b s g))

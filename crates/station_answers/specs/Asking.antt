@@ -1,4 +1,4 @@
--- Which questions between several stops can be asked, and what is wrong with the others.
+-- What is wrong with a question between several stops that can't be asked.
 use Rattle.std.specs.Prelude.{◌≡◌, ℕ, ◌<◌, ◌≤◌, ◌⊎◌, List, Contains}
 use Rattle.timetable.specs.declared.limits.TheConstants.{TIME_END}
 use Rattle.timetable.specs.declared.query.QueryFault.{QueryFault}
@@ -21,16 +21,6 @@ AreApart b = (stop : ℕ) → Contains b.sources stop → Contains b.targets sto
 -- the latest departure or the latest arrival is before the earliest departure, or a time is `TIME_END` or later
 abbrev pub HasBadTimes : BetweenValue → Type 0
 HasBadTimes b = (b.until < b.from) ⊎ (b.by < b.from) ⊎ (TIME_END ≤ b.from) ⊎ (TIME_END ≤ b.until) ⊎ (TIME_END ≤ b.by)
-
--- the stops are stops of a timetable with this many, no source is a target, and the times are possible. A stop may be named twice on a side, which changes
--- nothing, and a side may have none: then there is no journey
-pub record CanBeAsked (stops : ℕ) (b : BetweenValue) : Type 0 where
-  pub sources : AreStops stops b.sources
-  pub targets : AreStops stops b.targets
-  pub apart : AreApart b
-  pub window : b.from ≤ b.until
-  pub in_time : b.from ≤ b.by
-  pub small : (b.from < TIME_END) × (b.until < TIME_END) × (b.by < TIME_END)
 
 -- the question has this fault, and none of those before it
 abbrev pub IsFirstFault : ℕ → BetweenValue → QueryFault → Type 0

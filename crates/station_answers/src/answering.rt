@@ -1,38 +1,35 @@
-//! The answer between several stops, from the answers of their pairs.
+//! The answer between several stops, by one scan of the window.
 
-ghost use Rattle.std.specs.Prelude.{◌≡◌, ℕ, Contains, IfOk, OnOk, OnErr, length, map};
-ghost use Rattle.profile_scan.specs.Between.{IsAnswerBetween, question, secs_of};
-ghost use Rattle.profile_scan.specs.Destinations.{query_from};
-ghost use Rattle.profile_scan.specs.Everywhere.{AnswerAll, criterion_of_profiles, destination_of};
+ghost use Rattle.std.specs.Prelude.{◌≡◌, ◌++◌, ℕ, Contains, IfOk, OnOk, OnErr, length, map, reverse, take};
+ghost use Rattle.timetable.specs.TimetableValue.{TimetableValue};
+ghost use Rattle.profile_scan.specs.Between.{BetweenValue, IsAnswerBetween, IsAskableBetween, question, secs_of};
+ghost use Rattle.profile_scan.specs.Found.{AnswersBetween};
 ghost use Rattle.journeys.specs.Answer.{point_of, points_of, walk_of_answer};
-ghost use Rattle.station_answers.specs.Asking.{CanBeAsked, IsToTarget, destination_to};
-ghost use Rattle.station_answers.specs.Attaining.{AttainsBetween};
-ghost use Rattle.station_answers.specs.Merging.{CoversAll, CoversQuery, IsMerged, KeepsCovered};
-ghost use Rattle.station_answers.specs.Reading.{ReadsPart, ReadsWindow, window_between};
+ghost use Rattle.journeys.specs.Extracted.{AttainsBetween};
+ghost use Rattle.station_answers.specs.Reading.{window_between};
 ghost use Rattle.station_answers.specs.Walks.{IsDirectTime};
 
-use crate::merging::Merged;
-use crate::walking::direct_walk;
 use criteria::Criterion;
-use journeys::{Answer, Departure, window_len};
-use profile_scan::{Between, ConnSource, Destination, Profiles, in_order, profiles_to};
+use journeys::{Answer, Departure, extract_between, window_len};
+use profile_scan::{Between, ConnSource, FoundBetween, profile_between};
 use std::alloc::{AllocError, Global};
 use timetable::{Footpath, Query};
 
 /// Answers a question between several stops that can be asked: exactly the points of all journeys from any of the
 /// sources to any of the targets that count which no other such point dominates, in order, each with a journey between
 /// two of these stops that counts, departs when the point does, and is worth the point's value; and the seconds of the
-/// direct walk.
+/// direct walk. A journey that is at a target ends there.
 ///
-/// The connections of the window are asked for from the last to the first, at most once for each target; `read` is
-/// their number. The only error is that memory runs out, or that a number would need more than 32 bits.
+/// However many stops there are, each connection of the window is asked for once, from the last to the first; `read` is
+/// their number. The only error is that memory runs out, or that a number would need more than 32 bits; then only a
+/// first part of them was asked for.
 pub fn answer_between<S: ConnSource, C: Criterion>(
     alloc: Global,
     source: &mut S,
     criterion: &C,
     query: &Between,
 ) -> Result<Answer<C>, AllocError>
-    requires { CanBeAsked (S.timetable source.old).stops (question query.now) }
+    requires { IsAskableBetween (S.timetable source.old).stops (question query.now) }
     ensures timetable { S.timetable source.new ≡ S.timetable source.old }
     ensures points { IfOk result (λ answer.
         IsAnswerBetween (C.rules criterion.now) (S.timetable source.old) (question query.now) (points_of answer)) }
@@ -43,25 +40,50 @@ pub fn answer_between<S: ConnSource, C: Criterion>(
         (walk_of_answer answer)) }
     ensures read { IfOk result (λ answer.
         answer.read ≡ length (window_between (S.timetable source.old) (question query.now))) }
-    ensures log { OnOk result (ReadsWindow (S.timetable source.old) (question query.now)
-        (S.log source.old) (S.log source.new)) }
-    ensures err { OnErr result (ReadsPart (S.timetable source.old) (question query.now)
-        (S.log source.old) (S.log source.new)) }
+    ensures log { OnOk result (S.log source.new ≡ S.log source.old
+        ++ reverse (window_between (S.timetable source.old) (question query.now))) }
+    ensures err { OnErr result ((n : ℕ) × (S.log source.new ≡ S.log source.old
+        ++ take n (reverse (window_between (S.timetable source.old) (question query.now))))) }
 {
-    let direct = direct_walk(source, query);
-    let walk = secs_of(direct);
     let read = window_size(source, query);
-    let merged = merged_between(alloc, source, criterion, query)?;
-    let departures = departures_of(alloc, source, criterion, query, &merged)?;
+    let found = profile_between(alloc, source, criterion, query)?;
+    let departures = departures_of(alloc, &found)?;
     Ok(Answer {
         departures,
-        walk,
+        walk: secs_of(found.direct_walk()),
         read,
     })
 }
 
+// Returns the points of an answer, each with a journey.
+fn departures_of<C: Criterion>(
+    alloc: Global,
+    found: &FoundBetween<C>,
+) -> Result<Vec<Departure<C::V>>, AllocError>
+    ensures points { IfOk result (λ departures. (criterion : _) (t : TimetableValue) (b : BetweenValue)
+        → AnswersBetween criterion (C.rules criterion) t b found.now
+        → IsAnswerBetween (C.rules criterion) t b (map point_of departures.items)) }
+    ensures journeys { IfOk result (λ departures. (criterion : _) (t : TimetableValue) (b : BetweenValue)
+        → AnswersBetween criterion (C.rules criterion) t b found.now
+        → (departure : _) → Contains departures.items departure
+        → AttainsBetween (C.rules criterion) t b (point_of departure) departure.journey) }
+{
+    let points = found.points();
+    let mut departures = Vec::with_capacity(alloc, points.len())?;
+    for i in 0..points.len() {
+        let point = points[i];
+        let journey = extract_between(alloc, found, i)?;
+        departures.push(Departure {
+            time: point.departure,
+            value: point.value,
+            journey,
+        })?;
+    }
+    Ok(departures)
+}
+
 // The seconds of a footpath, if there is one.
-fn secs_of(walk: Option<Footpath>) -> Option<u32>
+pub(crate) fn secs_of(walk: Option<Footpath>) -> Option<u32>
     ensures { result ≡ secs_of walk }
 {
     match walk {
@@ -71,7 +93,7 @@ fn secs_of(walk: Option<Footpath>) -> Option<u32>
 }
 
 // The number of connections that the window of a question has.
-fn window_size<S: ConnSource>(source: &S, query: &Between) -> usize
+pub(crate) fn window_size<S: ConnSource>(source: &S, query: &Between) -> usize
     ensures { result ≡ length (window_between (S.timetable source.now) (question query.now)) }
 {
     let times = Query {
@@ -82,103 +104,4 @@ fn window_size<S: ConnSource>(source: &S, query: &Between) -> usize
         by: query.by,
     };
     window_len(source, &times)
-}
-
-// The best points of the answers of all pairs, by one scan for each target.
-fn merged_between<S: ConnSource, C: Criterion>(
-    alloc: Global,
-    source: &mut S,
-    criterion: &C,
-    query: &Between,
-) -> Result<Merged<C>, AllocError>
-    requires { CanBeAsked (S.timetable source.old).stops (question query.now) }
-    ensures timetable { S.timetable source.new ≡ S.timetable source.old }
-    ensures merged { IfOk result (IsMerged C.rules criterion.now (S.timetable source.old) (question query.now)) }
-    ensures covers { IfOk result
-        (CoversAll (C.rules criterion.now) (S.timetable source.old) (question query.now)) }
-    ensures log { OnOk result (ReadsWindow (S.timetable source.old) (question query.now)
-        (S.log source.old) (S.log source.new)) }
-    ensures err { OnErr result (ReadsPart (S.timetable source.old) (question query.now)
-        (S.log source.old) (S.log source.new)) }
-{
-    let mut merged = Merged::new(alloc, *criterion);
-    for place in 0..query.targets.len() {
-        let target = query.targets[place];
-        let destination = destination_to(query, target);
-        let profiles = profiles_to(alloc, source, criterion, &destination)?;
-        take_from_sources(alloc, source, query, &profiles, &mut merged)?;
-    }
-    Ok(merged)
-}
-
-// The question from every stop to one target.
-fn destination_to(query: &Between, target: u32) -> Destination
-    ensures { result ≡ destination_to (question query.now) target }
-{
-    Destination {
-        target,
-        from: query.from,
-        until: query.until,
-        by: query.by,
-    }
-}
-
-// Takes in the answers from each of the sources to one target.
-fn take_from_sources<S: ConnSource, C: Criterion>(
-    alloc: Global,
-    source: &S,
-    query: &Between,
-    profiles: &Profiles<C>,
-    merged: &mut Merged<C>,
-) -> Result<(), AllocError>
-    requires askable { CanBeAsked (S.timetable source.now).stops (question query.now) }
-    requires answered { AnswerAll C.rules (S.timetable source.now) profiles.now }
-    requires target { IsToTarget (question query.now) (destination_of profiles.now) }
-    requires merged { IsMerged C.rules (criterion_of_profiles profiles.now) (S.timetable source.now)
-        (question query.now) merged.old }
-    ensures merged { OnOk result (IsMerged C.rules (criterion_of_profiles profiles.now) (S.timetable source.now)
-        (question query.now) merged.new) }
-    ensures kept { OnOk result
-        (KeepsCovered (C.rules (criterion_of_profiles profiles.now)) merged.old merged.new) }
-    ensures covers { OnOk result ((stop : ℕ) → Contains (question query.now).sources stop
-        → CoversQuery (C.rules (criterion_of_profiles profiles.now)) (S.timetable source.now) merged.new
-        (query_from (destination_of profiles.now) stop)) }
-{
-    for place in 0..query.sources.len() {
-        let stop = query.sources[place];
-        let found = profiles.found_from(alloc, source, stop)?;
-        merged.take_in(found)?;
-    }
-    Ok(())
-}
-
-// The best points of all pairs in order, each with a journey.
-fn departures_of<S: ConnSource, C: Criterion>(
-    alloc: Global,
-    source: &S,
-    criterion: &C,
-    query: &Between,
-    merged: &Merged<C>,
-) -> Result<Vec<Departure<C::V>>, AllocError>
-    requires askable { CanBeAsked (S.timetable source.now).stops (question query.now) }
-    requires merged { IsMerged C.rules criterion.now (S.timetable source.now) (question query.now) merged.now }
-    requires covers { CoversAll (C.rules criterion.now) (S.timetable source.now) (question query.now) merged.now }
-    ensures points { IfOk result (λ departures. IsAnswerBetween (C.rules criterion.now) (S.timetable source.now)
-        (question query.now) (map point_of departures.items)) }
-    ensures journeys { IfOk result (λ departures. (departure : _) → Contains departures.items departure
-        → AttainsBetween (C.rules criterion.now) (S.timetable source.now) (question query.now)
-        (point_of departure) departure.journey) }
-{
-    let points = in_order(alloc, criterion, &merged.best)?;
-    let mut departures = Vec::with_capacity(alloc, points.len())?;
-    for place in 0..points.len() {
-        let point = points[place];
-        let journey = merged.journey_of(alloc, &point)?;
-        departures.push(Departure {
-            time: point.departure,
-            value: point.value,
-            journey,
-        })?;
-    }
-    Ok(departures)
 }

@@ -3,12 +3,14 @@
 #![tactic(auto)]
 
 mod answering;
+mod by_targets;
 mod merging;
 mod naming;
 mod query;
 mod walking;
 
 pub use answering::answer_between;
+pub use by_targets::answer_by_targets;
 pub use naming::{NoQuestion, question_between};
 pub use query::check_between;
 pub use walking::direct_walk;

@@ -35,7 +35,7 @@ impl<C: Criterion> Merged<C> {
     ghost use Rattle.profile_scan.specs.Found.{listed};
     ghost use Rattle.timetable.specs.TimetableValue.{TimetableValue};
     ghost use Rattle.profile_scan.specs.Between.{BetweenValue};
-    ghost use Rattle.station_answers.specs.Attaining.{AttainsBetween};
+    ghost use Rattle.station_answers.specs.Attaining.{AttainsPair};
     ghost use Rattle.station_answers.specs.Merging.{IsMerged, IsOfFounds, TakesFound};
 
     /// Nothing yet, under a criterion. It takes no memory.
@@ -66,7 +66,7 @@ impl<C: Criterion> Merged<C> {
         requires { IsOfFounds self.now point.now }
         ensures { IfOk result (λ journey. (t : TimetableValue) (b : BetweenValue)
             → IsMerged C.rules (criterion_of self.now.best) t b self.now
-            → AttainsBetween (C.rules (criterion_of self.now.best)) t b point.now journey) }
+            → AttainsPair (C.rules (criterion_of self.now.best)) t b point.now journey) }
     {
         let origin = self.origins[point.tag];
         let found = &self.founds[origin.found];

@@ -3,8 +3,7 @@
 ghost use Rattle.std.specs.Prelude.{IfOk, MatchOption, MatchResult, map};
 ghost use Rattle.std.specs.List.{AllZip};
 ghost use Rattle.journeys.specs.Questions.{IsNamed};
-ghost use Rattle.profile_scan.specs.Between.{question};
-ghost use Rattle.station_answers.specs.Asking.{CanBeAsked};
+ghost use Rattle.profile_scan.specs.Between.{IsAskableBetween, question};
 ghost use Rattle.station_answers.specs.Naming.{AsksBetween, IsNoQuestion, SomeUnknown};
 
 use crate::query::check_between;
@@ -35,7 +34,7 @@ pub fn question_between(
     window: Window,
 ) -> Result<Between, NoQuestion>
     ensures { MatchResult result
-        (λ query. CanBeAsked image.now.timetable.stops (question query)
+        (λ query. IsAskableBetween image.now.timetable.stops (question query)
         × AsksBetween image.now.names (map (λ name. name.now) from.now) (map (λ name. name.now) to.now) window
         (question query))
         (IsNoQuestion image.now (map (λ name. name.now) from.now) (map (λ name. name.now) to.now) window) }

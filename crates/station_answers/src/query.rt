@@ -1,8 +1,8 @@
 //! What is wrong with a question between several stops.
 
 ghost use Rattle.std.specs.Prelude.{◌<◌, ◌≤◌, ℕ, Contains, MatchBool, MatchResult};
-ghost use Rattle.profile_scan.specs.Between.{question};
-ghost use Rattle.station_answers.specs.Asking.{CanBeAsked, IsFirstFault};
+ghost use Rattle.profile_scan.specs.Between.{IsAskableBetween, question};
+ghost use Rattle.station_answers.specs.Asking.{IsFirstFault};
 
 use profile_scan::Between;
 use timetable::QueryFault;
@@ -12,7 +12,7 @@ use timetable::limits::TIME_END;
 /// `UnknownStop` if a source or a target is no stop, `SameStop` if a source is a target too, `BadWindow` if the times
 /// can't be. A side without stops is no fault: then there are no departures.
 pub fn check_between(query: &Between, stops: u32) -> Result<(), QueryFault>
-    ensures { MatchResult result (λ _. CanBeAsked stops (question query.now))
+    ensures { MatchResult result (λ _. IsAskableBetween stops (question query.now))
         (IsFirstFault stops (question query.now)) }
 {
     if !are_below(&query.sources, stops) {

@@ -1,8 +1,7 @@
 //! The direct walk between several stops.
 
 ghost use Rattle.std.specs.Prelude.{◌≡◌, ◌<◌, ◌+◌, ℕ, Contains, length};
-ghost use Rattle.profile_scan.specs.Between.{IsDirectWalk, question};
-ghost use Rattle.station_answers.specs.Asking.{CanBeAsked};
+ghost use Rattle.profile_scan.specs.Between.{IsAskableBetween, IsDirectWalk, question};
 ghost use Rattle.station_answers.specs.Walks.{IsFootpathBetween, IsLeastBefore, shorter_of};
 ghost use Rattle.station_answers.specs.Walks.{shorter_than};
 
@@ -12,7 +11,7 @@ use timetable::Footpath;
 /// The shortest footpath from one of the sources to one of the targets, if there is any. Of equally short ones it is
 /// the first, by the order of the sources and then of the targets.
 pub fn direct_walk<S: ConnSource>(source: &S, query: &Between) -> Option<Footpath>
-    requires { CanBeAsked (S.timetable source.now).stops (question query.now) }
+    requires { IsAskableBetween (S.timetable source.now).stops (question query.now) }
     ensures { IsDirectWalk (S.timetable source.now) (question query.now) result }
 {
     let mut best = None;
@@ -30,7 +29,7 @@ fn shorter_from<S: ConnSource>(
     place: usize,
     before: Option<Footpath>,
 ) -> Option<Footpath>
-    requires askable { CanBeAsked (S.timetable source.now).stops (question query.now) }
+    requires askable { IsAskableBetween (S.timetable source.now).stops (question query.now) }
     requires place { place < length (question query.now).sources }
     requires before { IsLeastBefore (S.timetable source.now) (question query.now) place 0 before }
     ensures { IsLeastBefore (S.timetable source.now) (question query.now) (place + 1) 0 result }

@@ -8,7 +8,7 @@ use criteria::ToldValue;
 use epochs::{Named, SoloShelves};
 use image_layout::second_sample_words;
 use image_verifier::Verified;
-use session::{Desk, OpenGate, PointForm, SoloOrders, Streams};
+use session::{Desk, OpenGate, PointForm, ReplyForm, SoloOrders, Streams};
 use session_texts::{JourneyLegs, Points, RideTold, WalkTold};
 use std::alloc::{AllocError, Global};
 use std::marker::Brand;
@@ -35,7 +35,7 @@ fn replied_at<B: Named>(alloc: Global, solo: Solo, form: PointForm, requests: &[
         alloc,
         shelves: &shelves,
         gate: &OpenGate,
-        form,
+        form: ReplyForm::of(form),
     };
     let _ = desk.serve(&mut streams, &mut seat, &mut orders);
     streams.writer.into_inner().taken

@@ -309,14 +309,15 @@ fn reading_fails(alloc: Global) -> Result<(Result<Ended, SessionFault>, u64), Fa
     Ok((ended, tally.replies))
 }
 
-// The outcome of a session whose first flush fails, and how many calls of the writer there were.
+// The outcome of a session whose second flush fails, and how many calls of the writer there were: each reply is written
+// and flushed.
 fn flushing_fails(alloc: Global) -> Result<(Result<Ended, SessionFault>, u64), Fail> {
     let (ended, writer) = talked(
         alloc,
         image(alloc, 0)?,
         Vec::new(alloc),
-        whole(b"\n\n"),
-        failing_at(2),
+        whole(b"\n\n\n"),
+        failing_at(4),
         &OpenGate,
     )?;
     Ok((ended, writer.calls))
@@ -328,7 +329,7 @@ fn flushing_fails(alloc: Global) -> Result<(Result<Ended, SessionFault>, u64), F
 fn one_failure_ends_the_session(rt: HostRuntime) -> Result<(), Fail> {
     let alloc: Global = rt.alloc();
     assert!(rt; reading_fails(alloc)? == (Err(SessionFault::ReadFailed), 0));
-    assert!(rt; flushing_fails(alloc)? == (Err(SessionFault::WriteFailed), 2));
+    assert!(rt; flushing_fails(alloc)? == (Err(SessionFault::WriteFailed), 4));
     Ok(())
 }
 

@@ -1,6 +1,6 @@
 -- A timetable of one trip over two connections: a step that forgets the trip's labels is refuted on it.
 use Rattle.std.proofs.Common.{◌≡◌, ◌≢◌, ℕ, zero, suc, ◌+◌, ◌<◌, ◌≤◌, [], ◌∷◌, Some, None, arith, refl, sym, subst, inl, inr}
-use Rattle.reasoning.proofs.ListLemmas.{contains_only, not_in_nil}
+use Rattle.reasoning.proofs.ListLemmas.{contains_first, contains_only, not_in_nil}
 use Rattle.criteria.specs.Laws.{Rules, Laws}
 use Rattle.bags.specs.declared.point.Point.{Point}
 use Rattle.timetable.specs.declared.network.Connection.{Connection}
@@ -13,6 +13,7 @@ use Rattle.profile_scan.specs.Continuations.{Aboard}
 use Rattle.profile_scan.specs.Matching.{Spelling, Spellings, Keeps, from_to, ScanValue, MatchesFrom, IsLabelled}
 use Rattle.profile_scan.specs.Steps.{TakesIn, IsOffered, Leaving, ends, ends_after, changes, MayLeave, leaving_value, leavings, boardings, settings_out}
 use Rattle.profile_scan.specs.LawStatements.{CanScan, OneIndexDown}
+use Rattle.profile_scan.specs.Between.{between_one}
 use Rattle.tests_scan.specs.Examples.{two_hops, over_one_hop}
 use Rattle.tests_scan.specs.WrongSteps.{IsStepWithoutLabels}
 use Rattle.profile_scan.proofs.Ends.{nothing_follows}
@@ -74,7 +75,7 @@ two_hops_within = record {
   walks = one_hop_within.walks;
 }
 
-can_scan : CanScan two_hops (over_one_hop 1000)
+can_scan : CanScan two_hops (between_one (over_one_hop 1000))
 can_scan = record { legal = two_hops_legal; limits = two_hops_within; in_time = omega arith }
 
 past_the_end : IsFirstAt two_hops 1000 2
@@ -110,12 +111,12 @@ module _ {V : Type 0} (rules : Rules V) (laws : Laws rules) where
   other_trips zero other = absurd (other refl)
   other_trips (suc n) other = refl
 
-  leaves_at_the_target : TakesIn rules (leavings rules two_hops (over_one_hop 1000) turn 1 []) [] (label ∷ [])
-  leaves_at_the_target = takes_from_nothing rules laws (leavings rules two_hops (over_one_hop 1000) turn 1 []) (label ∷ [])
-      (λ p is. subst (IsOffered (leavings rules two_hops (over_one_hop 1000) turn 1 []))
+  leaves_at_the_target : TakesIn rules (leavings rules two_hops (between_one (over_one_hop 1000)) turn 1 []) [] (label ∷ [])
+  leaves_at_the_target = takes_from_nothing rules laws (leavings rules two_hops (between_one (over_one_hop 1000)) turn 1 []) (label ∷ [])
+      (λ p is. subst (IsOffered (leavings rules two_hops (between_one (over_one_hop 1000)) turn 1 []))
       (sym (contains_only label p is)) (record {
         way = ends;
-        is_open = (refl, (refl, omega arith));
+        is_open = (refl, (contains_first 1 [], omega arith));
         departs =
             refl;
         worth = refl;
@@ -123,14 +124,15 @@ module _ {V : Type 0} (rules : Rules V) (laws : Laws rules) where
       }))
       (λ way open_way. by_way way open_way.1)
     where
-      by_way : (way : Leaving V) → MayLeave two_hops (over_one_hop 1000) 1 [] way → Covers rules (label ∷ []) 0 (leaving_value rules two_hops 1 way)
+      by_way : (way : Leaving V) → MayLeave two_hops (between_one (over_one_hop 1000)) 1 [] way → Covers rules (label ∷ []) 0
+          (leaving_value rules two_hops 1 way)
       by_way ends may = covers_itself rules laws (label ∷ []) label (zero, omega arith, refl) (laws.arrive_admits 300 (omega arith))
-      by_way (ends_after f) may = absurd (may.3 refl)
+      by_way (ends_after f) may = absurd (may.3 (contains_first 1 []))
       by_way (changes p) may = absurd (not_in_nil p may.0)
 
-  kept_after_the_second : MatchesFrom rules two_hops (over_one_hop 1000) spoken 1 seated
+  kept_after_the_second : MatchesFrom rules two_hops (between_one (over_one_hop 1000)) spoken 1 seated
   kept_after_the_second =
-      let q = over_one_hop 1000 in
+      let q = between_one (over_one_hop 1000) in
       one_index_down rules laws two_hops q can_scan turn 1 (omega arith) (nothing rules laws) seated
       (nothing_follows rules two_hops q can_scan 2 past_the_end spoken)
       (leaving_nothing_out rules two_hops q turn 1 (nothing rules laws) seated (record {
@@ -146,7 +148,7 @@ module _ {V : Type 0} (rules : Rules V) (laws : Laws rules) where
   -- forgotten, the label covers nobody who stays seated
   pub forgotten_labels_are_wrong : OneIndexDown rules (IsStepWithoutLabels rules) → ⊥
   forgotten_labels_are_wrong law =
-      let q = over_one_hop 1000 in
+      let q = between_one (over_one_hop 1000) in
       let matched = law two_hops q can_scan turn 0 (omega arith) seated (nothing rules laws) kept_after_the_second (record {
         between = spoken;
         kept_first = spoken_stays;
@@ -166,6 +168,8 @@ module _ {V : Type 0} (rules : Rules V) (laws : Laws rules) where
           is_walk =
               tt;
           walks = λ some. absurd (some refl);
+          goal = 1;
+          is_goal = contains_first 1 [];
           leads = refl;
           arrives = omega arith;
         };

@@ -2,18 +2,18 @@
 use Rattle.std.proofs.Common.{◌≡◌, ◌≢◌, ◌⊎◌, ℕ, zero, suc, ◌+◌, ◌-◌, ◌<◌, ◌≤◌, List, [], ◌∷◌, Contains, Option, Some}
 use Rattle.std.proofs.Common.{None, arith, refl, sym, ◌∙◌, ap, subst, inl, inr, get_or, rules as std_rules}
 use Rattle.std.proofs.lemmas.Option.{same_Some}
-use Rattle.reasoning.proofs.ListLemmas.{contains_only, not_in_nil}
+use Rattle.reasoning.proofs.ListLemmas.{contains_first, contains_only, not_in_nil}
 use Rattle.criteria.specs.Laws.{Rules, Laws, Admits}
 use Rattle.bags.specs.Dominance.{IsBag}
 use Rattle.bags.specs.declared.point.Point.{Point}
 use Rattle.timetable.specs.declared.network.Connection.{Connection}
 use Rattle.timetable.specs.declared.network.Footpath.{Footpath}
-use Rattle.timetable.specs.declared.query.Query.{Query}
 use Rattle.timetable.specs.JourneyValue.{RideValue, JourneyValue}
 use Rattle.timetable.specs.Journeys.{connection_at, walk_end, walk_secs, Leads, IsStart, start_end, start_secs, Counts}
 use Rattle.timetable.specs.Legal.{At, HasFootpath, IsLegal}
 use Rattle.timetable.specs.Limits.{IsWithinLimits}
 use Rattle.timetable.specs.TimetableValue.{TimetableValue}
+use Rattle.profile_scan.specs.Between.{BetweenValue, CountsBetween, between_one}
 use Rattle.profile_scan.specs.Values.{started}
 use Rattle.profile_scan.specs.Points.{Covers, IsAnswer}
 use Rattle.sources.specs.FirstAt.{IsFirstAt}
@@ -32,9 +32,10 @@ use Rattle.profile_scan.proofs.Ends.{nothing_follows}
 use Rattle.profile_scan.proofs.StepLemmas.{one_index_down}
 use Rattle.profile_scan.proofs.Outdone.{all_carried}
 use Rattle.profile_scan.proofs.Answer.{match_is_the_answer}
+use Rattle.profile_scan.proofs.Single.{answer_from, to_one}
 
 -- a step that leaves nothing out is a right one
-pub leaving_nothing_out : {V : Type 0} (rules : Rules V) (t : TimetableValue) (q : Query) (tags : Spellings) (i : ℕ) (old new : ScanValue V)
+pub leaving_nothing_out : {V : Type 0} (rules : Rules V) (t : TimetableValue) (q : BetweenValue) (tags : Spellings) (i : ℕ) (old new : ScanValue V)
     → IsStepWith rules t q tags i (λ now. boardings rules t now i) (λ now. settings_out rules t q now i) old new → IsStep rules t q tags i old new
 leaving_nothing_out rules t q tags i old new step = record {
   between = step.between;
@@ -155,7 +156,7 @@ one_hop_within = record {
 boards_at_zero : (goal stop time : ℕ) (ride : RideValue) (rides : List RideValue) → Leads one_hop goal stop time (ride ∷ rides) → ride.leg.first ≡ 0
 boards_at_zero goal stop time ride rides leads = let rising = leads.0.rising in let in_range = leads.0.in_range in omega arith
 
-can_scan : (until : ℕ) → CanScan one_hop (over_one_hop until)
+can_scan : (until : ℕ) → CanScan one_hop (between_one (over_one_hop until))
 can_scan until = record { legal = one_hop_legal; limits = one_hop_within; in_time = omega arith }
 
 past_the_end : IsFirstAt one_hop 1000 1
@@ -278,12 +279,12 @@ module _ {V : Type 0} (rules : Rules V) (laws : Laws rules) where
   takes_from_nothing offer points offered covered =
       record { only = λ p is. inr (offered p is); kept = λ d v a c. absurd (not_in_nil c.0 c.1); covered = covered }
 
-  leaves_by_end : (until : ℕ) → TakesIn rules (leavings rules one_hop (over_one_hop until) turn 0 []) [] (label ∷ [])
-  leaves_by_end until = takes_from_nothing (leavings rules one_hop (over_one_hop until) turn 0 []) (label ∷ [])
-      (λ p is. subst (IsOffered (leavings rules one_hop (over_one_hop until) turn 0 []))
+  leaves_by_end : (until : ℕ) → TakesIn rules (leavings rules one_hop (between_one (over_one_hop until)) turn 0 []) [] (label ∷ [])
+  leaves_by_end until = takes_from_nothing (leavings rules one_hop (between_one (over_one_hop until)) turn 0 []) (label ∷ [])
+      (λ p is. subst (IsOffered (leavings rules one_hop (between_one (over_one_hop until)) turn 0 []))
       (sym (contains_only label p is)) (record {
         way = ends;
-        is_open = (refl, (refl, omega arith));
+        is_open = (refl, (contains_first 1 [], omega arith));
         departs =
             refl;
         worth = refl;
@@ -291,9 +292,10 @@ module _ {V : Type 0} (rules : Rules V) (laws : Laws rules) where
       }))
       (λ way open_way. by_way way open_way.1)
     where
-      by_way : (way : Leaving V) → MayLeave one_hop (over_one_hop until) 0 [] way → Covers rules (label ∷ []) 0 (leaving_value rules one_hop 0 way)
+      by_way : (way : Leaving V) → MayLeave one_hop (between_one (over_one_hop until)) 0 [] way → Covers rules (label ∷ []) 0
+          (leaving_value rules one_hop 0 way)
       by_way ends may = covers_itself (label ∷ []) label (zero, omega arith, refl) arrive_admitted
-      by_way (ends_after f) may = absurd (may.3 refl)
+      by_way (ends_after f) may = absurd (may.3 (contains_first 1 []))
       by_way (changes p) may = absurd (not_in_nil p may.0)
 
   other_trips : (trip : ℕ) → trip ≢ 0 → at_zero (label ∷ []) trip ≡ []
@@ -304,7 +306,8 @@ module _ {V : Type 0} (rules : Rules V) (laws : Laws rules) where
   stepped : {A B : Type 0} (until : ℕ) (to_bag : Spellings → ℕ → List (Point V) → Offer A V) (to_found : Spellings → List (Point V) → Offer B V)
       (bag : ℕ → List (Point V)) (found : List (Point V))
       → ((stop : ℕ) → TakesIn rules (to_bag turn stop (label ∷ [])) [] (bag stop)) → TakesIn rules (to_found turn (label ∷ [])) [] found
-      → IsStepWith rules one_hop (over_one_hop until) turn 0 to_bag to_found nothing (record { bag = bag; labels = at_zero (label ∷ []); found = found })
+      → IsStepWith rules one_hop (between_one (over_one_hop until)) turn 0 to_bag to_found nothing
+      (record { bag = bag; labels = at_zero (label ∷ []); found = found })
   stepped until to_bag to_found bag found boards sets_out = record {
     between = spoken;
     kept_first = spoken_stays;
@@ -316,12 +319,12 @@ module _ {V : Type 0} (rules : Rules V) (laws : Laws rules) where
   }
 
   -- a law that the steps of one kind keep matches would tell of what such a step makes of nothing
-  after_step : (Step : TimetableValue → Query → Spellings → ℕ → ScanValue V → ScanValue V → Type 0)
-      → OneIndexDown rules Step → (until : ℕ) (new : ScanValue V) → Step one_hop (over_one_hop until) turn 0 nothing new
-      → MatchesFrom rules one_hop (over_one_hop until) spoken 0 new
+  after_step : (Step : TimetableValue → BetweenValue → Spellings → ℕ → ScanValue V → ScanValue V → Type 0)
+      → OneIndexDown rules Step → (until : ℕ) (new : ScanValue V) → Step one_hop (between_one (over_one_hop until)) turn 0 nothing new
+      → MatchesFrom rules one_hop (between_one (over_one_hop until)) spoken 0 new
   after_step Step law until new step =
-      law one_hop (over_one_hop until) (can_scan until) turn 0 (omega arith) nothing new
-      (nothing_follows rules one_hop (over_one_hop until) (can_scan until) 1 past_the_end spoken) step
+      law one_hop (between_one (over_one_hop until)) (can_scan until) turn 0 (omega arith) nothing new
+      (nothing_follows rules one_hop (between_one (over_one_hop until)) (can_scan until) 1 past_the_end spoken) step
 
   -- the source's bag, cut at 30, lacks who may leave at 40 to come to the target
   abbrev cut_bag : ScanValue V
@@ -329,15 +332,18 @@ module _ {V : Type 0} (rules : Rules V) (laws : Laws rules) where
 
   pub bag_cut_is_wrong : OneIndexDown rules (IsStepWithBagCut rules) → ⊥
   bag_cut_is_wrong law =
-      let q = over_one_hop 30 in
+      let q = between_one (over_one_hop 30) in
       let offer : ℕ → Offer (Boarding V) V = λ stop. cut_boardings rules one_hop q turn 0 stop (label ∷ []) in
       let boards : (stop : ℕ) → TakesIn rules (offer stop) [] [] = λ stop. takes_none (offer stop) (λ way may.
       let e = only_from_zero way.walk may.0.is_footpath may.0.leads in
       let secs : way.walk.secs ≡ 60 = ap (λ (f : Footpath). f.secs) e in
       let stop_is : stop ≡ 0 = sym may.0.leaves ∙ ap (λ (f : Footpath). f.from) e in
-      let late = may.1 stop_is in
+      let late = may.1 (subst (Contains (0 ∷ [])) (sym stop_is) (contains_first 0 [])) in
       omega arith) in
-      let sets_out = takes_none (settings_out rules one_hop q turn 0 (label ∷ [])) (λ way may. by_start way.start may.is_start may.leads may.not_late) in
+      let sets_out = takes_none (settings_out rules one_hop q turn 0 (label ∷ [])) (λ way may.
+      let source_is : may.source ≡ 0 = contains_only 0 may.source may.is_source in
+      by_start way.start (subst (λ (s : ℕ). IsStart one_hop s way.start) source_is may.is_start)
+      (subst (λ (s : ℕ). start_end s way.start ≡ 0) source_is may.leads) may.not_late) in
       let matched = after_step (IsStepWithBagCut rules) law 30 cut_bag
       (stepped 30 (λ now. cut_boardings rules one_hop q now 0) (λ now. settings_out rules one_hop q now 0) cut_bag.bag [] boards sets_out) in
       let onward : Onward = record { walk = long_loop ∷ []; rides = record { leg = record { first = 0; last = 0 }; walk = [] } ∷ [] } in
@@ -345,6 +351,8 @@ module _ {V : Type 0} (rules : Rules V) (laws : Laws rules) where
         walks = λ e. cc;
         is_walk = ((zero, omega arith, refl), refl, tt);
         boards = omega arith;
+        goal = 1;
+        is_goal = contains_first 1 [];
         leads = (
           record {
             rising = omega arith;
@@ -419,16 +427,17 @@ module _ {V : Type 0} (rules : Rules V) (laws : Laws rules) where
 
   -- a start by the loop is found to depart at 40, and no journey does
   no_journey_at_40 : (until : ℕ) (start : Option Footpath) (rides : List RideValue)
-      → Counts one_hop (over_one_hop until) 40 (record { start = start; rides = rides }) → ⊥
-  no_journey_at_40 until start [] c = c.journey.has_rides refl
+      → CountsBetween one_hop (between_one (over_one_hop until)) 40 (record { start = start; rides = rides }) → ⊥
+  no_journey_at_40 until start [] c = c.counts.journey.has_rides refl
   no_journey_at_40 until None (ride ∷ rides) c =
-      let first = boards_at_zero 1 0 0 ride rides c.journey.leads in
-      let departs : 40 + 0 ≡ 100 = c.departs ∙ ap (λ (n : ℕ). (connection_at one_hop n).dep) first in
+      let first = boards_at_zero c.pair.target c.pair.source 0 ride rides c.counts.journey.leads in
+      let departs : 40 + 0 ≡ 100 = c.counts.departs ∙ ap (λ (n : ℕ). (connection_at one_hop n).dep) first in
       omega arith
   no_journey_at_40 until (Some f) (ride ∷ rides) c =
-      let starts = c.journey.starts in
+      let starts = c.counts.journey.starts in
+      let source_is : c.pair.source ≡ 0 = contains_only 0 c.pair.source c.pair.is_source in
       elim (its_footpaths f starts.0) [
-        | inl e ↦ starts.2 (ap (λ (x : Footpath). x.to) e)
+        | inl e ↦ starts.2 (ap (λ (x : Footpath). x.to) e ∙ sym source_is)
         | inr e ↦ (let from : f.from ≡ 1 = ap (λ (x : Footpath). x.from) e in let source = starts.1 in omega arith)
       ]
 
@@ -437,7 +446,7 @@ module _ {V : Type 0} (rules : Rules V) (laws : Laws rules) where
 
   pub loop_start_is_wrong : OneIndexDown rules (IsStepWithLoopStart rules) → ⊥
   loop_start_is_wrong law =
-      let q = over_one_hop 1000 in
+      let q = between_one (over_one_hop 1000) in
       let offer : Offer (SettingOut V) V = loop_starts rules one_hop q turn 0 (label ∷ []) in
       let sets_out = takes_from_nothing (loop_starts rules one_hop q turn 0 (label ∷ [])) (at_stop ∷ on_loop ∷ [])
       (λ p is. elim (two_in at_stop on_loop p is) [
@@ -447,6 +456,8 @@ module _ {V : Type 0} (rules : Rules V) (laws : Laws rules) where
           is_open =
               record {
                 boards = refl;
+                source = 0;
+                is_source = contains_first 0 [];
                 is_start = tt;
                 leads = refl;
                 fits = omega arith;
@@ -465,6 +476,8 @@ module _ {V : Type 0} (rules : Rules V) (laws : Laws rules) where
           is_open =
               record {
                 boards = refl;
+                source = 0;
+                is_source = contains_first 0 [];
                 is_start = ((zero, omega arith, refl), refl);
                 leads = refl;
                 fits =
@@ -479,7 +492,10 @@ module _ {V : Type 0} (rules : Rules V) (laws : Laws rules) where
           fits = sets_out (Some long_loop);
         })
       ])
-      (λ way may. by_start way.start way.label may.is_start may.leads may.is_label) in
+      (λ way may.
+      let source_is : may.source ≡ 0 = contains_only 0 may.source may.is_source in
+      by_start way.start way.label (subst (λ (s : ℕ). LeavesSource one_hop s way.start) source_is may.is_start)
+      (subst (λ (s : ℕ). start_end s way.start ≡ 0) source_is may.leads) may.is_label) in
       let matched = after_step (IsStepWithLoopStart rules) law 1000 loop_start
       (stepped 1000 (λ now. boardings rules one_hop now 0) (λ now. loop_starts rules one_hop q now 0) loop_start.bag loop_start.found takes_loop sets_out) in
       let attained = matched.at_source.sound on_loop (suc zero, omega arith, refl) in
@@ -508,11 +524,11 @@ module _ {V : Type 0} (rules : Rules V) (laws : Laws rules) where
 
   -- boarding without the change time is kept as leaving at 100, from where no walk of a minute comes in time
   none_leaves_at_100 : (walk : List Footpath) (rides : List RideValue)
-      → IsOnward one_hop (over_one_hop 1000) 0 0 100 (record { walk = walk; rides = rides }) → ⊥
+      → IsOnward one_hop (between_one (over_one_hop 1000)) 0 0 100 (record { walk = walk; rides = rides }) → ⊥
   none_leaves_at_100 [] rides on = on.walks refl
   none_leaves_at_100 (f ∷ fs) [] on = on.boards
   none_leaves_at_100 (f ∷ fs) (ride ∷ rides) on =
-      let first = boards_at_zero 1 (walk_end 0 (f ∷ fs)) (100 + walk_secs (f ∷ fs)) ride rides on.leads in
+      let first = boards_at_zero on.goal (walk_end 0 (f ∷ fs)) (100 + walk_secs (f ∷ fs)) ride rides on.leads in
       let wait : 100 + walk_secs (f ∷ fs) ≤ 100 = subst (λ (n : ℕ). 100 + walk_secs (f ∷ fs) ≤ (connection_at one_hop n).dep) first on.leads.2 in
       let leaves = on.is_walk.1 in
       elim (its_footpaths f on.is_walk.0) [
@@ -559,14 +575,16 @@ module _ {V : Type 0} (rules : Rules V) (laws : Laws rules) where
       by_way (at_once l) may = absurd (omega (arith, may.1))
 
   -- the points found are offered the label at the source itself
-  sets_out_once : TakesIn rules (settings_out rules one_hop (over_one_hop 1000) turn 0 (label ∷ [])) [] (at_stop ∷ [])
-  sets_out_once = takes_from_nothing (settings_out rules one_hop (over_one_hop 1000) turn 0 (label ∷ [])) (at_stop ∷ [])
-      (λ p is. subst (IsOffered (settings_out rules one_hop (over_one_hop 1000) turn 0 (label ∷ [])))
+  sets_out_once : TakesIn rules (settings_out rules one_hop (between_one (over_one_hop 1000)) turn 0 (label ∷ [])) [] (at_stop ∷ [])
+  sets_out_once = takes_from_nothing (settings_out rules one_hop (between_one (over_one_hop 1000)) turn 0 (label ∷ [])) (at_stop ∷ [])
+      (λ p is. subst (IsOffered (settings_out rules one_hop (between_one (over_one_hop 1000)) turn 0 (label ∷ [])))
       (sym (contains_only at_stop p is)) (record {
         way = record { start = None; label = label };
         is_open =
             record {
               boards = refl;
+              source = 0;
+              is_source = contains_first 0 [];
               is_start = tt;
               leads = refl;
               fits = omega arith;
@@ -579,7 +597,10 @@ module _ {V : Type 0} (rules : Rules V) (laws : Laws rules) where
         worth = refl;
         fits = sets_out None;
       }))
-      (λ way may. by_start way.start way.label may.is_start may.leads may.is_label)
+      (λ way may.
+      let source_is : may.source ≡ 0 = contains_only 0 may.source may.is_source in
+      by_start way.start way.label (subst (λ (s : ℕ). IsStart one_hop s way.start) source_is may.is_start)
+      (subst (λ (s : ℕ). start_end s way.start ≡ 0) source_is may.leads) may.is_label)
     where
       by_start : (start : Option Footpath) (l : Point V) → IsStart one_hop 0 start → start_end 0 start ≡ 0
           → Contains (label ∷ []) l → Covers rules (at_stop
@@ -590,7 +611,7 @@ module _ {V : Type 0} (rules : Rules V) (laws : Laws rules) where
   pub no_change_is_wrong : OneIndexDown rules (IsStepWithoutChange rules) → ⊥
   no_change_is_wrong law =
       let matched = after_step (IsStepWithoutChange rules) law 1000 unchanged
-      (stepped 1000 (λ now. at_once_boardings rules one_hop now 0) (λ now. settings_out rules one_hop (over_one_hop 1000) now 0)
+      (stepped 1000 (λ now. at_once_boardings rules one_hop now 0) (λ now. settings_out rules one_hop (between_one (over_one_hop 1000)) now 0)
       unchanged.bag unchanged.found takes_at_once sets_out_once) in
       let attained = (matched.at_stops 0 (omega arith)).sound at_stop (suc zero, omega arith, refl) in
       none_leaves_at_100 attained.way.walk attained.way.rides attained.there
@@ -604,7 +625,7 @@ module _ {V : Type 0} (rules : Rules V) (laws : Laws rules) where
 
   pub scan_answers : IsAnswer rules one_hop (over_one_hop 1000) (at_stop ∷ [])
   scan_answers =
-      let q = over_one_hop 1000 in
+      let q = between_one (over_one_hop 1000) in
       let step = stepped 1000 (λ now. boardings rules one_hop now 0) (λ now. settings_out rules one_hop q now 0)
       scanned.bag scanned.found takes_loop sets_out_once in
       let matched = after_step (IsStep rules) (one_index_down rules laws) 1000 scanned (leaving_nothing_out rules one_hop q turn 0 nothing scanned step) in
@@ -613,8 +634,9 @@ module _ {V : Type 0} (rules : Rules V) (laws : Laws rules) where
             λ p is. subst (λ (x : Point V). Admits rules x.value) (sym (contains_only at_stop p is)) ridden_admitted;
         undominated = λ i j d lt in_j. absurd (omega arith);
       } in
-      match_is_the_answer rules laws one_hop (over_one_hop 1000) (can_scan 1000) 0 from_the_start spoken (at_stop
-      ∷ []) matched.at_source bag (λ i j d lt in_j. absurd (omega arith))
+      answer_from rules one_hop (over_one_hop 1000) (at_stop ∷ [])
+      (match_is_the_answer rules laws one_hop (between_one (over_one_hop 1000)) (can_scan 1000) 0 from_the_start spoken (at_stop
+      ∷ []) matched.at_source bag (λ i j d lt in_j. absurd (omega arith)))
 
 -- a cut of each leg loses a journey when the window shrinks, although it departs at its end
 pub leg_by_leg_is_wrong : CutIsTheSources CountsLegByLeg → ⊥
@@ -623,7 +645,10 @@ leg_by_leg_is_wrong law =
     let loop_at_b : Contains t.footpaths (footpath 1 1 0) = (1, omega arith, refl) in
     let some : (by_change 0).rides ≢ [] = λ e. cc in
     let counts : Counts t (asked 32400 36000) 28800 (by_change 0) = search (std_rules, some, loop_at_b) in
-    let cut = law.at_source t (asked 32400 36000) 28800 28800 (by_change 0) (omega arith) (record { counts = counts; legs = in_time }) in
+    let cut = law.at_source t (between_one (asked 32400 36000)) 28800 28800 (by_change 0) (omega arith) (record {
+      counts = to_one t (asked 32400 36000) 28800 (by_change 0) counts;
+      legs = in_time;
+    }) in
     let late = cut.legs 1 (ride 2 2 []) (omega arith) in
     omega arith
   where

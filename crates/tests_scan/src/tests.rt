@@ -2,8 +2,10 @@
 //! that several tests use.
 
 mod answering;
+mod between;
 mod bonus;
 mod dominating;
+mod drawn_sets;
 mod everywhere;
 mod examples;
 mod images;

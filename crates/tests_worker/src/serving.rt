@@ -294,7 +294,7 @@ fn count_ends<
     seats: Vec<ShelfSeat>,
     loader: ShelfLoader,
     gate: &G,
-    form: PointForm,
+    form: ReplyForm,
     errors: E,
 ) -> Result<Counts, AllocError>
     requires shelves { shelves ≡ B.table }
@@ -326,7 +326,7 @@ fn serve_all<R: Threads + Wait + Sync + Abort, G: Gate + Sync>(
     visitors: Vec<Visitor<'_, R>>,
     two: bool,
     gate: &G,
-    form: PointForm,
+    form: ReplyForm,
 ) -> Result<(Counts, Vec<u8>), Fail> {
     let (shelves, loader, seats) = shelves_for(alloc, two)?;
     let told = Mutex::new(Vec::new(alloc));
@@ -363,7 +363,7 @@ fn serve_asking<R: Threads + Wait + Sync + Abort, G: Gate + Sync>(
     two: bool,
     gate: &G,
 ) -> Result<(Counts, Vec<u8>, Vec<u8>), Fail> {
-    serve_in(rt, alloc, asking, two, gate, PointForm::Bare)
+    serve_in(rt, alloc, asking, two, gate, ReplyForm::of(PointForm::Bare))
 }
 
 /// The same, with the form in which profiles are replied to.
@@ -373,7 +373,7 @@ fn serve_in<R: Threads + Wait + Sync + Abort, G: Gate + Sync>(
     asking: &[(&'static str, Manner)],
     two: bool,
     gate: &G,
-    form: PointForm,
+    form: ReplyForm,
 ) -> Result<(Counts, Vec<u8>, Vec<u8>), Fail> {
     let bytes = Mutex::new(Vec::new(alloc));
     let mut visitors = Vec::new(alloc);
@@ -444,7 +444,7 @@ fn a_client_is_served(rt: HostRuntime) -> Result<(), Fail> {
 #[test]
 fn legs_are_replied(rt: HostRuntime) -> Result<(), Fail> {
     let asking = [(PROFILE, Manner::Reads)];
-    let form = PointForm::WithLegs;
+    let form = ReplyForm::of(PointForm::WithLegs);
     let served = serve_in(&rt, rt.alloc(), &asking, false, &OpenGate, form)?;
     assert_served(&rt, &served, 1, 0, WITH_LEGS, "");
     Ok(())
@@ -529,7 +529,7 @@ fn refused_growth_serves_nobody(rt: HostRuntime) -> Result<(), Fail> {
         Vec::new(alloc),
         true,
         &OpenGate,
-        PointForm::Bare,
+        ReplyForm::of(PointForm::Bare),
     )?;
     assert!(rt; counts.ended == 0);
     Ok(())

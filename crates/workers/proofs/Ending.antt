@@ -8,7 +8,7 @@ use Rattle.shelf_steps.specs.declared.views.Known.{Known}
 use Rattle.session.specs.Learning.{Learns, TellPublished}
 use Rattle.session.specs.declared.fault.Ended.{Ended}
 use Rattle.session.specs.declared.fault.SessionFault.{SessionFault}
-use Rattle.answer_replies.specs.declared.point_form.PointForm.{PointForm}
+use Rattle.session.specs.declared.reply_form.ReplyForm.{ReplyForm}
 use Rattle.session.specs.Sessions.{LastRelease, Serves}
 use Rattle.workers.specs.Ends.{Session, end_of}
 use Rattle.workers.specs.Loading.{IsEarly, IsNotPublished}
@@ -19,7 +19,7 @@ use Rattle.workers.specs.declared.served.End.{End}
 use Rattle.session.specs.declared.desk.Streams.{Streams}
 
 -- what is served from a new counted reader and writer is served from what they hold, and each failure is counted
-pub session_of : (form : PointForm) (number : ℕ) (end : End) (result : Result Ended SessionFault)
+pub session_of : (form : ReplyForm) (number : ℕ) (end : End) (result : Result Ended SessionFault)
     (counted_to_read to_read read_then counted_contents contents contents_then : Option (List ℕ))
     (reads reads_then writes writes_then : ℕ) (a b last : SeatValue) (asked asked_then : List OrderValue)
     → end ≡ end_of result → counted_to_read ≡ to_read → counted_contents ≡ contents → reads ≡ 0 → writes ≡ 0 → LastRelease number last b
@@ -41,7 +41,7 @@ session_of form number end result counted_to_read to_read read_then counted_cont
       serves = subst (λ m. Told to_read contents 0 m) no_writes from_no_read;
     }
 
-module _ {C R W S : Type 0} (form : PointForm) (opens : C → Result (R × W) ConnFault → Type 0)
+module _ {C R W S : Type 0} (form : ReplyForm) (opens : C → Result (R × W) ConnFault → Type 0)
     (remaining : R → Option (List ℕ)) (contents : W → Option (List ℕ))
     (number : S → ℕ) (value : S → SeatValue) (known : S → Known) where
   -- one client more is served behind the others

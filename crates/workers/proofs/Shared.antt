@@ -6,7 +6,7 @@ use Rattle.load_orders.specs.Asking.{OrderRoute, WorkerOrdersValue}
 use Rattle.load_orders.specs.Queue.{KeeperValue, QueueId, with_one_out, with_orders}
 use Rattle.load_orders.specs.declared.queue.OrderMark.{OrderMark}
 use Rattle.shelf_steps.specs.declared.views.Known.{Known}
-use Rattle.answer_replies.specs.declared.point_form.PointForm.{PointForm}
+use Rattle.session.specs.declared.reply_form.ReplyForm.{ReplyForm}
 use Rattle.workers.specs.Ends.{Session}
 use Rattle.workers.specs.Ordering.{IsKeeperOf, put_by}
 use Rattle.workers.specs.Sessions.{AreAllServed, AreShares, IsShare}
@@ -26,7 +26,7 @@ flat_also [] hand = append-nil hand
 flat_also (first ∷ hands) hand =
     ap (λ list. first ++ list) (flat_also hands hand) ∙ sym (append_assoc first (flat_map (λ h. h) hands) hand)
 
-module _ {C R W S N : Type 0} (form : PointForm) (opens : C → Result (R × W) ConnFault → Type 0)
+module _ {C R W S N : Type 0} (form : ReplyForm) (opens : C → Result (R × W) ConnFault → Type 0)
     (remaining : R → Option (List ℕ)) (contents : W → Option (List ℕ))
     (number : S → ℕ) (value : S → SeatValue) (known : S → Known) (noted : N → ℕ) (route : OrderRoute N) where
   -- one share more behind the others

@@ -5,7 +5,7 @@ use Rattle.epochs.specs.SeatHistory.{Grows}
 use Rattle.epochs.specs.Seats.{SeatValue}
 use Rattle.orders.specs.Ordering.{OrderValue}
 use Rattle.shelf_steps.specs.declared.views.Known.{Known}
-use Rattle.answer_replies.specs.declared.point_form.PointForm.{PointForm}
+use Rattle.session.specs.declared.reply_form.ReplyForm.{ReplyForm}
 use Rattle.session.specs.Learning.{IsPublishedIfHeld, Learns, TellPublished}
 use Rattle.session.specs.declared.desk.Streams.{Streams}
 use Rattle.session.proofs.LearnLemmas.{learning_tells, learns_on, learns_same}
@@ -18,7 +18,7 @@ use Rattle.workers.specs.declared.served.End.{End}
 learns_later : (k later : Known) (a : SeatValue) → Grows k later → Learns k a later a
 learns_later k later a grows = record { grows = grows; answers = []; answers_are = sym (append-nil a.answers); published = tt }
 
-module _ {C R W S : Type 0} (form : PointForm) (opens : C → Result (R × W) ConnFault → Type 0)
+module _ {C R W S : Type 0} (form : ReplyForm) (opens : C → Result (R × W) ConnFault → Type 0)
     (remaining : R → Option (List ℕ)) (contents : W → Option (List ℕ)) (number : S → ℕ) (value : S → SeatValue) (known : S → Known) where
   -- what a seat knows only grows
   knows_more : (clients : List C) (sessions : List (Session R W)) (a b : S) (asked asked_then : List OrderValue)

@@ -9,7 +9,7 @@ use Rattle.shelf_steps.specs.declared.views.Known.{Known}
 use Rattle.session.specs.Learning.{AreFromPublished, Learns, TellPublished}
 use Rattle.session.specs.declared.fault.Ended.{Ended}
 use Rattle.session.specs.declared.fault.SessionFault.{SessionFault}
-use Rattle.answer_replies.specs.declared.point_form.PointForm.{PointForm}
+use Rattle.session.specs.declared.reply_form.ReplyForm.{ReplyForm}
 use Rattle.session.specs.Sessions.{LastRelease, Serves}
 use Rattle.workers.specs.Ends.{Session, end_of}
 use Rattle.workers.specs.Ordering.{IsAskedBy}
@@ -19,7 +19,7 @@ use Rattle.session.specs.declared.desk.Streams.{Streams}
 
 -- a session is served at this seat, its profiles are replied in this form, and it ends so; what was to be read, what was written, the seat and
 -- the orders are given as they were before it and after it
-pub record IsSession (form : PointForm) (number : ℕ) (end : End) (to_read read_then contents contents_then : Option (List ℕ))
+pub record IsSession (form : ReplyForm) (number : ℕ) (end : End) (to_read read_then contents contents_then : Option (List ℕ))
     (read_failed write_failed : Type 0)
     (a : SeatValue) (asked : List OrderValue) (b : SeatValue) (asked_then : List OrderValue) : Type 0 where
   pub result : Result Ended SessionFault
@@ -34,7 +34,7 @@ pub record IsUnopened (end : End) (a : SeatValue) (asked : List OrderValue) (b :
   pub seat : b ≡ a
   pub orders : asked_then ≡ asked
 
-module _ {C R W : Type 0} (form : PointForm) (opens : C → Result (R × W) ConnFault → Type 0)
+module _ {C R W : Type 0} (form : ReplyForm) (opens : C → Result (R × W) ConnFault → Type 0)
     (remaining : R → Option (List ℕ)) (contents : W → Option (List ℕ)) where
   -- the client's own reader and writer were opened and served, and are so now, with only this session's failures counted; or the client couldn't
   -- be opened

@@ -24,4 +24,4 @@ pub use refusal::LoadRefusal;
 pub use running::{Ran, WorkersFault, run_workers};
 pub use served::{End, Served};
 pub use serving::Worker;
-pub use session::{Desk, PointForm, Streams};
+pub use session::{Desk, PointForm, ReplyForm, Streams};

@@ -17,7 +17,7 @@ use epochs::{
     Named, NamedLoader, NamedNotice, NamedSeat, NamedShelves, ShelfLoader, ShelfSeat, Shelves,
 };
 use orders::Gate;
-use session::PointForm;
+use session::ReplyForm;
 use std::alloc::{AllocError, Global};
 use std::io::Write;
 use std::sync::Wait;
@@ -47,7 +47,7 @@ pub fn run_shelves<
     loader: ShelfLoader,
     feeds: &F,
     gate: &G,
-    form: PointForm,
+    form: ReplyForm,
     errors: E,
 ) -> Result<Ran<C, K, ShelfSeat, ShelfLoader, NamedNotice<B>, F::Files>, WorkersFault>
     requires shelves { shelves ≡ B.table }

@@ -18,7 +18,7 @@ use client_queue::client_queue;
 use epochs::{Loads, Versions};
 use load_orders::{LoaderOrders, Notes, UsedLoader, UsedOrders, WorkerOrders, order_queue};
 use orders::Gate;
-use session::{Desk, PointForm};
+use session::{Desk, ReplyForm};
 use std::alloc::{AllocError, Global};
 use std::io::Write;
 use std::sync::Wait;
@@ -77,7 +77,7 @@ pub fn run_workers<
     loader: T::Loader,
     feeds: &F,
     gate: &G,
-    form: PointForm,
+    form: ReplyForm,
     errors: E,
 ) -> Result<Ran<C, K, T::Seat, T::Loader, T::Notice, F::Files>, WorkersFault>
 where

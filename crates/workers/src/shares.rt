@@ -17,7 +17,7 @@ use client_queue::{Dealer, Taker};
 use epochs::{Loads, Versions};
 use feed_loader::FeedFiles;
 use load_orders::{LoaderOrders, Notes, OrderEnd, OrderKeeper, UsedLoader, UsedOrders};
-use session::PointForm;
+use session::ReplyForm;
 use std::snapshot::Snapshot;
 use std::sync::Wait;
 use std::thread::{Promise, PromisedHandle, Threads};
@@ -58,7 +58,7 @@ pub(crate) struct ShareAt<C: Drop, N: Drop, T: Versions, F> {
     pub shelves: Snapshot<T>,
     pub taker: Snapshot<Taker<C>>,
     pub seat: Snapshot<T::Seat>,
-    pub form: PointForm,
+    pub form: ReplyForm,
     pub route: RouteTo<OrderEnd<N>, F>,
 }
 
@@ -68,7 +68,7 @@ impl<C: Drop, N: Drop, T: Versions, F> ShareAt<C, N, T, F> {
         shelves: &T,
         taker: &Taker<C>,
         seat: &T::Seat,
-        form: PointForm,
+        form: ReplyForm,
         route: RouteTo<OrderEnd<N>, F>,
     ) -> ShareAt<C, N, T, F>
         ensures shelves { result.shelves.value ≡ shelves.now }
@@ -168,7 +168,7 @@ pub(crate) fn deal_and_join<
 >(
     rt: &R,
     shelves: &T,
-    form: PointForm,
+    form: ReplyForm,
     clients: K,
     mut dealer: Dealer<C>,
     workers: Vec<PromisedHandle<(Share<C, S>, UsedOrders<N>), ShareAt<C, N, T, F>>>,
@@ -220,7 +220,7 @@ fn join_workers<
 >(
     rt: &R,
     shelves: &T,
-    form: PointForm,
+    form: ReplyForm,
     mut dealer: Dealer<C>,
     workers: Vec<PromisedHandle<(Share<C, S>, UsedOrders<N>), ShareAt<C, N, T, F>>>,
     room: Vec<S>,

@@ -68,7 +68,12 @@ judge A C 07:00:00 09:00:00 10:00:00 ride 0 1 | ok dep 08:00:00 arr 08:30:00
 # No walk at the change; connections of two trips in one ride; a connection that isn't; no ride.
 judge A C 07:00:00 09:00:00 10:00:00 ride 0 0 ride 2 2 | refused 85 WalkBroken 1
 judge A C 07:00:00 09:00:00 10:00:00 ride 0 2 | refused 82 TwoTrips 0
-judge A C 07:00:00 09:00:00 10:00:00 ride 0 3 | refused 81 LegRange 0
+run journey - 'ride 0 3' --from A --to C --after 07:00:00 --until 09:00:00 --by 10:00:00
+tells csa: ride 0 (the first is ride 0): it has connections 0 to 3, and the image has 0 to 2
+answers refused 81 LegRange 0
+run journey - 'ride 1 0' --from A --to C --after 07:00:00 --until 09:00:00 --by 10:00:00
+tells csa: ride 0 (the first is ride 0): its first connection, 1, is after its last one, 0
+answers refused 81 LegRange 0
 judge A C 07:00:00 09:00:00 10:00:00 walk 0 0 0 | refused 80 BadText
 
 # A change at B that takes 121 s.

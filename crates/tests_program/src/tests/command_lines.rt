@@ -34,6 +34,28 @@ tells
 tells For more information, try 'csa build --help'.
 ends 64
 
+# A misspelled command, also as what help is asked about: a similar one.
+run serv
+tells error: unrecognized subcommand 'serv'
+tells 
+tells   tip: a similar subcommand exists: 'serve'
+tells 
+tells Usage: csa <COMMAND>
+tells 
+tells For more information, try 'csa --help'.
+ends 64
+run help serv
+tells error: unrecognized subcommand 'serv'
+tells 
+tells   tip: a similar subcommand exists: 'serve'
+tells 
+tells Usage: csa <COMMAND>
+tells 
+tells For more information, try 'csa --help'.
+ends 64
+run help nosuch
+complains 64
+
 # Files that there aren't.
 run verify no/such/file
 tells csa: no/such/file can't be read: no such file or folder
@@ -92,7 +114,7 @@ helps
 run serve --help
 helps
 run --version
-answers csa 1.1.0
+answers csa 1.2.0
 
 # Days, dates and zones of a wrong form.
 run build no_such_feed none.csa --first 20240115 --days 0 --zone fixed:0
@@ -147,7 +169,8 @@ complains 64
 run build no_such_feed none.csa --first 20240115 --days 1 --zone fixed:-86400
 complains 64
 run build no_such_feed none.csa --first 20240115 --days 1 --zone fixed:1h
-tells error: --zone \"fixed:1h\": a zone is file:PATH, posix:TEXT, or fixed:SECS with at most 86399 seconds either way
+tells error: --zone \"fixed:1h\": a zone is file:PATH, posix:TEXT, or fixed:SECS, the seconds east of Greenwich, \
+as fixed:3600 or fixed:-18000, at most 86399 either way
 tells 
 tells Usage: csa build [OPTIONS] --first <DAY> --days <N> --zone <ZONE> <FOLDER> <OUT>
 tells 

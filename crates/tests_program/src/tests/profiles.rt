@@ -90,13 +90,16 @@ judge A D 07:00:00 09:00:00 10:00:00 ride 0 0 walk 1 1 0 ride 1 1 ride 3 3 | ref
 judge A D 07:00:00 09:00:00 10:00:00 ride 0 0 walk 1 1 0 ride 1 1 walk 2 2 0 ride 3 4 | refused 81 LegRange 2
 judge A D 07:00:00 09:00:00 10:00:00 ride 0 0 walk 1 1 0 ride 1 1 walk 2 2 0 ride 2 3 | refused 82 TwoTrips 2
 
-# A window that goes beyond the image's connections is warned of, one that is outside them, and an image without any.
+# Warned of: a window that ends after the last day of connections, one without any, and an image without any.
 sample
 run profile - --from A --to C --after 08:00:00 --until 08:12:00 --by 10:00:00 --criterion arrival
 prints dep 08:00:00 arr 08:20:00 : ride 0 0 walk 1 1 0 ride 2 2
 answers points 1 read 3 walk none
-run profile - --from A --to C --after 08:00:00 --until 08:12:01 --by 10:00:00 --criterion arrival
-tells csa: warning: the window from 08:00:00 to 08:12:01 goes beyond the image's connections, which \
+run profile - --from A --to C --after 07:00:00 --until 23:59:59 --by 24:00:00 --criterion arrival
+prints dep 08:00:00 arr 08:20:00 : ride 0 0 walk 1 1 0 ride 2 2
+answers points 1 read 3 walk none
+run profile - --from A --to C --after 08:00:00 --until 24:00:00 --by 25:00:00 --criterion arrival
+tells csa: warning: the window from 08:00:00 to 24:00:00 goes beyond the last day of the image's connections, which \
 depart from 08:00:00 to 08:12:00
 prints dep 08:00:00 arr 08:20:00 : ride 0 0 walk 1 1 0 ride 2 2
 answers points 1 read 3 walk none
@@ -344,13 +347,13 @@ asks departures - --to C --after 07:00:00 --until 09:00:00 --by 10:00:00 --crite
 answers stops 0 points 0 read 3
 sample
 
-# A window that goes beyond the image's connections is warned of, and one that is outside them.
+# Warned of: a window that ends after the last day of connections, and one without any.
 run departures - --to C --after 08:00:00 --until 08:12:00 --by 10:00:00 --criterion arrival --no-journeys
 prints A dep 08:00:00 arr 08:20:00
 prints B dep 08:12:00 arr 08:20:00
 answers stops 2 points 2 read 3
-run departures - --to C --after 07:59:59 --until 08:12:00 --by 10:00:00 --criterion arrival --summary
-tells csa: warning: the window from 07:59:59 to 08:12:00 goes beyond the image's connections, which \
+run departures - --to C --after 07:59:59 --until 24:00:01 --by 25:00:00 --criterion arrival --summary
+tells csa: warning: the window from 07:59:59 to 24:00:01 goes beyond the last day of the image's connections, which \
 depart from 08:00:00 to 08:12:00
 prints A points 1 first 08:00:00 last 08:00:00 least 1200 walk none
 prints B points 1 first 08:12:00 last 08:12:00 least 480 walk none

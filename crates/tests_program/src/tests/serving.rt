@@ -20,6 +20,8 @@ run serve --image - --port 0 --workers 2 --sessions 1 --first 20240115 --days 1 
 complains 64
 run serve --image - --port 0 --workers 2 --sessions 1 --idle 4294967296 --first 20240115 --days 1 --zone fixed:0
 complains 64
+run serve --image - --port 0 --workers 2 --sessions 1 --longest 0 --first 20240115 --days 1 --zone fixed:0
+complains 64
 run serve --image - --port 0 --workers 2 --sessions 1 --idle 0 --first 20240115 --days 1 --zone fixed:0 slow=slow_feed
 tells error: --idle \"0\": a number of seconds must be 1 to 4294967295
 tells 

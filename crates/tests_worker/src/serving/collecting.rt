@@ -93,7 +93,7 @@ fn serve_waiter<B: Named + Send + Sync, R: Threads + Wait + Sync>(
         loader,
         &feeds,
         &OpenGate,
-        PointForm::Bare,
+        ReplyForm::of(PointForm::Bare),
         Sink,
     );
     match ran {

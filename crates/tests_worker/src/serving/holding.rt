@@ -15,7 +15,7 @@ use std::process::Abort;
 use std::sync::{Arc, Mutex, Wait};
 use std::test::Fail;
 use std::thread::Threads;
-use workers::PointForm;
+use workers::{PointForm, ReplyForm};
 
 /// Shelves, the loader's seat and the workers' seats.
 #[derive(Drop)]
@@ -115,7 +115,7 @@ fn serve_at<R: Threads + Wait + Sync + Abort>(
         seats,
         loader,
         &OpenGate,
-        PointForm::Bare,
+        ReplyForm::of(PointForm::Bare),
         errors,
     )?;
     Ok((counts, told.into_inner()))

@@ -81,7 +81,7 @@ fn serve_senders<R: Threads + Wait + Sync + Abort>(
         seats,
         loader,
         &OpenGate,
-        PointForm::Bare,
+        ReplyForm::of(PointForm::Bare),
         Sink,
     )?;
     Ok(counts)

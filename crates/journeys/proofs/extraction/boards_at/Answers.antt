@@ -1,5 +1,4 @@
 use Rattle.std.proofs.Common.{Some, sym, ◌∙◌, ap}
-use Rattle.profile_scan.specs.Found.{nodes_of}
 use Rattle.journeys.proofs.SpellLemmas.{boards_by, boards_forward}
 use Rattle.journeys.proofs.extraction.boards_at.Goals as goal
 
@@ -7,11 +6,11 @@ pub returns-then-next-number : goal.returns-then-next-number
 returns-then-next-number g c =
     let b = c.in-Some-Boards in (
       c.if-next-number.true,
-      boards_by (nodes_of c.args.found.now) c.args.number b.walk b.first b.next
+      boards_by (g.F.Spells.nodes c.args.found.now) c.args.number b.walk b.first b.next
           (sym b.ensures ∙ ap Some b.field-0-is) c.if-next-number.true,
     )
 
 pub returns-else-next-number : goal.returns-else-next-number
 returns-else-next-number g c =
     let b = c.in-Some-Boards in
-    boards_forward (nodes_of c.args.found.now) c.args.number b.walk b.first b.next (sym b.ensures ∙ ap Some b.field-0-is) c.if-next-number.false
+    boards_forward (g.F.Spells.nodes c.args.found.now) c.args.number b.walk b.first b.next (sym b.ensures ∙ ap Some b.field-0-is) c.if-next-number.false

@@ -1,9 +1,10 @@
-use Rattle.std.proofs.Common.{◌≡◌, ◌+◌, ◌-◌, ◌<◌, ◌∷◌, [], ◌++◌, ℕ, length, arith, refl, sym, ◌∙◌, ap, subst}
+use Rattle.std.proofs.Common.{Contains, ◌≡◌, ◌+◌, ◌-◌, ◌<◌, ◌∷◌, [], ◌++◌, ℕ, length, arith, refl, sym, ◌∙◌, ap, subst}
 use Rattle.reasoning.proofs.OptionLemmas.{on_err}
 use Rattle.timetable.specs.TimetableValue.{TimetableValue}
+use Rattle.profile_scan.specs.Between.{question}
 use Rattle.profile_scan.specs.Values.{journey_value}
 use Rattle.profile_scan.specs.Continuations.{CountsFrom}
-use Rattle.profile_scan.specs.Plain.{IsPlain}
+use Rattle.profile_scan.specs.Plain.{IsPlainOf}
 use Rattle.profile_scan.specs.Matching.{from_to, MatchesFrom, Matches}
 use Rattle.profile_scan.specs.Steps.{IsStep}
 use Rattle.profile_scan.specs.LawStatements.{CanScan}
@@ -33,9 +34,9 @@ loop-place-init g c =
       log = log_none (g.S.ConnSource.log c.args.source.now) c.args.window.end;
       state = subst (λ (n : ℕ). IsStateOfAll g.C.Criterion.rules c.args.asked.now.criterion n t.trips state) c.stops.ensures counted;
       matched = λ stop.
-          let q = from_stop c.args.asked.now.query stop in
+          let q = from_stop (question c.args.asked.now.query) stop in
           let can : CanScan (g.S.ConnSource.timetable c.args.source.now)
-          (from_stop c.args.asked.now.query stop) = record {
+          (from_stop (question c.args.asked.now.query) stop) = record {
             legal = g.met.S.ConnSource.legal c.args.source.now;
             limits = g.met.S.ConnSource.limits
                 c.args.source.now;
@@ -71,9 +72,9 @@ loop-place-preserved g c =
           (g.S.ConnSource.log c.args.source.now) i c.loop-place.place c.args.window.end (omega arith) high;
       state = subst (λ (x : TimetableValue). IsStateOfAll g.C.Criterion.rules c.args.asked.now.criterion x.stops x.trips new) same c.in_ok-step.ensures.state;
       matched = λ stop.
-          let q = from_stop c.args.asked.now.query stop in
+          let q = from_stop (question c.args.asked.now.query) stop in
           let can : CanScan (g.S.ConnSource.timetable c.args.source.now)
-          (from_stop c.args.asked.now.query stop) = record {
+          (from_stop (question c.args.asked.now.query) stop) = record {
             legal = g.met.S.ConnSource.legal c.args.source.now;
             limits = g.met.S.ConnSource.limits
                 c.args.source.now;
@@ -142,8 +143,18 @@ returns-clause-found g c stop =
     let test = c.loop-place-test.false in
     let rules = g.C.Criterion.rules c.args.asked.now.criterion in
     let t = g.S.ConnSource.timetable c.args.source.now in
-    let q = from_stop c.args.asked.now.query stop in
+    let q = from_stop (question c.args.asked.now.query) stop in
     let at : c.loop-place.place ≡ c.args.window.start = omega arith in
     let state = c.loop-place.state in
-    subst (λ (n : ℕ). Matches rules (told t.footpaths (story_from state stop)).journey (CountsFrom t q n) (IsPlain t q.target) (journey_value rules t)
+    subst (λ (n : ℕ). Matches rules (told t.footpaths (story_from state stop)).journey (CountsFrom t q n) (IsPlainOf t (Contains q.targets))
+    (journey_value rules t)
     (found_from state.origins stop)) at (inv.matched stop).at_source
+
+-- an index of a connection
+pub overflow_cast-place : goal.overflow_cast-place
+overflow_cast-place g c =
+    let test = c.loop-place-test.true in
+    let high = c.loop-place.invariant.high in
+    let in_range = c.requires.past.in_range in
+    let limit = (g.met.S.ConnSource.limits c.args.source.now).connections in
+    omega (arith, test, high, in_range, limit)

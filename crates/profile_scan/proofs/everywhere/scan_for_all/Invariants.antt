@@ -1,4 +1,5 @@
 use Rattle.std.proofs.Common.{◌≡◌, ◌-◌, ◌≤◌, ◌++◌, [], ℕ}
+use Rattle.profile_scan.specs.Between.{question}
 use Rattle.profile_scan.specs.Matching.{MatchesFrom}
 use Rattle.profile_scan.specs.Story.{told}
 use Rattle.profile_scan.specs.Window.{falling}
@@ -16,7 +17,7 @@ invariant-loop-place g l =
       timetable : g.S.ConnSource.timetable l.source ≡ g.S.ConnSource.timetable l.fn.source;
       log : g.S.ConnSource.log l.source ≡ g.S.ConnSource.log l.fn.source ++ falling l.place (l.fn.window.end - l.place);
       state : IsStateOfAll g.C.Criterion.rules l.asked.criterion t.stops t.trips l.state;
-      matched : (stop : ℕ) → MatchesFrom (g.C.Criterion.rules l.asked.criterion) t (from_stop l.asked.query stop)
+      matched : (stop : ℕ) → MatchesFrom (g.C.Criterion.rules l.asked.criterion) t (from_stop (question l.asked.query) stop)
           (told t.footpaths (story_from l.state stop)) l.place (kept_from l.state stop);
     }
 

@@ -5,14 +5,16 @@ use Rattle.profile_scan.specs.Found.{listed}
 use Rattle.profile_scan.specs.LawStatements.{CanScan}
 use Rattle.profile_scan.specs.Points.{IsAnswer}
 use Rattle.profile_scan.specs.Window.{window}
+use Rattle.profile_scan.specs.Between.{between_one}
 use Rattle.profile_scan.proofs.Answer.{one_answer}
+use Rattle.profile_scan.proofs.Single.{answer_to}
 use Rattle.profile_scan.proofs.LogLemmas.{taken_all, taken_none}
 use Rattle.profile_scan.proofs.laws.two_sources.Goals as goal
 
 pub returns-clause-same : goal.returns-clause-same
 returns-clause-same g c =
     let rules = g.C.Criterion.rules c.args.criterion.now in
-    let can : CanScan (g.A.ConnSource.timetable c.args.one.now) c.args.query.now =
+    let can : CanScan (g.A.ConnSource.timetable c.args.one.now) (between_one c.args.query.now) =
     record {
       legal = g.met.A.ConnSource.legal c.args.one.now;
       limits =
@@ -21,9 +23,11 @@ returns-clause-same g c =
     } in
     let again = subst (λ (t : TimetableValue). IsAnswer rules t c.args.query.now (listed c.in_ok-again.again))
     c.requires.alike c.in_ok-again.ensures.answers.answer in
-    one_answer rules (g.met.C.Criterion.laws c.args.criterion.now) (g.A.ConnSource.timetable c.args.one.now)
-    c.args.query.now can (listed c.in_ok-found.found) (listed c.in_ok-again.again)
-    c.in_ok-found.ensures.answers.answer again
+    let t = g.A.ConnSource.timetable c.args.one.now in
+    one_answer rules (g.met.C.Criterion.laws c.args.criterion.now) t
+    (between_one c.args.query.now) can (listed c.in_ok-found.found) (listed c.in_ok-again.again)
+    (answer_to rules t c.args.query.now (listed c.in_ok-found.found) c.in_ok-found.ensures.answers.answer)
+    (answer_to rules t c.args.query.now (listed c.in_ok-again.again) again)
 
 -- the first scan was broken off: nothing was asked of the other source
 pub returns-in_err-found-clause-err : goal.returns-in_err-found-clause-err

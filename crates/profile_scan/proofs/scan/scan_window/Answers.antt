@@ -1,10 +1,11 @@
-use Rattle.std.proofs.Common.{◌≡◌, ◌+◌, ◌-◌, ◌<◌, ◌∷◌, [], ◌++◌, ℕ, length, arith, refl, sym, ◌∙◌, ap, subst}
+use Rattle.std.proofs.Common.{Contains, ◌≡◌, ◌+◌, ◌-◌, ◌<◌, ◌∷◌, [], ◌++◌, ℕ, length, arith, refl, sym, ◌∙◌, ap, subst}
 use Rattle.reasoning.proofs.OptionLemmas.{on_err}
 use Rattle.bags.specs.Bag.{points_of}
 use Rattle.timetable.specs.TimetableValue.{TimetableValue}
+use Rattle.profile_scan.specs.Between.{question}
 use Rattle.profile_scan.specs.Values.{journey_value}
 use Rattle.profile_scan.specs.Continuations.{CountsFrom}
-use Rattle.profile_scan.specs.Plain.{IsPlain}
+use Rattle.profile_scan.specs.Plain.{IsPlainOf}
 use Rattle.profile_scan.specs.Matching.{from_to, MatchesFrom, Matches}
 use Rattle.profile_scan.specs.Steps.{IsStep}
 use Rattle.profile_scan.specs.LawStatements.{CanScan}
@@ -23,8 +24,8 @@ pub loop-place-init : goal.loop-place-init
 loop-place-init g c =
     let rules = g.C.Criterion.rules c.args.asked.now.criterion in
     let t = g.S.ConnSource.timetable c.args.source.now in
-    let q = c.args.asked.now.query in
-    let can : CanScan (g.S.ConnSource.timetable c.args.source.now) c.args.asked.now.query =
+    let q = question c.args.asked.now.query in
+    let can : CanScan (g.S.ConnSource.timetable c.args.source.now) (question c.args.asked.now.query) =
     record {
       legal = g.met.S.ConnSource.legal c.args.source.now;
       limits =
@@ -61,11 +62,11 @@ loop-place-preserved g c =
     let test = c.loop-place-test.true in
     let i = c.loop-place.place - 1 in
     let rules = g.C.Criterion.rules c.args.asked.now.criterion in
-    let q = c.args.asked.now.query in
+    let q = question c.args.asked.now.query in
     let source = c.connection-connection.new.self in
     let t = g.S.ConnSource.timetable c.args.source.now in
     let same = c.connection-connection.ensures.same ∙ inv.timetable in
-    let can : CanScan (g.S.ConnSource.timetable c.args.source.now) c.args.asked.now.query =
+    let can : CanScan (g.S.ConnSource.timetable c.args.source.now) (question c.args.asked.now.query) =
     record {
       legal = g.met.S.ConnSource.legal c.args.source.now;
       limits =
@@ -147,12 +148,12 @@ returns-clause-found g c =
     let test = c.loop-place-test.false in
     let rules = g.C.Criterion.rules c.args.asked.now.criterion in
     let t = g.S.ConnSource.timetable c.args.source.now in
-    let q = c.args.asked.now.query in
+    let q = question c.args.asked.now.query in
     let at : c.loop-place.place ≡ c.args.window.start = omega arith in
     let state = c.loop-place.scan.state in
     let m = inv.matched in
     record {
       same = inv.scan.state.found;
       matches = subst (λ (n : ℕ). Matches rules (told t.footpaths (story_of state)).journey (CountsFrom t q n)
-          (IsPlain t q.target) (journey_value rules t) (points_of state.origin.found)) at m.at_source;
+          (IsPlainOf t (Contains q.targets)) (journey_value rules t) (points_of state.origin.found)) at m.at_source;
     }

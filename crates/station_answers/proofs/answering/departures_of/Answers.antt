@@ -1,72 +1,36 @@
-use Rattle.std.proofs.Common.{◌≡◌, ◌+◌, ◌<◌, ◌≤◌, ◌∙◌, length, map, Some, slice_get, sym, ap, subst, arith}
-use Rattle.std.proofs.lemmas.List.{take_all}
-use Rattle.std.proofs.lemmas.Option.{slice_get-get_or}
-use Rattle.bags.specs.Bag.{criterion_of, points_of}
-use Rattle.bags.specs.Dominance.{IsBag}
-use Rattle.profile_scan.specs.Between.{IsPointBetween, Pair, query_of_pair, question}
-use Rattle.profile_scan.specs.LawStatements.{CanScan}
-use Rattle.profile_scan.specs.Points.{untagged}
-use Rattle.profile_scan.proofs.OrderLemmas.{listed_bag}
-use Rattle.journeys.specs.Answer.{point_of}
-use Rattle.station_answers.specs.Attaining.{AttainsBetween}
-use Rattle.station_answers.specs.Merging.{IsMerged}
-use Rattle.station_answers.proofs.MergeLemmas.{merged_answers}
-use Rattle.station_answers.proofs.SetLemmas.{retagged_answer}
-use Rattle.station_answers.proofs.TellLemmas.{AreTold, none_told, one_more}
+use Rattle.std.proofs.Common.{◌+◌, List, refl, sym, subst, arith}
+use Rattle.bags.specs.declared.point.Point.{Point}
+use Rattle.profile_scan.specs.Between.{IsAnswerBetween, IsPointBetween}
+use Rattle.profile_scan.specs.Found.{listed_between}
+use Rattle.journeys.specs.Extracted.{AttainsBetween}
+use Rattle.journeys.proofs.AnswerLemmas.{point_at}
+use Rattle.station_answers.proofs.TellLemmas.{AreTold, all_told, between_tagless, none_told, one_more}
 use Rattle.station_answers.proofs.answering.departures_of.Goals as goal
 
-pub loop-place-init : goal.loop-place-init
-loop-place-init g c = none_told (g.C.Criterion.rules c.args.criterion.now) (g.S.ConnSource.timetable c.args.source.now) (question c.args.query.now)
-    c.in_ok-points.points.items c.in_ok-departures.departures.items c.in_ok-departures.ensures.items
+pub loop-i-init : goal.loop-i-init
+loop-i-init g c criterion t b answers =
+    none_told (AttainsBetween (g.C.Criterion.rules criterion) t b) c.points-points.result.now c.in_ok-departures.departures.items
+    c.in_ok-departures.ensures.items
 
-pub journey_of-requires : goal.journey_of-requires
-journey_of-requires g c =
-    let points = c.in_ok-points.points in
-    let p = c.index.result.now in
-    let within : c.loop-place.place < length points.items = omega (arith, c.loop-place-test.true, c.len-place-end.ensures, points.ok.0) in
-    c.requires.merged.points p (c.in_ok-points.ensures.only p (c.loop-place.place, within, sym c.index.ensures))
-
-pub loop-place-preserved : goal.loop-place-preserved
-loop-place-preserved g c =
-    let t = g.S.ConnSource.timetable c.args.source.now in
-    let b = question c.args.query.now in
-    let rules = g.C.Criterion.rules c.args.criterion.now in
-    let merged = c.args.merged.now in
-    let points = c.in_ok-points.points in
-    let p = c.index.result.now in
-    let place = c.loop-place.place in
-    let within : c.loop-place.place < length points.items = omega (arith, c.loop-place-test.true, c.len-place-end.ensures, points.ok.0) in
-    let at : slice_get points.items c.loop-place.place ≡ Some c.index.result.now =
-    slice_get-get_or points.items place p within ∙ ap Some (sym c.index.ensures) in
-    let own : IsMerged g.C.Criterion.rules (criterion_of merged.best) t b merged =
-    subst (λ (k : g.row.C.Denot). IsMerged g.C.Criterion.rules k t b merged) (sym c.requires.merged.under) c.requires.merged in
-    let attains : AttainsBetween (g.C.Criterion.rules c.args.criterion.now) t b p c.in_ok-journey.journey =
-    subst (λ (k : g.row.C.Denot). AttainsBetween (g.C.Criterion.rules k) t b p c.in_ok-journey.journey) c.requires.merged.under
-    (c.in_ok-journey.ensures t b own) in
-    subst (AreTold rules t b points.items (place + 1)) (sym c.in_ok-push.ensures.items)
-    (one_more rules t b points.items place c.loop-place.departures.items p c.in_ok-journey.journey c.loop-place.invariant at attains)
+pub loop-i-preserved : goal.loop-i-preserved
+loop-i-preserved g c criterion t b answers =
+    let rules = g.C.Criterion.rules criterion in
+    let told = AttainsBetween rules t b in
+    let points = c.points-points.result.now in
+    let p = c.index-points-i.result in
+    let there = point_at points points c.loop-i.i p refl (omega arith) c.index-points-i.is in
+    let at = point_at (listed_between c.args.found.now) points c.loop-i.i p c.points-points.ensures (omega arith) c.index-points-i.is in
+    let attains = c.in_ok-journey.ensures.attains criterion t b p answers at in
+    subst (AreTold told points (c.loop-i.i + 1)) (sym c.in_ok-push.ensures.items)
+    (one_more told points c.loop-i.i c.loop-i.departures.items p c.in_ok-journey.journey (c.loop-i.invariant criterion t b answers) there
+    (between_tagless rules t b p c.in_ok-journey.journey attains))
 
 pub returns-clause-points : goal.returns-clause-points
-returns-clause-points g c =
-    let t = g.S.ConnSource.timetable c.args.source.now in
-    let b = question c.args.query.now in
-    let criterion = c.args.criterion.now in
+returns-clause-points g c criterion t b answers =
     let rules = g.C.Criterion.rules criterion in
-    let laws = g.met.C.Criterion.laws criterion in
-    let merged = c.args.merged.now in
-    let points = c.in_ok-points.points in
-    let past : length points.items ≤ c.loop-place.place = omega (arith, c.loop-place-test.false, c.len-place-end.ensures, points.ok.0) in
-    let can : (pair : Pair (question c.args.query.now)) → CanScan (g.S.ConnSource.timetable c.args.source.now) (query_of_pair (question
-    c.args.query.now) pair) =
-    λ pair. record {
-      legal = g.met.S.ConnSource.legal c.args.source.now;
-      limits = g.met.S.ConnSource.limits c.args.source.now;
-      in_time = c.requires.askable.small.2;
-    } in
-    let found : IsBag (g.C.Criterion.rules c.args.criterion.now) (points_of merged.best) =
-    subst (λ (k : g.row.C.Denot). IsBag (g.C.Criterion.rules k) (points_of merged.best)) c.requires.merged.under merged.best.kept in
-    let bag = listed_bag rules laws (points_of merged.best) points.items found c.in_ok-points.ensures.ordered c.in_ok-points.ensures.only in
-    retagged_answer rules (IsPointBetween rules t b) points.items (map point_of c.loop-place.departures.items)
-    (c.loop-place.invariant.first ∙ ap (map untagged) (take_all c.loop-place.place points.items past))
-    (merged_answers g.C.Criterion.rules criterion laws t b can merged points.items c.requires.merged c.requires.covers bag c.in_ok-points.ensures.ordered
-    c.in_ok-points.ensures.only c.in_ok-points.ensures.each)
+    let answer = subst (λ (ps : List (Point g.row.C-V.Denot)). IsAnswerBetween rules t b ps) (sym c.points-points.ensures) answers.answered.answer in
+    all_told rules (IsPointBetween rules t b) (AttainsBetween rules t b) c.points-points.result.now c.loop-i.i c.loop-i.departures.items
+    (c.loop-i.invariant criterion t b answers) (omega arith) answer
+
+pub returns-clause-journeys : goal.returns-clause-journeys
+returns-clause-journeys g c criterion t b answers = (c.loop-i.invariant criterion t b answers).each

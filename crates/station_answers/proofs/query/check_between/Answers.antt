@@ -47,7 +47,7 @@ pub returns : goal.returns
 returns c = record {
   sources = subst (λ (xs : List ℕ). AreStops c.args.stops xs) c.deref.ensures.value c.if-not-are_below.ensures;
   targets = subst (λ (xs : List ℕ). AreStops c.args.stops xs) c.deref-2.ensures.value c.if-not-are_below-2.ensures;
-  apart = λ stop source target. c.if-share_one.ensures stop
+  differ = λ stop source target. c.if-share_one.ensures stop
       (subst (λ (xs : List ℕ). Contains xs stop) (sym c.deref-3.ensures.value) source)
       (subst (λ (xs : List ℕ). Contains xs stop) (sym c.deref-4.ensures.value) target);
   window = omega (arith, c.if-query.false);

@@ -7,7 +7,7 @@ use Rattle.std.specs.Global.{Global}
 use Rattle.load_orders.specs.Queue.{QueueId}
 use Rattle.workers.specs.Ordering.{GoesBy, IsKeeperOf, put_by, route_to}
 use Rattle.workers.specs.Sessions.{AreAllServed, IsShare}
-use Rattle.answer_replies.specs.declared.point_form.PointForm.{PointForm}
+use Rattle.session.specs.declared.reply_form.ReplyForm.{ReplyForm}
 use Rattle.workers.proofs.Shared.{joined_none, joined_next, joined_all, keeper_next, keeper_none}
 use Rattle.workers.proofs.shares.join_workers.Goals as goal
 
@@ -60,11 +60,11 @@ loop-worker-preserved g c =
     let done = pair.0 in
     let routes = subst (λ workers. All (λ worker. GoesBy worker.promise.route c.args.route) workers) step.0 was.routes in
     let route = routes 0 c.in-Some.worker (omega arith) in
-    let Share = λ (form : PointForm) (names : List (String Global)) (queue : QueueId _).
+    let Share = λ (form : ReplyForm) (names : List (String Global)) (queue : QueueId _).
     IsShare form g.C.Client.opens g.C.Reader.Read.remaining g.C.Writer.Write.contents
     g.T.Versions.number g.T.Versions.value g.T.Versions.known g.T.Versions.noted (route_to names queue)
     c.in-Some.worker.promise.seat.value done.taker.taken pair.1 done.served done.seat in
-    let by_form = subst (λ (form : PointForm). Share form (g.F.Feeds.named c.in-Some.worker.promise.route.feeds.value)
+    let by_form = subst (λ (form : ReplyForm). Share form (g.F.Feeds.named c.in-Some.worker.promise.route.feeds.value)
     c.in-Some.worker.promise.route.end.value.queue) (forms 0 c.in-Some.worker (omega arith)) c.join-share.ensures.2 in
     let by_queue = subst (λ (queue : QueueId _). Share c.args.form (g.F.Feeds.named c.in-Some.worker.promise.route.feeds.value) queue)
     route.0 by_form in

@@ -20,6 +20,6 @@ returns g c is =
       no_labels = ap label_points none;
       ends_here = λ alights.
           let here = nothing alights in
-          let head_is : slice_index stops.heads.items cn.to ≡ 0 = sym c.head-head.ensures ∙ here.2 in
-          (here.0, here.1, ap (list_points lists) head_is ∙ empty);
+          let head_is : slice_index stops.heads.items cn.to ≡ 0 = sym c.head-head.ensures ∙ here.1 in
+          (here.0, ap (list_points lists) head_is ∙ empty);
     }

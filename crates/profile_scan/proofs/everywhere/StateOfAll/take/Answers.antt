@@ -5,6 +5,7 @@ use Rattle.timetable.specs.declared.network.Connection.{Connection}
 use Rattle.timetable.specs.Journeys.{connection_at}
 use Rattle.fronts.specs.declared.labels.Label.{Label}
 use Rattle.fronts.specs.Lists.{steps_of}
+use Rattle.profile_scan.specs.Between.{question}
 use Rattle.profile_scan.specs.Steps.{leavings, boardings, settings_out, TakesIn}
 use Rattle.profile_scan.specs.Adding.{label_points, trip_points}
 use Rattle.profile_scan.specs.Bound.{carried}
@@ -16,6 +17,7 @@ use Rattle.profile_scan.specs.Everywhere.{story_from}
 use Rattle.profile_scan.proofs.LabelLemmas.{no_trip_points, trip_admitted}
 use Rattle.profile_scan.proofs.BoundLemmas.{from_carried}
 use Rattle.profile_scan.proofs.EverywhereLemmas.{carried_by_none, leavings_from}
+use Rattle.profile_scan.specs.LawStatements.{CanScan}
 use Rattle.profile_scan.proofs.LeaveLemmas.{leavings_taken}
 use Rattle.profile_scan.proofs.PartLemmas.{hop_within}
 use Rattle.profile_scan.proofs.StepFacts.{ends_in, trip_in}
@@ -26,7 +28,7 @@ use Rattle.profile_scan.proofs.everywhere.StateOfAll.take.Goals as goal
 pub alight-requires-clause-hop : goal.alight-requires-clause-hop
 alight-requires-clause-hop g c =
     hop_within (g.C.Criterion.rules c.args.asked.now.criterion) (g.S.ConnSource.timetable c.args.source.now)
-    (g.met.S.ConnSource.limits c.args.source.now) c.args.asked.now.query c.args.hop.now c.requires.hop
+    (g.met.S.ConnSource.limits c.args.source.now) (question c.args.asked.now.query) c.args.hop.now c.requires.hop
 
 pub alight-requires-clause-trip : goal.alight-requires-clause-trip
 alight-requires-clause-trip g c =
@@ -93,8 +95,13 @@ pub returns-clause-steps : goal.returns-clause-steps
 returns-clause-steps g c stop =
     let rules = g.C.Criterion.rules c.args.asked.now.criterion in
     let t = g.S.ConnSource.timetable c.args.source.now in
-    let legal = g.met.S.ConnSource.legal c.args.source.now in
-    let q = from_stop c.args.asked.now.query stop in
+    let laws = g.met.C.Criterion.laws c.args.asked.now.criterion in
+    let can : CanScan (g.S.ConnSource.timetable c.args.source.now) (question c.args.asked.now.query) = record {
+      legal = g.met.S.ConnSource.legal c.args.source.now;
+      limits = g.met.S.ConnSource.limits c.args.source.now;
+      in_time = c.requires.hop.by;
+    } in
+    let q = from_stop (question c.args.asked.now.query) stop in
     let hop = c.args.hop.now in
     let i = hop.place in
     let values = hop.bound.now in
@@ -117,10 +124,11 @@ returns-clause-steps g c stop =
     subst (λ (x : Connection). TakesIn rules (leavings rules t q first i (carried rules values bag)) (old x.trip) (new x.trip)) at.is
     (subst (λ (points : List (Point g.row.C-V.Denot)). TakesIn rules (leavings rules t q first i points) (old hop.connection.trip)
     (new hop.connection.trip)) bag_is
-    (leavings_from rules t c.args.asked.now.query stop first i (carried rules values (points_at stops hop.connection.to)) (old hop.connection.trip)
+    (leavings_from rules t (question c.args.asked.now.query) stop first i (carried rules values (points_at stops hop.connection.to)) (old hop.connection.trip)
     (new hop.connection.trip)
-    (leavings_taken rules t legal c.args.asked.now.query first i hop.connection at.is hop.way c.requires.hop.way
+    (leavings_taken rules laws t (question c.args.asked.now.query) can first i hop.connection at.is hop.way c.requires.hop.way
     (carried rules values (points_at stops hop.connection.to)) (old hop.connection.trip) (new hop.connection.trip)
+    (trip_admitted rules c.alight.new.self.labels c.in_ok-alight.ensures.trip.labels.labels hop.connection.trip)
     (c.in_ok-alight.ensures.takes t.footpaths steps outs was between (grows_none was) (grows_none between))))) in
     let now_steps = steps_of c.board.new.self.lists in
     let now_outs = set_outs_from c.set_out.new.self stop in
@@ -158,8 +166,13 @@ pub returns-then-labels-eq0-clause-steps : goal.returns-then-labels-eq0-clause-s
 returns-then-labels-eq0-clause-steps g c stop =
     let rules = g.C.Criterion.rules c.args.asked.now.criterion in
     let t = g.S.ConnSource.timetable c.args.source.now in
-    let legal = g.met.S.ConnSource.legal c.args.source.now in
-    let q = from_stop c.args.asked.now.query stop in
+    let laws = g.met.C.Criterion.laws c.args.asked.now.criterion in
+    let can : CanScan (g.S.ConnSource.timetable c.args.source.now) (question c.args.asked.now.query) = record {
+      legal = g.met.S.ConnSource.legal c.args.source.now;
+      limits = g.met.S.ConnSource.limits c.args.source.now;
+      in_time = c.requires.hop.by;
+    } in
+    let q = from_stop (question c.args.asked.now.query) stop in
     let hop = c.args.hop.now in
     let i = hop.place in
     let values = hop.bound.now in
@@ -182,10 +195,11 @@ returns-then-labels-eq0-clause-steps g c stop =
     subst (λ (x : Connection). TakesIn rules (leavings rules t q first i (carried rules values bag)) (old x.trip) (new x.trip)) at.is
     (subst (λ (points : List (Point g.row.C-V.Denot)). TakesIn rules (leavings rules t q first i points) (old hop.connection.trip)
     (new hop.connection.trip)) bag_is
-    (leavings_from rules t c.args.asked.now.query stop first i (carried rules values (points_at stops hop.connection.to)) (old hop.connection.trip)
+    (leavings_from rules t (question c.args.asked.now.query) stop first i (carried rules values (points_at stops hop.connection.to)) (old hop.connection.trip)
     (new hop.connection.trip)
-    (leavings_taken rules t legal c.args.asked.now.query first i hop.connection at.is hop.way c.requires.hop.way
+    (leavings_taken rules laws t (question c.args.asked.now.query) can first i hop.connection at.is hop.way c.requires.hop.way
     (carried rules values (points_at stops hop.connection.to)) (old hop.connection.trip) (new hop.connection.trip)
+    (trip_admitted rules c.alight.new.self.labels c.in_ok-alight.ensures.trip.labels.labels hop.connection.trip)
     (c.in_ok-alight.ensures.takes t.footpaths steps outs was between (grows_none was) (grows_none between))))) in
     let second = from_to (told t.footpaths between) (told t.footpaths between) in
     let none = no_trip_points c.alight.new.self.labels hop.connection.trip (ap length (sym c.labels_of-labels.ensures) ∙ c.if-labels-eq0.true) in

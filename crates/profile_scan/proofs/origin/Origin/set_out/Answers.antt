@@ -1,6 +1,7 @@
-use Rattle.std.proofs.Common.{◌≡◌, ◌<◌, ℕ, subst, arith}
+use Rattle.std.proofs.Common.{◌≡◌, ◌<◌, ℕ, sym, subst, arith}
 use Rattle.reasoning.proofs.ListLemmas.{extends_none}
 use Rattle.bags.specs.Bag.{points_of}
+use Rattle.profile_scan.specs.Between.{question}
 use Rattle.profile_scan.specs.Matching.{from_to}
 use Rattle.profile_scan.specs.Story.{story, told}
 use Rattle.profile_scan.specs.Steps.{TakesIn}
@@ -21,7 +22,7 @@ loop-place-init g c =
       origin = c.in_ok-set_out_by.ensures.origin;
       takes = λ exits steps before all ext_before ext.
           starts_first rules walks (settings_out_by rules (from_to (told walks before) (told walks all))
-          c.args.hop.now.place c.args.hop.now.connection c.args.asked.now.query (label_points c.args.labels.now))
+          c.args.hop.now.place c.args.hop.now.connection (question c.args.asked.now.query) (label_points c.args.labels.now))
           c.walks_into-begin.result.0 (points_of c.args.self.now.found) (points_of c.set_out_by.new.self.found)
           (c.in_ok-set_out_by.ensures.takes walks exits steps before all ext_before ext);
     }
@@ -45,7 +46,7 @@ loop-place-preserved g c =
           (g.met.C.Criterion.laws c.args.asked.now.criterion) t (g.met.S.ConnSource.limits c.args.source.now)
           (label_points c.args.labels.now) c.requires.labels
           (from_to (told t.footpaths before) (told t.footpaths all)) c.args.hop.now.place c.args.hop.now.connection
-          c.args.asked.now.query c.walks_into-begin.result.0 c.loop-place.place walk
+          (question c.args.asked.now.query) c.walks_into-begin.result.0 c.loop-place.place walk
           (points_of c.args.self.now.found) (points_of c.loop-place.self.found)
           (points_of c.set_out_by-in-loop-place.new.self.found)
           c.loop-place.auto.place c.footpath_into-walk.ensures
@@ -68,21 +69,21 @@ returns-clause-takes g c exits steps before all ext_before ext =
     let at_end : c.loop-place.place ≡ c.walks_into-begin.result.1 = omega arith in
     settings_out_taken rules t tags c.args.hop.now.place c.args.hop.now.connection c.requires.hop.stands.is
     c.if-not-hop.false begin c.walks_into-begin.result.1 c.walks_into-begin.ensures.exact labels
-    c.args.asked.now.query (points_of c.args.self.now.found) (points_of c.loop-place.self.found)
+    (question c.args.asked.now.query) (points_of c.args.self.now.found) (points_of c.loop-place.self.found)
     (subst (λ (n : ℕ). TakesIn rules (each_of (IsTried t.footpaths begin n)
-    (settings_out_by rules tags c.args.hop.now.place c.args.hop.now.connection c.args.asked.now.query labels))
+    (settings_out_by rules tags c.args.hop.now.place c.args.hop.now.connection (question c.args.asked.now.query) labels))
     (points_of c.args.self.now.found) (points_of c.loop-place.self.found)) at_end
     (c.loop-place.invariant.takes exits steps before all ext_before ext))
 
--- no footpath leads there from the source
+-- no footpath leads there from a source
 pub returns-then-not-hop-2-clause-takes : goal.returns-then-not-hop-2-clause-takes
 returns-then-not-hop-2-clause-takes g c exits steps before all ext_before ext =
     let t = g.S.ConnSource.timetable c.args.source.now in
     let hop = c.args.hop.now in
     alone_taken (g.C.Criterion.rules c.args.asked.now.criterion) t
-    (from_to (told t.footpaths before) (told t.footpaths all)) hop.place c.args.asked.now.query
+    (from_to (told t.footpaths before) (told t.footpaths all)) hop.place (question c.args.asked.now.query)
     (label_points c.args.labels.now) (points_of c.args.self.now.found) (points_of c.set_out_by.new.self.found)
-    hop.connection c.requires.hop.stands.is c.if-not-hop.false hop.led c.if-not-hop-2.true c.requires.hop.led
+    hop.connection c.requires.hop.stands.is c.if-not-hop.false hop.lead.led c.if-not-hop-2.true c.requires.hop.lead.led
     (c.in_ok-set_out_by.ensures.takes t.footpaths exits steps before all ext_before ext)
 
 -- the connection begins at a stop
@@ -100,3 +101,20 @@ returns-then-not-hop-clause-origin g c = record { found = c.requires.found; set_
 
 pub footpath_into-walk-requires-clause-stop : goal.footpath_into-walk-requires-clause-stop
 footpath_into-walk-requires-clause-stop g c = begins g (goal.at.footpath_into-walk-requires-clause-stop g c).Start
+
+-- of a start it can be looked up whether it is from a source
+pub set_out_by-requires-clause-lead : goal.set_out_by-requires-clause-lead
+set_out_by-requires-clause-lead g c = record {
+  here = c.requires.hop.lead.here;
+  within = tt;
+  says = λ stop lead at. (c.requires.starts.each stop lead at).here;
+}
+
+pub set_out_by-requires-in-loop-place-clause-lead : goal.set_out_by-requires-in-loop-place-clause-lead
+set_out_by-requires-in-loop-place-clause-lead g c =
+    let from_in = ((g.met.S.ConnSource.legal c.args.source.now).ends_in_range c.loop-place.place c.footpath_into-walk.result c.footpath_into-walk.ensures).0 in
+    record {
+      here = c.requires.hop.lead.here;
+      within = subst (λ (n : ℕ). c.footpath_into-walk.result.from < n) (sym c.requires.starts.long) from_in;
+      says = λ stop lead at. (c.requires.starts.each stop lead at).here;
+    }

@@ -1,6 +1,7 @@
 use Rattle.std.proofs.Common.{List}
 use Rattle.bags.specs.Bag.{points_of}
 use Rattle.fronts.specs.declared.entry.Step.{Step}
+use Rattle.profile_scan.specs.Between.{question}
 use Rattle.profile_scan.specs.Parts.{ChangesOrigin}
 use Rattle.profile_scan.specs.Story.{story}
 use Rattle.profile_scan.specs.Adding.{label_points, Takes, each_of, IsTried, settings_out_by}
@@ -16,6 +17,6 @@ invariant-loop-place g l =
       takes : (exits : List Exit) (steps : List Step)
           → Takes rules walks (story exits steps l.fn.self.set_outs.items) (story exits steps l.self.set_outs.items)
           (λ tags. each_of (IsTried walks l.begin l.place)
-          (settings_out_by rules tags l.hop.place l.hop.connection l.asked.query (label_points l.labels)))
+          (settings_out_by rules tags l.hop.place l.hop.connection (question l.asked.query) (label_points l.labels)))
           (points_of l.fn.self.found) (points_of l.self.found);
     }

@@ -1,4 +1,5 @@
 use Rattle.std.proofs.Common.{ℕ}
+use Rattle.profile_scan.specs.Between.{question}
 use Rattle.profile_scan.specs.Adding.{label_points, each_of, IsTried, settings_out_by}
 use Rattle.profile_scan.specs.Origins.{ChangesOrigins, SourceTakes, from_stop}
 use Rattle.profile_scan.proofs.origins.Origins.set_out.Given as goal
@@ -10,5 +11,5 @@ invariant-loop-place g l =
     record {
       origins : ChangesOrigins l.asked.criterion l.fn.self l.self;
       takes : (stop : ℕ) → SourceTakes rules walks stop (λ tags. each_of (IsTried walks l.begin l.place)
-          (settings_out_by rules tags l.hop.place l.hop.connection (from_stop l.asked.query stop) (label_points l.labels))) l.fn.self l.self;
+          (settings_out_by rules tags l.hop.place l.hop.connection (from_stop (question l.asked.query) stop) (label_points l.labels))) l.fn.self l.self;
     }

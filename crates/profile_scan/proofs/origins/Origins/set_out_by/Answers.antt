@@ -1,15 +1,17 @@
 use Rattle.std.proofs.Common.{◌<◌, ◌-◌, ℕ, Option, IfSome, refl, sym, ◌∙◌, subst, inl, inr}
 use Rattle.std.proofs.lemmas.Bool.{cases_eq}
+use Rattle.reasoning.proofs.BoolLemmas.{where_true, where_false}
 use Rattle.criteria.specs.Laws.{IsSecs}
 use Rattle.timetable.specs.declared.network.Footpath.{Footpath}
 use Rattle.timetable.specs.Journeys.{start_secs}
+use Rattle.profile_scan.specs.Between.{question}
 use Rattle.profile_scan.specs.Steps.{TakesIn}
 use Rattle.profile_scan.specs.Matching.{from_to}
 use Rattle.profile_scan.specs.Story.{told}
 use Rattle.profile_scan.specs.Adding.{label_points, MayStart, only_if, settings_out_after}
 use Rattle.profile_scan.specs.Origins.{SourceTakes, found_from, from_stop}
 use Rattle.profile_scan.proofs.Offers.{on_ok_both, on_ok_more, takes_if}
-use Rattle.profile_scan.proofs.OriginLemmas.{origins_none, other_start, source_unless}
+use Rattle.profile_scan.proofs.OriginLemmas.{in_time, no_loop, origins_none, other_start, own_start, source_unless}
 use Rattle.profile_scan.proofs.origins.Origins.set_out_by.Goals as goal
 
 pub set_out_from-requires-clause-secs : goal.set_out_from-requires-clause-secs
@@ -21,7 +23,7 @@ set_out_from-requires-clause-stop g c = subst (λ (n : ℕ). n < c.args.self.now
 pub returns-in-Some-clause-takes : goal.returns-in-Some-clause-takes
 returns-in-Some-clause-takes g c =
     let rules = g.C.Criterion.rules c.args.asked.now.criterion in
-    let q = c.args.asked.now.query in
+    let q = question c.args.asked.now.query in
     let cn = c.args.hop.now.connection in
     let start = c.args.start in
     let is = c.in-Some.ensures in
@@ -30,6 +32,7 @@ returns-in-Some-clause-takes g c =
     let labels = label_points c.args.labels.now in
     let here = c.source_of-stop.result in
     let others = c.set_out_from.ensures.others in
+    let not_loop = where_false c.is_loop.result _ _ c.if-is_loop.false c.is_loop.ensures in
     on_ok_more c.set_out_from.result _ _
     (λ both walks stop. elim (cases_eq stop here) [
       | inl same ↦
@@ -38,7 +41,8 @@ returns-in-Some-clause-takes g c =
           (λ exits steps before all ext_before ext.
           let tags = from_to (told walks before) (told walks all) in
           takes_if rules (MayStart (from_stop q here) cn start)
-          (settings_out_after rules tags c.args.hop.now.place (cn.dep - start_secs start) start labels) (found_from old here) (found_from new here) is.0
+          (settings_out_after rules tags c.args.hop.now.place (cn.dep - start_secs start) start labels) (found_from old here) (found_from new here)
+          (subst (λ (n : ℕ). MayStart (from_stop q n) cn start) (sym c.source_of-stop.ensures) (own_start q cn start not_loop is.0))
           (subst (λ (s : Option Footpath). TakesIn rules (settings_out_after rules tags c.args.hop.now.place (cn.dep - start_secs start) s labels)
           (found_from old here) (found_from new here)) is.1
           (subst (λ (n : ℕ). TakesIn rules (settings_out_after rules tags c.args.hop.now.place n c.in-Some.departure.start labels)
@@ -53,16 +57,32 @@ returns-in-Some-clause-takes g c =
 pub returns-in-None-clause-takes : goal.returns-in-None-clause-takes
 returns-in-None-clause-takes g c walks stop =
     let rules = g.C.Criterion.rules c.args.asked.now.criterion in
-    let q = c.args.asked.now.query in
+    let q = question c.args.asked.now.query in
     let cn = c.args.hop.now.connection in
     let start = c.args.start in
     let labels = label_points c.args.labels.now in
     source_unless rules walks stop (MayStart (from_stop q stop) cn start)
     (λ tags. settings_out_after rules tags c.args.hop.now.place (cn.dep - start_secs start) start labels) c.args.self.now c.args.self.now refl
     (λ may. elim (cases_eq stop c.source_of-stop.result) [
-      | inl same ↦ c.in-None.ensures (subst (λ (n : ℕ). MayStart (from_stop q n) cn start) same may)
+      | inl same ↦ c.in-None.ensures (in_time (from_stop q stop) cn start may)
       | inr other ↦ other_start q cn start stop (λ e. other (e ∙ sym c.source_of-stop.ensures)) may
     ])
 
 pub returns-in-None-clause-origins : goal.returns-in-None-clause-origins
 returns-in-None-clause-origins g c = origins_none c.args.asked.now.criterion c.args.self.now c.requires.origins
+
+-- the start is a loop
+pub returns-then-is_loop-clause-takes : goal.returns-then-is_loop-clause-takes
+returns-then-is_loop-clause-takes g c walks stop =
+    let rules = g.C.Criterion.rules c.args.asked.now.criterion in
+    let q = question c.args.asked.now.query in
+    let cn = c.args.hop.now.connection in
+    let start = c.args.start in
+    let labels = label_points c.args.labels.now in
+    let loop = where_true c.is_loop.result _ _ c.if-is_loop.true c.is_loop.ensures in
+    source_unless rules walks stop (MayStart (from_stop q stop) cn start)
+    (λ tags. settings_out_after rules tags c.args.hop.now.place (cn.dep - start_secs start) start labels) c.args.self.now c.args.self.now refl
+    (no_loop (from_stop q stop) cn start loop)
+
+pub returns-then-is_loop-clause-origins : goal.returns-then-is_loop-clause-origins
+returns-then-is_loop-clause-origins g c = origins_none c.args.asked.now.criterion c.args.self.now c.requires.origins

@@ -5,12 +5,13 @@ use Rattle.timetable.specs.Journeys.{connection_at}
 use Rattle.bags.specs.Bag.{points_of}
 use Rattle.fronts.specs.Lists.{entries_of, items_of, lists_criterion}
 use Rattle.fronts.proofs.Mapped.{list_admitted}
+use Rattle.profile_scan.specs.Between.{question}
 use Rattle.profile_scan.specs.Bound.{AreBounds, carried}
 use Rattle.profile_scan.specs.Matching.{from_to}
 use Rattle.profile_scan.specs.Steps.{TakesIn, leavings, boardings, settings_out}
 use Rattle.profile_scan.specs.Adding.{label_points, trip_points}
 use Rattle.profile_scan.specs.Story.{told}
-use Rattle.profile_scan.specs.Kept.{AreStops, IsWay, kept_by, points_at, story_of}
+use Rattle.profile_scan.specs.Kept.{AreStops, IsWayTo, kept_by, points_at, story_of}
 use Rattle.profile_scan.proofs.Admitted.{AreAdmitted}
 use Rattle.profile_scan.proofs.Offers.{bag_under}
 use Rattle.profile_scan.proofs.BoundLemmas.{bounds_renewed, bounds_on, carried_by_bounds}
@@ -18,7 +19,7 @@ use Rattle.profile_scan.proofs.StoryLemmas.{grows_none, grows_keeps}
 use Rattle.profile_scan.proofs.StepFacts.{begins_in, ends_in, step_idle_at, trip_in}
 use Rattle.profile_scan.proofs.LabelLemmas.{trip_admitted}
 use Rattle.profile_scan.proofs.scan.Scan.step.Given as given
-use Rattle.profile_scan.proofs.scan.Scan.step.Goals.{After-secs_from-way, In_ok-renew, Start}
+use Rattle.profile_scan.proofs.scan.Scan.step.Goals.{After-way_from-way, In_ok-renew, Start}
 use Rattle.profile_scan.proofs.scan.Scan.step.Goals as goal
 
 -- the connection ends at a stop
@@ -26,20 +27,20 @@ ends : (g : given.Over) (c : goal.Start g) → c.args.connection.now.to < (g.S.C
 ends g c = ends_in (g.S.ConnSource.timetable c.args.source.now) (g.met.S.ConnSource.legal c.args.source.now)
     c.args.place c.requires.stands.in_range c.args.connection.now c.requires.stands.is
 
--- what is known of the way from there to the target
-way_is : (g : given.Over) (c : goal.After-secs_from-way g)
-    → IsWay (g.S.ConnSource.timetable c.args.source.now) c.args.asked.now.query.target c.args.connection.now.to
-    c.secs_from-way.result
+-- what is known of the way from there to a target
+way_is : (g : given.Over) (c : goal.After-way_from-way g)
+    → IsWayTo (g.S.ConnSource.timetable c.args.source.now) (question c.args.asked.now.query).targets c.args.connection.now.to
+    c.way_from-way.result
 way_is g c =
     let at = c.requires.stands in
-    subst (IsWay (g.S.ConnSource.timetable c.args.source.now) c.args.asked.now.query.target c.args.connection.now.to) (sym c.secs_from-way.ensures)
+    subst (IsWayTo (g.S.ConnSource.timetable c.args.source.now) (question c.args.asked.now.query).targets c.args.connection.now.to) (sym c.way_from-way.ensures)
     (c.requires.asked.ways.each c.args.connection.now.to
     (ends_in (g.S.ConnSource.timetable c.args.source.now) (g.met.S.ConnSource.legal c.args.source.now) c.args.place
     at.in_range c.args.connection.now at.is))
 
-pub secs_from-way-requires : goal.secs_from-way-requires
-secs_from-way-requires g c = subst (λ (n : ℕ). c.args.connection.now.to < n) (sym c.requires.asked.ways.long)
-    (ends g (goal.at.secs_from-way-requires g c).Start)
+pub way_from-way-requires : goal.way_from-way-requires
+way_from-way-requires g c = subst (λ (n : ℕ). c.args.connection.now.to < n) (sym c.requires.asked.ways.long)
+    (ends g (goal.at.way_from-way-requires g c).Start)
 
 pub lead_to-requires : goal.lead_to-requires
 lead_to-requires g c =
@@ -77,9 +78,9 @@ pub returns-then-is_idle-clause-step : goal.returns-then-is_idle-clause-step
 returns-then-is_idle-clause-step g c =
     let t = g.S.ConnSource.timetable c.args.source.now in
     let state = c.args.self.now.state in
-    step_idle_at (g.C.Criterion.rules c.args.asked.now.criterion) t c.args.asked.now.query
+    step_idle_at (g.C.Criterion.rules c.args.asked.now.criterion) t (question c.args.asked.now.query)
     (told t.footpaths (story_of state)) c.args.place (kept_by state) _ c.args.connection.now c.requires.stands.is
-    (way_is g (goal.at.returns-then-is_idle-clause-step g c).After-secs_from-way) (c.is_idle.ensures c.if-is_idle.true)
+    (way_is g (goal.at.returns-then-is_idle-clause-step g c).After-way_from-way) (c.is_idle.ensures c.if-is_idle.true)
 
 pub returns-then-is_idle-clause-scan : goal.returns-then-is_idle-clause-scan
 returns-then-is_idle-clause-scan g c =
@@ -116,8 +117,8 @@ take-requires-clause-hop g c =
     record {
       stands = c.requires.stands;
       by = c.requires.asked.by;
-      led = c.requires.asked.starts.each c.args.connection.now.from c.lead_to.result c.lead_to.ensures;
-      way = way_is g (goal.at.take-requires-clause-hop g c).After-secs_from-way;
+      lead = c.requires.asked.starts.each c.args.connection.now.from c.lead_to.result c.lead_to.ensures;
+      way = way_is g (goal.at.take-requires-clause-hop g c).After-way_from-way;
       bound =
           subst (λ (values : List g.row.C-V.Denot). (b : g.row.C-V.Denot) → Contains values b → Admits rules b) (sym c.deref.ensures.value)
           (renewed g (goal.at.take-requires-clause-hop g c).In_ok-renew).admitted;
@@ -144,7 +145,7 @@ returns-clause-step g c =
     let rules = g.C.Criterion.rules c.args.asked.now.criterion in
     let laws = g.met.C.Criterion.laws c.args.asked.now.criterion in
     let t = g.S.ConnSource.timetable c.args.source.now in
-    let q = c.args.asked.now.query in
+    let q = question c.args.asked.now.query in
     let i = c.args.place in
     let at = c.requires.stands.is in
     let cn = c.args.connection.now in

@@ -5,6 +5,7 @@ use Rattle.bags.specs.declared.point.Point.{Point}
 use Rattle.timetable.specs.declared.network.Connection.{Connection}
 use Rattle.fronts.specs.declared.labels.Label.{Label}
 use Rattle.fronts.specs.Lists.{steps_of}
+use Rattle.profile_scan.specs.Between.{question}
 use Rattle.profile_scan.specs.Steps.{leavings, boardings, settings_out, TakesIn}
 use Rattle.profile_scan.specs.Adding.{label_points, trip_points}
 use Rattle.profile_scan.specs.Bound.{carried}
@@ -13,6 +14,7 @@ use Rattle.profile_scan.specs.Story.{story, told}
 use Rattle.profile_scan.specs.Kept.{AreStops, points_at}
 use Rattle.profile_scan.proofs.LabelLemmas.{no_trip_points, trip_admitted}
 use Rattle.profile_scan.proofs.BoundLemmas.{from_carried}
+use Rattle.profile_scan.specs.LawStatements.{CanScan}
 use Rattle.profile_scan.proofs.LeaveLemmas.{leavings_taken}
 use Rattle.profile_scan.proofs.PartLemmas.{hop_within}
 use Rattle.profile_scan.proofs.StepFacts.{ends_in, trip_in}
@@ -23,7 +25,7 @@ use Rattle.profile_scan.proofs.scan.State.take.Goals as goal
 pub alight-requires-clause-hop : goal.alight-requires-clause-hop
 alight-requires-clause-hop g c =
     hop_within (g.C.Criterion.rules c.args.asked.now.criterion) (g.S.ConnSource.timetable c.args.source.now)
-    (g.met.S.ConnSource.limits c.args.source.now) c.args.asked.now.query c.args.hop.now c.requires.hop
+    (g.met.S.ConnSource.limits c.args.source.now) (question c.args.asked.now.query) c.args.hop.now c.requires.hop
 
 pub alight-requires-clause-trip : goal.alight-requires-clause-trip
 alight-requires-clause-trip g c =
@@ -91,8 +93,13 @@ pub returns-clause-takes : goal.returns-clause-takes
 returns-clause-takes g c =
     let rules = g.C.Criterion.rules c.args.asked.now.criterion in
     let t = g.S.ConnSource.timetable c.args.source.now in
-    let legal = g.met.S.ConnSource.legal c.args.source.now in
-    let q = c.args.asked.now.query in
+    let laws = g.met.C.Criterion.laws c.args.asked.now.criterion in
+    let q = question c.args.asked.now.query in
+    let can : CanScan (g.S.ConnSource.timetable c.args.source.now) (question c.args.asked.now.query) = record {
+      legal = g.met.S.ConnSource.legal c.args.source.now;
+      limits = g.met.S.ConnSource.limits c.args.source.now;
+      in_time = c.requires.hop.by;
+    } in
     let hop = c.args.hop.now in
     let at = c.requires.hop.stands in
     let stops = c.args.self.now.stops in
@@ -119,7 +126,8 @@ returns-clause-takes g c =
       leaves = λ before all ext_before ext.
           let tags = from_to (told t.footpaths before) (told t.footpaths all) in
           subst (λ (points : List (Point g.row.C-V.Denot)). TakesIn rules (leavings rules t q tags hop.place points) old new) bag_is
-          (leavings_taken rules t legal q tags hop.place hop.connection at.is hop.way c.requires.hop.way bag old new
+          (leavings_taken rules laws t q can tags hop.place hop.connection at.is hop.way c.requires.hop.way bag old new
+          (trip_admitted rules c.alight.new.self.labels c.in_ok-alight.ensures.trip.labels.labels hop.connection.trip)
           (c.in_ok-alight.ensures.takes t.footpaths steps outs before all ext_before ext));
       boards = λ stop before all ext_before ext.
           subst (λ (xs : List (Label g.row.C-V.Denot)). TakesIn rules
@@ -139,8 +147,13 @@ pub returns-then-labels-eq0-clause-takes : goal.returns-then-labels-eq0-clause-t
 returns-then-labels-eq0-clause-takes g c =
     let rules = g.C.Criterion.rules c.args.asked.now.criterion in
     let t = g.S.ConnSource.timetable c.args.source.now in
-    let legal = g.met.S.ConnSource.legal c.args.source.now in
-    let q = c.args.asked.now.query in
+    let laws = g.met.C.Criterion.laws c.args.asked.now.criterion in
+    let q = question c.args.asked.now.query in
+    let can : CanScan (g.S.ConnSource.timetable c.args.source.now) (question c.args.asked.now.query) = record {
+      legal = g.met.S.ConnSource.legal c.args.source.now;
+      limits = g.met.S.ConnSource.limits c.args.source.now;
+      in_time = c.requires.hop.by;
+    } in
     let hop = c.args.hop.now in
     let at = c.requires.hop.stands in
     let stops = c.args.self.now.stops in
@@ -162,7 +175,8 @@ returns-then-labels-eq0-clause-takes g c =
       leaves = λ before all ext_before ext.
           let tags = from_to (told t.footpaths before) (told t.footpaths all) in
           subst (λ (points : List (Point g.row.C-V.Denot)). TakesIn rules (leavings rules t q tags hop.place points) old new) bag_is
-          (leavings_taken rules t legal q tags hop.place hop.connection at.is hop.way c.requires.hop.way bag old new
+          (leavings_taken rules laws t q can tags hop.place hop.connection at.is hop.way c.requires.hop.way bag old new
+          (trip_admitted rules c.alight.new.self.labels c.in_ok-alight.ensures.trip.labels.labels hop.connection.trip)
           (c.in_ok-alight.ensures.takes t.footpaths steps outs before all ext_before ext));
       boards = λ stop before all ext_before ext.
           takes_none rules (boardings rules t (from_to (told t.footpaths before) (told t.footpaths all)) hop.place stop

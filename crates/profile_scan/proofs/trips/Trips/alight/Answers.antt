@@ -1,4 +1,5 @@
 use Rattle.std.proofs.Common.{◌≡◌, true}
+use Rattle.profile_scan.specs.Between.{question}
 use Rattle.profile_scan.specs.Matching.{from_to}
 use Rattle.profile_scan.specs.Story.{story, told}
 use Rattle.profile_scan.specs.Kept.{points_at}
@@ -14,7 +15,7 @@ pub returns-clause-takes : goal.returns-clause-takes
 returns-clause-takes g c walks steps set_outs before all ext_before ext =
     let rules = g.C.Criterion.rules c.args.asked.now.criterion in
     let cn = c.args.hop.now.connection in
-    let q = c.args.asked.now.query in
+    let q = question c.args.asked.now.query in
     let bag = carried rules c.args.hop.now.bound.now (points_at c.args.stops.now c.args.hop.now.connection.to) in
     let first = story c.args.self.now.exits.items steps set_outs in
     let second = story c.end.new.self.exits.items steps set_outs in

@@ -3,7 +3,7 @@ use Rattle.profile_scan.specs.Destinations.{query_from}
 use Rattle.profile_scan.specs.Everywhere.{criterion_of_profiles, destination_of}
 use Rattle.profile_scan.specs.Between.{question}
 use Rattle.station_answers.specs.Merging.{CoversQuery, IsMerged, KeepsCovered}
-use Rattle.station_answers.proofs.answering.take_from_sources.Given as goal
+use Rattle.station_answers.proofs.by_targets.take_from_sources.Given as goal
 
 abbrev pub invariant-loop-place : goal.invariant-loop-place
 invariant-loop-place g l = record {

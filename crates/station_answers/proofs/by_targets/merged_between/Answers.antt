@@ -3,7 +3,7 @@ use Rattle.std.proofs.lemmas.Option.{slice_get-get_or, slice_get_within}
 use Rattle.reasoning.proofs.ListLemmas.{at_contains}
 use Rattle.reasoning.proofs.OptionLemmas.{on_err}
 use Rattle.timetable.specs.TimetableValue.{TimetableValue}
-use Rattle.profile_scan.specs.Between.{pair_of, question}
+use Rattle.profile_scan.specs.Between.{between_one, pair_of, question}
 use Rattle.profile_scan.specs.Destinations.{CanBeAsked, query_from}
 use Rattle.profile_scan.specs.Everywhere.{criterion_of_profiles, destination_of}
 use Rattle.profile_scan.specs.LawStatements.{CanScan}
@@ -14,9 +14,9 @@ use Rattle.station_answers.specs.Merging.{IsMerged}
 use Rattle.station_answers.specs.Reading.{window_between}
 use Rattle.station_answers.proofs.MergeLemmas.{next_target}
 use Rattle.station_answers.proofs.ReadLemmas.{all_of_one, one_scan_more, part_of_one}
-use Rattle.station_answers.proofs.answering.merged_between.Given as given
-use Rattle.station_answers.proofs.answering.merged_between.Goals.{After-destination_to-destination}
-use Rattle.station_answers.proofs.answering.merged_between.Goals as goal
+use Rattle.station_answers.proofs.by_targets.merged_between.Given as given
+use Rattle.station_answers.proofs.by_targets.merged_between.Goals.{After-destination_to-destination}
+use Rattle.station_answers.proofs.by_targets.merged_between.Goals as goal
 
 -- the target is one of the question's
 within : (g : given.Over) (c : After-destination_to-destination g) → c.loop-place.place < length c.args.query.now.targets.items
@@ -80,7 +80,8 @@ loop-place-preserved g c =
     let now_is = c.in_ok-profiles.ensures.timetable ∙ before.timetable in
     let at : slice_get targets.items c.loop-place.place ≡ Some c.index-target.result.now =
     slice_get-get_or targets.items place target (within g here) ∙ ap Some (sym c.index-target.ensures) in
-    let can : (s to : ℕ) → CanScan (g.S.ConnSource.timetable c.args.source.now) (pair_of (question c.args.query.now) s to) = λ s to. record {
+    let can : (s to : ℕ) → CanScan (g.S.ConnSource.timetable c.args.source.now) (between_one (pair_of (question c.args.query.now) s to)) =
+    λ s to. record {
       legal = g.met.S.ConnSource.legal c.args.source.now;
       limits = g.met.S.ConnSource.limits c.args.source.now;
       in_time = c.requires.small.2;

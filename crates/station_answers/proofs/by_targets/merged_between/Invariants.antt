@@ -2,7 +2,7 @@ use Rattle.std.proofs.Common.{◌≡◌, ℕ, ◌<◌, ◌++◌, Contains, rever
 use Rattle.profile_scan.specs.Between.{pair_of, question}
 use Rattle.station_answers.specs.Merging.{CoversQuery, IsMerged}
 use Rattle.station_answers.specs.Reading.{repeated, window_between}
-use Rattle.station_answers.proofs.answering.merged_between.Given as goal
+use Rattle.station_answers.proofs.by_targets.merged_between.Given as goal
 
 abbrev pub invariant-loop-place : goal.invariant-loop-place
 invariant-loop-place g l = record {

@@ -6,13 +6,13 @@ use Rattle.criteria.specs.Laws.{Admits}
 use Rattle.bags.specs.Bag.{points_of}
 use Rattle.bags.specs.Dominance.{IsBag}
 use Rattle.timetable.specs.declared.limits.TheConstants.{TIME_END}
-use Rattle.profile_scan.specs.Between.{question}
+use Rattle.profile_scan.specs.Between.{between_one, question}
 use Rattle.profile_scan.specs.Destinations.{query_from}
 use Rattle.profile_scan.specs.Everywhere.{criterion_of_profiles, destination_of}
 use Rattle.profile_scan.specs.LawStatements.{CanScan}
 use Rattle.station_answers.specs.Merging.{CoversQuery, KeepsCovered, TakesFound}
 use Rattle.station_answers.proofs.MergeLemmas.{answers_pair, listed_admitted, still_covers, take_covers, take_merged}
-use Rattle.station_answers.proofs.answering.take_from_sources.Goals as goal
+use Rattle.station_answers.proofs.by_targets.take_from_sources.Goals as goal
 
 pub found_from-requires-clause-stop : goal.found_from-requires-clause-stop
 found_from-requires-clause-stop g c =
@@ -24,7 +24,7 @@ pub found_from-requires-clause-differ : goal.found_from-requires-clause-differ
 found_from-requires-clause-differ g c = λ same.
     let sources = c.args.query.now.sources in
     let within : c.loop-place.place < length sources.items = omega (arith, c.loop-place-test.true, c.len-place-end.ensures, sources.ok.0) in
-    c.requires.askable.apart c.index-stop.result.now (c.loop-place.place, within, sym c.index-stop.ensures)
+    c.requires.askable.differ c.index-stop.result.now (c.loop-place.place, within, sym c.index-stop.ensures)
     (subst (Contains c.args.query.now.targets.items) (sym same) c.requires.target.leads)
 
 pub take_in-requires : goal.take_in-requires
@@ -32,7 +32,8 @@ take_in-requires g c = λ p h.
     let criterion = criterion_of_profiles c.args.profiles.now in
     let d = destination_of c.args.profiles.now in
     let q = query_from d c.index-stop.result.now in
-    let can : CanScan (g.S.ConnSource.timetable c.args.source.now) (query_from (destination_of c.args.profiles.now) c.index-stop.result.now) = record {
+    let can : CanScan (g.S.ConnSource.timetable c.args.source.now)
+    (between_one (query_from (destination_of c.args.profiles.now) c.index-stop.result.now)) = record {
       legal = g.met.S.ConnSource.legal c.args.source.now;
       limits = g.met.S.ConnSource.limits c.args.source.now;
       in_time = subst (λ (n : ℕ). n < TIME_END) (sym c.requires.target.times.2) c.requires.askable.small.2;
@@ -60,7 +61,8 @@ loop-place-preserved g c =
     let is : Contains sources.items c.index-stop.result.now = (place, within, sym c.index-stop.ensures) in
     let at : slice_get sources.items c.loop-place.place ≡ Some c.index-stop.result.now =
     slice_get-get_or sources.items place stop within ∙ ap Some (sym c.index-stop.ensures) in
-    let can : (s : ℕ) → CanScan (g.S.ConnSource.timetable c.args.source.now) (query_from (destination_of c.args.profiles.now) s) = λ s. record {
+    let can : (s : ℕ) → CanScan (g.S.ConnSource.timetable c.args.source.now) (between_one (query_from (destination_of c.args.profiles.now) s)) =
+    λ s. record {
       legal = g.met.S.ConnSource.legal c.args.source.now;
       limits = g.met.S.ConnSource.limits c.args.source.now;
       in_time = subst (λ (n : ℕ). n < TIME_END) (sym c.requires.target.times.2) c.requires.askable.small.2;

@@ -1,0 +1,24 @@
+use Rattle.std.proofs.Common.{map, sym, ◌∙◌, subst}
+use Rattle.reasoning.proofs.BoolLemmas.{where_true, where_false}
+use Rattle.std.specs.Prelude.{Option}
+use Rattle.profile_scan.specs.Kept.{way_in}
+use Rattle.profile_scan.specs.Nearest.{Replaces}
+use Rattle.profile_scan.specs.declared.ways.Way.{Way}
+use Rattle.profile_scan.proofs.WayLemmas.{not_taken, taken_in, word_at}
+use Rattle.profile_scan.proofs.ways.take_walk.Goals as goal
+
+pub returns-then-not-replaces : goal.returns-then-not-replaces
+returns-then-not-replaces c =
+    let f = c.args.walk.now in
+    let words = c.args.words.now.items in
+    let says = word_at words f.from c.index-word.result.now c.requires.from c.index-word.ensures ∙ sym c.way_of-old.ensures in
+    let stays = where_false c.replaces.result (Replaces c.way_of-old.result f) _ c.if-not-replaces.true c.replaces.ensures in
+    not_taken f (map way_in words) (λ r. stays (subst (λ (w : Option Way). Replaces w f) says r))
+
+pub returns : goal.returns
+returns c =
+    let f = c.args.walk.now in
+    let words = c.args.words.now.items in
+    let says = word_at words f.from c.index-word.result.now c.requires.from c.index-word.ensures ∙ sym c.way_of-old.ensures in
+    let is = where_true c.replaces.result (Replaces c.way_of-old.result f) _ c.if-not-replaces.false c.replaces.ensures in
+    taken_in f words c.requires.from c.requires.secs (subst (λ (w : Option Way). Replaces w f) (sym says) is)

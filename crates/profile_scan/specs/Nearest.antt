@@ -1,0 +1,69 @@
+-- The footpaths to the targets, as they are taken in one after the other.
+use Rattle.std.specs.Prelude.{◌≡◌, ◌≢◌, ◌⊎◌, ℕ, ◌<◌, ◌≤◌, nat_lt, Bool, true, false, List, Contains, length, Option, Some, None, slice_get}
+use Rattle.std.specs.Prelude.{slice_index_or}
+use Rattle.timetable.specs.declared.network.Footpath.{Footpath}
+use Rattle.timetable.specs.TimetableValue.{TimetableValue}
+use Rattle.profile_scan.specs.declared.ways.Way.{Way}
+
+-- the way that a footpath is
+abbrev pub way_by : Footpath → Way
+way_by f = record { to = f.to; secs = f.secs }
+
+-- what stands in for the way of a stop without one
+abbrev pub no_word : Way
+no_word = record { to = 0; secs = 4294967295 }
+
+-- a footpath to the target at index k
+abbrev pub IsInto : TimetableValue → List ℕ → ℕ → Footpath → Type 0
+IsInto t targets k f = Contains t.footpaths f × (slice_get targets k ≡ Some f.to)
+
+-- the same to one of the first n targets
+abbrev pub IsDoneTo : TimetableValue → List ℕ → ℕ → ℕ → Footpath → Type 0
+IsDoneTo t targets n k f = IsInto t targets k f × (k < n)
+
+-- of the footpaths done a way is the loop of its stop; or there is no loop among them, none is shorter, and none as short leads to a target named before
+pub record IsNearestDone (IsDone : ℕ → Footpath → Type 0) (stop : ℕ) (way : Way) : Type 0 where
+  pub place : ℕ
+  pub done : IsDone place (record { from = stop; to = way.to; secs = way.secs })
+  pub best : (way.to ≡ stop) ⊎ ((k : ℕ) (f : Footpath) → IsDone k f → f.from ≡ stop
+      → (f.to ≢ stop) × ((way.secs < f.secs) ⊎ ((way.secs ≡ f.secs) × (place ≤ k))))
+
+abbrev pub IsDoneWay : (ℕ → Footpath → Type 0) → ℕ → Option Way → Type 0
+IsDoneWay IsDone stop None = (k : ℕ) (f : Footpath) → IsDone k f → f.from ≡ stop → ⊥
+IsDoneWay IsDone stop (Some way) = IsNearestDone IsDone stop way
+
+-- the same from each stop
+pub record AreNearest (t : TimetableValue) (IsDone : ℕ → Footpath → Type 0) (ways : List (Option Way)) : Type 0 where
+  pub long : length ways ≡ t.stops
+  pub each : (stop : ℕ) → IsDoneWay IsDone stop (slice_index_or ways stop None)
+
+-- a footpath takes the place of a way from the stop where it begins
+abbrev pub Replaces : Option Way → Footpath → Type 0
+Replaces None f = Unit {0}
+Replaces (Some way) f = (f.to ≡ f.from) ⊎ ((way.to ≢ f.from) × (f.secs < way.secs))
+
+-- a footpath is taken in: the way from the stop where it begins is the footpath now, if that takes its place; all else stays
+pub record TakesWalk (f : Footpath) (old new : List (Option Way)) : Type 0 where
+  pub long : length new ≡ length old
+  pub others : (stop : ℕ) → stop ≢ f.from → slice_index_or new stop None ≡ slice_index_or old stop None
+  pub taken : Replaces (slice_index_or old f.from None) f → slice_index_or new f.from None ≡ Some (way_by f)
+  pub stays : (Replaces (slice_index_or old f.from None) f → ⊥) → slice_index_or new f.from None ≡ slice_index_or old f.from None
+
+-- the shorter of a footpath and the way from a stop, and of two that are equal the footpath
+abbrev pub if_shorter : Bool → Footpath → Footpath → Option Footpath
+if_shorter true walk first = Some walk
+if_shorter false walk first = Some first
+
+abbrev pub shorter_of : Option Footpath → ℕ → Option Way → Option Footpath
+shorter_of best stop None = best
+shorter_of None stop (Some way) = Some (record { from = stop; to = way.to; secs = way.secs })
+shorter_of (Some first) stop (Some way) = if_shorter (nat_lt way.secs first.secs) (record { from = stop; to = way.to; secs = way.secs }) first
+
+-- the footpath is the way from one of the first n of these stops: no longer than that from any of them, and shorter than that from each before; or none of them
+-- has a way
+abbrev pub IsShortestWay : List (Option Way) → List ℕ → ℕ → Option Footpath → Type 0
+IsShortestWay ways sources n None = (k stop : ℕ) → k < n → slice_get sources k ≡ Some stop → slice_index_or ways stop None ≡ None
+IsShortestWay ways sources n (Some f) = (place : ℕ) × (place < n) × (slice_get sources place ≡ Some f.from)
+    × (slice_index_or ways f.from None ≡ Some (way_by f))
+    × ((k stop : ℕ) (way : Way) → k < n → slice_get sources k ≡ Some stop → slice_index_or ways stop None ≡ Some way
+    → (f.secs < way.secs) ⊎ ((f.secs ≡ way.secs) × (place ≤ k)))

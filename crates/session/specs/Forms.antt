@@ -1,0 +1,13 @@
+-- In which form a session replies to profiles, and for which windows.
+use Rattle.std.specs.Prelude.{◌<◌, ℕ, Option, Some, None}
+use Rattle.answer_replies.specs.declared.point_form.PointForm.TheVariants.{Bare}
+use Rattle.session.specs.declared.reply_form.ReplyForm.{ReplyForm}
+
+-- bare points, for windows of any length
+abbrev pub bare : ReplyForm
+bare = record { points = Bare; longest = None }
+
+-- a window of so many seconds is longer than windows may be
+abbrev pub IsLonger : Option ℕ → ℕ → Type 0
+IsLonger None span = ⊥
+IsLonger (Some longest) span = longest < span

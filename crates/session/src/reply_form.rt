@@ -1,0 +1,38 @@
+//! In which form a session replies to profiles.
+
+ghost use Rattle.std.specs.Prelude.{◌≡◌, ◌↔◌, ◌-◌, IsTrue, None};
+ghost use Rattle.session.specs.Forms.{IsLonger};
+
+use answer_replies::PointForm;
+
+/// In which form profiles are replied, and for which windows.
+#[derive(Clone, Copy, Drop)]
+pub struct ReplyForm {
+    /// In which form each point is replied.
+    pub points: PointForm,
+    /// How many seconds a window may last, from the earliest departure to the latest arrival. `None`: any number.
+    pub longest: Option<u32>,
+}
+
+impl ReplyForm {
+    /// With points in this form, for windows of any length.
+    pub fn of(points: PointForm) -> ReplyForm
+        ensures points { result.points ≡ points }
+        ensures longest { result.longest ≡ None }
+    {
+        ReplyForm {
+            points,
+            longest: None,
+        }
+    }
+
+    /// Whether a window from this earliest departure to this latest arrival is longer than windows may be.
+    pub(crate) fn excludes(&self, after: u32, by: u32) -> bool
+        ensures { IsTrue result ↔ IsLonger self.now.longest (by - after) }
+    {
+        match self.longest {
+            Some(longest) => longest < by.saturating_sub(after),
+            None => false,
+        }
+    }
+}
