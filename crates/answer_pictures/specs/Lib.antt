@@ -3,5 +3,5 @@ pub mod Words
 pub mod Style
 pub mod Moments
 pub mod Pictures
-pub mod Told
+pub mod JourneyLines
 pub mod Naming

@@ -1,10 +1,10 @@
 -- What is drawn of a journey, as lists of bytes.
 use Rattle.std.specs.Prelude.{ℕ, List}
-use Rattle.answer_pictures.specs.declared.lines.Way.{Way}
+use Rattle.answer_pictures.specs.declared.lines.StretchKind.{StretchKind}
 
 -- a part of a journey: its way, its start and end, the names of the stops where it begins and ends, and for a ride that of the trip
 pub record StretchValue : Type 0 where
-  pub way : Way
+  pub way : StretchKind
   pub start : ℕ
   pub end : ℕ
   pub trip : List ℕ

@@ -3,21 +3,21 @@ use Rattle.std.specs.Prelude.{◌≡◌, ◌+◌, ◌-◌, ◌*◌, ◌/◌, ◌
 use Rattle.std.specs.Prelude.{min, max, codes, decimal, Option, Some, None}
 use Rattle.std.specs.List.{flat_map}
 use Rattle.answer_pictures.specs.declared.axis.Axis.{Axis}
-use Rattle.answer_pictures.specs.declared.lines.Way.{Way}
-use Rattle.answer_pictures.specs.declared.lines.Way.TheVariants.{Ride, Walk, Change}
+use Rattle.answer_pictures.specs.declared.lines.StretchKind.{StretchKind}
+use Rattle.answer_pictures.specs.declared.lines.StretchKind.TheVariants.{Ride, Walk, Change}
 use Rattle.answer_pictures.specs.LineValue.{StretchValue, LineValue, HeadingValue}
 use Rattle.answer_pictures.specs.Moments.{moment_text, shows_seconds}
 use Rattle.answer_pictures.specs.Style.{style, legend}
-use Rattle.answer_pictures.specs.Told.{later}
+use Rattle.answer_pictures.specs.JourneyLines.{later}
 use Rattle.answer_pictures.specs.Words.{escaped, escaped_cut}
 
 -- the x coordinate of a time on an axis that begins at 190 and is 740 long
-abbrev pub place : Axis → ℕ → ℕ
-place axis time = 190 + (min time axis.end - axis.start) * 740 / max (axis.end - axis.start) 1
+abbrev pub x_at : Axis → ℕ → ℕ
+x_at axis time = 190 + (min time axis.end - axis.start) * 740 / max (axis.end - axis.start) 1
 
 -- the length from one time to another: at least 1, so that it is seen however short it is
 abbrev pub length_between : Axis → ℕ → ℕ → ℕ
-length_between axis start end = max (place axis end - place axis start) 1
+length_between axis start end = max (x_at axis end - x_at axis start) 1
 
 -- the journey departs no earlier than the first time, and arrives no later than the last
 abbrev pub IsBetween : ℕ → ℕ → LineValue → Type 0
@@ -36,29 +36,29 @@ group_text y = codes "<g transform=\"translate(0 " ++ decimal y ++ codes ")\">\n
 
 -- a line down the picture at a mark of the axis
 unfoldable pub grid_text : Axis → ℕ → ℕ → List ℕ
-grid_text axis bottom time = codes "<path class=\"grid\" d=\"M" ++ decimal (place axis time) ++ codes " 110V" ++ decimal bottom ++ codes "\"/>\n"
+grid_text axis bottom time = codes "<path class=\"grid\" d=\"M" ++ decimal (x_at axis time) ++ codes " 110V" ++ decimal bottom ++ codes "\"/>\n"
 
 -- the time at a mark
 unfoldable pub tick_text : Axis → ℕ → List ℕ
 tick_text axis time =
-    codes "<text class=\"tick\"" ++ attribute_text (codes " x") (place axis time) ++ codes ">" ++ moment_text false time ++ codes "</text>\n"
+    codes "<text class=\"tick\"" ++ attribute_text (codes " x") (x_at axis time) ++ codes ">" ++ moment_text false time ++ codes "</text>\n"
 
 -- the times of all marks, at a height
 unfoldable pub scale_text : Axis → List ℕ → ℕ → List ℕ
 scale_text axis marks y = group_text y ++ flat_map (tick_text axis) marks ++ codes "</g>\n"
 
 -- how a part's shape begins: a ride is a thick bar, a walk a dashed line, a change a dot
-abbrev pub way_text : Way → List ℕ
+abbrev pub way_text : StretchKind → List ℕ
 way_text Ride = codes "<rect class=\"ride\" y=\"-9\" height=\"18\" rx=\"4\" x=\""
 way_text Walk = codes "<path class=\"walk\" d=\"M"
 way_text Change = codes "<path class=\"change\" d=\"M"
 
-abbrev pub between_text : Way → List ℕ
+abbrev pub between_text : StretchKind → List ℕ
 between_text Ride = codes "\" width=\""
 between_text Walk = codes " 0h"
 between_text Change = codes " 0h"
 
-abbrev pub end_text : Way → List ℕ
+abbrev pub end_text : StretchKind → List ℕ
 end_text Ride = codes "</title></rect>\n"
 end_text Walk = codes "</title></path>\n"
 end_text Change = codes "</title></path>\n"
@@ -66,10 +66,10 @@ end_text Change = codes "</title></path>\n"
 -- the shape of a part: where it begins on the axis, and how long it is
 unfoldable pub shape_text : Axis → StretchValue → List ℕ
 shape_text axis s =
-    way_text s.way ++ decimal (place axis s.start) ++ between_text s.way ++ decimal (length_between axis s.start s.end) ++ codes "\"><title>"
+    way_text s.way ++ decimal (x_at axis s.start) ++ between_text s.way ++ decimal (length_between axis s.start s.end) ++ codes "\"><title>"
 
 -- what a part is: a ride by its trip, or on foot, or a change
-abbrev pub lead_text : Way → List ℕ → List ℕ
+abbrev pub lead_text : StretchKind → List ℕ → List ℕ
 lead_text Ride trip = escaped trip
 lead_text Walk trip = codes "on foot"
 lead_text Change trip = codes "change"
@@ -79,15 +79,15 @@ unfoldable pub end_at : List ℕ → Bool → List ℕ → ℕ → List ℕ
 end_at before exact stop time = before ++ escaped stop ++ codes " " ++ moment_text exact time
 
 -- the title of a part, which is seen when one points at it
-unfoldable pub told_text : Bool → StretchValue → List ℕ
-told_text exact s = lead_text s.way s.trip ++ end_at (codes ": ") exact s.from s.start ++ end_at (codes ", ") exact s.to s.end
+unfoldable pub tooltip_text : Bool → StretchValue → List ℕ
+tooltip_text exact s = lead_text s.way s.trip ++ end_at (codes ": ") exact s.from s.start ++ end_at (codes ", ") exact s.to s.end
 
 -- a trip's name on its ride, if it has room
 abbrev pub has_room : Axis → StretchValue → Bool
 has_room axis s = nat_le (length s.trip) ((length_between axis s.start s.end - 10) / 7)
 
 unfoldable pub trip_text : Axis → StretchValue → List ℕ
-trip_text axis s = codes "<text class=\"trip\" y=\"4\" dx=\"5\"" ++ attribute_text (codes " x") (place axis s.start)
+trip_text axis s = codes "<text class=\"trip\" y=\"4\" dx=\"5\"" ++ attribute_text (codes " x") (x_at axis s.start)
     ++ (codes ">" ++ escaped s.trip ++ codes "</text>\n")
 
 abbrev pub badge_text : Axis → StretchValue → List ℕ
@@ -95,7 +95,7 @@ badge_text axis s = if has_room axis s then trip_text axis s else []
 
 -- a part of a journey
 unfoldable pub stretch_text : Axis → Bool → StretchValue → List ℕ
-stretch_text axis exact s = shape_text axis s ++ told_text exact s ++ end_text s.way ++ badge_text axis s
+stretch_text axis exact s = shape_text axis s ++ tooltip_text exact s ++ end_text s.way ++ badge_text axis s
 
 -- when a journey departs and arrives
 unfoldable pub label_text : Bool → LineValue → List ℕ
@@ -106,7 +106,7 @@ label_text exact line =
 -- a line from the departure to the arrival: wherever no part covers it, it shows waiting
 unfoldable pub wait_text : Axis → LineValue → List ℕ
 wait_text axis line =
-    codes "<path class=\"wait\" d=\"M" ++ decimal (place axis line.departure) ++ codes " 0H" ++ decimal (place axis line.arrival) ++ codes "\"/>\n"
+    codes "<path class=\"wait\" d=\"M" ++ decimal (x_at axis line.departure) ++ codes " 0H" ++ decimal (x_at axis line.arrival) ++ codes "\"/>\n"
 
 -- a note below a line, cut to what the axis has room for; the whole note is seen when one points at it
 unfoldable pub note_text : List ℕ → List ℕ

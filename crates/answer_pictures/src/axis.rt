@@ -1,7 +1,7 @@
 //! The axis of time.
 
 ghost use Rattle.std.specs.Prelude.{◌≡◌, ◌≤◌, All};
-ghost use Rattle.answer_pictures.specs.Pictures.{IsBetween, LiesOn, length_between, place};
+ghost use Rattle.answer_pictures.specs.Pictures.{IsBetween, LiesOn, length_between, x_at};
 
 use crate::lines::JourneyLine;
 use std::alloc::{AllocError, Global};
@@ -59,8 +59,8 @@ impl Axis {
     }
 
     /// The x coordinate of a time. A time before the axis is put at its start, one after it at its end.
-    pub(crate) fn place(&self, time: u32) -> u64
-        ensures { result ≡ place self.now time }
+    pub(crate) fn x_at(&self, time: u32) -> u64
+        ensures { result ≡ x_at self.now time }
     {
         let span = self.end.saturating_sub(self.start).max(1);
         let after = time.min(self.end).saturating_sub(self.start);
@@ -71,7 +71,7 @@ impl Axis {
     pub(crate) fn length(&self, start: u32, end: u32) -> u64
         ensures { result ≡ length_between self.now start end }
     {
-        self.place(end).saturating_sub(self.place(start)).max(1)
+        self.x_at(end).saturating_sub(self.x_at(start)).max(1)
     }
 
     /// The times at which the axis is marked.

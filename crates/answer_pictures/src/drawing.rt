@@ -193,7 +193,7 @@ fn put_grid(out: &mut String, axis: Axis, bottom: u64, time: u32) -> Result<(), 
     put_numbers(
         out,
         "<path class=\"grid\" d=\"M",
-        axis.place(time),
+        axis.x_at(time),
         " 110V",
         bottom,
         "\"/>\n",
@@ -213,7 +213,7 @@ fn put_tick(out: &mut String, axis: Axis, time: u32) -> Result<(), AllocError>
     ensures { OnOk result (string_bytes out.new ≡ string_bytes out.old ++ tick_text axis time) }
 {
     put_text(out, "<text class=\"tick\"")?;
-    put_attribute(out, " x", axis.place(time))?;
+    put_attribute(out, " x", axis.x_at(time))?;
     put_text(out, ">")?;
     put_moment(out, false, time)?;
     put_text(out, "</text>\n")?;

@@ -2,7 +2,7 @@
 
 ghost use Rattle.std.specs.Prelude.{◌≡◌, ◌++◌, codes, IfOk, OnOk, string_bytes};
 ghost use Rattle.criteria.specs.Names.{name_text};
-ghost use Rattle.answer_pictures.specs.Told.{IsHeadingOf, asked_text, own_moment};
+ghost use Rattle.answer_pictures.specs.JourneyLines.{IsHeadingOf, asked_text, own_moment};
 
 use crate::lines::Heading;
 use crate::moments::put_moment;

@@ -17,6 +17,6 @@ mod telling;
 pub use axis::Axis;
 pub use drawing::picture;
 pub use heading::heading_of;
-pub use lines::{Heading, JourneyLine, Stretch, Way};
+pub use lines::{Heading, JourneyLine, Stretch, StretchKind};
 pub use naming::{connection_at, stop_name, trip_name};
 pub use telling::journey_line;

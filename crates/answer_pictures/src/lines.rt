@@ -4,7 +4,7 @@ use std::marker::Model;
 
 /// How a part of a journey is travelled.
 #[derive(Clone, Copy, Debug, PartialEq, Eq)]
-pub enum Way {
+pub enum StretchKind {
     Ride,
     /// On foot to another stop.
     Walk,
@@ -16,7 +16,7 @@ pub enum Way {
 /// where it begins and ends, and for a ride that of the trip.
 #[derive(Drop)]
 pub struct Stretch {
-    pub way: Way,
+    pub way: StretchKind,
     pub start: u32,
     pub end: u32,
     pub trip: String,

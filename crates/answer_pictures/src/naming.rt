@@ -9,12 +9,12 @@ use image_verifier::Verified;
 use std::alloc::{AllocError, Global};
 use timetable::Connection;
 
-/// The connection at index `place`, if the image has it.
-pub fn connection_at(image: &Verified, place: u32) -> Option<Connection>
-    ensures { result ≡ slice_get image.now.timetable.connections place }
+/// The connection at index `position`, if the image has it.
+pub fn connection_at(image: &Verified, position: u32) -> Option<Connection>
+    ensures { result ≡ slice_get image.now.timetable.connections position }
 {
-    if (place as usize) < image.len() {
-        Some(image.connection(place as usize))
+    if (position as usize) < image.len() {
+        Some(image.connection(position as usize))
     } else {
         None
     }

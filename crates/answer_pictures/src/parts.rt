@@ -4,11 +4,11 @@ ghost use Rattle.std.specs.Prelude.{◌≡◌, ◌++◌, Bool, codes, decimal, O
 ghost use Rattle.std.specs.List.{flat_map};
 ghost use Rattle.answer_pictures.specs.Pictures.{badge_text, between_text, end_at, end_text, group_text, has_room};
 ghost use Rattle.answer_pictures.specs.Pictures.{label_text, lead_text, line_text, note_text, shape_text};
-ghost use Rattle.answer_pictures.specs.Pictures.{stretch_text, told_text, trip_text, wait_text, way_text};
+ghost use Rattle.answer_pictures.specs.Pictures.{stretch_text, tooltip_text, trip_text, wait_text, way_text};
 
 use crate::axis::Axis;
 use crate::escaping::{put_cut, put_words};
-use crate::lines::{JourneyLine, Stretch, Way};
+use crate::lines::{JourneyLine, Stretch, StretchKind};
 use crate::moments::put_moment;
 use crate::putting::{put_attribute, put_element, put_number, put_numbers, put_text};
 use std::alloc::AllocError;
@@ -24,33 +24,33 @@ pub(crate) fn put_group(out: &mut String, y: u64) -> Result<(), AllocError>
 }
 
 /// How a part's shape begins: a ride is a thick bar, a walk a dashed line, a change a dot.
-fn way_text(way: Way) -> &'static str
+fn way_text(way: StretchKind) -> &'static str
     ensures { result.now ≡ way_text way }
 {
     match way {
-        Way::Ride => "<rect class=\"ride\" y=\"-9\" height=\"18\" rx=\"4\" x=\"",
-        Way::Walk => "<path class=\"walk\" d=\"M",
-        Way::Change => "<path class=\"change\" d=\"M",
+        StretchKind::Ride => "<rect class=\"ride\" y=\"-9\" height=\"18\" rx=\"4\" x=\"",
+        StretchKind::Walk => "<path class=\"walk\" d=\"M",
+        StretchKind::Change => "<path class=\"change\" d=\"M",
     }
 }
 
-fn between_text(way: Way) -> &'static str
+fn between_text(way: StretchKind) -> &'static str
     ensures { result.now ≡ between_text way }
 {
     match way {
-        Way::Ride => "\" width=\"",
-        Way::Walk => " 0h",
-        Way::Change => " 0h",
+        StretchKind::Ride => "\" width=\"",
+        StretchKind::Walk => " 0h",
+        StretchKind::Change => " 0h",
     }
 }
 
-fn end_text(way: Way) -> &'static str
+fn end_text(way: StretchKind) -> &'static str
     ensures { result.now ≡ end_text way }
 {
     match way {
-        Way::Ride => "</title></rect>\n",
-        Way::Walk => "</title></path>\n",
-        Way::Change => "</title></path>\n",
+        StretchKind::Ride => "</title></rect>\n",
+        StretchKind::Walk => "</title></path>\n",
+        StretchKind::Change => "</title></path>\n",
     }
 }
 
@@ -60,7 +60,7 @@ fn put_shape(out: &mut String, axis: Axis, stretch: &Stretch) -> Result<(), Allo
     put_numbers(
         out,
         way_text(stretch.way),
-        axis.place(stretch.start),
+        axis.x_at(stretch.start),
         between_text(stretch.way),
         axis.length(stretch.start, stretch.end),
         "\"><title>",
@@ -71,9 +71,9 @@ fn put_lead(out: &mut String, stretch: &Stretch) -> Result<(), AllocError>
     ensures { OnOk result (string_bytes out.new ≡ string_bytes out.old ++ lead_text stretch.now.way stretch.now.trip) }
 {
     match stretch.way {
-        Way::Ride => put_words(out, &stretch.trip),
-        Way::Walk => put_text(out, "on foot"),
-        Way::Change => put_text(out, "change"),
+        StretchKind::Ride => put_words(out, &stretch.trip),
+        StretchKind::Walk => put_text(out, "on foot"),
+        StretchKind::Change => put_text(out, "change"),
     }
 }
 
@@ -92,8 +92,8 @@ fn put_end_at(
     Ok(())
 }
 
-fn put_told(out: &mut String, exact: bool, stretch: &Stretch) -> Result<(), AllocError>
-    ensures { OnOk result (string_bytes out.new ≡ string_bytes out.old ++ told_text exact stretch.now) }
+fn put_tooltip(out: &mut String, exact: bool, stretch: &Stretch) -> Result<(), AllocError>
+    ensures { OnOk result (string_bytes out.new ≡ string_bytes out.old ++ tooltip_text exact stretch.now) }
 {
     put_lead(out, stretch)?;
     put_end_at(out, ": ", exact, &stretch.from, stretch.start)?;
@@ -113,7 +113,7 @@ fn put_trip(out: &mut String, axis: Axis, stretch: &Stretch) -> Result<(), Alloc
     ensures { OnOk result (string_bytes out.new ≡ string_bytes out.old ++ trip_text axis stretch.now) }
 {
     put_text(out, "<text class=\"trip\" y=\"4\" dx=\"5\"")?;
-    put_attribute(out, " x", axis.place(stretch.start))?;
+    put_attribute(out, " x", axis.x_at(stretch.start))?;
     put_element(out, ">", &stretch.trip, "</text>\n")?;
     Ok(())
 }
@@ -128,7 +128,7 @@ fn put_badge(out: &mut String, axis: Axis, stretch: &Stretch) -> Result<(), Allo
     }
 }
 
-fn put_end(out: &mut String, way: Way) -> Result<(), AllocError>
+fn put_end(out: &mut String, way: StretchKind) -> Result<(), AllocError>
     ensures { OnOk result (string_bytes out.new ≡ string_bytes out.old ++ end_text way) }
 {
     put_text(out, end_text(way))
@@ -143,7 +143,7 @@ fn put_stretch(
     ensures { OnOk result (string_bytes out.new ≡ string_bytes out.old ++ stretch_text axis exact stretch.now) }
 {
     put_shape(out, axis, stretch)?;
-    put_told(out, exact, stretch)?;
+    put_tooltip(out, exact, stretch)?;
     put_end(out, stretch.way)?;
     put_badge(out, axis, stretch)?;
     Ok(())
@@ -181,9 +181,9 @@ fn put_wait(out: &mut String, axis: Axis, line: &JourneyLine) -> Result<(), Allo
     put_numbers(
         out,
         "<path class=\"wait\" d=\"M",
-        axis.place(line.departure),
+        axis.x_at(line.departure),
         " 0H",
-        axis.place(line.arrival),
+        axis.x_at(line.arrival),
         "\"/>\n",
     )
 }

@@ -1,12 +1,12 @@
 //! Journeys over an image as lines of a picture.
 
 ghost use Rattle.std.specs.Prelude.{◌≡◌, ◌++◌, ◌∷◌, [], map, IfOk, OnOk};
-ghost use Rattle.answer_pictures.specs.Told.{IsLineOf, journey_parts, later, ride_part, ride_parts, walk_part};
-ghost use Rattle.answer_pictures.specs.Told.{walk_parts, way_on_foot};
+ghost use Rattle.answer_pictures.specs.JourneyLines.{IsLineOf, journey_parts, later, ride_part, ride_parts, walk_part};
+ghost use Rattle.answer_pictures.specs.JourneyLines.{walk_parts, way_on_foot};
 
-use crate::lines::{JourneyLine, Stretch, Way};
+use crate::lines::{JourneyLine, Stretch, StretchKind};
 use crate::naming::{connection_at, stop_name, trip_name};
-use criteria::ToldValue;
+use criteria::Figures;
 use image_verifier::Verified;
 use std::alloc::{AllocError, Global};
 use std::fmt::Write as _;
@@ -18,16 +18,16 @@ pub fn journey_line(
     alloc: Global,
     image: &Verified,
     departure: u32,
-    told: ToldValue,
+    figures: Figures,
     journey: &Journey,
 ) -> Result<JourneyLine, AllocError>
-    ensures { IfOk result (IsLineOf image.now.timetable image.now.names departure told journey.now) }
+    ensures { IfOk result (IsLineOf image.now.timetable image.now.names departure figures journey.now) }
 {
-    let note = note_of(alloc, image, told, journey)?;
+    let note = note_of(alloc, image, figures, journey)?;
     let stretches = stretches_of(alloc, image, departure, journey)?;
     Ok(JourneyLine {
         departure,
-        arrival: told.arrival,
+        arrival: figures.arrival,
         stretches,
         note,
     })
@@ -38,11 +38,11 @@ pub fn journey_line(
 fn note_of(
     alloc: Global,
     image: &Verified,
-    told: ToldValue,
+    figures: Figures,
     journey: &Journey,
 ) -> Result<String, AllocError> {
     let mut note = String::new(alloc);
-    append_counts(&mut note, told)?;
+    append_counts(&mut note, figures)?;
     let mut comma = append_start(&mut note, alloc, image, journey.start)?;
     for ride in &journey.rides {
         comma = append_ride(&mut note, alloc, image, comma, ride)?;
@@ -51,13 +51,13 @@ fn note_of(
 }
 
 /// Adds the number of trips and the seconds on foot, each if it counts.
-fn append_counts(note: &mut String, told: ToldValue) -> Result<(), AllocError> {
-    match told.trips {
+fn append_counts(note: &mut String, figures: Figures) -> Result<(), AllocError> {
+    match figures.trips {
         None => {}
         Some(1) => note.push_str("1 trip: ")?,
         Some(trips) => write!(note, "{trips} trips: ")?,
     }
-    if let Some(walked) = told.walked {
+    if let Some(walked) = figures.walked {
         write!(note, "{walked} s on foot: ")?;
     }
     Ok(())
@@ -167,7 +167,7 @@ fn ride_stretch(
     let from = stop_name(alloc, image, first.from)?;
     let to = stop_name(alloc, image, last.to)?;
     Ok(Stretch {
-        way: Way::Ride,
+        way: StretchKind::Ride,
         start: first.dep,
         end: last.arr,
         trip,
@@ -231,12 +231,12 @@ fn walk_stretch(
 }
 
 /// How a footpath is walked: one from a stop to itself is a change.
-fn way_on_foot(footpath: Footpath) -> Way
+fn way_on_foot(footpath: Footpath) -> StretchKind
     ensures { result ≡ way_on_foot footpath }
 {
     if footpath.from == footpath.to {
-        Way::Change
+        StretchKind::Change
     } else {
-        Way::Walk
+        StretchKind::Walk
     }
 }

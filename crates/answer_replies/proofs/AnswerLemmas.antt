@@ -2,7 +2,7 @@
 use Rattle.std.proofs.Common.{◌≡◌, ℕ, List, Option, Contains, map, ap, ◌∙◌, subst}
 use Rattle.serde_json.specs.Data.{Data}
 use Rattle.criteria.specs.Laws.{Rules}
-use Rattle.criteria.specs.declared.told.ToldValue.{ToldValue}
+use Rattle.criteria.specs.declared.figures.Figures.{Figures}
 use Rattle.timetable.specs.TimetableValue.{TimetableValue}
 use Rattle.timetable.specs.declared.query.Query.{Query}
 use Rattle.image_layout.specs.Image.{ImageValue}
@@ -15,13 +15,14 @@ use Rattle.session_texts.specs.Replies.{line_of, profile_data}
 use Rattle.answer_replies.specs.declared.point_form.PointForm.{PointForm}
 use Rattle.answer_replies.specs.Replying.{IsAnswered, departures_data}
 
-pub answered_line : {V : Type 0} (form : PointForm) (told : V → ToldValue) (rules : Rules V) (image : ImageValue) (t : TimetableValue) (version : ℕ)
+pub answered_line : {V : Type 0} (form : PointForm) (figures : V → Figures) (rules : Rules V) (image : ImageValue) (t : TimetableValue) (version : ℕ)
     (q : Query) (departures : List (Departure V)) (walk : Option ℕ) (points : List Data) (line : List ℕ)
     → t ≡ image.timetable → IsAnswer rules t q (map point_of departures)
     → ((d : Departure V) → Contains departures d → Attains rules t q (point_of d) d.journey)
     → IsWay t q.target q.source walk
-    → points ≡ departures_data form image told departures → line ≡ line_of (profile_data points version walk) → IsAnswered form told rules image version q line
-answered_line {V} form told rules image t version q departures walk points line same answer attained direct points_are line_is = record {
+    → points ≡ departures_data form image figures departures → line ≡ line_of (profile_data points version walk)
+    → IsAnswered form figures rules image version q line
+answered_line {V} form figures rules image t version q departures walk points line same answer attained direct points_are line_is = record {
   departures = departures;
   walk = walk;
   answer = subst (λ (x : TimetableValue). IsAnswer rules x q (map point_of departures)) same answer;

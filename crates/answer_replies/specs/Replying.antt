@@ -3,7 +3,7 @@ use Rattle.std.specs.Prelude.{◌≡◌, ℕ, List, Option, Contains, map}
 use Rattle.serde_json.specs.Data.{Data}
 use Rattle.criteria.specs.Laws.{Rules}
 use Rattle.criteria.specs.declared.name.CriterionName.{CriterionName}
-use Rattle.criteria.specs.declared.told.ToldValue.{ToldValue}
+use Rattle.criteria.specs.declared.figures.Figures.{Figures}
 use Rattle.timetable.specs.declared.query.Query.{Query}
 use Rattle.image_layout.specs.Image.{ImageValue}
 use Rattle.profile_scan.specs.Kept.{IsWay}
@@ -15,34 +15,34 @@ use Rattle.journeys.specs.declared.answering.Departure.{Departure}
 use Rattle.session_texts.specs.Replies.{legged_data, line_of, point_data, profile_data}
 use Rattle.answer_replies.specs.declared.point_form.PointForm.{PointForm}
 use Rattle.answer_replies.specs.Legs.{legs_data}
-use Rattle.answer_replies.specs.Valuing.{arrival_told, by_arrival, by_trips, by_walking, trips_told, walking_told}
+use Rattle.answer_replies.specs.Valuing.{arrival_figures, by_arrival, by_trips, by_walking, trips_figures, walking_figures}
 
 -- a best departure as a point of the reply: its time, what its journey is worth, and the journey
-abbrev pub bare_data : {V : Type 0} → (V → ToldValue) → Departure V → Data
-bare_data told departure = point_data departure.time (told departure.value) (text_of departure.journey)
+abbrev pub bare_data : {V : Type 0} → (V → Figures) → Departure V → Data
+bare_data figures departure = point_data departure.time (figures departure.value) (text_of departure.journey)
 
 -- the same with the legs of its journey over the image
-abbrev pub data_with_legs : {V : Type 0} → ImageValue → (V → ToldValue) → Departure V → Data
-data_with_legs image told departure = legged_data departure.time (told departure.value) (text_of departure.journey) (legs_data image departure.journey)
+abbrev pub data_with_legs : {V : Type 0} → ImageValue → (V → Figures) → Departure V → Data
+data_with_legs image figures departure = legged_data departure.time (figures departure.value) (text_of departure.journey) (legs_data image departure.journey)
 
 -- best departures as the points of a reply, in each form
-abbrev pub departures_data : {V : Type 0} → PointForm → ImageValue → (V → ToldValue) → List (Departure V) → List Data
-departures_data PointForm.Bare image told departures = map (bare_data told) departures
-departures_data PointForm.WithLegs image told departures = map (data_with_legs image told) departures
+abbrev pub departures_data : {V : Type 0} → PointForm → ImageValue → (V → Figures) → List (Departure V) → List Data
+departures_data PointForm.Bare image figures departures = map (bare_data figures) departures
+departures_data PointForm.WithLegs image figures departures = map (data_with_legs image figures) departures
 
 -- the query is answered over the image: its points are exactly the undominated points of all journeys that count for it, in order, each
 -- once, and no journey that counts is unbeaten by them; the reply has each with a journey that attains it, and the direct footpath
-pub record IsAnswered {V : Type 0} (form : PointForm) (told : V → ToldValue) (rules : Rules V) (image : ImageValue) (version : ℕ) (q : Query)
+pub record IsAnswered {V : Type 0} (form : PointForm) (figures : V → Figures) (rules : Rules V) (image : ImageValue) (version : ℕ) (q : Query)
     (reply : List ℕ) : Type 0 where
   pub departures : List (Departure V)
   pub walk : Option ℕ
   pub answer : IsAnswer rules image.timetable q (map point_of departures)
   pub attained : (departure : Departure V) → Contains departures departure → Attains rules image.timetable q (point_of departure) departure.journey
   pub direct : IsWay image.timetable q.target q.source walk
-  pub reply_is : reply ≡ line_of (profile_data (departures_data form image told departures) version walk)
+  pub reply_is : reply ≡ line_of (profile_data (departures_data form image figures departures) version walk)
 
 -- the same by the criterion that is asked for
 abbrev pub IsAnsweredBy : PointForm → CriterionName → ImageValue → ℕ → Query → List ℕ → Type 0
-IsAnsweredBy form CriterionName.Arrival image version q reply = IsAnswered form arrival_told by_arrival image version q reply
-IsAnsweredBy form CriterionName.ArrivalTrips image version q reply = IsAnswered form trips_told by_trips image version q reply
-IsAnsweredBy form CriterionName.ArrivalTripsWalk image version q reply = IsAnswered form walking_told by_walking image version q reply
+IsAnsweredBy form CriterionName.Arrival image version q reply = IsAnswered form arrival_figures by_arrival image version q reply
+IsAnsweredBy form CriterionName.ArrivalTrips image version q reply = IsAnswered form trips_figures by_trips image version q reply
+IsAnsweredBy form CriterionName.ArrivalTripsWalk image version q reply = IsAnswered form walking_figures by_walking image version q reply

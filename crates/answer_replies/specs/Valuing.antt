@@ -4,7 +4,7 @@ use Rattle.std.specs.Ordering.{nat_cmp, ordering_then}
 use Rattle.criteria.specs.Laws.{Rules, time_limit}
 use Rattle.criteria.specs.declared.arrival_trips.TimeTrips.{TimeTrips}
 use Rattle.criteria.specs.declared.arrival_trips_walk.TimeTripsWalk.{TimeTripsWalk}
-use Rattle.criteria.specs.declared.told.ToldValue.{ToldValue}
+use Rattle.criteria.specs.declared.figures.Figures.{Figures}
 
 -- the time of arrival
 abbrev pub by_arrival : Rules ℕ
@@ -17,8 +17,8 @@ by_arrival = record {
   admits = λ v. nat_lt v time_limit;
 }
 
-abbrev pub arrival_told : ℕ → ToldValue
-arrival_told v = record { arrival = v; trips = None; walked = None }
+abbrev pub arrival_figures : ℕ → Figures
+arrival_figures v = record { arrival = v; trips = None; walked = None }
 
 -- the time of arrival with the number of trips, up to 65,535
 abbrev pub by_trips : Rules TimeTrips
@@ -31,8 +31,8 @@ by_trips = record {
   admits = λ v. nat_lt v.time time_limit && nat_le v.trips 65535;
 }
 
-abbrev pub trips_told : TimeTrips → ToldValue
-trips_told v = record { arrival = v.time; trips = Some v.trips; walked = None }
+abbrev pub trips_figures : TimeTrips → Figures
+trips_figures v = record { arrival = v.time; trips = Some v.trips; walked = None }
 
 -- both with the seconds of all footpaths, up to 4,294,967,295
 abbrev pub by_walking : Rules TimeTripsWalk
@@ -45,5 +45,5 @@ by_walking = record {
   admits = λ v. nat_lt v.time time_limit && (nat_le v.trips 65535 && nat_le v.walked 4294967295);
 }
 
-abbrev pub walking_told : TimeTripsWalk → ToldValue
-walking_told v = record { arrival = v.time; trips = Some v.trips; walked = Some v.walked }
+abbrev pub walking_figures : TimeTripsWalk → Figures
+walking_figures v = record { arrival = v.time; trips = Some v.trips; walked = Some v.walked }

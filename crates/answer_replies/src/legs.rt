@@ -9,12 +9,12 @@ ghost use Rattle.answer_replies.specs.Legs.{start_legs, walk_leg};
 
 use answer_pictures::{connection_at, stop_name, trip_name};
 use image_verifier::Verified;
-use session_texts::{JourneyLegs, RideTold, WalkTold};
+use session_texts::{JourneyLegs, RideLeg, WalkLeg};
 use std::alloc::{AllocError, Global};
 use timetable::{Connection, Footpath, Journey, Leg, Ride};
 
 /// Each walk and each ride of the journey, in order.
-pub(crate) fn legs_told(
+pub(crate) fn journey_legs(
     alloc: Global,
     image: &Verified,
     journey: &Journey,
@@ -84,19 +84,19 @@ fn add_leg(
     let Some(last) = connection_at(image, leg.last) else {
         return Ok(());
     };
-    let ride = ride_told(alloc, image, first, last)?;
+    let ride = reply_ride(alloc, image, first, last)?;
     legs.add_ride(alloc, ride)
 }
 
-fn ride_told(
+fn reply_ride(
     alloc: Global,
     image: &Verified,
     first: Connection,
     last: Connection,
-) -> Result<RideTold, AllocError>
+) -> Result<RideLeg, AllocError>
     ensures { IfOk result (λ ride. ride_data (ride_value ride) ≡ ride_leg image.now.names first last) }
 {
-    Ok(RideTold {
+    Ok(RideLeg {
         trip: trip_name(alloc, image, first.trip)?,
         day: day_of(image, first.trip),
         repeat: repeat_of(image, first.trip),
@@ -158,5 +158,5 @@ fn add_walk(
     let from = stop_name(alloc, image, footpath.from)?;
     let to = stop_name(alloc, image, footpath.to)?;
     let secs = footpath.secs;
-    legs.add_walk(alloc, WalkTold { from, to, secs })
+    legs.add_walk(alloc, WalkLeg { from, to, secs })
 }

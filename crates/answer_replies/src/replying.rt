@@ -7,9 +7,9 @@ ghost use Rattle.session_texts.specs.Telling.{points_of};
 ghost use Rattle.answer_replies.specs.Replying.{IsAnswered, IsAnsweredBy};
 ghost use Rattle.answer_replies.specs.Replying.{bare_data, data_with_legs, departures_data};
 
-use crate::legs::legs_told;
+use crate::legs::journey_legs;
 use crate::point_form::PointForm;
-use criteria::{Arrival, ArrivalTrips, ArrivalTripsWalk, CriterionName, Told};
+use criteria::{Arrival, ArrivalTrips, ArrivalTripsWalk, CriterionName, ShowsFigures};
 use image_verifier::Verified;
 use journeys::{Answer, Departure, answer_query, journey_string};
 use session_texts::Points;
@@ -48,7 +48,7 @@ pub fn reply_by_name(
 }
 
 // The line that replies to a query, by this criterion. The image is read in place.
-fn line_by<C: Told>(
+fn line_by<C: ShowsFigures>(
     alloc: Global,
     form: PointForm,
     image: &Verified,
@@ -57,7 +57,7 @@ fn line_by<C: Told>(
     version: u64,
 ) -> Result<String, AllocError>
     requires { IsAskable image.now.timetable.stops query.now }
-    ensures { IfOk result (λ line. IsAnswered form C.told (C.rules criterion.now) image.now version query.now
+    ensures { IfOk result (λ line. IsAnswered form C.figures (C.rules criterion.now) image.now version query.now
         (string_bytes line)) }
 {
     let mut source = InPlace::new(image);
@@ -70,7 +70,7 @@ fn line_by<C: Told>(
 /// # Errors
 ///
 /// Memory ran out.
-pub fn profile_reply<C: Told>(
+pub fn profile_reply<C: ShowsFigures>(
     alloc: Global,
     form: PointForm,
     image: &Verified,
@@ -79,21 +79,21 @@ pub fn profile_reply<C: Told>(
     answer: &Answer<C>,
 ) -> Result<String, AllocError>
     ensures { IfOk result (λ line. string_bytes line ≡ line_of (profile_data
-        (departures_data form image.now C.told answer.now.departures.items) version answer.now.walk)) }
+        (departures_data form image.now C.figures answer.now.departures.items) version answer.now.walk)) }
 {
-    let points = points_told(alloc, form, image, criterion, &answer.departures)?;
+    let points = reply_points(alloc, form, image, criterion, &answer.departures)?;
     points.profile_line(alloc, version, answer.walk)
 }
 
 // The points of the reply, one for each departure, in the form.
-fn points_told<C: Told>(
+fn reply_points<C: ShowsFigures>(
     alloc: Global,
     form: PointForm,
     image: &Verified,
     criterion: &C,
     departures: &[Departure<C::V>],
 ) -> Result<Points, AllocError>
-    ensures { IfOk result (λ points. points_of points ≡ departures_data form image.now C.told departures.now) }
+    ensures { IfOk result (λ points. points_of points ≡ departures_data form image.now C.figures departures.now) }
 {
     match form {
         PointForm::Bare => bare_points(alloc, criterion, departures),
@@ -102,12 +102,12 @@ fn points_told<C: Told>(
 }
 
 // The points of the reply without legs, one for each departure.
-fn bare_points<C: Told>(
+fn bare_points<C: ShowsFigures>(
     alloc: Global,
     criterion: &C,
     departures: &[Departure<C::V>],
 ) -> Result<Points, AllocError>
-    ensures { IfOk result (λ points. points_of points ≡ map (bare_data C.told) departures.now) }
+    ensures { IfOk result (λ points. points_of points ≡ map (bare_data C.figures) departures.now) }
 {
     let mut points = Points::new(alloc);
     for departure in departures {
@@ -115,7 +115,7 @@ fn bare_points<C: Told>(
         points.add(
             alloc,
             departure.time,
-            criterion.tell(&departure.value),
+            criterion.figures_of(&departure.value),
             journey,
         )?;
     }
@@ -123,22 +123,22 @@ fn bare_points<C: Told>(
 }
 
 // The points of the reply, one for each departure, with the legs of its journey.
-fn points_with_legs<C: Told>(
+fn points_with_legs<C: ShowsFigures>(
     alloc: Global,
     image: &Verified,
     criterion: &C,
     departures: &[Departure<C::V>],
 ) -> Result<Points, AllocError>
-    ensures { IfOk result (λ points. points_of points ≡ map (data_with_legs image.now C.told) departures.now) }
+    ensures { IfOk result (λ points. points_of points ≡ map (data_with_legs image.now C.figures) departures.now) }
 {
     let mut points = Points::new(alloc);
     for departure in departures {
         let journey = journey_string(alloc, &departure.journey)?;
-        let legs = legs_told(alloc, image, &departure.journey)?;
+        let legs = journey_legs(alloc, image, &departure.journey)?;
         points.add_with_legs(
             alloc,
             departure.time,
-            criterion.tell(&departure.value),
+            criterion.figures_of(&departure.value),
             journey,
             legs,
         )?;

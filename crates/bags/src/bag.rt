@@ -5,7 +5,7 @@ ghost use Rattle.bags.specs.Dominance.{IsBag};
 ghost use Rattle.bags.specs.Arrangement.{points_in, AreListed, AreLinked};
 
 use crate::Point;
-use crate::entry::Entry;
+use crate::entry::BagEntry;
 use crate::insertion::insert_point;
 use crate::search::{count_late, some_no_worse};
 use criteria::Criterion;
@@ -16,7 +16,7 @@ use std::alloc::{AllocError, Global};
 pub struct Bag<C: Criterion> {
     criterion: C,
     // by falling departure; of equal departures by the criterion's order
-    entries: Vec<Entry<C::V>>,
+    entries: Vec<BagEntry<C::V>>,
     pub ghost kept: { IsBag (C.rules criterion) (points_in entries.items) },
     pub ghost listed: { AreListed (C.rules criterion) (points_in entries.items) },
     ghost linked: { AreLinked (C.rules criterion) entries.items (length entries.items) },
@@ -85,15 +85,15 @@ impl<C: Criterion> Bag<C> {
 
     // Whether the point at an index is a best one from a time on, if the first `late` points are those that depart
     // then or later: no other of these behind it has a value no worse.
-    pub(crate) fn is_best_before(&self, place: usize, late: usize) -> bool
-        requires place { place < late }
+    pub(crate) fn is_best_before(&self, index: usize, late: usize) -> bool
+        requires index { index < late }
         requires late { late ≤ length (points_of self.now) }
         ensures { (time : ℕ) → AreLate (points_of self.now) time late → (p : _)
-            → slice_get (points_of self.now) place ≡ Some p
+            → slice_get (points_of self.now) index ≡ Some p
             → result ≡ is_best (C.rules (criterion_of self.now)) (points_of self.now) time p }
     {
-        let value = self.entries[place].point.value;
-        !some_no_worse(&self.criterion, &self.entries, place + 1, late, &value)
+        let value = self.entries[index].point.value;
+        !some_no_worse(&self.criterion, &self.entries, index + 1, late, &value)
     }
 
     // The number of points that depart at a time or later.
@@ -103,15 +103,15 @@ impl<C: Criterion> Bag<C> {
         count_late(&self.entries, time)
     }
 
-    // An index such that no point from there on, before the one at `place`, is a best one from a time on at which the
-    // one at `place` hasn't departed.
-    pub(crate) fn skip(&self, place: usize) -> usize
-        requires place { place < length (points_of self.now) }
-        ensures back { result ≤ place }
-        ensures passed { (time late : ℕ) → place < late → AreLate (points_of self.now) time late → (k : ℕ) (p : _)
-            → result ≤ k → k < place → slice_get (points_of self.now) k ≡ Some p
+    // An index such that no point from there on, before the one at `index`, is a best one from a time on at which the
+    // one at `index` hasn't departed.
+    pub(crate) fn skip(&self, index: usize) -> usize
+        requires index { index < length (points_of self.now) }
+        ensures back { result ≤ index }
+        ensures passed { (time late : ℕ) → index < late → AreLate (points_of self.now) time late → (k : ℕ) (p : _)
+            → result ≤ k → k < index → slice_get (points_of self.now) k ≡ Some p
             → is_best (C.rules (criterion_of self.now)) (points_of self.now) time p ≡ false }
     {
-        self.entries[place].skip
+        self.entries[index].skip
     }
 }

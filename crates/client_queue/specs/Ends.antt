@@ -3,13 +3,13 @@ use Rattle.std.specs.Prelude.{◌≡◌, ◌+◌, ◌-◌, ◌++◌, ◌∷◌, 
 use Rattle.atomic_table.specs.Seated.{TableId}
 use Rattle.atomic_table.specs.declared.badge.Badge.{Badge}
 use Rattle.crossbeam_channel.specs.declared.flavors.array.Key.{Key}
-use Rattle.client_queue.specs.declared.queue.Arrival.{Arrival}
+use Rattle.client_queue.specs.declared.queue.ClientMessage.{ClientMessage}
 use Rattle.client_queue.specs.declared.queue.DealerView.{DealerView}
-use Rattle.client_queue.specs.declared.queue.Side.{Side}
+use Rattle.client_queue.specs.declared.queue.EndView.{EndView}
 
 -- the identity of a queue
 abbrev pub QueueId : Type 0 → Type 0
-QueueId C = TableId × Badge (Key (Arrival C))
+QueueId C = TableId × Badge (Key (ClientMessage C))
 
 -- the end where clients are put, as contracts see it
 pub record DealerValue (C : Type 0) : Type 0 where
@@ -51,16 +51,16 @@ with_back a taker = record a {
 }
 
 -- what an end knows, by whether clients are put or taken there
-abbrev pub dealer_of : {C : Type 0} → Side C → DealerView C
-dealer_of (Side.Dealing view) = view
+abbrev pub dealer_of : {C : Type 0} → EndView C → DealerView C
+dealer_of (EndView.Dealing view) = view
 dealer_of _ = nothing_put
 
-abbrev pub taken_of : {C : Type 0} → Side C → List C
-taken_of (Side.Taking taken ended) = taken
+abbrev pub taken_of : {C : Type 0} → EndView C → List C
+taken_of (EndView.Taking taken ended) = taken
 taken_of _ = []
 
-abbrev pub IsDealerSide : {C : Type 0} → Side C → Type 0
-IsDealerSide side = side ≡ Side.Dealing (dealer_of side)
+abbrev pub IsDealerSide : {C : Type 0} → EndView C → Type 0
+IsDealerSide side = side ≡ EndView.Dealing (dealer_of side)
 
-abbrev pub IsTakerSide : {C : Type 0} → Bool → Side C → Type 0
-IsTakerSide closed side = side ≡ Side.Taking (taken_of side) (times closed)
+abbrev pub IsTakerSide : {C : Type 0} → Bool → EndView C → Type 0
+IsTakerSide closed side = side ≡ EndView.Taking (taken_of side) (times closed)

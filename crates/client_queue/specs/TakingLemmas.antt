@@ -9,38 +9,38 @@ use lib.ListN.{get_elem?}
 use Rattle.crossbeam_channel.specs.Fifo.{Pops}
 use Rattle.client_queue.specs.Dealing.{IsDealing, IsDealt, IsOneMore}
 use Rattle.client_queue.specs.Dealing.{closings_of, ended_by, takers_in, taken_by}
-use Rattle.client_queue.specs.declared.queue.Arrival.{Arrival}
+use Rattle.client_queue.specs.declared.queue.ClientMessage.{ClientMessage}
 use Rattle.client_queue.specs.declared.queue.DealerView.{DealerView}
-use Rattle.client_queue.specs.declared.queue.Side.{Side}
+use Rattle.client_queue.specs.declared.queue.EndView.{EndView}
 use Rattle.client_queue.specs.TakerLemmas.{ended_at, same_at, takers_at}
 use Rattle.client_queue.specs.TakerLemmas.{taken_at, takes_at}
 
 module _ {C : Type 0} where
   -- the kind of an end that was found, and what it knows
-  unfoldable pub kind : Found (Side C) → ℕ
+  unfoldable pub kind : Found (EndView C) → ℕ
   kind none = 0
-  kind (some (Side.Dealing d)) = 1
-  kind (some (Side.Taking taken ended)) = 2
-  kind (some Side.Back) = 3
+  kind (some (EndView.Dealing d)) = 1
+  kind (some (EndView.Taking taken ended)) = 2
+  kind (some EndView.Back) = 3
 
   -- what comes first in the queue
-  first_kind : List (Arrival C) → ℕ
+  first_kind : List (ClientMessage C) → ℕ
   first_kind [] = 0
-  first_kind (Arrival.Client client ∷ rest) = 1
-  first_kind (Arrival.Closing ∷ rest) = 2
+  first_kind (ClientMessage.Client client ∷ rest) = 1
+  first_kind (ClientMessage.Closing ∷ rest) = 2
 
-  first_client : List (Arrival C) → C → C
-  first_client (Arrival.Client client ∷ rest) other = client
+  first_client : List (ClientMessage C) → C → C
+  first_client (ClientMessage.Client client ∷ rest) other = client
   first_client _ other = other
 
-  behind : List (Arrival C) → List (Arrival C)
+  behind : List (ClientMessage C) → List (ClientMessage C)
   behind [] = []
   behind (first ∷ rest) = rest
 
   -- a client comes first: it is the first that waits
-  pub client_waits : (waiting : List C) (closing : ℕ) (client : C) (items : List (Arrival C))
-      → Arrival.Client client ∷ items ≡ map (λ client. Arrival.Client client) waiting ++ closings_of closing
-      → (rest : List C) × (waiting ≡ client ∷ rest) × (items ≡ map (λ client. Arrival.Client client) rest ++ closings_of closing)
+  pub client_waits : (waiting : List C) (closing : ℕ) (client : C) (items : List (ClientMessage C))
+      → ClientMessage.Client client ∷ items ≡ map (λ client. ClientMessage.Client client) waiting ++ closings_of closing
+      → (rest : List C) × (waiting ≡ client ∷ rest) × (items ≡ map (λ client. ClientMessage.Client client) rest ++ closings_of closing)
   unfolding first_kind first_client behind
   client_waits [] zero client items is = let n : 1 ≡ 0 = ap first_kind is in absurd (omega (arith, n))
   client_waits [] (suc closing) client items is = let n : 1 ≡ 2 = ap first_kind is in absurd (omega (arith, n))
@@ -48,8 +48,8 @@ module _ {C : Type 0} where
       (rest, ap (λ c. c ∷ rest) (sym (ap (λ list. first_client list client) is)), ap behind is)
 
   -- a closing comes first: no client waits
-  pub closing_waits : (waiting : List C) (closing : ℕ) (items : List (Arrival C))
-      → Arrival.Closing ∷ items ≡ map (λ client. Arrival.Client client) waiting ++ closings_of closing
+  pub closing_waits : (waiting : List C) (closing : ℕ) (items : List (ClientMessage C))
+      → ClientMessage.Closing ∷ items ≡ map (λ client. ClientMessage.Client client) waiting ++ closings_of closing
       → (rest : ℕ) × (waiting ≡ []) × (closing ≡ suc rest) × (items ≡ closings_of rest)
   unfolding first_kind behind
   closing_waits [] zero items is = let n : 2 ≡ 0 = ap first_kind is in absurd (omega (arith, n))
@@ -85,22 +85,22 @@ module _ {C : Type 0} where
       (IsPermutation-append_right back (others ++ one) others_then now)
 
   -- the first client that waits is taken
-  client_goes : (d : DealerView C) (client : C) (items : List (Arrival C)) (others : List (Side C)) (k : ℕ) (taken : List C) (ended : ℕ)
-      → get_elem? others k ≡ some (Side.Taking taken ended) → IsDealt d (Arrival.Client client ∷ items) others
-      → IsDealt d items (slice_set others k (Side.Taking (taken ++ client ∷ []) ended))
+  client_goes : (d : DealerView C) (client : C) (items : List (ClientMessage C)) (others : List (EndView C)) (k : ℕ) (taken : List C) (ended : ℕ)
+      → get_elem? others k ≡ some (EndView.Taking taken ended) → IsDealt d (ClientMessage.Client client ∷ items) others
+      → IsDealt d items (slice_set others k (EndView.Taking (taken ++ client ∷ []) ended))
   client_goes d client items others k taken ended at h =
       let first = client_waits h.waiting h.closing client items h.items_are in
-      let left = taken_by (slice_set others k Side.Back) in
-      let now = slice_set others k (Side.Taking (taken ++ client ∷ []) ended) in
-      let is_was = same_at others k (Side.Taking taken ended) at in
+      let left = taken_by (slice_set others k EndView.Back) in
+      let now = slice_set others k (EndView.Taking (taken ++ client ∷ []) ended) in
+      let is_was = same_at others k (EndView.Taking taken ended) at in
       let was : IsPermutation (taken_by others) (taken ++ left) =
       subst (λ list. IsPermutation (taken_by list) (taken ++ left)) is_was (taken_at others k taken taken ended ended at) in
       let is : IsPermutation (taken_by now) ((taken ++ client ∷ []) ++ left) = taken_at others k taken (taken ++ client ∷ []) ended ended at in
-      let before : ended_by others ≡ ended + ended_by (slice_set others k Side.Back) =
-      subst (λ list. ended_by list ≡ ended + ended_by (slice_set others k Side.Back)) is_was (ended_at others k taken taken ended ended at) in
+      let before : ended_by others ≡ ended + ended_by (slice_set others k EndView.Back) =
+      subst (λ list. ended_by list ≡ ended + ended_by (slice_set others k EndView.Back)) is_was (ended_at others k taken taken ended ended at) in
       let after = ended_at others k taken (taken ++ client ∷ []) ended ended at in
-      let were : takers_in others ≡ 1 + takers_in (slice_set others k Side.Back) =
-      subst (λ list. takers_in list ≡ 1 + takers_in (slice_set others k Side.Back)) is_was (takers_at others k taken taken ended ended at) in
+      let were : takers_in others ≡ 1 + takers_in (slice_set others k EndView.Back) =
+      subst (λ list. takers_in list ≡ 1 + takers_in (slice_set others k EndView.Back)) is_was (takers_at others k taken taken ended ended at) in
       let are = takers_at others k taken (taken ++ client ∷ []) ended ended at in
       let more = moved d.taken (taken_by others) (taken_by now) taken left h.dealt client h.taken_are was is in
       record {
@@ -117,23 +117,23 @@ module _ {C : Type 0} where
       }
 
   -- the first closing is taken
-  closing_goes : (d : DealerView C) (items : List (Arrival C)) (others : List (Side C)) (k : ℕ) (taken : List C) (ended : ℕ)
-      → get_elem? others k ≡ some (Side.Taking taken ended) → IsDealt d (Arrival.Closing ∷ items) others
-      → IsDealt d items (slice_set others k (Side.Taking taken (ended + 1)))
+  closing_goes : (d : DealerView C) (items : List (ClientMessage C)) (others : List (EndView C)) (k : ℕ) (taken : List C) (ended : ℕ)
+      → get_elem? others k ≡ some (EndView.Taking taken ended) → IsDealt d (ClientMessage.Closing ∷ items) others
+      → IsDealt d items (slice_set others k (EndView.Taking taken (ended + 1)))
   closing_goes d items others k taken ended at h =
       let first = closing_waits h.waiting h.closing items h.items_are in
-      let left = taken_by (slice_set others k Side.Back) in
-      let now = slice_set others k (Side.Taking taken (ended + 1)) in
-      let is_was = same_at others k (Side.Taking taken ended) at in
+      let left = taken_by (slice_set others k EndView.Back) in
+      let now = slice_set others k (EndView.Taking taken (ended + 1)) in
+      let is_was = same_at others k (EndView.Taking taken ended) at in
       let was : IsPermutation (taken_by others) (taken ++ left) =
       subst (λ list. IsPermutation (taken_by list) (taken ++ left)) is_was (taken_at others k taken taken ended ended at) in
       let is : IsPermutation (taken_by now) (taken ++ left) = taken_at others k taken taken ended (ended + 1) at in
       let same = IsPermutation-trans (taken_by others) (taken ++ left) (taken_by now) was (IsPermutation-sym (taken_by now) (taken ++ left) is) in
-      let before : ended_by others ≡ ended + ended_by (slice_set others k Side.Back) =
-      subst (λ list. ended_by list ≡ ended + ended_by (slice_set others k Side.Back)) is_was (ended_at others k taken taken ended ended at) in
+      let before : ended_by others ≡ ended + ended_by (slice_set others k EndView.Back) =
+      subst (λ list. ended_by list ≡ ended + ended_by (slice_set others k EndView.Back)) is_was (ended_at others k taken taken ended ended at) in
       let after = ended_at others k taken taken ended (ended + 1) at in
-      let were : takers_in others ≡ 1 + takers_in (slice_set others k Side.Back) =
-      subst (λ list. takers_in list ≡ 1 + takers_in (slice_set others k Side.Back)) is_was (takers_at others k taken taken ended ended at) in
+      let were : takers_in others ≡ 1 + takers_in (slice_set others k EndView.Back) =
+      subst (λ list. takers_in list ≡ 1 + takers_in (slice_set others k EndView.Back)) is_was (takers_at others k taken taken ended ended at) in
       let are = takers_at others k taken taken ended (ended + 1) at in
       record {
         dealt = h.dealt;
@@ -149,13 +149,13 @@ module _ {C : Type 0} where
         others_take = takes_at others k taken (ended + 1) h.others_take;
       }
 
-  pub takes : (pass : ℕ) (taken : List C) (ended : ℕ) → Pops IsDealing pass (Side.Taking taken ended) (IsOneMore (Side.Taking taken ended))
+  pub takes : (pass : ℕ) (taken : List C) (ended : ℕ) → Pops IsDealing pass (EndView.Taking taken ended) (IsOneMore (EndView.Taking taken ended))
   unfolding kind
   takes pass taken ended x items [] holds at = absurd holds
-  takes pass taken ended x items (Side.Taking t m ∷ others) holds at = absurd holds
-  takes pass taken ended x items (Side.Back ∷ others) holds at = absurd holds
-  takes zero taken ended x items (Side.Dealing e ∷ others) holds at = let n : 1 ≡ 2 = ap kind at in absurd (omega (arith, n))
-  takes (suc k) taken ended (Arrival.Client client) items (Side.Dealing e ∷ others) holds at =
-      (Side.Taking (taken ++ client ∷ []) ended, client_goes e client items others k taken ended at holds, refl)
-  takes (suc k) taken ended Arrival.Closing items (Side.Dealing e ∷ others) holds at =
-      (Side.Taking taken (ended + 1), closing_goes e items others k taken ended at holds, refl)
+  takes pass taken ended x items (EndView.Taking t m ∷ others) holds at = absurd holds
+  takes pass taken ended x items (EndView.Back ∷ others) holds at = absurd holds
+  takes zero taken ended x items (EndView.Dealing e ∷ others) holds at = let n : 1 ≡ 2 = ap kind at in absurd (omega (arith, n))
+  takes (suc k) taken ended (ClientMessage.Client client) items (EndView.Dealing e ∷ others) holds at =
+      (EndView.Taking (taken ++ client ∷ []) ended, client_goes e client items others k taken ended at holds, refl)
+  takes (suc k) taken ended ClientMessage.Closing items (EndView.Dealing e ∷ others) holds at =
+      (EndView.Taking taken (ended + 1), closing_goes e items others k taken ended at holds, refl)

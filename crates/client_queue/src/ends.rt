@@ -10,7 +10,8 @@ ghost use Rattle.client_queue.specs.Ends.{DealerValue, TakerValue, closed_once_m
 ghost use Rattle.client_queue.specs.Ends.{with_back, with_sent};
 
 use crate::queue::{
-    AllBack, Arrival, ClientRule, ComesBack, EachOnce, GoesOut, Leaves, Moves, Side,
+    AllTakersBack, ClientMessage, ClientRule, EachOnce, EndView, Joins, Leaves, TakerComesBack,
+    TakerGoesOut,
 };
 use crossbeam_channel::{Pass, RuledReceiver, RuledSender, bounded_with};
 use std::alloc::{AllocError, Global};
@@ -21,9 +22,9 @@ use std::sync::Wait;
 /// takers are out, and what those that came back had taken.
 #[derive(Drop)]
 pub struct Dealer<C: Drop> {
-    sender: RuledSender<Arrival<C>, Side<C>, EachOnce, Global>,
-    receiver: RuledReceiver<Arrival<C>, Side<C>, EachOnce, Global>,
-    pass: Pass<Arrival<C>, Side<C>>,
+    sender: RuledSender<ClientMessage<C>, EndView<C>, EachOnce, Global>,
+    receiver: RuledReceiver<ClientMessage<C>, EndView<C>, EachOnce, Global>,
+    pass: Pass<ClientMessage<C>, EndView<C>>,
 }
 
 impl<C: Drop> Model for Dealer<C> {
@@ -44,8 +45,8 @@ impl<C: Drop> Model for Dealer<C> {
 /// and whether the queue was closed for this end.
 #[derive(Drop)]
 pub struct Taker<C: Drop, P: ClientRule<C> = EachOnce> {
-    receiver: RuledReceiver<Arrival<C>, Side<C>, P, Global>,
-    pass: Pass<Arrival<C>, Side<C>>,
+    receiver: RuledReceiver<ClientMessage<C>, EndView<C>, P, Global>,
+    pass: Pass<ClientMessage<C>, EndView<C>>,
     closed: bool,
 }
 
@@ -85,7 +86,7 @@ impl<C: Drop> Dealer<C> {
         ensures refused { OnErr result (self.new ≡ self.old) }
     {
         let receiver = self.receiver.try_clone()?;
-        let pass = self.sender.another::<GoesOut>(&mut self.pass);
+        let pass = self.sender.another::<TakerGoesOut>(&mut self.pass);
         Ok(Taker {
             receiver,
             pass,
@@ -98,7 +99,7 @@ impl<C: Drop> Dealer<C> {
         requires { self.old.view.closings ≡ 0 }
         ensures { self.new ≡ with_sent self.old client }
     {
-        let arrival = Arrival::Client { client };
+        let arrival = ClientMessage::Client { client };
         send(rt, &self.sender, &mut self.pass, arrival);
     }
 
@@ -106,7 +107,7 @@ impl<C: Drop> Dealer<C> {
     pub fn close<R: Wait>(&mut self, rt: &R)
         ensures { self.new ≡ closed_once_more self.old }
     {
-        send(rt, &self.sender, &mut self.pass, Arrival::Closing);
+        send(rt, &self.sender, &mut self.pass, ClientMessage::Closing);
     }
 
     /// Takes back a taker, with what it had taken.
@@ -114,7 +115,8 @@ impl<C: Drop> Dealer<C> {
         requires { taker.queue ≡ self.old.queue }
         ensures { self.new ≡ with_back self.old taker }
     {
-        self.sender.absorb::<ComesBack>(&mut self.pass, taker.pass);
+        self.sender
+            .absorb::<TakerComesBack>(&mut self.pass, taker.pass);
     }
 
     /// Changes nothing. Its contract says that once no taker is out, the queue was closed, and each closing was taken
@@ -123,7 +125,7 @@ impl<C: Drop> Dealer<C> {
         ensures same { self.new ≡ self.old }
         ensures all { AllWereTaken self.old.view }
     {
-        self.sender.learn_as::<AllBack>(&mut self.pass);
+        self.sender.learn_as::<AllTakersBack>(&mut self.pass);
     }
 }
 
@@ -131,9 +133,9 @@ impl<C: Drop> Dealer<C> {
 // comes back, but no contract says so.
 fn send<R: Wait, C: Drop>(
     rt: &R,
-    sender: &RuledSender<Arrival<C>, Side<C>, EachOnce, Global>,
-    pass: &mut Pass<Arrival<C>, Side<C>>,
-    mut arrival: Arrival<C>,
+    sender: &RuledSender<ClientMessage<C>, EndView<C>, EachOnce, Global>,
+    pass: &mut Pass<ClientMessage<C>, EndView<C>>,
+    mut arrival: ClientMessage<C>,
 )
     requires channel { IsSeatAt (sends_on sender.now) pass.old }
     requires rule { Pushes IsDealing (ruled_capacity (sends_on sender.now)) pass.old.id (view_of pass.old) arrival
@@ -142,7 +144,7 @@ fn send<R: Wait, C: Drop>(
     ensures sent { IsOneMore (view_of pass.old) arrival (view_of pass.new) }
 {
     for _ in rt.forever() {
-        match sender.send_as::<Moves, R>(rt, pass, arrival) {
+        match sender.send_as::<Joins, R>(rt, pass, arrival) {
             Ok(()) => return,
             Err(unsent) => arrival = unsent.into_inner(),
         }
@@ -166,8 +168,8 @@ impl<C: Drop, P: ClientRule<C>> Taker<C, P> {
             return None;
         }
         match self.receiver.recv_as::<Leaves<P>, R>(rt, &mut self.pass) {
-            Ok(Arrival::Client { client }) => Some(client),
-            Ok(Arrival::Closing) => {
+            Ok(ClientMessage::Client { client }) => Some(client),
+            Ok(ClientMessage::Closing) => {
                 self.closed = true;
                 None
             }

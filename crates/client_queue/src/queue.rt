@@ -6,7 +6,7 @@ use std::marker::PhantomData;
 
 /// What waits in the queue.
 #[derive(Drop)]
-pub enum Arrival<C> {
+pub enum ClientMessage<C> {
     /// A client.
     Client { client: C },
     /// Whoever takes this takes no more.
@@ -28,7 +28,7 @@ pub struct DealerView<C> {
 }
 
 /// What an end of the queue knows. No value of it is made.
-pub enum Side<C> {
+pub enum EndView<C> {
     /// The end where clients are put.
     Dealing { view: DealerView<C> },
     /// An end where clients are taken: the clients taken there, in order, and how often the queue was closed for this
@@ -40,7 +40,7 @@ pub enum Side<C> {
 
 /// A rule of queues of clients that each taking from a queue keeps. Nothing here says how it begins, so that it held of
 /// an empty queue at some moment can be learned only from the queue.
-pub trait ClientRule<C: Drop>: Protocol<Arrival<C>, Side<C>> {
+pub trait ClientRule<C: Drop>: Protocol<ClientMessage<C>, EndView<C>> {
     ghost use Rattle.client_queue.specs.Dealing.{IsKeptByTakers};
 
     ghost kept: { IsKeptByTakers Self.holds };
@@ -49,7 +49,7 @@ pub trait ClientRule<C: Drop>: Protocol<Arrival<C>, Side<C>> {
 /// The rule: each client that was put waits in the queue, in order, or was taken once; and closings come last.
 pub struct EachOnce;
 
-impl<C: Drop> Protocol<Arrival<C>, Side<C>> for EachOnce {
+impl<C: Drop> Protocol<ClientMessage<C>, EndView<C>> for EachOnce {
     ghost use Rattle.client_queue.specs.Dealing.{IsDealing, new_queue};
 
     ghost holds = { IsDealing };
@@ -64,15 +64,15 @@ impl<C: Drop> ClientRule<C> for EachOnce {
 }
 
 /// An arrival joins the queue.
-pub struct Moves;
+pub struct Joins;
 
-impl<C: Drop> Outcome<Arrival<C>, Side<C>> for Moves {
+impl<C: Drop> Outcome<ClientMessage<C>, EndView<C>> for Joins {
     ghost use Rattle.client_queue.specs.Dealing.{IsOneMore};
 
     ghost then = { IsOneMore };
 }
 
-impl<C: Drop> Lesson<Arrival<C>, Side<C>> for Moves {
+impl<C: Drop> Lesson<ClientMessage<C>, EndView<C>> for Joins {
     ghost use Rattle.std.specs.Prelude.{⊤};
 
     ghost fact = { λ view items. ⊤ };
@@ -83,22 +83,22 @@ pub struct Leaves<P> {
     rule: PhantomData<P>,
 }
 
-impl<C: Drop, P> Outcome<Arrival<C>, Side<C>> for Leaves<P> {
+impl<C: Drop, P> Outcome<ClientMessage<C>, EndView<C>> for Leaves<P> {
     ghost use Rattle.client_queue.specs.Dealing.{IsOneMore};
 
     ghost then = { IsOneMore };
 }
 
-impl<C: Drop, P: ClientRule<C>> Lesson<Arrival<C>, Side<C>> for Leaves<P> {
+impl<C: Drop, P: ClientRule<C>> Lesson<ClientMessage<C>, EndView<C>> for Leaves<P> {
     ghost use Rattle.client_queue.specs.Dealing.{IsHeldBeside};
 
     ghost fact = { IsHeldBeside P.Protocol.holds };
 }
 
 /// A taker that has taken nothing goes out.
-pub struct GoesOut;
+pub struct TakerGoesOut;
 
-impl<C> Split<Side<C>> for GoesOut {
+impl<C> Split<EndView<C>> for TakerGoesOut {
     ghost use Rattle.client_queue.specs.Dealing.{new_taker, with_one_out};
 
     ghost left = { with_one_out };
@@ -107,21 +107,21 @@ impl<C> Split<Side<C>> for GoesOut {
 }
 
 /// A taker comes back.
-pub struct ComesBack;
+pub struct TakerComesBack;
 
-impl<C> Join<Side<C>> for ComesBack {
+impl<C> Join<EndView<C>> for TakerComesBack {
     ghost use Rattle.client_queue.specs.Dealing.{with_taken};
-    ghost use Rattle.client_queue.specs.declared.queue.Side.{Side};
+    ghost use Rattle.client_queue.specs.declared.queue.EndView.{EndView};
 
     ghost both = { with_taken };
 
-    ghost spent = { Side.Back };
+    ghost spent = { EndView.Back };
 }
 
 /// Once all takers are back, and the queue was closed for each: what they took is what was put.
-pub struct AllBack;
+pub struct AllTakersBack;
 
-impl<C: Drop> Lesson<Arrival<C>, Side<C>> for AllBack {
+impl<C: Drop> Lesson<ClientMessage<C>, EndView<C>> for AllTakersBack {
     ghost use Rattle.client_queue.specs.Dealing.{KnowsAllTaken};
 
     ghost fact = { λ view items. KnowsAllTaken view };

@@ -9,7 +9,7 @@ use std::alloc::{AllocError, Global};
 #[derive(Clone, Copy)]
 enum Argument {
     /// A word; words are given in the order of this list.
-    Word(&'static str, &'static str, &'static str),
+    Positional(&'static str, &'static str, &'static str),
     /// A word, in the same order, that may be left out.
     MaybeWord(&'static str, &'static str, &'static str),
     /// Any number of words, after all others.
@@ -42,7 +42,7 @@ struct Task {
     arguments: &'static [&'static [Argument]],
 }
 
-const IMAGE: [Argument; 1] = [Argument::Word(
+const IMAGE: [Argument; 1] = [Argument::Positional(
     "image",
     "IMAGE",
     "The image's file, or - for standard input",
@@ -112,7 +112,7 @@ const DEPARTURES: [Argument; 4] = [
     Argument::Flag("no-journeys", "Print no journeys"),
 ];
 
-const JOURNEY: [Argument; 1] = [Argument::Word(
+const JOURNEY: [Argument; 1] = [Argument::Positional(
     "text",
     "TEXT",
     "The journey: `walk FROM TO SECS` and `ride FIRST LAST`, with a space between",
@@ -153,13 +153,13 @@ const STOPS: [Argument; 1] = [Argument::MaybeWord(
     "A part of a stop_id, as it is spelled; without it all stops are listed",
 )];
 
-const FOLDER: [Argument; 1] = [Argument::Word(
+const FOLDER: [Argument; 1] = [Argument::Positional(
     "folder",
     "FOLDER",
     "The folder with the feed's unpacked files",
 )];
 
-const OUT: [Argument; 1] = [Argument::Word(
+const OUT: [Argument; 1] = [Argument::Positional(
     "out",
     "OUT",
     "The file to which the image is written (- is a file name here)",
@@ -242,7 +242,7 @@ const SERVER: [Argument; 9] = [
     ),
 ];
 
-const NEW_IMAGE: [Argument; 1] = [Argument::Word(
+const NEW_IMAGE: [Argument; 1] = [Argument::Positional(
     "out",
     "OUT",
     "The file to which the image is written, by way of OUT.part; it may be IMAGE (- is a file name here)",
@@ -363,7 +363,7 @@ fn words<'a>(alloc: Global, id: &'a str, name: &'a str, help: &'a str) -> Arg<'a
 
 fn arg_of<'a>(alloc: Global, argument: Argument) -> Result<Arg<'a>, AllocError> {
     match argument {
-        Argument::Word(id, name, help) => Ok(value(alloc, id, name, help).required(true)),
+        Argument::Positional(id, name, help) => Ok(value(alloc, id, name, help).required(true)),
         Argument::MaybeWord(id, name, help) => Ok(value(alloc, id, name, help)),
         Argument::Words(id, name, help) => Ok(words(alloc, id, name, help)),
         Argument::Option(id, name, help) => Ok(option(alloc, id, name, help)),

@@ -6,4 +6,4 @@ mod reading;
 mod texts;
 mod values;
 
-pub use reading::{Unread, read, wants_warnings};
+pub use reading::{NoCommand, read, wants_warnings};

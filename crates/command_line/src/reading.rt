@@ -5,9 +5,9 @@ use crate::values::{clock, count, month_name, named_folder, number, port, spelle
 use clap::error::ErrorKind;
 use clap::{ArgMatches, Error};
 use command_requests::{
-    AnswerForm, BetweenRequest, BuildRequest, DeparturesForm, DeparturesRequest, FirstDay,
-    JourneyRequest, NamedFolder, PlanText, ProfileRequest, Question, Request, Rows, Seconds,
-    ServeRequest, StopsRequest, UpgradeRequest, Workers, days_of,
+    AnswerForm, BetweenRequest, BuildRequest, CommandRequest, DeparturesForm, DeparturesRequest,
+    FirstDay, JourneyRequest, NamedFolder, PictureRows, PlanText, ProfileRequest, Question,
+    Seconds, ServeRequest, StopsRequest, UpgradeRequest, Workers, days_of,
 };
 use criteria::CriterionName;
 use std::alloc::{AllocError, Global};
@@ -16,7 +16,7 @@ use std::convert::AsStr;
 
 /// Why the words ask for no command.
 #[derive(Drop)]
-pub enum Unread {
+pub enum NoCommand {
     /// They ask for help, which is this text.
     Help(String),
     /// They are wrong, as the text says.
@@ -26,7 +26,7 @@ pub enum Unread {
 
 /// What the value of an option must be.
 #[derive(Clone, Copy)]
-enum Form {
+enum OptionForm {
     Clock,
     Day,
     Days,
@@ -34,58 +34,59 @@ enum Form {
     Port,
     Workers,
     Sessions,
-    Rows,
+    PictureRows,
     Seconds,
 }
 
 /// The options whose values have a form of their own.
-const FORMS: [(&str, Form); 12] = [
-    ("after", Form::Clock),
-    ("until", Form::Clock),
-    ("by", Form::Clock),
-    ("first", Form::Day),
-    ("days", Form::Days),
-    ("zone", Form::Zone),
-    ("port", Form::Port),
-    ("workers", Form::Workers),
-    ("sessions", Form::Sessions),
-    ("rows", Form::Rows),
-    ("idle", Form::Seconds),
-    ("longest", Form::Seconds),
+const FORMS: [(&str, OptionForm); 12] = [
+    ("after", OptionForm::Clock),
+    ("until", OptionForm::Clock),
+    ("by", OptionForm::Clock),
+    ("first", OptionForm::Day),
+    ("days", OptionForm::Days),
+    ("zone", OptionForm::Zone),
+    ("port", OptionForm::Port),
+    ("workers", OptionForm::Workers),
+    ("sessions", OptionForm::Sessions),
+    ("rows", OptionForm::PictureRows),
+    ("idle", OptionForm::Seconds),
+    ("longest", OptionForm::Seconds),
 ];
 
-impl Form {
+impl OptionForm {
     fn is_kept(self, value: &str) -> bool {
         match self {
-            Form::Clock => clock(value).is_some(),
-            Form::Day => FirstDay::of(value).is_some(),
-            Form::Days => is_days(value),
-            Form::Zone => zone(value).is_some(),
-            Form::Port => port(value).is_some(),
-            Form::Workers => is_workers(value),
-            Form::Sessions => count(value).is_some(),
-            Form::Rows => rows_of(value).is_some(),
-            Form::Seconds => seconds_of(value).is_some(),
+            OptionForm::Clock => clock(value).is_some(),
+            OptionForm::Day => FirstDay::of(value).is_some(),
+            OptionForm::Days => is_days(value),
+            OptionForm::Zone => zone(value).is_some(),
+            OptionForm::Port => port(value).is_some(),
+            OptionForm::Workers => is_workers(value),
+            OptionForm::Sessions => count(value).is_some(),
+            OptionForm::PictureRows => rows_of(value).is_some(),
+            OptionForm::Seconds => seconds_of(value).is_some(),
         }
     }
 
     /// The message about a value of another form.
     fn rule(self) -> &'static str {
         match self {
-            Form::Clock =>
+            OptionForm::Clock =>
                 "a clock is HH:MM:SS, with one to six digits of hours, and minutes and seconds below 60",
-            Form::Day =>
+            OptionForm::Day =>
                 "the first day is YYYYMMDD, a date of the years 1 to 9999, or today, or today-1",
-            Form::Days => "the number of days must be 1 to 14",
-            Form::Zone => {
+            OptionForm::Days => "the number of days must be 1 to 14",
+            OptionForm::Zone => {
                 "a zone is file:PATH, posix:TEXT, or fixed:SECS, the seconds east of Greenwich, as fixed:3600 or \
 fixed:-18000, at most 86399 either way"
             }
-            Form::Port => "a port is a number from 0 to 65535",
-            Form::Workers => "the number of workers must be 1 to 16",
-            Form::Sessions => "the number of sessions must be in decimal digits; 0 is no limit",
-            Form::Rows => "the number of rows must be 1 to 10000",
-            Form::Seconds => "a number of seconds must be 1 to 4294967295",
+            OptionForm::Port => "a port is a number from 0 to 65535",
+            OptionForm::Workers => "the number of workers must be 1 to 16",
+            OptionForm::Sessions =>
+                "the number of sessions must be in decimal digits; 0 is no limit",
+            OptionForm::PictureRows => "the number of rows must be 1 to 10000",
+            OptionForm::Seconds => "a number of seconds must be 1 to 4294967295",
         }
     }
 }
@@ -97,8 +98,8 @@ fn is_days(value: &str) -> bool {
     }
 }
 
-fn rows_of(value: &str) -> Option<Rows> {
-    Rows::of(number(value)?)
+fn rows_of(value: &str) -> Option<PictureRows> {
+    PictureRows::of(number(value)?)
 }
 
 fn seconds_of(value: &str) -> Option<Seconds> {
@@ -119,20 +120,20 @@ const HINT: &str = "\nFor more information, try '--help'.\n";
 const USAGE: &str = "\nUsage: ";
 
 /// Clap's message about words that begin with this command, or with none if its name is empty.
-fn unread_of(alloc: Global, error: &Error, command: &str) -> Unread {
+fn unread_of(alloc: Global, error: &Error, command: &str) -> NoCommand {
     if error.kind() == ErrorKind::OutOfMemory {
-        return Unread::OutOfMemory;
+        return NoCommand::OutOfMemory;
     }
     let Ok(text) = error.to_string(alloc) else {
-        return Unread::OutOfMemory;
+        return NoCommand::OutOfMemory;
     };
     if !error.use_stderr() {
-        return Unread::Help(text);
+        return NoCommand::Help(text);
     }
     let is_unknown = error.kind() == ErrorKind::UnknownArgument;
     match with_hint(alloc, command, text.as_str(), is_unknown) {
-        Ok(whole) => Unread::Mistake(whole),
-        Err(_) => Unread::Mistake(text),
+        Ok(whole) => NoCommand::Mistake(whole),
+        Err(_) => NoCommand::Mistake(text),
     }
 }
 
@@ -171,9 +172,9 @@ fn command_in<'a, S: AsStr>(words: &'a [S]) -> &'a str {
 }
 
 /// The request that the words make; the first word is the program's name.
-pub fn read<'a, S: AsStr>(alloc: Global, words: &'a [S]) -> Result<Request<'a>, Unread> {
+pub fn read<'a, S: AsStr>(alloc: Global, words: &'a [S]) -> Result<CommandRequest<'a>, NoCommand> {
     let Ok(command) = program(alloc) else {
-        return Err(Unread::OutOfMemory);
+        return Err(NoCommand::OutOfMemory);
     };
     match command.try_get_matches_from(words) {
         Ok(matches) => request_in(alloc, &matches),
@@ -195,9 +196,9 @@ fn unknown_topic<S: AsStr>(words: &[S]) -> Option<&str> {
 }
 
 /// The message about a topic of `csa help` that is no command: that of the command itself, which has a suggestion.
-fn unread_topic(alloc: Global, topic: &str, error: &Error) -> Unread {
+fn unread_topic(alloc: Global, topic: &str, error: &Error) -> NoCommand {
     let Ok(command) = program(alloc) else {
-        return Unread::OutOfMemory;
+        return NoCommand::OutOfMemory;
     };
     match command.try_get_matches_from(&["csa", topic]) {
         Ok(_) => unread_of(alloc, error, ""),
@@ -211,10 +212,13 @@ pub fn wants_warnings<S: AsStr>(words: &[S]) -> bool {
 }
 
 /// The request of words that clap accepts.
-fn request_in<'a>(alloc: Global, matches: &ArgMatches<'a>) -> Result<Request<'a>, Unread> {
+fn request_in<'a>(
+    alloc: Global,
+    matches: &ArgMatches<'a>,
+) -> Result<CommandRequest<'a>, NoCommand> {
     match matches.subcommand() {
         Some(("build", inner)) => match build_request(inner) {
-            Some(request) => Ok(Request::Build(request)),
+            Some(request) => Ok(CommandRequest::Build(request)),
             None => Err(wrong_value(alloc, "build", inner)),
         },
         Some(("serve", inner)) => serve_request(alloc, inner),
@@ -228,23 +232,23 @@ fn request_in<'a>(alloc: Global, matches: &ArgMatches<'a>) -> Result<Request<'a>
 }
 
 /// The request of a command without service days; `None` if a value has a wrong form.
-fn plain_request<'a>(name: &str, matches: &ArgMatches<'a>) -> Option<Request<'a>> {
+fn plain_request<'a>(name: &str, matches: &ArgMatches<'a>) -> Option<CommandRequest<'a>> {
     match name {
-        "verify" => matches.get_str("image").map(Request::Verify),
-        "info" => matches.get_str("image").map(Request::Info),
-        "journey" => journey_request(matches).map(Request::Journey),
-        "profile" => profile_request(matches).map(Request::Profile),
-        "departures" => departures_request(matches).map(Request::Departures),
-        "stops" => stops_request(matches).map(Request::Stops),
-        "tables" => matches.get_str("folder").map(Request::Tables),
-        "days" => matches.get_str("folder").map(Request::Days),
-        "upgrade" => upgrade_request(matches).map(Request::Upgrade),
+        "verify" => matches.get_str("image").map(CommandRequest::Verify),
+        "info" => matches.get_str("image").map(CommandRequest::Info),
+        "journey" => journey_request(matches).map(CommandRequest::Journey),
+        "profile" => profile_request(matches).map(CommandRequest::Profile),
+        "departures" => departures_request(matches).map(CommandRequest::Departures),
+        "stops" => stops_request(matches).map(CommandRequest::Stops),
+        "tables" => matches.get_str("folder").map(CommandRequest::Tables),
+        "days" => matches.get_str("folder").map(CommandRequest::Days),
+        "upgrade" => upgrade_request(matches).map(CommandRequest::Upgrade),
         _ => None,
     }
 }
 
 /// The message about the first option whose value has a wrong form.
-fn wrong_value(alloc: Global, command: &str, matches: &ArgMatches<'_>) -> Unread {
+fn wrong_value(alloc: Global, command: &str, matches: &ArgMatches<'_>) -> NoCommand {
     for (option, form) in &FORMS {
         if let Some(value) = matches.get_str(option)
             && !form.is_kept(value)
@@ -260,8 +264,13 @@ fn wrong_value(alloc: Global, command: &str, matches: &ArgMatches<'_>) -> Unread
 }
 
 /// The message about an option whose value has a wrong form.
-fn wrong_form(alloc: Global, option: &str, form: Form, value: &str) -> Result<String, AllocError> {
-    if let (Form::Day, Some(date)) = (form, spelled_date(value)) {
+fn wrong_form(
+    alloc: Global,
+    option: &str,
+    form: OptionForm,
+    value: &str,
+) -> Result<String, AllocError> {
+    if let (OptionForm::Day, Some(date)) = (form, spelled_date(value)) {
         let reason = no_date(alloc, date)?;
         return format!(in alloc; "error: --{option} {value:?}: {reason}\n");
     }
@@ -278,7 +287,7 @@ fn no_date(alloc: Global, date: (u32, u32, u32)) -> Result<String, AllocError> {
     }
 }
 
-fn wrong_feed(alloc: Global, word: &str) -> Unread {
+fn wrong_feed(alloc: Global, word: &str) -> NoCommand {
     mistake(
         alloc,
         "serve",
@@ -286,7 +295,7 @@ fn wrong_feed(alloc: Global, word: &str) -> Unread {
     )
 }
 
-fn feed_named_twice(alloc: Global, word: &str) -> Unread {
+fn feed_named_twice(alloc: Global, word: &str) -> NoCommand {
     mistake(
         alloc,
         "serve",
@@ -295,13 +304,13 @@ fn feed_named_twice(alloc: Global, word: &str) -> Unread {
 }
 
 /// A message about the words of a command, with the command's usage and a hint if there is memory for them.
-fn mistake(alloc: Global, command: &str, text: Result<String, AllocError>) -> Unread {
+fn mistake(alloc: Global, command: &str, text: Result<String, AllocError>) -> NoCommand {
     let Ok(text) = text else {
-        return Unread::OutOfMemory;
+        return NoCommand::OutOfMemory;
     };
     match with_usage(alloc, command, text.as_str()) {
-        Ok(whole) => Unread::Mistake(whole),
-        Err(_) => Unread::Mistake(text),
+        Ok(whole) => NoCommand::Mistake(whole),
+        Err(_) => NoCommand::Mistake(text),
     }
 }
 
@@ -361,14 +370,17 @@ fn count_of(matches: &ArgMatches<'_>, option: &str) -> usize {
 }
 
 /// The request of `csa profile` with several stops on a side.
-fn between_request<'a>(alloc: Global, matches: &ArgMatches<'a>) -> Result<Request<'a>, Unread> {
+fn between_request<'a>(
+    alloc: Global,
+    matches: &ArgMatches<'a>,
+) -> Result<CommandRequest<'a>, NoCommand> {
     if matches.get_str("picture").is_some() {
         return Err(no_picture(alloc));
     }
     let from = stops_of(alloc, matches, "from")?;
     let to = stops_of(alloc, matches, "to")?;
     match between_of(matches, from, to) {
-        Some(request) => Ok(Request::Between(request)),
+        Some(request) => Ok(CommandRequest::Between(request)),
         None => Err(wrong_value(alloc, "profile", matches)),
     }
 }
@@ -396,7 +408,7 @@ fn stops_of<'a>(
     alloc: Global,
     matches: &ArgMatches<'a>,
     option: &str,
-) -> Result<Vec<&'a str>, Unread> {
+) -> Result<Vec<&'a str>, NoCommand> {
     let mut stops = Vec::new(alloc);
     let Some(words) = matches.get_strs(option) else {
         return Ok(stops);
@@ -404,22 +416,22 @@ fn stops_of<'a>(
     if words.len() > MOST_STOPS {
         return Err(too_many_stops(alloc, option, words.len()));
     }
-    let mut places = BTreeMap::new(alloc);
-    for place in 0..words.len() {
-        let word = words[place];
-        match places.insert(word, place) {
+    let mut given_at = BTreeMap::new(alloc);
+    for index in 0..words.len() {
+        let word = words[index];
+        match given_at.insert(word, index) {
             Ok(None) => {}
-            Ok(Some(first)) => return Err(stop_given_twice(alloc, option, word, first, place)),
-            Err(_) => return Err(Unread::OutOfMemory),
+            Ok(Some(first)) => return Err(stop_given_twice(alloc, option, word, first, index)),
+            Err(_) => return Err(NoCommand::OutOfMemory),
         }
         if stops.push(word).is_err() {
-            return Err(Unread::OutOfMemory);
+            return Err(NoCommand::OutOfMemory);
         }
     }
     Ok(stops)
 }
 
-fn too_many_stops(alloc: Global, option: &str, count: usize) -> Unread {
+fn too_many_stops(alloc: Global, option: &str, count: usize) -> NoCommand {
     mistake(
         alloc,
         "profile",
@@ -430,18 +442,24 @@ fn too_many_stops(alloc: Global, option: &str, count: usize) -> Unread {
 }
 
 /// The message about a stop_id that is given at two places, counted from 0.
-fn stop_given_twice(alloc: Global, option: &str, stop: &str, first: usize, place: usize) -> Unread {
-    let (first, place) = (first.saturating_add(1), place.saturating_add(1));
+fn stop_given_twice(
+    alloc: Global,
+    option: &str,
+    stop: &str,
+    first: usize,
+    index: usize,
+) -> NoCommand {
+    let (first, index) = (first.saturating_add(1), index.saturating_add(1));
     mistake(
         alloc,
         "profile",
         format!(in alloc;
-            "error: --{option} {stop:?}: number {place} is the same stop as number {first}\n"
+            "error: --{option} {stop:?}: number {index} is the same stop as number {first}\n"
         ),
     )
 }
 
-fn no_picture(alloc: Global) -> Unread {
+fn no_picture(alloc: Global) -> NoCommand {
     mistake(
         alloc,
         "profile",
@@ -450,10 +468,10 @@ fn no_picture(alloc: Global) -> Unread {
 }
 
 /// How many rows of a picture are asked for; `None` if the value has a wrong form.
-fn rows(matches: &ArgMatches<'_>) -> Option<Rows> {
+fn rows(matches: &ArgMatches<'_>) -> Option<PictureRows> {
     match matches.get_str("rows") {
         Some(value) => rows_of(value),
-        None => Some(Rows::plain()),
+        None => Some(PictureRows::plain()),
     }
 }
 
@@ -522,7 +540,10 @@ fn plan<'a>(matches: &ArgMatches<'a>, strict: bool) -> Option<PlanText<'a>> {
     })
 }
 
-fn serve_request<'a>(alloc: Global, matches: &ArgMatches<'a>) -> Result<Request<'a>, Unread> {
+fn serve_request<'a>(
+    alloc: Global,
+    matches: &ArgMatches<'a>,
+) -> Result<CommandRequest<'a>, NoCommand> {
     let Some(plan) = plan(matches, false) else {
         return Err(wrong_value(alloc, "serve", matches));
     };
@@ -540,7 +561,7 @@ fn serve_request<'a>(alloc: Global, matches: &ArgMatches<'a>) -> Result<Request<
     ) else {
         return Err(wrong_value(alloc, "serve", matches));
     };
-    Ok(Request::Serve(ServeRequest {
+    Ok(CommandRequest::Serve(ServeRequest {
         image,
         port,
         workers,
@@ -569,7 +590,7 @@ fn workers(matches: &ArgMatches<'_>) -> Option<Workers> {
 fn named_folders<'a>(
     alloc: Global,
     matches: &ArgMatches<'a>,
-) -> Result<Vec<NamedFolder<'a>>, Unread> {
+) -> Result<Vec<NamedFolder<'a>>, NoCommand> {
     let mut feeds = Vec::new(alloc);
     let Some(words) = matches.get_strs("feeds") else {
         return Ok(feeds);
@@ -582,7 +603,7 @@ fn named_folders<'a>(
             return Err(feed_named_twice(alloc, word));
         }
         if feeds.push(feed).is_err() {
-            return Err(Unread::OutOfMemory);
+            return Err(NoCommand::OutOfMemory);
         }
     }
     Ok(feeds)

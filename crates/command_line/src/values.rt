@@ -1,6 +1,6 @@
 //! What one word says: numbers, clocks, days and zones.
 
-use command_requests::{Ahead, NamedFolder, ZoneText};
+use command_requests::{NamedFolder, UtcOffset, ZoneText};
 use timetable::clock_parse;
 
 /// Seconds of a clock `HH:MM:SS`.
@@ -69,7 +69,7 @@ pub(crate) fn named_folder(word: &str) -> Option<NamedFolder<'_>> {
 /// `fixed:SECS`, `posix:TEXT` or `file:PATH`.
 pub(crate) fn zone(text: &str) -> Option<ZoneText<'_>> {
     match text.split_once(':')? {
-        ("fixed", seconds) => Some(ZoneText::Fixed(Ahead::of(offset(seconds)?)?)),
+        ("fixed", seconds) => Some(ZoneText::Fixed(UtcOffset::of(offset(seconds)?)?)),
         ("posix", rule) => Some(ZoneText::Posix(rule)),
         ("file", path) => Some(ZoneText::File(path)),
         _ => None,

@@ -7,7 +7,7 @@ use crate::statuses;
 
 /// How many sessions ended in each way.
 #[derive(Clone, Copy, Drop)]
-pub struct Ends {
+pub struct SessionCounts {
     /// All lines were answered.
     pub ended: u64,
     /// The session couldn't be opened, or a read or a write failed.
@@ -16,7 +16,7 @@ pub struct Ends {
     pub spent: u64,
 }
 
-impl Ends {
+impl SessionCounts {
     /// How many sessions there were. The sum saturates.
     pub fn sessions(self) -> u64
         ensures { result ≡ sessions_in self }

@@ -8,12 +8,13 @@ mod plans;
 mod requests;
 pub mod statuses;
 
-pub use ends::Ends;
+pub use ends::SessionCounts;
 pub use plans::{
-    Ahead, FirstDay, MOST_AHEAD, MOST_DAYS, MOST_ROWS, MOST_WORKERS, PLAIN_ROWS, PlanText, Rows,
-    Seconds, Workers, ZoneText, days_of,
+    FirstDay, MOST_AHEAD, MOST_DAYS, MOST_ROWS, MOST_WORKERS, PLAIN_ROWS, PictureRows, PlanText,
+    Seconds, UtcOffset, Workers, ZoneText, days_of,
 };
 pub use requests::{
-    AnswerForm, BetweenRequest, BuildRequest, DeparturesForm, DeparturesRequest, JourneyRequest,
-    NamedFolder, ProfileRequest, Question, Request, ServeRequest, StopsRequest, UpgradeRequest,
+    AnswerForm, BetweenRequest, BuildRequest, CommandRequest, DeparturesForm, DeparturesRequest,
+    JourneyRequest, NamedFolder, ProfileRequest, Question, ServeRequest, StopsRequest,
+    UpgradeRequest,
 };

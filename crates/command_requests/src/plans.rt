@@ -49,30 +49,30 @@ impl Workers {
 
 /// How many journeys a picture shows at most: 1 to 10,000, 200 if nothing else is asked for.
 #[derive(Clone, Copy, Drop)]
-pub struct Rows {
+pub struct PictureRows {
     pub number: usize,
     ghost some: { 1 ≤ number },
     ghost few: { number ≤ MOST_ROWS },
 }
 
-impl Rows {
+impl PictureRows {
     /// As many as are asked for; `None` outside the limits.
-    pub fn of(asked: u32) -> Option<Rows>
+    pub fn of(asked: u32) -> Option<PictureRows>
         ensures { MatchOption result (¬ ((1 ≤ asked) × (asked ≤ MOST_ROWS))) (λ rows. rows.number ≡ asked) }
     {
         if asked < 1 || asked > MOST_ROWS {
             return None;
         }
-        Some(Rows {
+        Some(PictureRows {
             number: asked as usize,
         })
     }
 
     /// As many as a picture has if nothing else is asked for.
-    pub fn plain() -> Rows
+    pub fn plain() -> PictureRows
         ensures { result.number ≡ 200 }
     {
-        Rows {
+        PictureRows {
             number: PLAIN_ROWS as usize,
         }
     }
@@ -109,27 +109,27 @@ pub fn days_of(number: u32) -> Option<u32>
 
 /// How far the clocks of a zone are ahead of UTC at all times: at most 86,399 seconds either way.
 #[derive(Drop)]
-pub struct Ahead {
+pub struct UtcOffset {
     pub seconds: i32,
     ghost within: { IsWithin 86_399 seconds },
 }
 
-impl Ahead {
+impl UtcOffset {
     /// This many seconds; `None` beyond the limit.
-    pub fn of(seconds: i32) -> Option<Ahead>
+    pub fn of(seconds: i32) -> Option<UtcOffset>
         ensures { MatchOption result (¬ (IsWithin 86_399 seconds)) (λ ahead. ahead.seconds ≡ seconds) }
     {
         if seconds < -MOST_AHEAD || seconds > MOST_AHEAD {
             return None;
         }
-        Some(Ahead { seconds })
+        Some(UtcOffset { seconds })
     }
 }
 
 /// How a time zone is given.
 #[derive(Drop)]
 pub enum ZoneText<'a> {
-    Fixed(Ahead),
+    Fixed(UtcOffset),
     /// A POSIX rule.
     Posix(&'a str),
     /// The path of a time zone file (TZif).

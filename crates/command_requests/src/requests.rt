@@ -1,11 +1,11 @@
 //! What a command line asks for.
 
-use crate::plans::{PlanText, Rows, Seconds, Workers};
+use crate::plans::{PictureRows, PlanText, Seconds, Workers};
 use criteria::CriterionName;
 
 /// A command with its arguments.
 #[derive(Drop)]
-pub enum Request<'a> {
+pub enum CommandRequest<'a> {
     /// To verify the image in a file, or in the standard input for `-`.
     Verify(&'a str),
     /// To print what the image in a file has, or in the standard input for `-`.
@@ -109,7 +109,7 @@ pub struct ProfileRequest<'a> {
     /// The file into which the answer is drawn.
     pub picture: Option<&'a str>,
     /// How many of its journeys are drawn at most.
-    pub rows: Rows,
+    pub rows: PictureRows,
 }
 
 /// The image; the names of the stops to leave from, and of those to go to, at least one of each; when, in seconds after

@@ -47,14 +47,14 @@ named_at names (t ∷ trips) (k ∷ indices) (suc i) trip d named lt is = named_
 pub runs_among : (feed : Feed) (names : List (List ℕ)) (day : Day) (trips : List Trip) (indices : List ℕ) (active : List Bool) (i : ℕ) (trip : Trip)
     (d : ℕ) (b : Bool) → AreNamed names trips indices → active ≡ active_among feed names day → i < length trips → trip ≡ get_or trips i trip
     → b ≡ (makes_connections trip && get_or active (get_or indices i d) false) → b ≡ runs_on feed day trip
-runs_among feed names day trips indices active i trip d b named are lt is told =
+runs_among feed names day trips indices active i trip d b named are lt is fact =
     let there : StandsAt names (get_or indices i d) (string_bytes trip.service) = named_at names trips indices i trip d named lt is in
     let runs : List ℕ → Bool = λ name. is_active feed.calendar.items feed.calendar_dates.items name day in
     let here : get_or active (get_or indices i d) false ≡ runs (string_bytes trip.service) =
     ap (λ bs. get_or bs (get_or indices i d) false) are
     ∙ get_or_from_slice_get (map runs names) (get_or indices i d) (runs (string_bytes trip.service)) false
     (slice_get-map runs names (get_or indices i d) ∙ ap (option_map runs) there) in
-    told ∙ ap (λ r. makes_connections trip && r) here
+    fact ∙ ap (λ r. makes_connections trip && r) here
 
 -- the services that run on one of the days
 pub active_at : (feed : Feed) (names : List (List ℕ)) (days : List Day) (active : List (Vec Bool)) (i : ℕ) (x : Vec Bool) (d : Day)

@@ -78,25 +78,25 @@ found_start zone days i d day lt starts e = subst (λ (x : Day). IsDayStart zone
     (starts i d lt)
 
 -- a day that is among them is at a place
-place_of : (days : List ServiceDay) (day : Day) (k : ℕ) (d : ServiceDay) → k < length days
+index_of : (days : List ServiceDay) (day : Day) (k : ℕ) (d : ServiceDay) → k < length days
     → get_or (map (λ (d : ServiceDay). d.day) days) k day ≡ (get_or days k d).day
-place_of [] day k d lt = absurd (omega (arith, lt))
-place_of (x ∷ days) day zero d lt = refl
-place_of (x ∷ days) day (suc k) d lt = place_of days day k d (omega (arith, lt))
+index_of [] day k d lt = absurd (omega (arith, lt))
+index_of (x ∷ days) day zero d lt = refl
+index_of (x ∷ days) day (suc k) d lt = index_of days day k d (omega (arith, lt))
 
 pub never_missing : (days : List ServiceDay) (day : Day) (d : ServiceDay) → Contains (map (λ d. d.day) days) day
     → ((k : ℕ) (d : ServiceDay) → k < length days → (get_or days k d).day ≡ day → ⊥) → ⊥
 never_missing days day d (k, lt, is) none =
     let within : k < length days = omega (arith, lt, length-map days (λ (d : ServiceDay). d.day)) in
-    none k d within (sym (place_of days day k d within) ∙ is)
+    none k d within (sym (index_of days day k d within) ∙ is)
 
 -- the day at a place, and who started it
-pub place_at : (started : List ServiceDay) (k : ℕ) (day : Day) → k < length (map (λ d. d.day) started)
+pub index_at : (started : List ServiceDay) (k : ℕ) (day : Day) → k < length (map (λ d. d.day) started)
     → (x : ServiceDay) × (k < length started) × (x.day ≡ get_or (map (λ d. d.day) started) k day) × (get_or started k x ≡ x)
-place_at [] k day lt = absurd (omega (arith, lt))
-place_at (x ∷ started) zero day lt = (x, omega arith, refl, refl)
-place_at (x ∷ started) (suc k) day lt =
-    let rest = place_at started k day (omega (arith, lt)) in
+index_at [] k day lt = absurd (omega (arith, lt))
+index_at (x ∷ started) zero day lt = (x, omega arith, refl, refl)
+index_at (x ∷ started) (suc k) day lt =
+    let rest = index_at started k day (omega (arith, lt)) in
     (rest.0, (let less = rest.1 in omega (arith, less)), rest.2, rest.3)
 
 -- the first of the days is the first

@@ -40,20 +40,20 @@ use Rattle.connections.specs.declared.fault.RunsFault.{RunsFault}
 use Rattle.connections.specs.declared.fault.RunsFault.TheVariants as faults
 use Rattle.connections.specs.declared.runs.Run.{Run}
 use Rattle.connections.specs.declared.times.TripTimes.{TripTimes}
-use Rattle.connections.proofs.DaySteps.{place_at}
+use Rattle.connections.proofs.DaySteps.{index_at}
 use Rattle.connections.proofs.ListSteps.{run_rows_at}
 
 -- ---- refusals
 
-pub fault_told : (feed : Feed) (zone : Zone) (base other : ℤ) (runs : List Run) (n : ℕ) (run : Run) (fault : RunsFault) → other ≡ base
+pub fault_of_hops : (feed : Feed) (zone : Zone) (base other : ℤ) (runs : List Run) (n : ℕ) (run : Run) (fault : RunsFault) → other ≡ base
     → slice_get runs n ≡ Some run
     → IsWantOfMemory fault ⊎ ((fault ≡ range_fault) × LeavesRange feed zone other run) → IsWantOfMemory fault
     ⊎ ((fault ≡ range_fault) × HasRunOutside feed zone base runs)
-fault_told feed zone base other runs n run fault e at (inl memory) = inl memory
-fault_told feed zone base other runs n run fault e at (inr told) =
-    let leaves : LeavesRange feed zone base run = subst (λ (z : ℤ). LeavesRange feed zone z run) e told.1 in
+fault_of_hops feed zone base other runs n run fault e at (inl memory) = inl memory
+fault_of_hops feed zone base other runs n run fault e at (inr fact) =
+    let leaves : LeavesRange feed zone base run = subst (λ (z : ℤ). LeavesRange feed zone z run) e fact.1 in
     inr (
-      told.0,
+      fact.0,
       record {
         number = n;
         start = leaves.start;
@@ -68,12 +68,12 @@ pub day_refused : (feed : Feed) (zone : Zone) (first : Day) (days : ℕ) (fault 
     ⊎ ((fault ≡ DayOutOfRange) × HasNoStartAmong zone (days_from first days))
     → IsWantOfMemory (faults.Day fault) ⊎ IsFirstRefusal feed zone first days (faults.Day fault)
 day_refused feed zone first days fault (inl memory) = inl memory
-day_refused feed zone first days fault (inr told) = inr (inl (record { is = ap (λ (f : DayFault). faults.Day f) told.0; among = told.1 }))
+day_refused feed zone first days fault (inr fact) = inr (inl (record { is = ap (λ (f : DayFault). faults.Day f) fact.0; among = fact.1 }))
 
 pub have_starts : (zone : Zone) (days : List Day) (started : List ServiceDay) → AreStarted zone days started → HaveStarts zone days
 have_starts zone days started s =
     subst (λ (ds : List Day). HaveStarts zone ds) s.days_are
-    (λ k day lt. let at = place_at started k day lt in (
+    (λ k day lt. let at = index_at started k day lt in (
       at.0.start,
       subst (λ (x : Day). IsDayStart zone x at.0.start) at.2
           (subst (λ (x : ServiceDay). IsDayStart zone x.day x.start) at.3 (s.starts k at.0 at.1)),
@@ -84,12 +84,12 @@ pub runs_refused : (feed : Feed) (zone : Zone) (first : Day) (days : ℕ) (start
     → IsWantOfMemory fault ⊎ ((fault ≡ too_many_of tables.Trips) × (MAX_TRIPS < length (runs_of_days feed (map (λ d. d.day) started)))) → IsWantOfMemory fault
     ⊎ IsFirstRefusal feed zone first days fault
 runs_refused feed zone first days started fault s (inl memory) = inl memory
-runs_refused feed zone first days started fault s (inr told) =
+runs_refused feed zone first days started fault s (inr fact) =
     inr (inr (inl (record {
-      is = told.0;
+      is = fact.0;
       started = have_starts zone (days_from first days) started s;
       many =
-          subst (λ (ds : List Day). MAX_TRIPS < length (runs_of_days feed ds)) s.days_are told.1;
+          subst (λ (ds : List Day). MAX_TRIPS < length (runs_of_days feed ds)) s.days_are fact.1;
     })))
 
 pub connections_refused : (feed : Feed) (zone : Zone) (first : Day) (days : ℕ) (started : List ServiceDay) (runs : List Run) (count most : ℕ)
@@ -113,15 +113,15 @@ pub times_refused : (feed : Feed) (zone : Zone) (first : Day) (days : ℕ) (star
     → count ≤ MAX_CONNECTIONS → MAX_CONNECTIONS < most → IsDayStart zone first base
     → IsWantOfMemory fault ⊎ ((fault ≡ range_fault) × HasRunOutside feed zone base runs) → IsWantOfMemory fault ⊎ IsFirstRefusal feed zone first days fault
 times_refused feed zone first days started runs count most base fault s runs_are few counted under room is_base (inl memory) = inl memory
-times_refused feed zone first days started runs count most base fault s runs_are few counted under room is_base (inr told) =
+times_refused feed zone first days started runs count most base fault s runs_are few counted under room is_base (inr fact) =
     let all : runs ≡ runs_of_days feed (days_from first days) = runs_are ∙ ap (runs_of_days feed) s.days_are in
     let below : count_hops feed.trips.items runs ≤ MAX_CONNECTIONS = omega (arith, counted, under, room) in
     inr (inr (inr (inr (record {
-      is = told.0;
+      is = fact.0;
       started = have_starts zone (days_from first days) started s;
       few_runs = subst (λ (rs : List Run). length rs ≤ MAX_TRIPS) all few;
       few = subst (λ (rs : List Run). count_hops feed.trips.items rs ≤ MAX_CONNECTIONS) all below;
-      outside = (base, is_base, subst (λ (rs : List Run). HasRunOutside feed zone base rs) all told.1);
+      outside = (base, is_base, subst (λ (rs : List Run). HasRunOutside feed zone base rs) all fact.1);
     }))))
 
 -- ---- each run is one of a trip, on one of the days
@@ -167,7 +167,7 @@ runs_of_some : (feed : Feed) (all : List Day) (days : List Day) → ((day : Day)
 runs_of_some feed all [] within = All-nil (IsOf feed all)
 runs_of_some feed all (day ∷ days) within =
     All-append (IsOf feed all) (runs_from feed day 0 feed.trips.items) (runs_of_days feed days)
-    (runs_of_day feed all day 0 feed.trips.items (λ k trip e. let place : 0 + k ≡ k = omega arith in rw place e)
+    (runs_of_day feed all day 0 feed.trips.items (λ k trip e. let position : 0 + k ≡ k = omega arith in rw position e)
     (within day (Contains-append_left (day ∷ []) days day (0, omega arith, refl))))
     (runs_of_some feed all days (λ x inside. within x (Contains-append_right (day ∷ []) days x inside)))
 
@@ -327,9 +327,9 @@ times_more stop_times trips times new n trip made was lt is fits now =
       same_length = ap (λ (ts : List TripTimes). length ts) now ∙ omega (arith, length_push times made, len);
       each = λ k x d less at. subst (λ (ts : List TripTimes). AreTripTimes stop_times x (get_or ts k d)) (sym now) (elim (cases_eq k n) [
         | inl same ↦
-            let place : length times ≡ k = omega (arith, len, same) in
+            let position : length times ≡ k = omega (arith, len, same) in
             let which : trip ≡ x = is ∙ ap (λ (m : ℕ). get_or trips m trip) (sym same) ∙ get_or_from_slice_get trips k x trip at in
-            subst (λ (t : TripTimes). AreTripTimes stop_times x t) (sym (get_or_push times made d k place))
+            subst (λ (t : TripTimes). AreTripTimes stop_times x t) (sym (get_or_push times made d k position))
             (subst (λ (t : Trip). AreTripTimes stop_times t made) which fits)
         | inr other ↦
             let below : k < n = omega (arith, less, other) in

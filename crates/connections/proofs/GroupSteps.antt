@@ -24,8 +24,8 @@ groups_more n groups new v was empty now =
       same_length = length_push groups v ∙ ap (λ k. k + 1) len;
       each = λ t d lt. elim (cases_eq t n) [
         | inl same ↦
-            let place : length groups ≡ t = len ∙ sym same in
-            subst (λ (x : TripStarts). HasRows [] x) (sym (get_or_push groups v d t place)) empty
+            let position : length groups ≡ t = len ∙ sym same in
+            subst (λ (x : TripStarts). HasRows [] x) (sym (get_or_push groups v d t position)) empty
         | inr other ↦
             subst (λ (x : TripStarts). HasRows [] x) (sym (get_or_append_left groups (v ∷ []) d t (omega (arith, lt, other, len))))
             (was.each t d (omega (arith, lt, other)))

@@ -14,8 +14,8 @@ use Rattle.connections.specs.declared.times.RowTimes.{RowTimes}
 
 -- what has a clock doesn't lie outside
 pub never_outside : (base start : ℤ) (time clock : ℕ) → IsClock base start time clock → IsOutside base start time → ⊥
-never_outside base start time clock is (inl before) = let told = is.told in omega (arith, ints, before)
-never_outside base start time clock is (inr late) = let told = is.told in let in_time = is.in_time in omega (arith, ints, late)
+never_outside base start time clock is (inl before) = let fact = is.same_instant in omega (arith, ints, before)
+never_outside base start time clock is (inr late) = let fact = is.same_instant in let in_time = is.in_time in omega (arith, ints, late)
 
 -- the arrival at a later row counts
 pub used_later : (o : Option ℕ) (k : ℕ) → IsUsed o (k + 1)
@@ -63,8 +63,8 @@ hops_more base start rows run n old mid new hop was is now = (
       record {
         same_length = omega (arith, length_push was.0 hop);
         hops = λ p d lt. elim (cases_eq p n) [
-          | inl same ↦ let place : length was.0 ≡ p = omega arith in
-              subst (λ (c : Connection). IsHop base start rows run p c) (sym (get_or_push was.0 hop d p place)) (rw same is)
+          | inl same ↦ let position : length was.0 ≡ p = omega arith in
+              subst (λ (c : Connection). IsHop base start rows run p c) (sym (get_or_push was.0 hop d p position)) (rw same is)
           | inr other ↦ subst (λ (c : Connection). IsHop base start rows run p c) (sym (get_or_append_left was.0 (hop ∷ []) d p (omega arith)))
               (was.2.hops p d (omega arith))
         ];

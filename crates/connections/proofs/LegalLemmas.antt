@@ -92,8 +92,8 @@ module _ (feed : Feed) (zone : Zone) (base : ℤ) (runs : List Run) (cs : List C
   takes_time : (i : ℕ) (c : Connection) → At cs i c → c.dep < c.arr
   takes_time i c at =
       let w = hop_of i c at in
-      let leaves = w.2.hop.dep.told in
-      let reaches = w.2.hop.arr.told in
+      let leaves = w.2.hop.dep.same_instant in
+      let reaches = w.2.hop.arr.same_instant in
       let before = leaves_first w.2.rows w.1 in
       omega (arith, ints, leaves, reaches, before)
 
@@ -156,10 +156,10 @@ module _ (feed : Feed) (zone : Zone) (base : ℤ) (runs : List Run) (cs : List C
       let row : x.next ≡ y.row = same_Some x.next y.row (sym x.is_next ∙ ap (λ (n : ℕ). slice_get rows n) (sym e) ∙ y.is_row) in
       let stop : c.to ≡ d.from = same_Some c.to d.from (sym x.to ∙ ap (λ (z : StopTimeRow). z.stop) row ∙ y.from) in
       let waits = stays rows p in
-      let reaches = x.arr.told in
+      let reaches = x.arr.same_instant in
       let leaves : IsClock base start (departs rows (p + 1)) d.dep = subst (λ (n : ℕ). IsClock base start (departs rows n) d.dep) e y.dep in
-      let told = leaves.told in
-      (stop, omega (arith, ints, waits, reaches, told))
+      let fact = leaves.same_instant in
+      (stop, omega (arith, ints, waits, reaches, fact))
 
   -- of the connection at i, in the run's rows, and that at j, later in them, with none of the run between
   next_one : (i j r p q : ℕ) (start : ℤ) (rows : List StopTimeRow) (c d : Connection) → IsJustBefore cs i j c d → IsRunAt feed zone runs r start rows
@@ -171,10 +171,10 @@ module _ (feed : Feed) (zone : Zone) (base : ℤ) (runs : List Run) (cs : List C
         | inr (inr above) ↦
             let within = hop_within base start rows r q d y in
             let e = hop_at r start rows (p + 1) at (omega (arith, above, within)) in
-            let place = at_contains cs e.0 (listed.each r (p + 1) e.0 (record { start = start; rows = rows; run_at = at; hop = e.1 })) in
-            let low = stands_before i place.0 r p (p + 1) start rows c e.0 before.first place.1 at x e.1 (omega arith) in
-            let high = stands_before place.0 j r (p + 1) q start rows e.0 d place.1 before.second at e.1 y above in
-            absurd (before.none_between place.0 e.0 place.1 low high (e.1.trip ∙ sym y.trip))
+            let position = at_contains cs e.0 (listed.each r (p + 1) e.0 (record { start = start; rows = rows; run_at = at; hop = e.1 })) in
+            let low = stands_before i position.0 r p (p + 1) start rows c e.0 before.first position.1 at x e.1 (omega arith) in
+            let high = stands_before position.0 j r (p + 1) q start rows e.0 d position.1 before.second at e.1 y above in
+            absurd (before.none_between position.0 e.0 position.1 low high (e.1.trip ∙ sym y.trip))
       ]
 
   unbroken : (i j : ℕ) (c d : Connection) → IsJustBefore cs i j c d → (c.to ≡ d.from) × (c.arr ≤ d.dep)

@@ -27,7 +27,7 @@ use Rattle.connections.specs.declared.runs.Run.{Run}
 -- ---- one connection at a position
 
 same_clock : (base start : ℤ) (time a b : ℕ) → IsClock base start time a → IsClock base start time b → a ≡ b
-same_clock base start time a b p q = let x = p.told in let y = q.told in omega (arith, ints, x, y)
+same_clock base start time a b p q = let x = p.same_instant in let y = q.same_instant in omega (arith, ints, x, y)
 
 pub same_hop : (base start : ℤ) (rows : List StopTimeRow) (run p : ℕ) (c d : Connection) → IsHop base start rows run p c → IsHop base start rows run p d → c ≡ d
 same_hop base start rows run p c d x y =
@@ -62,8 +62,8 @@ pub hops_rise : (base start : ℤ) (rows : List StopTimeRow) (r s p q : ℕ) (c 
     → c.dep < d.dep
 hops_rise base start rows r s p q c d x y lt =
     let rise = departs_rise rows p q lt in
-    let first = x.dep.told in
-    let second = y.dep.told in
+    let first = x.dep.same_instant in
+    let second = y.dep.same_instant in
     omega (arith, ints, rise, first, second)
 
 -- ---- one run of a number

@@ -76,9 +76,9 @@ row_between row start s is after before = elim (cases_Bool (leaves_at s row)) [
       let whole = (row_start start row is).3 in
       let none = (row_start s row here).3 in
       let split = div-add-mod' (start - row.start) row.headway in
-      let place : s - row.start ≡ q * row.headway + (s - start) = omega (arith, from, after, split, whole) in
+      let position : s - row.start ≡ q * row.headway + (s - start) = omega (arith, from, after, split, whole) in
       let rest : (s - row.start) % row.headway ≡ s - start =
-      ap (λ n. n % row.headway) place ∙ mod-mul-add q row.headway (s - start) (omega (arith, after, before)) in
+      ap (λ n. n % row.headway) position ∙ mod-mul-add q row.headway (s - start) (omega (arith, after, before)) in
       absurd (omega (arith, rest, none, after))
   | inr none ↦ none
 ]

@@ -70,8 +70,8 @@ one_list R never (x ∷ xs) (y ∷ ys) up rise there back =
 -- ---- listed connections rise so
 
 module _ (feed : Feed) (zone : Zone) (base : ℤ) (runs : List Run) where
-  one_place : (r s p q : ℕ) (c : Connection) → IsRunHop feed zone base runs r p c → IsRunHop feed zone base runs s q c → p ≡ q
-  one_place r s p q c x y =
+  one_index : (r s p q : ℕ) (c : Connection) → IsRunHop feed zone base runs r p c → IsRunHop feed zone base runs s q c → p ≡ q
+  one_index r s p q c x y =
       let run : s ≡ r = sym y.hop.trip ∙ x.hop.trip in
       let z : IsRunHop feed zone base runs r q c = subst (λ (n : ℕ). IsRunHop feed zone base runs n q c) run y in
       let same = same_run_at feed zone runs r z.start x.start z.rows x.rows z.run_at x.run_at in
@@ -87,8 +87,8 @@ module _ (feed : Feed) (zone : Zone) (base : ℤ) (runs : List Run) where
 
   never_round : (c d : Connection) → ComesFirst c d → ComesFirst d c → ⊥
   never_round c d x y =
-      let front : x.1 ≡ y.3 = one_place x.0 y.2 x.1 y.3 c x.4 y.5 in
-      let later : x.3 ≡ y.1 = one_place x.2 y.0 x.3 y.1 d x.5 y.4 in
+      let front : x.1 ≡ y.3 = one_index x.0 y.2 x.1 y.3 c x.4 y.5 in
+      let later : x.3 ≡ y.1 = one_index x.2 y.0 x.3 y.1 d x.5 y.4 in
       let low = x.6.by_departure in
       let high = y.6.by_departure in
       let dep : c.dep ≡ d.dep = omega (arith, low, high) in

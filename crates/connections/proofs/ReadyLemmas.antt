@@ -36,15 +36,15 @@ some_stop : (o : Option ℕ) (n : ℕ) → IsSomeAnd o (λ s. s < n) → IsSome 
 some_stop None n h = absurd h
 some_stop (Some s) n h = refl
 
-pub trip_of : (trips : List Trip) (place : ℕ) (trip known : Trip) → trip ≡ get_or trips place trip → slice_get trips place ≡ Some known → trip ≡ known
-trip_of trips place trip known read at = read ∙ get_or_from_slice_get trips place known trip at
+pub trip_of : (trips : List Trip) (position : ℕ) (trip known : Trip) → trip ≡ get_or trips position trip → slice_get trips position ≡ Some known → trip ≡ known
+trip_of trips position trip known read at = read ∙ get_or_from_slice_get trips position known trip at
 
 -- the trip at a place of a feed is runnable
-pub runnable_at : (feed : Feed) (place : ℕ) (trip : Trip) → slice_get feed.trips.items place ≡ Some trip
+pub runnable_at : (feed : Feed) (position : ℕ) (trip : Trip) → slice_get feed.trips.items position ≡ Some trip
     → IsRunnableTrip (length feed.stops.items) feed.stop_times.items trip
-runnable_at feed place trip at =
-    subst (λ (t : Trip). IsRunnableTrip (length feed.stops.items) feed.stop_times.items t) (get_or_from_slice_get feed.trips.items place trip trip at)
-    (feed.runnable place trip (slice_get_within feed.trips.items place trip at))
+runnable_at feed position trip at =
+    subst (λ (t : Trip). IsRunnableTrip (length feed.stops.items) feed.stop_times.items t) (get_or_from_slice_get feed.trips.items position trip trip at)
+    (feed.runnable position trip (slice_get_within feed.trips.items position trip at))
 
 pub two_rows : (trip : Trip) → makes_connections trip ≡ true → 2 ≤ trip.end - trip.first
 two_rows trip makes = leb-true 2 (trip.end - trip.first) (and_parts _ _ makes).1

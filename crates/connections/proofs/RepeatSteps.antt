@@ -32,8 +32,8 @@ between gone q h past wait e is below waits low high none =
       | inr some ↦
           let w : wait ≡ h - past = waits ∙ rw (ne_eqb past 0 some) refl in
           let r : past + (e - gone) < h = omega (arith, w, low, high, below) in
-          let place : e ≡ q * h + (past + (e - gone)) = omega (arith, is, low) in
-          let rest : e % h ≡ past + (e - gone) = ap (λ n. n % h) place ∙ mod-mul-add q h (past + (e - gone)) r in
+          let position : e ≡ q * h + (past + (e - gone)) = omega (arith, is, low) in
+          let rest : e % h ≡ past + (e - gone) = ap (λ n. n % h) position ∙ mod-mul-add q h (past + (e - gone)) r in
           some (omega (arith, rest, none))
     ]
 
@@ -43,13 +43,13 @@ whole gone q h past wait is below waits =
     elim (cases_eq past 0) [
       | inl zero_past ↦
           let w : wait ≡ 0 = waits ∙ rw zero_past refl in
-          let place : gone + wait ≡ q * h + 0 = omega (arith, is, w, zero_past) in
-          ap (λ n. n % h) place ∙ mod-mul-add q h 0 (omega (arith, below))
+          let position : gone + wait ≡ q * h + 0 = omega (arith, is, w, zero_past) in
+          ap (λ n. n % h) position ∙ mod-mul-add q h 0 (omega (arith, below))
       | inr some ↦
           let w : wait ≡ h - past = waits ∙ rw (ne_eqb past 0 some) refl in
           let more : suc q * h ≡ q * h + h = suc-mul q h in
-          let place : gone + wait ≡ suc q * h + 0 = omega (arith, is, w, below, more) in
-          ap (λ n. n % h) place ∙ mod-mul-add (suc q) h 0 (omega (arith, below))
+          let position : gone + wait ≡ suc q * h + 0 = omega (arith, is, w, below, more) in
+          ap (λ n. n % h) position ∙ mod-mul-add (suc q) h 0 (omega (arith, below))
     ]
 
 -- so much has passed since a row's last start, and so much is left until its next

@@ -12,12 +12,12 @@ use Rattle.connections.specs.Runs.{runs_at, runs_from, runs_of_days, runs_of_tri
 use Rattle.connections.specs.declared.days.ServiceDay.{ServiceDay}
 use Rattle.connections.specs.declared.runs.Run.{Run}
 
-runs_push : (feed : Feed) (day : Day) (t place : ℕ) (trips : List Trip) (trip : Trip) → place ≡ t + length trips
-    → runs_from feed day t (trips ++ trip ∷ []) ≡ runs_from feed day t trips ++ runs_at feed day place trip
-runs_push feed day t place [] trip e = let same : place ≡ t = omega (arith, e) in rw same (append-nil (runs_at feed day t trip))
-runs_push feed day t place (first ∷ trips) trip e =
-    ap (λ rest. runs_at feed day t first ++ rest) (runs_push feed day (t + 1) place trips trip (omega (arith, e)))
-    ∙ sym (append_assoc (runs_at feed day t first) (runs_from feed day (t + 1) trips) (runs_at feed day place trip))
+runs_push : (feed : Feed) (day : Day) (t position : ℕ) (trips : List Trip) (trip : Trip) → position ≡ t + length trips
+    → runs_from feed day t (trips ++ trip ∷ []) ≡ runs_from feed day t trips ++ runs_at feed day position trip
+runs_push feed day t position [] trip e = let same : position ≡ t = omega (arith, e) in rw same (append-nil (runs_at feed day t trip))
+runs_push feed day t position (first ∷ trips) trip e =
+    ap (λ rest. runs_at feed day t first ++ rest) (runs_push feed day (t + 1) position trips trip (omega (arith, e)))
+    ∙ sym (append_assoc (runs_at feed day t first) (runs_from feed day (t + 1) trips) (runs_at feed day position trip))
 
 -- the runs of one trip more
 pub runs_more : (feed : Feed) (day : Day) (trips : List Trip) (i : ℕ) (d : Trip) → i < length trips
@@ -84,8 +84,8 @@ running_at feed day trips running i trip d are lt is =
 pub running_more : (feed : Feed) (day : Day) (trips : List Trip) (running new : List Bool) (i : ℕ) (trip : Trip) (b : Bool)
     → running ≡ map (runs_on feed day) (take i trips) → i < length trips → trip ≡ get_or trips i trip → b ≡ runs_on feed day trip
     → new ≡ running ++ b ∷ [] → new ≡ map (runs_on feed day) (take (i + 1) trips)
-running_more feed day trips running new i trip b was lt is told now =
-    now ∙ ap (λ bs. bs ++ b ∷ []) was ∙ ap (λ x. map (runs_on feed day) (take i trips) ++ x ∷ []) (told ∙ ap (runs_on feed day) is)
+running_more feed day trips running new i trip b was lt is fact now =
+    now ∙ ap (λ bs. bs ++ b ∷ []) was ∙ ap (λ x. map (runs_on feed day) (take i trips) ++ x ∷ []) (fact ∙ ap (runs_on feed day) is)
     ∙ sym (ap (map (runs_on feed day)) (take_more trips i trip lt) ∙ map-append (runs_on feed day) (take i trips) (get_or trips i trip ∷ []))
 
 -- a count that goes on from others

@@ -53,7 +53,7 @@ lifted_more rows times moved left n a d was from to small short =
     record {
       same_length = omega (arith, length_push times (lifted_by left a d));
       times_are = λ k e lt. elim (cases_eq k n) [
-        | inl same ↦ let place : length times ≡ k = omega arith in rw (get_or_push times (lifted_by left a d) e k place, same) is
+        | inl same ↦ let position : length times ≡ k = omega arith in rw (get_or_push times (lifted_by left a d) e k position, same) is
         | inr other ↦ get_or_append_left times (lifted_by left a d ∷ []) e k (omega arith) ∙ was.times_are k e (omega arith)
       ];
       moved_is =

@@ -11,7 +11,7 @@ use Rattle.connections.specs.declared.times.RowTimes.{RowTimes}
 -- a time in seconds after `start` is `clock` seconds after the base, before the end of time
 pub record IsClock (base start : ℤ) (time clock : ℕ) : Type 0 where
   pub in_time : clock < TIME_END
-  pub told : (base +ℤ pos clock) ≡ (start +ℤ pos time)
+  pub same_instant : (base +ℤ pos clock) ≡ (start +ℤ pos time)
 
 -- the time is before the base, or at the end of time or later
 abbrev pub IsOutside : ℤ → ℤ → ℕ → Type 0

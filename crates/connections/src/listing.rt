@@ -111,10 +111,10 @@ fn list_run(
         → IfErr result (λ fault. IsWantOfMemory fault
         ⊎ ((fault ≡ range_fault) × LeavesRange feed.now zone day.base run.now)) }
 {
-    let place = run.trip as usize;
-    let trip = &feed.trips[place];
+    let position = run.trip as usize;
+    let trip = &feed.trips[position];
     let rows = rows_of(&feed.stop_times, trip);
-    let row_times = &times[place].rows;
+    let row_times = &times[position].rows;
     let clock = RunClock {
         day,
         start: run.start,

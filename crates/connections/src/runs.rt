@@ -63,13 +63,13 @@ fn running_on(
     requires rising { All (λ trip. trip.first ≤ trip.end) trips.now }
     requires same { length indices.now ≡ length trips.now }
     ensures len { IfOk result (λ running. length running.items ≡ length trips.now) }
-    ensures told { (feed : JoinedFeed) (day : RunDay) (names : List (List ℕ)) → AreNamed names trips.now indices.now
+    ensures marked { (feed : JoinedFeed) (day : RunDay) (names : List (List ℕ)) → AreNamed names trips.now indices.now
         → active.now ≡ active_among feed names day
         → IfOk result (λ running. running.items ≡ map (runs_then feed day) trips.now) }
 {
     let mut running = Vec::with_capacity(alloc, trips.len())?;
-    for (place, trip) in trips.iter().enumerate() {
-        running.push(is_running(active, indices[place], trip))?;
+    for (position, trip) in trips.iter().enumerate() {
+        running.push(is_running(active, indices[position], trip))?;
     }
     Ok(running)
 }
@@ -124,7 +124,7 @@ fn count_with_trips(
     trips: &[Trip],
     starts: &mut Vec<TripStarts>,
 ) -> Result<usize, AllocError>
-    requires told { length running.now ≡ length trips.now }
+    requires marked { length running.now ≡ length trips.now }
     requires same { length starts.old.items ≡ length trips.now }
     ensures kept { OnOk result (AreKept starts.old.items starts.new.items) }
     ensures count { (feed : JoinedFeed) (day : RunDay) (n : ℕ) → running.now ≡ map (runs_then feed day) trips.now
@@ -133,8 +133,8 @@ fn count_with_trips(
         → IfOk result (λ count. IsCount MAX_TRIPS count (n + length (runs_from feed day 0 trips.now))) }
 {
     let mut count = before;
-    for (place, trip) in trips.iter().enumerate() {
-        count = count_with_trip(alloc, count, running[place], trip, &mut starts[place])?;
+    for (position, trip) in trips.iter().enumerate() {
+        count = count_with_trip(alloc, count, running[position], trip, &mut starts[position])?;
     }
     Ok(count)
 }
@@ -208,8 +208,8 @@ fn add_repeats(
 fn add_starts(runs: &mut Vec<Run>, day: Day, trip: u32, starts: &[u32]) -> Result<(), AllocError>
     ensures { OnOk result (runs.new.items ≡ runs.old.items ++ repeats_from day trip 0 starts.now) }
 {
-    for (place, start) in starts.iter().enumerate() {
-        let Ok(repeat) = u32::try_from(place) else {
+    for (position, start) in starts.iter().enumerate() {
+        let Ok(repeat) = u32::try_from(position) else {
             return Err(AllocError);
         };
         runs.push(Run {
@@ -229,16 +229,16 @@ fn add_run(
     day: Day,
     running: bool,
     trip: &Trip,
-    place: usize,
+    position: usize,
     starts: &mut TripStarts,
 ) -> Result<(), AllocError>
     ensures kept { OnOk result (IsKept starts.old starts.new) }
     ensures runs { (feed : JoinedFeed) → running ≡ runs_then feed day trip.now
-        → AreStartsOf (rows_for feed.frequencies.items place) starts.old
-        → OnOk result (runs.new.items ≡ runs.old.items ++ runs_at feed day place trip.now) }
+        → AreStartsOf (rows_for feed.frequencies.items position) starts.old
+        → OnOk result (runs.new.items ≡ runs.old.items ++ runs_at feed day position trip.now) }
 {
     if running {
-        let Ok(number) = u32::try_from(place) else {
+        let Ok(number) = u32::try_from(position) else {
             return Err(AllocError);
         };
         if trip.repeats {
@@ -263,22 +263,22 @@ fn add_runs_on(
     trips: &[Trip],
     starts: &mut Vec<TripStarts>,
 ) -> Result<(), AllocError>
-    requires told { length running.now ≡ length trips.now }
+    requires marked { length running.now ≡ length trips.now }
     requires same { length starts.old.items ≡ length trips.now }
     ensures kept { OnOk result (AreKept starts.old.items starts.new.items) }
     ensures runs { (feed : JoinedFeed) → running.now ≡ map (runs_then feed day) trips.now
         → HoldStarts feed.frequencies.items (length trips.now) starts.old.items
         → OnOk result (runs.new.items ≡ runs.old.items ++ runs_from feed day 0 trips.now) }
 {
-    for (place, trip) in trips.iter().enumerate() {
+    for (position, trip) in trips.iter().enumerate() {
         add_run(
             alloc,
             runs,
             day,
-            running[place],
+            running[position],
             trip,
-            place,
-            &mut starts[place],
+            position,
+            &mut starts[position],
         )?;
     }
     Ok(())

@@ -78,9 +78,9 @@ fn no_rows(alloc: Global, trips: usize) -> Result<Vec<TripStarts>, AllocError>
 fn add_row(groups: &mut Vec<TripStarts>, row: Frequency) -> Result<(), AllocError>
     ensures { OnOk result (AddsRow groups.old.items row groups.new.items) }
 {
-    let place = row.trip as usize;
-    if place < groups.len() {
-        return groups[place].add(row);
+    let position = row.trip as usize;
+    if position < groups.len() {
+        return groups[position].add(row);
     }
     Ok(())
 }

@@ -2,4 +2,4 @@
 
 /// The sum of all sources but this file, as `release/sources --program` prints it. `release/stamp` writes it, and
 /// `.ci/run` compares it with the sources.
-pub const SOURCES: &str = "8776daeb7ab6c74445217f25808fb0f2ef22c285c10ef1d2849bfc9743b4b252";
+pub const SOURCES: &str = "84c3b4bc088aca0abad582f0d9967a8b5c5095a9f50b2f0b2171f8765dcdb043";

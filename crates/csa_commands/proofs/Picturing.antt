@@ -4,13 +4,13 @@ use Rattle.std.specs.List.{AllZip}
 use Rattle.std.proofs.lemmas.List.{take_more}
 use Rattle.std.proofs.lemmas.Slice.Zip.{all_zipped_more}
 use Rattle.criteria.specs.declared.name.CriterionName.{CriterionName}
-use Rattle.criteria.specs.declared.told.ToldValue.{ToldValue}
+use Rattle.criteria.specs.declared.figures.Figures.{Figures}
 use Rattle.timetable.specs.declared.query.Query.{Query}
 use Rattle.image_layout.specs.Image.{ImageValue}
 use Rattle.answer_pictures.specs.declared.axis.Axis.{Axis}
 use Rattle.answer_pictures.specs.LineValue.{HeadingValue, LineValue}
 use Rattle.answer_pictures.specs.Pictures.{IsPicture, LiesOn}
-use Rattle.answer_pictures.specs.Told.{IsHeadingOf}
+use Rattle.answer_pictures.specs.JourneyLines.{IsHeadingOf}
 use Rattle.journeys.specs.declared.answering.Departure.{Departure}
 use Rattle.csa_commands.specs.Picturing.{IsDrawnAs, IsPictureOf}
 
@@ -22,21 +22,21 @@ drawn_more R xs i x ys zs y lt there before last grown =
     subst (λ some. AllZip R some zs) front (subst (AllZip R (take i xs ++ x ∷ [])) (sym grown) (all_zipped_more R (take i xs) ys x y before last))
 
 -- a picture with the lines of the departures that are drawn
-pub picture_made : {V : Type 0} (told : V
-    → ToldValue) (image : ImageValue) (name : CriterionName) (rows : ℕ) (q : Query)
+pub picture_made : {V : Type 0} (figures : V
+    → Figures) (image : ImageValue) (name : CriterionName) (rows : ℕ) (q : Query)
     (departures drawn : List (Departure V))
     (walk : Option ℕ) (text : List ℕ) (heading shown : HeadingValue) (axis : Axis) (lines seen drew : List LineValue) (left : ℕ)
     → IsHeadingOf image.names name q heading → drawn ≡ take rows departures → seen ≡ lines → drew ≡ lines
-    → shown ≡ heading → AllZip (IsDrawnAs told image) drawn lines
+    → shown ≡ heading → AllZip (IsDrawnAs figures image) drawn lines
     → All (LiesOn axis) seen → left ≡ length departures - rows → IsPicture shown axis walk drew left text
-    → IsPictureOf told image name rows q departures walk text
-picture_made told image name rows q departures drawn walk text heading shown axis lines seen drew left asked some same last above are covered rest is =
+    → IsPictureOf figures image name rows q departures walk text
+picture_made figures image name rows q departures drawn walk text heading shown axis lines seen drew left asked some same last above are covered rest is =
     record {
       heading = heading;
       axis = axis;
       lines = lines;
       asked = asked;
-      drawn = subst (λ ds. AllZip (IsDrawnAs told image) ds lines) some are;
+      drawn = subst (λ ds. AllZip (IsDrawnAs figures image) ds lines) some are;
       covered = subst (All (LiesOn axis)) same covered;
       is = subst (λ n. IsPicture heading axis walk lines n text) rest
           (subst (λ h. IsPicture h axis walk lines left text) above (subst (λ ls. IsPicture shown axis walk ls left text) last is));

@@ -3,7 +3,7 @@ use Rattle.std.specs.Prelude.{◌≡◌, ℕ, List, Option, Result, Ok, Err, Con
 use Rattle.std.specs.Io.KnownBytes.{Appends}
 use Rattle.criteria.specs.Laws.{Rules}
 use Rattle.criteria.specs.declared.name.CriterionName.{CriterionName}
-use Rattle.criteria.specs.declared.told.ToldValue.{ToldValue}
+use Rattle.criteria.specs.declared.figures.Figures.{Figures}
 use Rattle.timetable.specs.declared.query.Query.{Query}
 use Rattle.timetable.specs.declared.query.QueryFault.{QueryFault}
 use Rattle.timetable.specs.Queries.{IsAskable}
@@ -15,7 +15,7 @@ use Rattle.journeys.specs.Answer.{point_of}
 use Rattle.journeys.specs.Extracted.{Attains}
 use Rattle.journeys.specs.Questions.{Asks, IsRefused}
 use Rattle.journeys.specs.declared.answering.Departure.{Departure}
-use Rattle.answer_replies.specs.Valuing.{arrival_told, by_arrival, by_trips, by_walking, trips_told, walking_told}
+use Rattle.answer_replies.specs.Valuing.{arrival_figures, by_arrival, by_trips, by_walking, trips_figures, walking_figures}
 use Rattle.command_requests.specs.declared.requests.ProfileRequest.{ProfileRequest}
 use Rattle.csa_commands.specs.Asking.{window_of}
 use Rattle.csa_commands.specs.Listing.{form_text}
@@ -24,26 +24,26 @@ use Rattle.csa_commands.specs.Refusing.{refusal_line}
 use Rattle.csa_commands.specs.declared.profile.Failure.{Failure}
 use Rattle.csa_commands.specs.declared.profile.Failure.TheVariants.{BadQuery, OutOfMemory}
 use Rattle.csa_commands.specs.declared.profile.Profile.{Profile}
-use Rattle.csa_commands.specs.declared.refusal.Refusal.TheVariants.{Query as OfQuery}
+use Rattle.csa_commands.specs.declared.refusal.CommandRefusal.TheVariants.{Query as OfQuery}
 
 -- the query is answered: the departures' points are exactly the undominated points of all journeys that count for it, in order, each once, and each departure
 -- has a journey that attains its point. The text shows the departures and the direct footpath, and in lines also that as many connections were read as the
 -- window has. A picture, if one is asked for, shows the same departures
-pub record IsShown {V : Type 0} (told : V → ToldValue) (rules : Rules V) (request : ProfileRequest) (image : ImageValue) (q : Query)
+pub record IsShown {V : Type 0} (figures : V → Figures) (rules : Rules V) (request : ProfileRequest) (image : ImageValue) (q : Query)
     (profile : Profile) : Type 0 where
   pub departures : List (Departure V)
   pub walk : Option ℕ
   pub answer : IsAnswer rules image.timetable q (map point_of departures)
   pub attained : (departure : Departure V) → Contains departures departure → Attains rules image.timetable q (point_of departure) departure.journey
   pub direct : IsWay image.timetable q.target q.source walk
-  pub text_is : string_bytes profile.text ≡ form_text told image request.form departures (length (window image.timetable q)) walk
-  pub drawn : IsDrawn told image request q departures walk profile.picture
+  pub text_is : string_bytes profile.text ≡ form_text figures image request.form departures (length (window image.timetable q)) walk
+  pub drawn : IsDrawn figures image request q departures walk profile.picture
 
 -- the query is answered under the criterion of this name
 abbrev pub IsShownBy : CriterionName → ProfileRequest → ImageValue → Query → Profile → Type 0
-IsShownBy CriterionName.Arrival request image q profile = IsShown arrival_told by_arrival request image q profile
-IsShownBy CriterionName.ArrivalTrips request image q profile = IsShown trips_told by_trips request image q profile
-IsShownBy CriterionName.ArrivalTripsWalk request image q profile = IsShown walking_told by_walking request image q profile
+IsShownBy CriterionName.Arrival request image q profile = IsShown arrival_figures by_arrival request image q profile
+IsShownBy CriterionName.ArrivalTrips request image q profile = IsShown trips_figures by_trips request image q profile
+IsShownBy CriterionName.ArrivalTripsWalk request image q profile = IsShown walking_figures by_walking request image q profile
 
 -- the question makes a query that can be asked of the image, and the profile answers it
 abbrev pub AnswersRequest : ImageValue → ProfileRequest → Profile → Type 0

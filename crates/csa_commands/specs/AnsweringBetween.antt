@@ -4,7 +4,7 @@ use Rattle.std.specs.Global.{Global}
 use Rattle.std.specs.Io.KnownBytes.{Appends}
 use Rattle.criteria.specs.Laws.{Rules}
 use Rattle.criteria.specs.declared.name.CriterionName.{CriterionName}
-use Rattle.criteria.specs.declared.told.ToldValue.{ToldValue}
+use Rattle.criteria.specs.declared.figures.Figures.{Figures}
 use Rattle.timetable.specs.declared.query.QueryFault.{QueryFault}
 use Rattle.image_layout.specs.Image.{ImageValue}
 use Rattle.journeys.specs.Answer.{point_of}
@@ -12,7 +12,7 @@ use Rattle.journeys.specs.Extracted.{AttainsBetween}
 use Rattle.journeys.specs.declared.answering.Departure.{Departure}
 use Rattle.journeys.specs.declared.question.Window.{Window}
 use Rattle.profile_scan.specs.Between.{BetweenValue, IsAnswerBetween, IsAskableBetween}
-use Rattle.answer_replies.specs.Valuing.{arrival_told, by_arrival, by_trips, by_walking, trips_told, walking_told}
+use Rattle.answer_replies.specs.Valuing.{arrival_figures, by_arrival, by_trips, by_walking, trips_figures, walking_figures}
 use Rattle.station_answers.specs.Naming.{AsksBetween, IsFaultBetween}
 use Rattle.station_answers.specs.Reading.{window_between}
 use Rattle.station_answers.specs.Walks.{IsDirectTime}
@@ -22,12 +22,12 @@ use Rattle.command_requests.specs.declared.requests.AnswerForm.{AnswerForm}
 use Rattle.command_requests.specs.declared.requests.BetweenRequest.{BetweenRequest}
 use Rattle.csa_commands.specs.Listing.{form_text}
 use Rattle.csa_commands.specs.Refusing.{refusal_line}
-use Rattle.csa_commands.specs.declared.refusal.Refusal.TheVariants.{Query as OfQuery}
+use Rattle.csa_commands.specs.declared.refusal.CommandRefusal.TheVariants.{Query as OfQuery}
 
 -- the question is answered: the departures' points are exactly the undominated points of all journeys that count for any of its pairs, in order, each once,
 -- and each departure has a journey that attains its point for one of the pairs, and that ends as soon as it is at a target. The text shows the departures and
 -- the direct walk, and in lines also how many connections the window has
-pub record AnswersBetween {V : Type 0} (told : V → ToldValue) (rules : Rules V) (form : AnswerForm) (image : ImageValue) (b : BetweenValue)
+pub record AnswersBetween {V : Type 0} (figures : V → Figures) (rules : Rules V) (form : AnswerForm) (image : ImageValue) (b : BetweenValue)
     (text : List ℕ) : Type 0 where
   pub departures : List (Departure V)
   pub walk : Option ℕ
@@ -35,13 +35,13 @@ pub record AnswersBetween {V : Type 0} (told : V → ToldValue) (rules : Rules V
   pub attained : (departure : Departure V) → Contains departures departure
       → AttainsBetween rules image.timetable b (point_of departure) departure.journey
   pub direct : IsDirectTime image.timetable b walk
-  pub text_is : text ≡ form_text told image form departures (length (window_between image.timetable b)) walk
+  pub text_is : text ≡ form_text figures image form departures (length (window_between image.timetable b)) walk
 
 -- the question is answered under the criterion of this name
 abbrev pub AnswersBetweenBy : CriterionName → AnswerForm → ImageValue → BetweenValue → List ℕ → Type 0
-AnswersBetweenBy CriterionName.Arrival form image b text = AnswersBetween arrival_told by_arrival form image b text
-AnswersBetweenBy CriterionName.ArrivalTrips form image b text = AnswersBetween trips_told by_trips form image b text
-AnswersBetweenBy CriterionName.ArrivalTripsWalk form image b text = AnswersBetween walking_told by_walking form image b text
+AnswersBetweenBy CriterionName.Arrival form image b text = AnswersBetween arrival_figures by_arrival form image b text
+AnswersBetweenBy CriterionName.ArrivalTrips form image b text = AnswersBetween trips_figures by_trips form image b text
+AnswersBetweenBy CriterionName.ArrivalTripsWalk form image b text = AnswersBetween walking_figures by_walking form image b text
 
 abbrev pub IsShownBetween : BetweenRequest → ImageValue → BetweenValue → List ℕ → Type 0
 IsShownBetween request image b text = AnswersBetweenBy request.criterion request.form image b text

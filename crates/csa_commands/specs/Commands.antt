@@ -9,11 +9,11 @@ use Rattle.csa_commands.specs.Departing.{AreAllPrinted, IsNoneAsked}
 use Rattle.csa_commands.specs.Informing.{IsInformed}
 use Rattle.csa_commands.specs.Judging.{IsAccepted, IsFaulty}
 use Rattle.csa_commands.specs.StopLines.{AreStopsPrinted}
-use Rattle.csa_commands.specs.declared.asked.Asked.{Asked}
-use Rattle.csa_commands.specs.declared.asked.Asked.TheVariants.{Verify, Info, Journey, Profile, Between, Departures, Stops, Upgrade}
+use Rattle.csa_commands.specs.declared.asked.ImageRequest.{ImageRequest}
+use Rattle.csa_commands.specs.declared.asked.ImageRequest.TheVariants.{Verify, Info, Journey, Profile, Between, Departures, Stops, Upgrade}
 
 -- the path of the image
-abbrev pub path_of : Asked → List ℕ
+abbrev pub path_of : ImageRequest → List ℕ
 path_of (Verify image) = image.now
 path_of (Info image) = image.now
 path_of (Journey request) = request.image.now
@@ -24,7 +24,7 @@ path_of (Stops request) = request.image.now
 path_of (Upgrade request) = request.image.now
 
 -- what was asked of the image was added to what was printed before, and nothing else
-abbrev pub IsDone : ImageValue → Asked → Option (List ℕ) → Option (List ℕ) → Type 0
+abbrev pub IsDone : ImageValue → ImageRequest → Option (List ℕ) → Option (List ℕ) → Type 0
 IsDone image (Verify path) before after = Appends before after (counts_line image)
 IsDone image (Info path) before after = IsInformed image before after
 IsDone image (Journey request) before after = IsAccepted image request.question request.text.now before after
@@ -36,7 +36,7 @@ IsDone image (Upgrade request) before after = Appends before after (counts_line 
 
 -- a journey or a question is refused for its first fault, whose line was added to what was printed before, and nothing else; a list of stops is refused for a
 -- line that is no stop_id, and then nothing was printed. Nothing else is refused
-abbrev pub IsRefusedAs : ImageValue → Asked → Option (List ℕ) → Option (List ℕ) → Type 0
+abbrev pub IsRefusedAs : ImageValue → ImageRequest → Option (List ℕ) → Option (List ℕ) → Type 0
 IsRefusedAs image (Verify path) before after = ⊥
 IsRefusedAs image (Info path) before after = ⊥
 IsRefusedAs image (Journey request) before after = IsFaulty image request.question request.text.now before after

@@ -12,17 +12,17 @@ use Rattle.profile_scan.specs.Destinations.{CanBeAsked}
 use Rattle.profile_scan.specs.declared.destination.Destination.{Destination}
 use Rattle.journeys.specs.Questions.{AsksAll, IsRefusedOfAll}
 use Rattle.journeys.specs.declared.question.Window.{Window}
-use Rattle.answer_replies.specs.Valuing.{arrival_told, by_arrival, by_trips, by_walking, trips_told, walking_told}
+use Rattle.answer_replies.specs.Valuing.{arrival_figures, by_arrival, by_trips, by_walking, trips_figures, walking_figures}
 use Rattle.command_requests.specs.declared.requests.DeparturesForm.{DeparturesForm}
 use Rattle.command_requests.specs.declared.requests.DeparturesRequest.{DeparturesRequest}
 use Rattle.command_requests.specs.declared.statuses.TheConstants.{INPUT_OUTPUT, OUT_OF_MEMORY, REFUSED}
 use Rattle.departure_lines.specs.Naming.{AreWanted, IsUnknownLine}
 use Rattle.departure_lines.specs.Showing.{AreShown}
 use Rattle.departure_lines.specs.declared.form.LineForm.{LineForm}
-use Rattle.departure_lines.specs.declared.stop_lists.Wanted.{Wanted}
-use Rattle.departure_lines.specs.declared.stop_lists.Wanted.TheVariants.{All}
+use Rattle.departure_lines.specs.declared.stop_lists.WantedStops.{WantedStops}
+use Rattle.departure_lines.specs.declared.stop_lists.WantedStops.TheVariants.{All}
 use Rattle.csa_commands.specs.Refusing.{refusal_line}
-use Rattle.csa_commands.specs.declared.refusal.Refusal.TheVariants.{Query}
+use Rattle.csa_commands.specs.declared.refusal.CommandRefusal.TheVariants.{Query}
 use Rattle.csa_commands.specs.declared.wanted_stops.NoList.{NoList}
 use Rattle.csa_commands.specs.declared.wanted_stops.NoList.TheVariants.{NotText, UnknownStop, Unreadable, OutOfMemory}
 
@@ -35,21 +35,21 @@ form_of DeparturesForm.Json = LineForm.Json
 form_of DeparturesForm.JsonPoints = LineForm.JsonPoints
 
 -- the text shows the departures from the stops that are wanted, under the criterion of this name
-abbrev pub AreShownBy : CriterionName → DeparturesForm → ImageValue → Destination → Wanted → List ℕ → Type 0
-AreShownBy CriterionName.Arrival form image d wanted printed = AreShown arrival_told by_arrival (form_of form) image d wanted printed
-AreShownBy CriterionName.ArrivalTrips form image d wanted printed = AreShown trips_told by_trips (form_of form) image d wanted printed
-AreShownBy CriterionName.ArrivalTripsWalk form image d wanted printed = AreShown walking_told by_walking (form_of form) image d wanted printed
+abbrev pub AreShownBy : CriterionName → DeparturesForm → ImageValue → Destination → WantedStops → List ℕ → Type 0
+AreShownBy CriterionName.Arrival form image d wanted printed = AreShown arrival_figures by_arrival (form_of form) image d wanted printed
+AreShownBy CriterionName.ArrivalTrips form image d wanted printed = AreShown trips_figures by_trips (form_of form) image d wanted printed
+AreShownBy CriterionName.ArrivalTripsWalk form image d wanted printed = AreShown walking_figures by_walking (form_of form) image d wanted printed
 
 -- the window that the command line asks for
 abbrev pub window_asked : DeparturesRequest → Window
 window_asked request = record { from = request.after; until = request.until; by = request.by }
 
 -- the stops that are wanted are those that some list names
-abbrev pub IsListed : NamesValue → Wanted → Type 0
+abbrev pub IsListed : NamesValue → WantedStops → Type 0
 IsListed names wanted = (list : List ℕ) × AreWanted names (lines list) wanted
 
 -- all stops are wanted, unless a file is given: then those that some list names. No clause says that the list is the file's text
-abbrev pub IsWantedFrom : {A : Type 0} → NamesValue → Option A → Wanted → Type 0
+abbrev pub IsWantedFrom : {A : Type 0} → NamesValue → Option A → WantedStops → Type 0
 IsWantedFrom names None wanted = wanted ≡ All
 IsWantedFrom names _ wanted = IsListed names wanted
 
@@ -75,14 +75,14 @@ list_status NotText = INPUT_OUTPUT
 list_status OutOfMemory = OUT_OF_MEMORY
 
 -- the departures from the stops that are wanted were added to what was printed before, and nothing else
-abbrev pub ArePrinted : CriterionName → DeparturesForm → ImageValue → Destination → Wanted → Option (List ℕ) → Option (List ℕ) → Type 0
+abbrev pub ArePrinted : CriterionName → DeparturesForm → ImageValue → Destination → WantedStops → Option (List ℕ) → Option (List ℕ) → Type 0
 ArePrinted criterion form image d wanted before after =
     (printed : List ℕ) × AreShownBy criterion form image d wanted printed × Appends before after printed
 
 -- the departures for the destination that is asked for, and which can be asked, were printed
 abbrev pub AreAllPrinted : ImageValue → DeparturesRequest → Option (List ℕ) → Option (List ℕ) → Type 0
 AreAllPrinted image request before after =
-    (d : Destination) × (wanted : Wanted) × CanBeAsked image.timetable.stops d
+    (d : Destination) × (wanted : WantedStops) × CanBeAsked image.timetable.stops d
     × AsksAll image.names request.to.now (window_asked request) d × IsWantedFrom image.names request.from wanted
     × ArePrinted request.criterion request.form image d wanted before after
 

@@ -18,7 +18,7 @@ use Rattle.timetable.specs.NamesValue.{NamesValue}
 use Rattle.timetable.specs.TimetableValue.{TimetableValue}
 use Rattle.csa_commands.specs.Refusing.{RefusesFeed, refusal_line}
 use Rattle.csa_commands.specs.Zoning.{IsNoZoneOf}
-use Rattle.csa_commands.specs.declared.refusal.Refusal.TheVariants.{Feed as OfFeed}
+use Rattle.csa_commands.specs.declared.refusal.CommandRefusal.TheVariants.{Feed as OfFeed}
 
 -- the first files of a folder were read, and some disk may give what was read; and this holds of every content that agrees with these reads
 pub record HoldsOfRead {D : Type 0} (gives : D → List ℕ → MayGive) (folder : List ℕ) (Is : Content → Type 0) : Type 0 where

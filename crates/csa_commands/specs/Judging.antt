@@ -16,8 +16,8 @@ use Rattle.csa_commands.specs.Refusing.{refusal_line}
 use Rattle.departure_lines.specs.Words.{times_text}
 use Rattle.csa_commands.specs.declared.journey.Failure.{Failure}
 use Rattle.csa_commands.specs.declared.journey.Failure.TheVariants.{BadQuery, BadText, Faulty, OutOfMemory}
-use Rattle.csa_commands.specs.declared.refusal.Refusal.{Refusal}
-use Rattle.csa_commands.specs.declared.refusal.Refusal.TheVariants.{BadText as OfText, Journey as OfJourney, Query as OfQuery}
+use Rattle.csa_commands.specs.declared.refusal.CommandRefusal.{CommandRefusal}
+use Rattle.csa_commands.specs.declared.refusal.CommandRefusal.TheVariants.{BadText as OfText, Journey as OfJourney, Query as OfQuery}
 
 -- the question makes this query of the image, and it can be asked
 abbrev pub IsQueried : ImageValue → Question → Query → Type 0
@@ -51,7 +51,7 @@ IsAccepted image question text before after =
     (times : Times) × IsVerdict image question text (Ok times) × Appends before after (times_line times)
 
 -- the refusal of a journey that isn't accepted; if memory ran out, there is none
-abbrev pub IsRefusedFor : Failure → Refusal → Type 0
+abbrev pub IsRefusedFor : Failure → CommandRefusal → Type 0
 IsRefusedFor (BadQuery fault) refusal = refusal ≡ OfQuery fault
 IsRefusedFor BadText refusal = refusal ≡ OfText
 IsRefusedFor (Faulty fault) refusal = refusal ≡ OfJourney fault
@@ -60,5 +60,5 @@ IsRefusedFor OutOfMemory refusal = ⊥
 -- there is a first fault, of the query, of the text or of the journey, and its line was added to what was printed before, and nothing else
 abbrev pub IsFaulty : ImageValue → Question → List ℕ → Option (List ℕ) → Option (List ℕ) → Type 0
 IsFaulty image question text before after =
-    (failure : Failure) × (refusal : Refusal) × IsVerdict image question text (Err failure) × IsRefusedFor failure refusal
+    (failure : Failure) × (refusal : CommandRefusal) × IsVerdict image question text (Err failure) × IsRefusedFor failure refusal
     × Appends before after (refusal_line refusal)

@@ -1,7 +1,7 @@
 -- The lines of `csa profile` and of `csa journey`.
 use Rattle.std.specs.Prelude.{ℕ, List, [], ◌++◌, codes, decimal, length, slice_get, Option, None, Some}
 use Rattle.std.specs.List.{flat_map}
-use Rattle.criteria.specs.declared.told.ToldValue.{ToldValue}
+use Rattle.criteria.specs.declared.figures.Figures.{Figures}
 use Rattle.departure_lines.specs.Words.{departure_line, numbered_text, walk_word}
 use Rattle.timetable.specs.Clocks.{clock_bytes}
 use Rattle.timetable.specs.JourneyValue.{JourneyValue, RideValue}
@@ -56,17 +56,17 @@ unfoldable pub end_line : ℕ → ℕ → Option ℕ → List ℕ
 end_line points read walk = (codes "points " ++ decimal points) ++ (codes " read " ++ decimal read) ++ walk_word walk ++ codes "\n"
 
 -- a line for each departure, in order, and the last line
-abbrev pub lines_text : {V : Type 0} → (V → ToldValue) → (JourneyValue → List ℕ) → List (Departure V) → ℕ → Option ℕ → List ℕ
-lines_text told words departures read walk =
-    flat_map (departure_line told words) departures ++ end_line (length departures) read walk
+abbrev pub lines_text : {V : Type 0} → (V → Figures) → (JourneyValue → List ℕ) → List (Departure V) → ℕ → Option ℕ → List ℕ
+lines_text figures words departures read walk =
+    flat_map (departure_line figures words) departures ++ end_line (length departures) read walk
 
 -- a session's reply over the image as version 1
-abbrev pub reply_text : {V : Type 0} → PointForm → (V → ToldValue) → ImageValue → List (Departure V) → Option ℕ → List ℕ
-reply_text form told image departures walk = line_of (profile_data (departures_data form image told departures) 1 walk)
+abbrev pub reply_text : {V : Type 0} → PointForm → (V → Figures) → ImageValue → List (Departure V) → Option ℕ → List ℕ
+reply_text form figures image departures walk = line_of (profile_data (departures_data form image figures departures) 1 walk)
 
 -- an answer in a form: lines with the journeys' numbers or names, or a session's reply
-abbrev pub form_text : {V : Type 0} → (V → ToldValue) → ImageValue → AnswerForm → List (Departure V) → ℕ → Option ℕ → List ℕ
-form_text told image AnswerForm.Numbers departures read walk = lines_text told numbered_text departures read walk
-form_text told image AnswerForm.Names departures read walk = lines_text told (named_text image) departures read walk
-form_text told image AnswerForm.Json departures read walk = reply_text PointForm.Bare told image departures walk
-form_text told image AnswerForm.JsonLegs departures read walk = reply_text PointForm.WithLegs told image departures walk
+abbrev pub form_text : {V : Type 0} → (V → Figures) → ImageValue → AnswerForm → List (Departure V) → ℕ → Option ℕ → List ℕ
+form_text figures image AnswerForm.Numbers departures read walk = lines_text figures numbered_text departures read walk
+form_text figures image AnswerForm.Names departures read walk = lines_text figures (named_text image) departures read walk
+form_text figures image AnswerForm.Json departures read walk = reply_text PointForm.Bare figures image departures walk
+form_text figures image AnswerForm.JsonLegs departures read walk = reply_text PointForm.WithLegs figures image departures walk

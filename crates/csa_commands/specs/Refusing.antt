@@ -5,29 +5,29 @@ use Rattle.feed_loader.specs.Faults.{fault_name as feed_name, fault_number as fe
 use Rattle.feed_loader.specs.Refused.{IsWantOfMemory}
 use Rattle.feed_loader.specs.declared.fault.LoadFault.{LoadFault}
 use Rattle.feed_loader.specs.declared.fault.LoadFault.TheVariants as feeds
-use Rattle.gtfs_rows.specs.Told.{file_name}
-use Rattle.image_layout.specs.FaultNumber.{fault_told as words_told}
+use Rattle.gtfs_rows.specs.FaultNumber.{file_name}
+use Rattle.image_layout.specs.FaultNumber.{numbered_fault as numbered_words_fault}
 use Rattle.image_layout.specs.declared.words.WordsFault.{WordsFault}
-use Rattle.image_verifier.specs.FaultNumber.{fault_told as image_told}
+use Rattle.image_verifier.specs.FaultNumber.{numbered_fault as numbered_image_fault}
 use Rattle.image_verifier.specs.declared.fault.ImageFault.{ImageFault}
 use Rattle.image_verifier.specs.declared.fault.ImageFault.TheVariants as images
 use Rattle.journeys.specs.Numbers.{name_of, number_of}
 use Rattle.journeys.specs.Texts.{number_text}
 use Rattle.journeys.specs.declared.fault.JourneyFault.{JourneyFault}
 use Rattle.journeys.specs.declared.fault.JourneyFault.TheVariants as journeys
-use Rattle.timetable.specs.Queries.{fault_told as query_told}
+use Rattle.timetable.specs.Queries.{numbered_fault as numbered_query_fault}
 use Rattle.csa_commands.specs.Listing.{word_text}
-use Rattle.csa_commands.specs.declared.refusal.Refusal.{Refusal}
-use Rattle.csa_commands.specs.declared.refusal.Refusal.TheVariants.{OddLength, Image, Feed, Query, BadText, Journey}
+use Rattle.csa_commands.specs.declared.refusal.CommandRefusal.{CommandRefusal}
+use Rattle.csa_commands.specs.declared.refusal.CommandRefusal.TheVariants.{OddLength, Image, Feed, Query, BadText, Journey}
 
 -- the number and the name of a refusal
-abbrev pub refusal_told : Refusal → ℕ × List ℕ
-refusal_told OddLength = words_told WordsFault.OddLength
-refusal_told (Image fault) = image_told fault
-refusal_told (Feed fault) = (feed_number fault, feed_name fault)
-refusal_told (Query fault) = query_told fault
-refusal_told BadText = (80, codes "BadText")
-refusal_told (Journey fault) = (number_of fault, name_of fault)
+abbrev pub numbered_refusal : CommandRefusal → ℕ × List ℕ
+numbered_refusal OddLength = numbered_words_fault WordsFault.OddLength
+numbered_refusal (Image fault) = numbered_image_fault fault
+numbered_refusal (Feed fault) = (feed_number fault, feed_name fault)
+numbered_refusal (Query fault) = numbered_query_fault fault
+numbered_refusal BadText = (80, codes "BadText")
+numbered_refusal (Journey fault) = (number_of fault, name_of fault)
 
 -- where an image is wrong: which connection, stop or name it is, or which three stops
 abbrev pub image_places : ImageFault → List ℕ
@@ -68,7 +68,7 @@ journey_places (journeys.TooEarly leg) = number_text leg
 journey_places journeys.WrongEnds = []
 journey_places journeys.OutsideWindow = []
 
-abbrev pub refusal_places : Refusal → List ℕ
+abbrev pub refusal_places : CommandRefusal → List ℕ
 refusal_places OddLength = []
 refusal_places (Image fault) = image_places fault
 refusal_places (Feed fault) = feed_places fault
@@ -77,9 +77,9 @@ refusal_places BadText = []
 refusal_places (Journey fault) = journey_places fault
 
 -- the line of a refusal: its number, its name, and where something is wrong
-unfoldable pub refusal_line : Refusal → List ℕ
+unfoldable pub refusal_line : CommandRefusal → List ℕ
 refusal_line refusal =
-    (codes "refused " ++ decimal (refusal_told refusal).0) ++ word_text (refusal_told refusal).1 ++ refusal_places refusal ++ codes "\n"
+    (codes "refused " ++ decimal (numbered_refusal refusal).0) ++ word_text (numbered_refusal refusal).1 ++ refusal_places refusal ++ codes "\n"
 
 -- the status of a feed that is refused, or of which a file can't be read
 abbrev pub refusal_status : LoadFault → ℕ

@@ -6,10 +6,10 @@ use Rattle.gtfs_tables.specs.declared.tables.Feed.{Feed}
 use Rattle.gtfs_tables.specs.declared.tables.Tables.{Tables}
 use Rattle.feed_files.specs.Files.{MayGive}
 use Rattle.csa_commands.specs.Folders.{AreTablesOf}
-use Rattle.csa_commands.specs.declared.tables.Counts.{Counts}
+use Rattle.csa_commands.specs.declared.tables.TableCounts.{TableCounts}
 
 -- how many records each table has
-abbrev pub counts_of : Tables → Counts
+abbrev pub counts_of : Tables → TableCounts
 counts_of t =
     record {
       agencies = length t.agencies.items;
@@ -22,30 +22,30 @@ counts_of t =
     }
 
 -- how many agencies, stops, trips and stop times there are
-unfoldable pub trips_text : Counts → List ℕ
+unfoldable pub trips_text : TableCounts → List ℕ
 trips_text counts =
     (codes "tables agencies " ++ decimal counts.agencies) ++ (codes " stops " ++ decimal counts.stops) ++ (codes " trips " ++ decimal counts.trips)
     ++ (codes " stop_times " ++ decimal counts.stop_times)
 
 -- how many records there are in either calendar, and how many transfers
-unfoldable pub services_text : Counts → List ℕ
+unfoldable pub services_text : TableCounts → List ℕ
 services_text counts =
     (codes " calendar " ++ decimal counts.calendar) ++ (codes " calendar_dates " ++ decimal counts.calendar_dates)
     ++ (codes " transfers " ++ decimal counts.transfers)
 
-abbrev pub counts_text : Counts → List ℕ
+abbrev pub counts_text : TableCounts → List ℕ
 counts_text counts = trips_text counts ++ services_text counts ++ codes "\n"
 
 -- the tables can be joined, so nothing is wrong with them, and these are their counts
-abbrev pub AreCountsOfJoined : Tables → Counts → Type 0
+abbrev pub AreCountsOfJoined : Tables → TableCounts → Type 0
 AreCountsOfJoined t counts = (feed : Feed) × IsJoined false t feed × (counts ≡ counts_of t)
 
 -- these are the counts of the tables of the folder's files, which can be joined
-abbrev pub AreCountsOf : {D : Type 0} → (D → List ℕ → MayGive) → List ℕ → Counts → Type 0
+abbrev pub AreCountsOf : {D : Type 0} → (D → List ℕ → MayGive) → List ℕ → TableCounts → Type 0
 AreCountsOf gives folder counts = (t : Tables) × AreTablesOf gives folder t × AreCountsOfJoined t counts
 
 -- the line of these counts was added to what was printed before, and nothing else
 abbrev pub AreCounted : {D : Type 0} → (D → List ℕ → MayGive) → List ℕ
     → Option (List ℕ) → Option (List ℕ) → Type 0
 AreCounted gives folder before after =
-    (counts : Counts) × AreCountsOf gives folder counts × Appends before after (counts_text counts)
+    (counts : TableCounts) × AreCountsOf gives folder counts × Appends before after (counts_text counts)

@@ -5,7 +5,7 @@ ghost use Rattle.command_requests.specs.declared.statuses.TheConstants.{ACCEPTED
 ghost use Rattle.csa_commands.specs.Commands.{IsDone, IsRefusedAs};
 ghost use Rattle.csa_commands.specs.Ending.{Ends};
 
-use crate::windows::{Departures, warn_of_window};
+use crate::windows::{DepartureRange, warn_of_window};
 use crate::{between, departures, info, journey, profile, status, stops, upgrade, verify};
 use command_requests::{
     BetweenRequest, DeparturesRequest, JourneyRequest, ProfileRequest, StopsRequest, UpgradeRequest,
@@ -16,7 +16,7 @@ use std::rt::Files;
 
 /// A command over the image at a path, where `-` is the standard input.
 #[derive(Clone, Copy, Drop)]
-pub enum Asked<'a> {
+pub enum ImageRequest<'a> {
     /// Print how many stops, trips, connections and footpaths it has.
     Verify(&'a str),
     /// Print what it has.
@@ -35,7 +35,7 @@ pub enum Asked<'a> {
     Upgrade(UpgradeRequest<'a>),
 }
 
-impl<'a> Asked<'a> {
+impl<'a> ImageRequest<'a> {
     ghost use Rattle.std.specs.Prelude.{◌≡◌};
     ghost use Rattle.csa_commands.specs.Commands.{path_of};
 
@@ -44,29 +44,29 @@ impl<'a> Asked<'a> {
         ensures { result.now ≡ path_of self.entry }
     {
         match self {
-            Asked::Verify(image) => image,
-            Asked::Info(image) => image,
-            Asked::Journey(request) => request.image,
-            Asked::Profile(request) => request.image,
-            Asked::Between(request) => request.image,
-            Asked::Departures(request) => request.image,
-            Asked::Stops(request) => request.image,
-            Asked::Upgrade(request) => request.image,
+            ImageRequest::Verify(image) => image,
+            ImageRequest::Info(image) => image,
+            ImageRequest::Journey(request) => request.image,
+            ImageRequest::Profile(request) => request.image,
+            ImageRequest::Between(request) => request.image,
+            ImageRequest::Departures(request) => request.image,
+            ImageRequest::Stops(request) => request.image,
+            ImageRequest::Upgrade(request) => request.image,
         }
     }
 
     /// The window of departures that is asked for, if the command has one.
-    fn departures(self) -> Option<Departures> {
+    fn departures(self) -> Option<DepartureRange> {
         match self {
-            Asked::Profile(request) => Some(Departures {
+            ImageRequest::Profile(request) => Some(DepartureRange {
                 first: request.question.after,
                 last: request.question.until,
             }),
-            Asked::Between(request) => Some(Departures {
+            ImageRequest::Between(request) => Some(DepartureRange {
                 first: request.after,
                 last: request.until,
             }),
-            Asked::Departures(request) => Some(Departures {
+            ImageRequest::Departures(request) => Some(DepartureRange {
                 first: request.after,
                 last: request.until,
             }),
@@ -82,7 +82,7 @@ impl<'a> Asked<'a> {
 pub fn answer<H: Files + AllocGlobal, O: Write, E: Write>(
     rt: &H,
     image: &Verified,
-    asked: Asked<'_>,
+    asked: ImageRequest<'_>,
     output: &mut O,
     errors: &mut E,
     warnings: bool,
@@ -105,7 +105,7 @@ pub fn answer<H: Files + AllocGlobal, O: Write, E: Write>(
 fn do_asked<H: Files + AllocGlobal, O: Write, E: Write>(
     rt: &H,
     image: &Verified,
-    asked: Asked<'_>,
+    asked: ImageRequest<'_>,
     output: &mut O,
     errors: &mut E,
 ) -> u8
@@ -117,19 +117,19 @@ fn do_asked<H: Files + AllocGlobal, O: Write, E: Write>(
     ensures silent { result ≡ OUT_OF_MEMORY → O.contents output.new ≡ O.contents output.old }
 {
     match asked {
-        Asked::Verify(_) => verify::run(rt.alloc(), image, output),
-        Asked::Info(_) => info::run(rt.alloc(), image, output),
-        Asked::Journey(request) => journey::run(rt.alloc(), image, request, output, errors),
-        Asked::Profile(request) => profile::run(rt, image, request, output, errors),
-        Asked::Between(request) => between::run(rt.alloc(), image, request, output, errors),
-        Asked::Departures(request) => departures::run(rt, image, request, output, errors),
-        Asked::Stops(request) => stops::run(rt.alloc(), image, request, output, errors),
-        Asked::Upgrade(request) => upgrade::run(rt, image, request, output, errors),
+        ImageRequest::Verify(_) => verify::run(rt.alloc(), image, output),
+        ImageRequest::Info(_) => info::run(rt.alloc(), image, output),
+        ImageRequest::Journey(request) => journey::run(rt.alloc(), image, request, output, errors),
+        ImageRequest::Profile(request) => profile::run(rt, image, request, output, errors),
+        ImageRequest::Between(request) => between::run(rt.alloc(), image, request, output, errors),
+        ImageRequest::Departures(request) => departures::run(rt, image, request, output, errors),
+        ImageRequest::Stops(request) => stops::run(rt.alloc(), image, request, output, errors),
+        ImageRequest::Upgrade(request) => upgrade::run(rt, image, request, output, errors),
     }
 }
 
 // Warns of the window of departures that is asked for, if there is one and it goes beyond the image's connections.
-fn warn_of_departures<E: Write>(image: &Verified, asked: Asked<'_>, errors: &mut E) {
+fn warn_of_departures<E: Write>(image: &Verified, asked: ImageRequest<'_>, errors: &mut E) {
     if let Some(departures) = asked.departures() {
         warn_of_window(image, departures, errors);
     }

@@ -9,14 +9,14 @@ ghost use Rattle.csa_commands.specs.AnsweringBetween.{AnswersBetween, IsNoneBetw
 ghost use Rattle.csa_commands.specs.AnsweringBetween.{IsTextBetween};
 ghost use Rattle.csa_commands.specs.Ending.{Ends, EndsUndone};
 ghost use Rattle.csa_commands.specs.Refusing.{refusal_line};
-ghost use Rattle.csa_commands.specs.declared.refusal.Refusal.TheVariants.{Query as OfQuery};
+ghost use Rattle.csa_commands.specs.declared.refusal.CommandRefusal.TheVariants.{Query as OfQuery};
 
 use crate::profile::text_in_form;
 use crate::question::{explain_end, window_reason};
-use crate::refusal::Refusal;
+use crate::refusal::CommandRefusal;
 use crate::status;
 use command_requests::BetweenRequest;
-use criteria::{Arrival, ArrivalTrips, ArrivalTripsWalk, CriterionName, Told};
+use criteria::{Arrival, ArrivalTrips, ArrivalTripsWalk, CriterionName, ShowsFigures};
 use feed_messages::explain;
 use image_verifier::Verified;
 use journeys::Window;
@@ -91,7 +91,7 @@ fn text_by_name(
 }
 
 // Answers a question under a criterion.
-fn text_by<C: Told>(
+fn text_by<C: ShowsFigures>(
     alloc: Global,
     image: &Verified,
     criterion: &C,
@@ -99,7 +99,7 @@ fn text_by<C: Told>(
     request: &BetweenRequest<'_>,
 ) -> Result<String, AllocError>
     requires { IsAskableBetween image.now.timetable.stops (question query.now) }
-    ensures { IfOk result (λ text. AnswersBetween C.told (C.rules criterion.now) request.now.form image.now
+    ensures { IfOk result (λ text. AnswersBetween C.figures (C.rules criterion.now) request.now.form image.now
         (question query.now) (string_bytes text)) }
 {
     let mut source = InPlace::new(image);
@@ -121,7 +121,7 @@ fn refuse<O: Write, E: Write>(
         → Appends (O.contents output.old) (O.contents output.new) (refusal_line (OfQuery fault)) }
     ensures silent { result ≡ OUT_OF_MEMORY → O.contents output.new ≡ O.contents output.old }
 {
-    let status = status::print_refusal(alloc, output, Refusal::Query(fault));
+    let status = status::print_refusal(alloc, output, CommandRefusal::Query(fault));
     if status == status::REFUSED {
         explain_between(image, request, fault, errors);
     }

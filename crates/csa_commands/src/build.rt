@@ -17,7 +17,7 @@ use crate::planning::{PlanFailure, plan_of};
 use crate::progress::{Progress, ReportedFiles, Reports, load_reported};
 use crate::refusal::refuse_feed;
 use crate::status;
-use crate::warnings::{Built, warn};
+use crate::warnings::{BuiltImage, warn};
 use crate::writing::put_image;
 use command_requests::BuildRequest;
 use feed_files::{Disk, FeedFiles, FolderFiles};
@@ -88,7 +88,7 @@ fn build<'a, 'c, H: Files + Disk + AllocGlobal + Clock, E: Write>(
     request: &BuildRequest<'a>,
     log: Option<&'c mut E>,
     is_terminal: bool,
-) -> Result<Built, Failure<'a>>
+) -> Result<BuiltImage, Failure<'a>>
     ensures built { IfOk result (λ built. IsBuiltFrom H.gives request.now.folder.now request.now.plan
         built.image.timetable built.image.names built.report) }
     ensures refused { IfErr result (λ failure. IfRefused failure
@@ -113,7 +113,7 @@ fn build_reported<'a, H: Files + AllocGlobal, F: FeedFiles, R: Reports>(
     out: &'a str,
     files: &mut ReportedFiles<F, R>,
     plan: Plan,
-) -> Result<Built, Failure<'a>>
+) -> Result<BuiltImage, Failure<'a>>
     requires failures { F.failures files.old.files < 2 ^ 64 - 1 }
     requires some { 1 ≤ plan.days }
     requires few { plan.days ≤ MAX_DAYS }
@@ -134,7 +134,7 @@ fn build_reported<'a, H: Files + AllocGlobal, F: FeedFiles, R: Reports>(
         return Err(Failure::Unwritten(out, error.kind()));
     }
     files.report_written(out, image.words().len());
-    Ok(Built {
+    Ok(BuiltImage {
         image,
         plan,
         report,

@@ -12,12 +12,12 @@ ghost use Rattle.csa_commands.specs.Departing.{AreAllPrinted, ArePrinted, AreSho
 ghost use Rattle.csa_commands.specs.Departing.{form_of, list_status, window_asked};
 
 use crate::question::{explain_end, window_reason};
-use crate::refusal::Refusal;
+use crate::refusal::CommandRefusal;
 use crate::status;
 use crate::wanted_stops::{NoList, wanted_from};
 use command_requests::{DeparturesForm, DeparturesRequest};
 use criteria::{Arrival, ArrivalTrips, ArrivalTripsWalk, CriterionName};
-use departure_lines::{LineForm, Wanted, departures_text};
+use departure_lines::{LineForm, WantedStops, departures_text};
 use feed_messages::{explain, is_file};
 use image_verifier::Verified;
 use journeys::{Window, destination_named};
@@ -47,7 +47,7 @@ pub fn run<H: Files + AllocGlobal, O: Write, E: Write>(
     let destination = match destination_asked(image, &request) {
         Ok(destination) => destination,
         Err(fault) => {
-            let status = status::print_refusal(rt.alloc(), output, Refusal::Query(fault));
+            let status = status::print_refusal(rt.alloc(), output, CommandRefusal::Query(fault));
             if status == status::REFUSED {
                 explain_fault(image, &request, fault, errors);
             }
@@ -66,7 +66,7 @@ fn print_all<O: Write>(
     image: &Verified,
     destination: &Destination,
     request: DeparturesRequest<'_>,
-    wanted: &Wanted,
+    wanted: &WantedStops,
     output: &mut O,
 ) -> u8
     requires { CanBeAsked image.now.timetable.stops destination.now }
@@ -162,7 +162,7 @@ fn text_by_name(
     image: &Verified,
     destination: &Destination,
     request: DeparturesRequest<'_>,
-    wanted: &Wanted,
+    wanted: &WantedStops,
 ) -> Result<String, AllocError>
     requires { CanBeAsked image.now.timetable.stops destination.now }
     ensures { IfOk result (λ text. AreShownBy request.entry.criterion request.entry.form image.now destination.now

@@ -9,23 +9,23 @@ use text_pieces::{put_number, put_text};
 
 /// When something began; unknown if the clock couldn't be read.
 #[derive(Clone, Copy, Drop)]
-pub struct Begun {
+pub struct StartInstant {
     instant: Option<Instant>,
 }
 
-impl Begun {
+impl StartInstant {
     /// Notes that something begins now.
-    pub fn now<C: Clock>(clock: &C) -> Begun {
-        Begun {
+    pub fn now<C: Clock>(clock: &C) -> StartInstant {
+        StartInstant {
             instant: Instant::now(clock).ok(),
         }
     }
 
     /// Notes that something began at this instant, if it is known.
-    pub fn at(instant: Option<Instant>) -> Begun
+    pub fn at(instant: Option<Instant>) -> StartInstant
         ensures { result.instant ≡ instant }
     {
-        Begun { instant }
+        StartInstant { instant }
     }
 
     /// How long it has lasted; `None` if the clock can't be read, or couldn't be read when it began.

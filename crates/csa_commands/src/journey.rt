@@ -7,7 +7,7 @@ ghost use Rattle.csa_commands.specs.Ending.{Ends};
 ghost use Rattle.csa_commands.specs.Judging.{IsAccepted, IsFaulty, IsVerdict, times_line};
 
 use crate::question::{query_asked, refuse_question};
-use crate::refusal::Refusal;
+use crate::refusal::CommandRefusal;
 use crate::status;
 use command_requests::JourneyRequest;
 use departure_lines::append_times;
@@ -56,14 +56,14 @@ pub fn run<O: Write, E: Write>(
             refuse_question(alloc, image, &request.question, fault, output, errors)
         }
         Err(Failure::BadText) => {
-            let status = status::print_refusal(alloc, output, Refusal::BadText);
+            let status = status::print_refusal(alloc, output, CommandRefusal::BadText);
             if status == status::REFUSED {
                 explain_text(errors);
             }
             status
         }
         Err(Failure::Faulty(fault)) => {
-            let status = status::print_refusal(alloc, output, Refusal::Journey(fault));
+            let status = status::print_refusal(alloc, output, CommandRefusal::Journey(fault));
             if status == status::REFUSED {
                 explain_fault(alloc, image, request.text, fault, errors);
             }

@@ -33,8 +33,8 @@ mod warnings;
 mod windows;
 mod writing;
 
-pub use asked::{Asked, answer};
-pub use elapsed::{Begun, put_seconds};
+pub use asked::{ImageRequest, answer};
+pub use elapsed::{StartInstant, put_seconds};
 pub use explaining::{explain_load, explain_refused, explain_zone};
 pub use feed_messages::{explain, folder_fault, reason_of};
 pub use newlines::line_ends;

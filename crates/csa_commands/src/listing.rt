@@ -6,7 +6,7 @@ ghost use Rattle.departure_lines.specs.Words.{departure_line, numbered_text};
 ghost use Rattle.csa_commands.specs.Listing.{end_line, lines_text, named_text};
 
 use crate::naming::append_named;
-use criteria::Told;
+use criteria::ShowsFigures;
 use departure_lines::{append_by_numbers, append_direct, append_point};
 use image_verifier::Verified;
 use journeys::{Answer, Departure};
@@ -14,13 +14,13 @@ use std::alloc::{AllocError, Global};
 use text_pieces::{put_number, put_text};
 
 /// The lines of an answer, with journeys by the image's numbers.
-pub fn numbered_lines<C: Told>(
+pub fn numbered_lines<C: ShowsFigures>(
     alloc: Global,
     criterion: &C,
     answer: &Answer<C>,
 ) -> Result<String, AllocError>
     ensures { IfOk result (λ lines. string_bytes lines
-        ≡ lines_text C.told numbered_text answer.now.departures.items answer.now.read answer.now.walk) }
+        ≡ lines_text C.figures numbered_text answer.now.departures.items answer.now.read answer.now.walk) }
 {
     let mut lines = String::new(alloc);
     append_numbered(&mut lines, alloc, criterion, &answer.departures)?;
@@ -34,14 +34,14 @@ pub fn numbered_lines<C: Told>(
 }
 
 /// The lines of an answer, with journeys by the image's names.
-pub fn named_lines<C: Told>(
+pub fn named_lines<C: ShowsFigures>(
     alloc: Global,
     image: &Verified,
     criterion: &C,
     answer: &Answer<C>,
 ) -> Result<String, AllocError>
     ensures { IfOk result (λ lines. string_bytes lines
-        ≡ lines_text C.told (named_text image.now) answer.now.departures.items answer.now.read answer.now.walk) }
+        ≡ lines_text C.figures (named_text image.now) answer.now.departures.items answer.now.read answer.now.walk) }
 {
     let mut lines = String::new(alloc);
     append_all_named(&mut lines, alloc, image, criterion, &answer.departures)?;
@@ -54,14 +54,14 @@ pub fn named_lines<C: Told>(
     Ok(lines)
 }
 
-fn append_numbered<C: Told>(
+fn append_numbered<C: ShowsFigures>(
     lines: &mut String,
     alloc: Global,
     criterion: &C,
     departures: &[Departure<C::V>],
 ) -> Result<(), AllocError>
     ensures { OnOk result (string_bytes lines.new ≡ string_bytes lines.old
-        ++ flat_map (departure_line C.told numbered_text) departures.now) }
+        ++ flat_map (departure_line C.figures numbered_text) departures.now) }
 {
     for departure in departures {
         append_by_numbers(lines, alloc, criterion, departure)?;
@@ -69,7 +69,7 @@ fn append_numbered<C: Told>(
     Ok(())
 }
 
-fn append_all_named<C: Told>(
+fn append_all_named<C: ShowsFigures>(
     lines: &mut String,
     alloc: Global,
     image: &Verified,
@@ -77,7 +77,7 @@ fn append_all_named<C: Told>(
     departures: &[Departure<C::V>],
 ) -> Result<(), AllocError>
     ensures { OnOk result (string_bytes lines.new ≡ string_bytes lines.old
-        ++ flat_map (departure_line C.told (named_text image.now)) departures.now) }
+        ++ flat_map (departure_line C.figures (named_text image.now)) departures.now) }
 {
     for departure in departures {
         append_by_names(lines, alloc, image, criterion, departure)?;
@@ -85,7 +85,7 @@ fn append_all_named<C: Told>(
     Ok(())
 }
 
-fn append_by_names<C: Told>(
+fn append_by_names<C: ShowsFigures>(
     lines: &mut String,
     alloc: Global,
     image: &Verified,
@@ -93,9 +93,13 @@ fn append_by_names<C: Told>(
     departure: &Departure<C::V>,
 ) -> Result<(), AllocError>
     ensures { OnOk result (string_bytes lines.new ≡ string_bytes lines.old
-        ++ departure_line C.told (named_text image.now) departure.now) }
+        ++ departure_line C.figures (named_text image.now) departure.now) }
 {
-    append_point(lines, departure.time, criterion.tell(&departure.value))?;
+    append_point(
+        lines,
+        departure.time,
+        criterion.figures_of(&departure.value),
+    )?;
     append_named(lines, alloc, image, &departure.journey)?;
     put_text(lines, "\n")?;
     Ok(())

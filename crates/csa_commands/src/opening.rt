@@ -8,9 +8,9 @@ ghost use Rattle.image_files.specs.Held.{HoldsOfBytes};
 ghost use Rattle.csa_commands.specs.Ending.{EndsUndone};
 ghost use Rattle.csa_commands.specs.Opening.{IsRefusedImage, SpellsImage};
 ghost use Rattle.csa_commands.specs.Refusing.{refusal_line};
-ghost use Rattle.csa_commands.specs.declared.refusal.Refusal.TheVariants.{Image as OfImage};
+ghost use Rattle.csa_commands.specs.declared.refusal.CommandRefusal.TheVariants.{Image as OfImage};
 
-use crate::refusal::Refusal;
+use crate::refusal::CommandRefusal;
 use crate::status;
 use image_files::{ImageDisk, ImageFileFault, image_words};
 use image_verifier::{ImageFault, Verified, verify};
@@ -72,7 +72,7 @@ pub fn open_image<H: Files + ImageDisk<Image = H::File> + AllocGlobal, I: Read, 
             return Err(refuse(
                 rt.alloc(),
                 path,
-                Refusal::OddLength,
+                CommandRefusal::OddLength,
                 &reason,
                 output,
                 errors,
@@ -118,14 +118,21 @@ fn refuse_words<O: Write, E: Write>(
         return status::OUT_OF_MEMORY;
     }
     let reason = Reason(fault);
-    refuse(alloc, path, Refusal::Image(fault), &reason, output, errors)
+    refuse(
+        alloc,
+        path,
+        CommandRefusal::Image(fault),
+        &reason,
+        output,
+        errors,
+    )
 }
 
 // Prints why the image at a path is refused, and says what is wrong.
 fn refuse<F: fmt::Display, O: Write, E: Write>(
     alloc: Global,
     path: &str,
-    refusal: Refusal,
+    refusal: CommandRefusal,
     reason: &F,
     output: &mut O,
     errors: &mut E,

@@ -7,7 +7,7 @@ ghost use Rattle.csa_commands.specs.Picturing.{IsDrawn, IsDrawnAs, IsPictureOf};
 
 use answer_pictures::{Axis, JourneyLine, heading_of, journey_line, picture};
 use command_requests::ProfileRequest;
-use criteria::Told;
+use criteria::ShowsFigures;
 use image_verifier::Verified;
 use journeys::{Answer, Departure};
 use std::alloc::{AllocError, Global};
@@ -18,7 +18,7 @@ use std::rt::Files;
 use timetable::Query;
 
 /// The picture of an answer, if one is asked for.
-pub fn picture_asked<C: Told>(
+pub fn picture_asked<C: ShowsFigures>(
     alloc: Global,
     image: &Verified,
     criterion: &C,
@@ -26,7 +26,7 @@ pub fn picture_asked<C: Told>(
     query: &Query,
     answer: &Answer<C>,
 ) -> Result<Option<String>, AllocError>
-    ensures { IfOk result (IsDrawn C.told image.now request.entry query.now
+    ensures { IfOk result (IsDrawn C.figures image.now request.entry query.now
         answer.now.departures.items answer.now.walk) }
 {
     match request.picture {
@@ -39,7 +39,7 @@ pub fn picture_asked<C: Told>(
 }
 
 /// The picture of an answer, with as many of its departures as are asked for, the first ones.
-fn picture_text<C: Told>(
+fn picture_text<C: ShowsFigures>(
     alloc: Global,
     image: &Verified,
     criterion: &C,
@@ -47,7 +47,7 @@ fn picture_text<C: Told>(
     query: &Query,
     answer: &Answer<C>,
 ) -> Result<String, AllocError>
-    ensures { IfOk result (λ text. IsPictureOf C.told image.now request.entry.criterion request.entry.rows.number
+    ensures { IfOk result (λ text. IsPictureOf C.figures image.now request.entry.criterion request.entry.rows.number
         query.now
         answer.now.departures.items answer.now.walk (string_bytes text)) }
 {
@@ -80,13 +80,13 @@ fn left_of<V>(departures: &[Departure<V>], rows: usize) -> usize
 }
 
 /// A line for each departure.
-fn lines_of<C: Told>(
+fn lines_of<C: ShowsFigures>(
     alloc: Global,
     image: &Verified,
     criterion: &C,
     departures: &[Departure<C::V>],
 ) -> Result<Vec<JourneyLine>, AllocError>
-    ensures { IfOk result (λ lines. AllZip (IsDrawnAs C.told image.now) departures.now lines.items) }
+    ensures { IfOk result (λ lines. AllZip (IsDrawnAs C.figures image.now) departures.now lines.items) }
 {
     let mut lines = Vec::with_capacity(alloc, departures.len())?;
     for departure in departures {
@@ -96,16 +96,16 @@ fn lines_of<C: Told>(
     Ok(lines)
 }
 
-fn line_of<C: Told>(
+fn line_of<C: ShowsFigures>(
     alloc: Global,
     image: &Verified,
     criterion: &C,
     departure: &Departure<C::V>,
 ) -> Result<JourneyLine, AllocError>
-    ensures { IfOk result (IsDrawnAs C.told image.now departure.now) }
+    ensures { IfOk result (IsDrawnAs C.figures image.now departure.now) }
 {
-    let told = criterion.tell(&departure.value);
-    journey_line(alloc, image, departure.time, told, &departure.journey)
+    let figures = criterion.figures_of(&departure.value);
+    journey_line(alloc, image, departure.time, figures, &departure.journey)
 }
 
 /// Writes a picture into the file at the path.

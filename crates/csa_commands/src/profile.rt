@@ -15,7 +15,7 @@ use crate::replying::reply_line;
 use crate::status;
 use answer_replies::PointForm;
 use command_requests::{AnswerForm, ProfileRequest};
-use criteria::{Arrival, ArrivalTrips, ArrivalTripsWalk, CriterionName, Told};
+use criteria::{Arrival, ArrivalTrips, ArrivalTripsWalk, CriterionName, ShowsFigures};
 use image_verifier::Verified;
 use journeys::{Answer, answer_query};
 use profile_scan::InPlace;
@@ -126,7 +126,7 @@ fn profile_by_name(
 }
 
 /// Answers a query under a criterion: the text and the picture are of one and the same answer.
-fn profile_by<C: Told>(
+fn profile_by<C: ShowsFigures>(
     alloc: Global,
     image: &Verified,
     criterion: &C,
@@ -134,7 +134,7 @@ fn profile_by<C: Told>(
     request: ProfileRequest<'_>,
 ) -> Result<Profile, AllocError>
     requires { IsAskable image.now.timetable.stops query.now }
-    ensures { IfOk result (λ profile. IsShown C.told (C.rules criterion.now) request.entry image.now query.now
+    ensures { IfOk result (λ profile. IsShown C.figures (C.rules criterion.now) request.entry image.now query.now
         profile) }
 {
     let mut source = InPlace::new(image);
@@ -145,7 +145,7 @@ fn profile_by<C: Told>(
 }
 
 /// The text of an answer, in a form.
-pub(crate) fn text_in_form<C: Told>(
+pub(crate) fn text_in_form<C: ShowsFigures>(
     alloc: Global,
     image: &Verified,
     criterion: &C,
@@ -153,7 +153,7 @@ pub(crate) fn text_in_form<C: Told>(
     form: AnswerForm,
 ) -> Result<String, AllocError>
     ensures { IfOk result (λ text. string_bytes text ≡
-        form_text C.told image.now form answer.now.departures.items answer.now.read answer.now.walk) }
+        form_text C.figures image.now form answer.now.departures.items answer.now.read answer.now.walk) }
 {
     match form {
         AnswerForm::Numbers => numbered_lines(alloc, criterion, answer),

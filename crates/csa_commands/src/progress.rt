@@ -9,7 +9,7 @@ ghost use Rattle.gtfs_rows.specs.declared.fault.Table.{Table};
 ghost use Rattle.feed_loader.specs.Faults.{failed_by, failed_in};
 ghost use Rattle.feed_loader.specs.Refused.{IsLoadRefusal, IsLoaded, IsWantOfMemory};
 
-use crate::elapsed::{Begun, put_seconds};
+use crate::elapsed::{StartInstant, put_seconds};
 use crate::newlines::line_ends;
 use feed_files::{FeedFiles, FileFault};
 use feed_loader::{LoadFault, Plan, Report, load};
@@ -85,7 +85,7 @@ pub struct Progress<'c, C, W> {
     errors: &'c mut W,
     is_terminal: bool,
     /// When the current step began.
-    begun: Begun,
+    begun: StartInstant,
     /// The name of the file that was read and is judged now, with how many bytes and lines it has.
     file: Option<(String, u64, u64)>,
 }
@@ -104,7 +104,7 @@ impl<'c, C: Clock, W: Write> Progress<'c, C, W> {
                 clock,
                 errors,
                 is_terminal,
-                begun: Begun::now(clock),
+                begun: StartInstant::now(clock),
                 file: None,
             }),
             None => None,
@@ -131,7 +131,7 @@ impl<'c, C: Clock, W: Write> Progress<'c, C, W> {
 
     /// Begins a step, and reports it.
     fn begin(&mut self, doing: &str, what: &str) {
-        self.begun = Begun::now(self.clock);
+        self.begun = StartInstant::now(self.clock);
         self.say(format!(in self.alloc; "{doing} {what}"));
     }
 

@@ -8,9 +8,9 @@ ghost use Rattle.command_requests.specs.declared.statuses.TheConstants.{OUT_OF_M
 ghost use Rattle.csa_commands.specs.Asking.{window_of};
 ghost use Rattle.csa_commands.specs.Ending.{EndsUndone};
 ghost use Rattle.csa_commands.specs.Refusing.{refusal_line};
-ghost use Rattle.csa_commands.specs.declared.refusal.Refusal.TheVariants.{Query as OfQuery};
+ghost use Rattle.csa_commands.specs.declared.refusal.CommandRefusal.TheVariants.{Query as OfQuery};
 
-use crate::refusal::Refusal;
+use crate::refusal::CommandRefusal;
 use crate::status;
 use command_requests::Question;
 use feed_messages::{explain, quoted};
@@ -54,7 +54,7 @@ pub fn refuse_question<O: Write, E: Write>(
         → Appends (O.contents output.old) (O.contents output.new) (refusal_line (OfQuery fault)) }
     ensures silent { result ≡ OUT_OF_MEMORY → O.contents output.new ≡ O.contents output.old }
 {
-    let status = status::print_refusal(alloc, output, Refusal::Query(fault));
+    let status = status::print_refusal(alloc, output, CommandRefusal::Query(fault));
     if status == status::REFUSED {
         explain_question(image, question, fault, errors);
     }

@@ -9,10 +9,10 @@ ghost use Rattle.journeys.specs.Texts.{number_text};
 ghost use Rattle.journeys.specs.declared.text_fault.TextFault.TheVariants.{BadText as OfText};
 ghost use Rattle.csa_commands.specs.Listing.{word_text};
 ghost use Rattle.csa_commands.specs.Refusing.{feed_places, image_places, journey_places, refusal_line, refusal_places};
-ghost use Rattle.csa_commands.specs.Refusing.{RefusesFeed, refusal_status, refusal_told};
+ghost use Rattle.csa_commands.specs.Refusing.{RefusesFeed, refusal_status, numbered_refusal};
 ghost use Rattle.csa_commands.specs.Ending.{EndsUndone};
 ghost use Rattle.csa_commands.specs.Writing.{IsBegun};
-ghost use Rattle.csa_commands.specs.declared.refusal.Refusal.TheVariants.{Feed as OfFeed};
+ghost use Rattle.csa_commands.specs.declared.refusal.CommandRefusal.TheVariants.{Feed as OfFeed};
 
 use crate::status;
 use feed_loader::LoadFault;
@@ -26,7 +26,7 @@ use timetable::QueryFault;
 
 /// Why a request is refused.
 #[derive(Clone, Copy, Drop)]
-pub enum Refusal {
+pub enum CommandRefusal {
     /// The bytes of an image aren't whole words.
     OddLength,
     Image(ImageFault),
@@ -38,32 +38,32 @@ pub enum Refusal {
     Journey(JourneyFault),
 }
 
-impl Refusal {
+impl CommandRefusal {
     /// The refusal's number, such as 61.
     fn number(self) -> u8
-        ensures { result ≡ (refusal_told self).0 }
+        ensures { result ≡ (numbered_refusal self).0 }
     {
         match self {
-            Refusal::OddLength => WordsFault::OddLength.number(),
-            Refusal::Image(fault) => fault.number(),
-            Refusal::Feed(fault) => fault.number(),
-            Refusal::Query(fault) => fault.number(),
-            Refusal::BadText => bad_text_number(),
-            Refusal::Journey(fault) => fault.number(),
+            CommandRefusal::OddLength => WordsFault::OddLength.number(),
+            CommandRefusal::Image(fault) => fault.number(),
+            CommandRefusal::Feed(fault) => fault.number(),
+            CommandRefusal::Query(fault) => fault.number(),
+            CommandRefusal::BadText => bad_text_number(),
+            CommandRefusal::Journey(fault) => fault.number(),
         }
     }
 
     /// The refusal's name, such as `BadMagic`.
     fn name(self) -> &'static str
-        ensures { result.now ≡ (refusal_told self).1 }
+        ensures { result.now ≡ (numbered_refusal self).1 }
     {
         match self {
-            Refusal::OddLength => WordsFault::OddLength.name(),
-            Refusal::Image(fault) => fault.name(),
-            Refusal::Feed(fault) => fault.name(),
-            Refusal::Query(fault) => fault.name(),
-            Refusal::BadText => TextFault::BadText.name(),
-            Refusal::Journey(fault) => fault.name(),
+            CommandRefusal::OddLength => WordsFault::OddLength.name(),
+            CommandRefusal::Image(fault) => fault.name(),
+            CommandRefusal::Feed(fault) => fault.name(),
+            CommandRefusal::Query(fault) => fault.name(),
+            CommandRefusal::BadText => TextFault::BadText.name(),
+            CommandRefusal::Journey(fault) => fault.name(),
         }
     }
 }
@@ -76,7 +76,7 @@ fn bad_text_number() -> u8
 }
 
 /// The line of a refusal.
-pub fn refusal_line(alloc: Global, refusal: Refusal) -> Result<String, AllocError>
+pub fn refusal_line(alloc: Global, refusal: CommandRefusal) -> Result<String, AllocError>
     ensures { IfOk result (λ line. string_bytes line ≡ refusal_line refusal) }
 {
     let mut line = String::new(alloc);
@@ -88,14 +88,14 @@ pub fn refusal_line(alloc: Global, refusal: Refusal) -> Result<String, AllocErro
 }
 
 // Adds the places of a refusal: where something is wrong.
-fn put_places(line: &mut String, refusal: Refusal) -> Result<(), AllocError>
+fn put_places(line: &mut String, refusal: CommandRefusal) -> Result<(), AllocError>
     ensures { OnOk result (string_bytes line.new ≡ string_bytes line.old ++ refusal_places refusal) }
 {
     match refusal {
-        Refusal::OddLength | Refusal::Query(_) | Refusal::BadText => Ok(()),
-        Refusal::Image(fault) => put_image_places(line, fault),
-        Refusal::Feed(fault) => put_feed_places(line, fault),
-        Refusal::Journey(fault) => put_journey_places(line, fault),
+        CommandRefusal::OddLength | CommandRefusal::Query(_) | CommandRefusal::BadText => Ok(()),
+        CommandRefusal::Image(fault) => put_image_places(line, fault),
+        CommandRefusal::Feed(fault) => put_feed_places(line, fault),
+        CommandRefusal::Journey(fault) => put_journey_places(line, fault),
     }
 }
 
@@ -189,7 +189,7 @@ pub fn refuse_feed<O: Write>(alloc: Global, output: &mut O, fault: LoadFault) ->
     if fault.is_want_of_memory() {
         return status::OUT_OF_MEMORY;
     }
-    status::print_refusal_as(alloc, output, Refusal::Feed(fault), status_of(fault))
+    status::print_refusal_as(alloc, output, CommandRefusal::Feed(fault), status_of(fault))
 }
 
 // The status of a feed that isn't loaded, if its refusal is printed.

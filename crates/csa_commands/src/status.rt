@@ -9,7 +9,7 @@ ghost use Rattle.csa_commands.specs.Refusing.{refusal_line};
 ghost use Rattle.csa_commands.specs.Writing.{IsBegun};
 
 use crate::explaining::explain_zone_named;
-use crate::refusal::{Refusal, refusal_line};
+use crate::refusal::{CommandRefusal, refusal_line};
 pub use command_requests::statuses::{
     ACCEPTED, COMMAND_LINE, INPUT_OUTPUT, OUT_OF_MEMORY, REFUSED,
 };
@@ -75,7 +75,7 @@ pub fn write_line<W: Write>(writer: &mut W, line: Result<String, AllocError>, st
 }
 
 /// Prints the line of a refusal. Returns `REFUSED`, or another status as `print_refusal_as` does.
-pub(crate) fn print_refusal<O: Write>(alloc: Global, output: &mut O, refusal: Refusal) -> u8
+pub(crate) fn print_refusal<O: Write>(alloc: Global, output: &mut O, refusal: CommandRefusal) -> u8
     ensures status { EndsUndone result }
     ensures printed { result ≡ REFUSED
         → Appends (O.contents output.old) (O.contents output.new) (refusal_line refusal) }
@@ -91,7 +91,7 @@ pub(crate) fn print_refusal<O: Write>(alloc: Global, output: &mut O, refusal: Re
 pub(crate) fn print_refusal_as<O: Write>(
     alloc: Global,
     output: &mut O,
-    refusal: Refusal,
+    refusal: CommandRefusal,
     status: u8,
 ) -> u8
     ensures status { (result ≡ status) ⊎ (result ≡ INPUT_OUTPUT) ⊎ (result ≡ OUT_OF_MEMORY) }

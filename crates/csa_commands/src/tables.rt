@@ -26,7 +26,7 @@ use text_pieces::{put_number, put_text};
 
 /// How many records each table of a feed has.
 #[derive(Clone, Copy, Drop)]
-struct Counts {
+struct TableCounts {
     agencies: usize,
     stops: usize,
     trips: usize,
@@ -63,7 +63,7 @@ pub fn run<H: Files + Disk + AllocGlobal, O: Write, E: Write>(
 }
 
 // Counts the records of the folder's tables, if they can be read and joined; or returns their first fault.
-fn count_records<H: Disk + AllocGlobal>(rt: &H, folder: &str) -> Result<Counts, LoadFault>
+fn count_records<H: Disk + AllocGlobal>(rt: &H, folder: &str) -> Result<TableCounts, LoadFault>
     ensures counts { IfOk result (AreCountsOf H.gives folder.now) }
     ensures refused { IfErr result (λ fault. ¬ (IsWantOfMemory fault)
         → HoldsOfRead H.gives folder.now (IsTablesRefusal fault)) }
@@ -74,7 +74,7 @@ fn count_records<H: Disk + AllocGlobal>(rt: &H, folder: &str) -> Result<Counts, 
 }
 
 // Counts the records of tables, if they can be joined; or returns their first fault.
-fn count_joined(alloc: Global, tables: Tables) -> Result<Counts, TableFault>
+fn count_joined(alloc: Global, tables: Tables) -> Result<TableCounts, TableFault>
     ensures counts { IfOk result (AreCountsOfJoined tables) }
     ensures refused { IfErr result (λ fault. fault.kind ≢ FaultKind.OutOfMemory → IsFirstFault false tables fault) }
 {
@@ -83,10 +83,10 @@ fn count_joined(alloc: Global, tables: Tables) -> Result<Counts, TableFault>
     Ok(counts)
 }
 
-fn counts_of(tables: &Tables) -> Counts
+fn counts_of(tables: &Tables) -> TableCounts
     ensures { result ≡ counts_of tables.now }
 {
-    Counts {
+    TableCounts {
         agencies: tables.agencies.len(),
         stops: tables.stops.len(),
         trips: tables.trips.len(),
@@ -98,7 +98,7 @@ fn counts_of(tables: &Tables) -> Counts
 }
 
 // Prints the line of counts. Never returns `REFUSED`.
-fn print_counts<O: Write>(alloc: Global, counts: Counts, output: &mut O) -> u8
+fn print_counts<O: Write>(alloc: Global, counts: TableCounts, output: &mut O) -> u8
     ensures status { Ends result }
     ensures refused { result ≢ REFUSED }
     ensures printed { result ≡ ACCEPTED
@@ -111,7 +111,7 @@ fn print_counts<O: Write>(alloc: Global, counts: Counts, output: &mut O) -> u8
     }
 }
 
-fn line_of(alloc: Global, counts: Counts) -> Result<String, AllocError>
+fn line_of(alloc: Global, counts: TableCounts) -> Result<String, AllocError>
     ensures { IfOk result (λ line. string_bytes line ≡ counts_text counts) }
 {
     let mut line = String::new(alloc);
@@ -121,7 +121,7 @@ fn line_of(alloc: Global, counts: Counts) -> Result<String, AllocError>
     Ok(line)
 }
 
-fn append_trips(line: &mut String, counts: Counts) -> Result<(), AllocError>
+fn append_trips(line: &mut String, counts: TableCounts) -> Result<(), AllocError>
     ensures { OnOk result (string_bytes line.new ≡ string_bytes line.old ++ trips_text counts) }
 {
     put_number(line, "tables agencies ", counts.agencies as u64)?;
@@ -131,7 +131,7 @@ fn append_trips(line: &mut String, counts: Counts) -> Result<(), AllocError>
     Ok(())
 }
 
-fn append_services(line: &mut String, counts: Counts) -> Result<(), AllocError>
+fn append_services(line: &mut String, counts: TableCounts) -> Result<(), AllocError>
     ensures { OnOk result (string_bytes line.new ≡ string_bytes line.old ++ services_text counts) }
 {
     put_number(line, " calendar ", counts.calendar as u64)?;

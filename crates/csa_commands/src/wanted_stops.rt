@@ -6,7 +6,7 @@ ghost use Rattle.departure_lines.specs.Naming.{AreWanted};
 ghost use Rattle.csa_commands.specs.Departing.{IsListed, IsUnknown, IsUnlisted, IsWantedFrom};
 
 use crate::question::explain_line;
-use departure_lines::{ListFault, Wanted};
+use departure_lines::{ListFault, WantedStops};
 use image_verifier::Verified;
 use std::alloc::Global;
 use std::fs;
@@ -31,13 +31,13 @@ pub fn wanted_from<H: Files + AllocGlobal, E: Write>(
     image: &Verified,
     path: Option<&str>,
     errors: &mut E,
-) -> Result<Wanted, NoList>
+) -> Result<WantedStops, NoList>
     ensures wanted { IfOk result (IsWantedFrom image.now.names path.entry) }
     ensures named { IfErr result (λ _. path.entry ≢ None) }
     ensures unknown { IfErr result (IsUnknown image.now.names) }
 {
     match path {
-        None => Ok(Wanted::All),
+        None => Ok(WantedStops::All),
         Some(path) => read_list(rt, image, path, errors),
     }
 }
@@ -48,7 +48,7 @@ fn read_list<H: Files + AllocGlobal, E: Write>(
     image: &Verified,
     path: &str,
     errors: &mut E,
-) -> Result<Wanted, NoList>
+) -> Result<WantedStops, NoList>
     ensures { MatchResult result (IsListed image.now.names) (IsUnknown image.now.names) }
 {
     match fs::read_to_string(rt, path) {
@@ -66,7 +66,7 @@ fn explain_unknown<E: Write>(
     alloc: Global,
     path: &str,
     list: &str,
-    wanted: &Result<Wanted, NoList>,
+    wanted: &Result<WantedStops, NoList>,
     errors: &mut E,
 ) {
     if let Err(NoList::UnknownStop(number)) = wanted {
@@ -87,11 +87,11 @@ fn unlisted(kind: ErrorKind) -> NoList
 }
 
 // The stops that a list names.
-fn wanted_of(alloc: Global, image: &Verified, list: &str) -> Result<Wanted, NoList>
+fn wanted_of(alloc: Global, image: &Verified, list: &str) -> Result<WantedStops, NoList>
     ensures wanted { IfOk result (AreWanted image.now.names (lines list.now)) }
     ensures unknown { IfErr result (IsUnknown image.now.names) }
 {
-    match Wanted::listed(alloc, image, list) {
+    match WantedStops::listed(alloc, image, list) {
         Ok(wanted) => Ok(wanted),
         Err(ListFault::UnknownStop(line)) => Err(NoList::UnknownStop(line)),
         Err(ListFault::OutOfMemory) => Err(NoList::OutOfMemory),

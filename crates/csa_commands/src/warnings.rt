@@ -25,7 +25,7 @@ const LONGEST_ZONE: u64 = 1_000_000;
 
 /// An image, the plan by which it was made, and its counts.
 #[derive(Drop)]
-pub struct Built {
+pub struct BuiltImage {
     pub image: Verified,
     pub plan: Plan,
     pub report: Report,
@@ -36,7 +36,7 @@ pub fn warn<H: Files + AllocGlobal, E: Write>(
     rt: &H,
     folder: &str,
     zone: &ZoneText<'_>,
-    built: &Built,
+    built: &BuiltImage,
     errors: &mut E,
 ) {
     if built.report.runs == 0 {
@@ -59,7 +59,7 @@ fn warn_of<E: Write>(errors: &mut E, line: &str) {
 }
 
 /// The warning of the days of the plan on which no trip runs; `None` if there are none.
-fn idle_days(alloc: Global, built: &Built) -> Option<String> {
+fn idle_days(alloc: Global, built: &BuiltImage) -> Option<String> {
     let mut text = format!(in alloc; "no trip runs on").ok()?;
     let mut is_first = true;
     let mut day = built.plan.first_day;
@@ -74,7 +74,7 @@ fn idle_days(alloc: Global, built: &Built) -> Option<String> {
 }
 
 /// Whether no trip runs on a day. `None` if it is no day of the calendar or has no start in the zone.
-fn is_idle(built: &Built, day: Day) -> Option<bool>
+fn is_idle(built: &BuiltImage, day: Day) -> Option<bool>
     ensures { IfSome result (λ _. is_civil day ≡ true) }
 {
     day_start(&built.plan.zone, day).ok()?;
@@ -108,15 +108,15 @@ fn has_trip_on(image: &Verified, day: u32) -> bool {
 
 /// Rows that are left out for one reason.
 #[derive(Drop)]
-struct Rows {
+struct RowsLeftOut {
     count: u64,
     /// The line of the first one, 0 if there is none.
     first: u64,
 }
 
-impl Rows {
-    fn none() -> Rows {
-        Rows { count: 0, first: 0 }
+impl RowsLeftOut {
+    fn none() -> RowsLeftOut {
+        RowsLeftOut { count: 0, first: 0 }
     }
 
     fn add(&mut self, records: &Records<'_>) {
@@ -142,9 +142,9 @@ impl Rows {
 
 /// The transfers that are left out, by reason.
 #[derive(Drop)]
-struct LeftOut {
-    between_trips: Rows,
-    of_other_types: Rows,
+struct TransfersLeftOut {
+    between_trips: RowsLeftOut,
+    of_other_types: RowsLeftOut,
 }
 
 /// The columns of `transfers.txt` that restrict a row to trips or routes.
@@ -152,15 +152,15 @@ const TRIPS_AND_ROUTES: [&str; 4] = ["from_route_id", "to_route_id", "from_trip_
 
 /// The places of the columns that say whether a transfer is left out.
 #[derive(Clone, Copy, Drop)]
-struct Places {
+struct TransferColumns {
     trips_and_routes: [Option<usize>; 4],
     transfer_type: Option<usize>,
 }
 
-impl Places {
-    fn of(header: &ByteRecord) -> Places {
+impl TransferColumns {
+    fn of(header: &ByteRecord) -> TransferColumns {
         let [from_route, to_route, from_trip, to_trip] = TRIPS_AND_ROUTES;
-        Places {
+        TransferColumns {
             trips_and_routes: [
                 column(header, from_route.as_bytes()),
                 column(header, to_route.as_bytes()),
@@ -172,12 +172,12 @@ impl Places {
     }
 }
 
-impl LeftOut {
+impl TransfersLeftOut {
     /// Takes note of a record, if it is left out.
-    fn note(&mut self, places: &Places, records: &Records<'_>) {
+    fn note(&mut self, columns: &TransferColumns, records: &Records<'_>) {
         let record = records.last();
-        let transfer_type = cell(record, places.transfer_type);
-        if has_any(record, &places.trips_and_routes) {
+        let transfer_type = cell(record, columns.transfer_type);
+        if has_any(record, &columns.trips_and_routes) {
             self.between_trips.add(records);
         } else if !transfer_type.is_empty() && number(transfer_type).unwrap_or(4) > 3 {
             self.of_other_types.add(records);
@@ -185,24 +185,24 @@ impl LeftOut {
     }
 }
 
-fn has_any(record: &ByteRecord, places: &[Option<usize>]) -> bool {
-    places.iter().any(|place| !cell(record, *place).is_empty())
+fn has_any(record: &ByteRecord, columns: &[Option<usize>]) -> bool {
+    columns.iter().any(|place| !cell(record, *place).is_empty())
 }
 
 /// The transfers of a file that are left out; none if memory runs out.
-fn left_out_of(alloc: Global, bytes: &[u8]) -> Option<LeftOut> {
-    let mut left_out = LeftOut {
-        between_trips: Rows::none(),
-        of_other_types: Rows::none(),
+fn left_out_of(alloc: Global, bytes: &[u8]) -> Option<TransfersLeftOut> {
+    let mut left_out = TransfersLeftOut {
+        between_trips: RowsLeftOut::none(),
+        of_other_types: RowsLeftOut::none(),
     };
     let mut records = Records::open(alloc, bytes);
     advance(&mut records)?;
-    let places = Places::of(records.last());
+    let columns = TransferColumns::of(records.last());
     for _ in 0..u64::MAX {
         if advance(&mut records).is_none() {
             return Some(left_out);
         }
-        left_out.note(&places, &records);
+        left_out.note(&columns, &records);
     }
     None
 }
@@ -220,7 +220,7 @@ fn transfers_line<H: Files + AllocGlobal>(rt: &H, folder: &str) -> Option<String
     text_of(rt.alloc(), &left_out).ok()
 }
 
-fn text_of(alloc: Global, left_out: &LeftOut) -> Result<String, AllocError> {
+fn text_of(alloc: Global, left_out: &TransfersLeftOut) -> Result<String, AllocError> {
     let mut text = format!(in alloc; "rows of transfers.txt are left out")?;
     let other_type = "of a transfer_type that isn't one of 0, 1, 2, 3";
     let (trips, others) = (&left_out.between_trips, &left_out.of_other_types);

@@ -7,7 +7,7 @@ use timetable::Clock;
 
 /// The earliest and the latest departure, in seconds after the image's base.
 #[derive(Clone, Copy, Drop)]
-pub struct Departures {
+pub struct DepartureRange {
     pub first: u32,
     pub last: u32,
 }
@@ -17,7 +17,7 @@ const DAY: u32 = 86_400;
 
 /// Warns if no connection departs in the window of departures that is asked for, or if it ends after the last day on
 /// which one does.
-pub fn warn_of_window<E: Write>(image: &Verified, asked: Departures, errors: &mut E) {
+pub fn warn_of_window<E: Write>(image: &Verified, asked: DepartureRange, errors: &mut E) {
     match departures_of(image) {
         Some(all) => warn_beyond(asked, all, errors),
         None => explain(errors, &["csa: warning: the image has no connections"]),
@@ -25,15 +25,15 @@ pub fn warn_of_window<E: Write>(image: &Verified, asked: Departures, errors: &mu
 }
 
 /// When the image's first and last connection depart; `None` if it has no connections.
-fn departures_of(image: &Verified) -> Option<Departures> {
+fn departures_of(image: &Verified) -> Option<DepartureRange> {
     let last = image.len().checked_sub(1)?;
-    Some(Departures {
+    Some(DepartureRange {
         first: image.connection(0).dep,
         last: image.connection(last).dep,
     })
 }
 
-fn warn_beyond<E: Write>(asked: Departures, all: Departures, errors: &mut E) {
+fn warn_beyond<E: Write>(asked: DepartureRange, all: DepartureRange, errors: &mut E) {
     if let Some(reason) = reason_of(asked, all) {
         let (after, until) = (Clock(asked.first), Clock(asked.last));
         let (first, last) = (Clock(all.first), Clock(all.last));
@@ -52,7 +52,7 @@ fn end_of_day(time: u32) -> u32 {
 
 /// How the window that is asked for relates to all departures; `None` if some connections depart in it, and none can be
 /// missing at its end.
-fn reason_of(asked: Departures, all: Departures) -> Option<&'static str> {
+fn reason_of(asked: DepartureRange, all: DepartureRange) -> Option<&'static str> {
     if asked.last < all.first || all.last < asked.first {
         Some("is outside")
     } else if end_of_day(all.last) <= asked.last {

@@ -7,7 +7,7 @@ use Rattle.std.specs.Prelude.{flat_map}
 use Rattle.epochs.specs.Seats.{SeatValue}
 use Rattle.load_orders.specs.Asking.{OrderRoute, WorkerOrdersValue}
 use Rattle.orders.specs.Ordering.{OrderValue}
-use Rattle.shelf_steps.specs.declared.views.Known.{Known}
+use Rattle.shelf_steps.specs.declared.views.KnownHistory.{KnownHistory}
 use Rattle.session.specs.declared.reply_form.ReplyForm.{ReplyForm}
 use Rattle.workers.specs.Ends.{Session}
 use Rattle.workers.specs.Sessions.{AreServed, AreServedSince, AreShares}
@@ -16,7 +16,7 @@ use Rattle.csa_program.specs.Door.{AreAsMany, AreCountedOff}
 
 module _ {C R W S N : Type 0} (form : ReplyForm) (opens : C → Result (R × W) ConnFault → Type 0)
     (remaining : R → Option (List ℕ)) (contents : W → Option (List ℕ))
-    (number : S → ℕ) (value : S → SeatValue) (known : S → Known) (noted : N → ℕ) (route : OrderRoute N) where
+    (number : S → ℕ) (value : S → SeatValue) (known : S → KnownHistory) (noted : N → ℕ) (route : OrderRoute N) where
   -- one session for each client of a hand
   hand_many : (clients : List C) (sessions : List (Session R W)) (a b : S) (asked asked_then : List OrderValue)
       → AreServed form opens remaining contents number value known clients sessions a asked b asked_then → length sessions ≡ length clients

@@ -3,7 +3,7 @@ use Rattle.std.specs.Prelude.{◌≡◌, ◌≢◌, List, ℕ, ◌++◌, Bool, t
 use Rattle.std.specs.Io.KnownBytes.{Appends}
 use Rattle.command_requests.specs.Ending.{sessions_in, status_of}
 use Rattle.command_requests.specs.declared.statuses.TheConstants.{INPUT_OUTPUT, OUT_OF_MEMORY}
-use Rattle.command_requests.specs.declared.ends.Ends.{Ends}
+use Rattle.command_requests.specs.declared.ends.SessionCounts.{SessionCounts}
 use Rattle.std.specs.Option.{option_map}
 use Rattle.answer_replies.specs.declared.point_form.PointForm.{PointForm}
 use Rattle.session.specs.declared.reply_form.ReplyForm.{ReplyForm}
@@ -11,7 +11,7 @@ use Rattle.command_requests.specs.declared.plans.Seconds.{Seconds}
 use Rattle.workers.specs.Ends.{Session, ended_in, failed_in, spent_in}
 
 -- how many sessions ended in each way
-abbrev pub counts_of : {R W : Type 0} → List (Session R W) → Ends
+abbrev pub counts_of : {R W : Type 0} → List (Session R W) → SessionCounts
 counts_of sessions = record { ended = ended_in sessions; failed = failed_in sessions; spent = spent_in sessions }
 
 -- with `--legs` each point of a profile has the legs of its journey
@@ -28,7 +28,7 @@ abbrev pub port_text : ℕ → List ℕ
 port_text port = (codes "listening " ++ decimal port) ++ codes "\n"
 
 -- how many sessions there were
-abbrev pub served_text : Ends → List ℕ
+abbrev pub served_text : SessionCounts → List ℕ
 served_text ends = (codes "served " ++ decimal (sessions_in ends)) ++ codes "\n"
 
 -- how a server ends that had these sessions: unless its status says that a socket, a write or a session failed or memory ran out, it has printed

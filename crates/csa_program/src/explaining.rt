@@ -4,7 +4,7 @@ use csa_commands::{explain, explain_refused};
 use epochs::PublishFault;
 use std::io::Write;
 use std::rt::Files;
-use workers::{LoadRefusal, Loaded};
+use workers::{LoadRefusal, LoadedVersion};
 
 /// Explains why a feed isn't loaded. Unlike `Files`, this trait has no associated types, so it can be used on any
 /// thread.
@@ -36,7 +36,7 @@ fn explain_unpublished<E: Write>(fault: PublishFault, errors: &mut E) {
 
 /// Warns of a feed that was loaded although none of its trips runs on the days of the plan: over its version no query
 /// has a departure.
-pub fn warn_of_idle_feed<'a, E: Write>(errors: &mut E, name: &'a str, loaded: &Loaded) {
+pub fn warn_of_idle_feed<'a, E: Write>(errors: &mut E, name: &'a str, loaded: &LoadedVersion) {
     if loaded.report.runs == 0 {
         let reason = ": no trip runs on these days, so no query has a departure";
         explain(errors, &["csa: warning: feed ", name, reason]);

@@ -17,11 +17,11 @@ mod watching;
 
 pub use crate::explaining::Explains;
 pub use crate::machine::Machine;
-use crate::watching::Watched;
-use command_line::{Unread, read, wants_warnings};
-use command_requests::{BetweenRequest, Request};
+use crate::watching::WatchedWriter;
+use command_line::{NoCommand, read, wants_warnings};
+use command_requests::{BetweenRequest, CommandRequest};
 use csa_commands::{
-    Asked, answer, build, days, explain, explain_zone, open_image, reason_of, status, tables,
+    ImageRequest, answer, build, days, explain, explain_zone, open_image, reason_of, status, tables,
 };
 pub use feed_files::Disk;
 use std::convert::AsStr;
@@ -44,7 +44,7 @@ pub fn run<
     O: Write,
     E: Write + Send,
 >(rt: &H, words: &[S], input: &mut I, output: &mut O, errors: &mut E, is_terminal: bool) -> u8 {
-    let mut output = Watched::of(output);
+    let mut output = WatchedWriter::of(output);
     let status = run_command(rt, words, input, &mut output, errors, is_terminal);
     if status == status::OUT_OF_MEMORY {
         explain(errors, &[NO_MEMORY]);
@@ -59,7 +59,7 @@ const NO_MEMORY: &str = "csa: out of memory";
 /// Prints the checksum of the program's sources, below its version. The status is 0, or 3 if the line can't be written:
 /// `errors` says why, as for a command. It takes no memory.
 pub fn print_sources<O: Write, E: Write>(sources: &str, output: &mut O, errors: &mut E) -> u8 {
-    let mut output = Watched::of(output);
+    let mut output = WatchedWriter::of(output);
     let status = match write!(output, "sources {sources}\n") {
         Ok(()) => status::ACCEPTED,
         Err(_) => status::INPUT_OUTPUT,
@@ -101,7 +101,7 @@ fn answer_between<H: Files + AllocGlobal, I: Read, O: Write, E: Write>(
 ) -> u8 {
     answer_over(
         rt,
-        Asked::Between(&request),
+        ImageRequest::Between(&request),
         input,
         output,
         errors,
@@ -119,57 +119,99 @@ fn run_command<
 >(rt: &H, words: &[S], input: &mut I, output: &mut O, errors: &mut E, is_terminal: bool) -> u8 {
     let warnings = wants_warnings(words);
     match read(rt.alloc(), words) {
-        Ok(Request::Verify(image)) => {
-            answer_over(rt, Asked::Verify(image), input, output, errors, warnings)
-        }
-        Ok(Request::Info(image)) => {
-            answer_over(rt, Asked::Info(image), input, output, errors, warnings)
-        }
-        Ok(Request::Journey(request)) => {
-            answer_over(rt, Asked::Journey(request), input, output, errors, warnings)
-        }
-        Ok(Request::Profile(request)) => {
-            answer_over(rt, Asked::Profile(request), input, output, errors, warnings)
-        }
-        Ok(Request::Between(request)) => {
-            answer_between(rt, request, input, output, errors, warnings)
-        }
-        Ok(Request::Departures(request)) => {
+        Ok(CommandRequest::Verify(image)) => {
             answer_over(
                 rt,
-                Asked::Departures(request),
+                ImageRequest::Verify(image),
                 input,
                 output,
                 errors,
                 warnings,
             )
         }
-        Ok(Request::Stops(request)) => {
-            answer_over(rt, Asked::Stops(request), input, output, errors, warnings)
+        Ok(CommandRequest::Info(image)) => {
+            answer_over(
+                rt,
+                ImageRequest::Info(image),
+                input,
+                output,
+                errors,
+                warnings,
+            )
         }
-        Ok(Request::Tables(folder)) => tables::run(rt, folder, output, errors),
-        Ok(Request::Days(folder)) => days::run(rt, folder, output, errors),
-        Ok(Request::Build(request)) => {
+        Ok(CommandRequest::Journey(request)) => {
+            answer_over(
+                rt,
+                ImageRequest::Journey(request),
+                input,
+                output,
+                errors,
+                warnings,
+            )
+        }
+        Ok(CommandRequest::Profile(request)) => {
+            answer_over(
+                rt,
+                ImageRequest::Profile(request),
+                input,
+                output,
+                errors,
+                warnings,
+            )
+        }
+        Ok(CommandRequest::Between(request)) => {
+            answer_between(rt, request, input, output, errors, warnings)
+        }
+        Ok(CommandRequest::Departures(request)) => {
+            answer_over(
+                rt,
+                ImageRequest::Departures(request),
+                input,
+                output,
+                errors,
+                warnings,
+            )
+        }
+        Ok(CommandRequest::Stops(request)) => {
+            answer_over(
+                rt,
+                ImageRequest::Stops(request),
+                input,
+                output,
+                errors,
+                warnings,
+            )
+        }
+        Ok(CommandRequest::Tables(folder)) => tables::run(rt, folder, output, errors),
+        Ok(CommandRequest::Days(folder)) => days::run(rt, folder, output, errors),
+        Ok(CommandRequest::Build(request)) => {
             build::run(rt, request, output, errors, is_terminal, warnings)
         }
-        Ok(Request::Upgrade(request)) => {
-            answer_over(rt, Asked::Upgrade(request), input, output, errors, warnings)
+        Ok(CommandRequest::Upgrade(request)) => {
+            answer_over(
+                rt,
+                ImageRequest::Upgrade(request),
+                input,
+                output,
+                errors,
+                warnings,
+            )
         }
-        Ok(Request::Serve(request)) => serve::run(rt, request, input, output, errors),
-        Err(Unread::Help(text)) => status::write_text(output, text.as_str(), status::ACCEPTED),
-        Err(Unread::Mistake(text)) => {
+        Ok(CommandRequest::Serve(request)) => serve::run(rt, request, input, output, errors),
+        Err(NoCommand::Help(text)) => status::write_text(output, text.as_str(), status::ACCEPTED),
+        Err(NoCommand::Mistake(text)) => {
             let _ = errors.write_all(text.as_bytes());
             explain_zone(rt, words, errors);
             status::COMMAND_LINE
         }
-        Err(Unread::OutOfMemory) => status::OUT_OF_MEMORY,
+        Err(NoCommand::OutOfMemory) => status::OUT_OF_MEMORY,
     }
 }
 
 // Opens the image and answers what is asked of it. If it can't be opened, returns the status that says why.
 fn answer_over<H: Files + AllocGlobal, I: Read, O: Write, E: Write>(
     rt: &H,
-    asked: Asked<'_>,
+    asked: ImageRequest<'_>,
     input: &mut I,
     output: &mut O,
     errors: &mut E,

@@ -51,7 +51,7 @@ impl Buffer {
 
 /// What waits to be written.
 #[derive(Drop)]
-struct Waiting {
+struct Backlog {
     lines: Buffer,
     /// How many lines found no room behind these.
     dropped: u64,
@@ -59,7 +59,7 @@ struct Waiting {
     is_closed: bool,
 }
 
-impl Waiting {
+impl Backlog {
     // Puts a line behind the others; if there is no room for it, it is dropped and counted.
     fn put(&mut self, line: &[u8])
         ensures fits { length self.old.lines.bytes.items + length line.now ≤ MOST_WAITING
@@ -95,14 +95,14 @@ impl Waiting {
 /// Lines that wait to be written, which all threads of a server share.
 #[derive(Drop)]
 pub struct LineQueue {
-    waiting: Mutex<Waiting>,
+    waiting: Mutex<Backlog>,
     changed: Condvar,
 }
 
 impl LineQueue {
     /// No line waits. The writer is for the thread that writes them.
     pub fn new(alloc: Global) -> Result<(LineQueue, LineWriter), AllocError> {
-        let waiting = Waiting {
+        let waiting = Backlog {
             lines: Buffer::new(alloc)?,
             dropped: 0,
             is_closed: false,

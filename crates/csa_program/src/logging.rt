@@ -9,7 +9,7 @@ ghost use Rattle.csa_program.specs.Logging.{begin_text, end_word, loaded_text, s
 use crate::line_queue::LineQueue;
 use arrayvec::ArrayVec;
 use clock_days::instant;
-use csa_commands::{Begun, put_seconds};
+use csa_commands::{StartInstant, put_seconds};
 use jiff::Timestamp;
 use std::alloc::{AllocError, Global};
 use std::fmt::Write as _;
@@ -18,7 +18,7 @@ use std::sync::Wait;
 use std::time::{Clock, Duration};
 use std::{io, thread};
 use text_pieces::{put_number, put_text, put_word};
-use workers::{End, LoadRefusal, Loaded};
+use workers::{LoadRefusal, LoadedVersion, SessionEnd};
 
 /// How many bytes of a line are kept until it ends.
 const LONGEST_LINE: usize = 4096;
@@ -61,10 +61,10 @@ impl<'a, H: Wait> SharedErrors<'a, H> {
 /// threads share it.
 pub trait Host {
     /// The start of something that begins now.
-    fn now(&self) -> Begun;
+    fn now(&self) -> StartInstant;
 
     /// How long something has lasted, if the clock can be read.
-    fn elapsed(&self, begun: Begun) -> Option<Duration>;
+    fn elapsed(&self, begun: StartInstant) -> Option<Duration>;
 
     /// Waits until accepting may be tried again.
     fn pause(&self);
@@ -74,7 +74,14 @@ pub trait Host {
 
     /// Logs that the session of this number ended so, how many requests it had sent, how long it took, and how long the
     /// slowest of its requests took.
-    fn log_end(&self, number: u64, end: End, requests: u64, begun: Begun, slowest: Duration);
+    fn log_end(
+        &self,
+        number: u64,
+        end: SessionEnd,
+        requests: u64,
+        begun: StartInstant,
+        slowest: Duration,
+    );
 
     /// Tells why no client can be accepted, and whether accepting is tried again.
     fn tell_failure(&self, error: &io::Error, is_last: bool);
@@ -84,11 +91,11 @@ pub trait Host {
 }
 
 impl<'a, H: Wait + Clock> Host for SharedErrors<'a, H> {
-    fn now(&self) -> Begun {
-        Begun::now(self.rt)
+    fn now(&self) -> StartInstant {
+        StartInstant::now(self.rt)
     }
 
-    fn elapsed(&self, begun: Begun) -> Option<Duration> {
+    fn elapsed(&self, begun: StartInstant) -> Option<Duration> {
         begun.elapsed(self.rt)
     }
 
@@ -102,7 +109,14 @@ impl<'a, H: Wait + Clock> Host for SharedErrors<'a, H> {
         }
     }
 
-    fn log_end(&self, number: u64, end: End, requests: u64, begun: Begun, slowest: Duration) {
+    fn log_end(
+        &self,
+        number: u64,
+        end: SessionEnd,
+        requests: u64,
+        begun: StartInstant,
+        slowest: Duration,
+    ) {
         let lasted = begun.elapsed(self.rt);
         let at = instant(self.rt);
         if let Ok(line) = end_line(self.alloc, at, number, end, requests, lasted, slowest) {
@@ -177,8 +191,8 @@ pub fn log_load<C: Clock, W: Write>(
     clock: &C,
     alloc: Global,
     name: &str,
-    begun: Begun,
-    outcome: Result<Loaded, LoadRefusal>,
+    begun: StartInstant,
+    outcome: Result<LoadedVersion, LoadRefusal>,
     errors: &mut W,
 ) {
     let lasted = begun.elapsed(clock);
@@ -198,7 +212,7 @@ fn end_line(
     alloc: Global,
     at: Option<i64>,
     number: u64,
-    end: End,
+    end: SessionEnd,
     requests: u64,
     lasted: Option<Duration>,
     slowest: Duration,
@@ -216,7 +230,7 @@ fn load_line(
     alloc: Global,
     at: Option<i64>,
     name: &str,
-    outcome: Result<Loaded, LoadRefusal>,
+    outcome: Result<LoadedVersion, LoadRefusal>,
     lasted: Option<Duration>,
 ) -> Result<String, AllocError> {
     let mut line = String::new(alloc);
@@ -253,7 +267,12 @@ fn put_begin(line: &mut String, number: u64) -> Result<(), AllocError>
 }
 
 /// Adds a session's number, how it ended, and how many requests it had sent.
-fn put_session(line: &mut String, number: u64, end: End, requests: u64) -> Result<(), AllocError>
+fn put_session(
+    line: &mut String,
+    number: u64,
+    end: SessionEnd,
+    requests: u64,
+) -> Result<(), AllocError>
     ensures { OnOk result (string_bytes line.new ≡ string_bytes line.old ++ session_text number end requests) }
 {
     put_number(line, " session ", number)?;
@@ -262,18 +281,18 @@ fn put_session(line: &mut String, number: u64, end: End, requests: u64) -> Resul
     Ok(())
 }
 
-fn word_of(end: End) -> &'static str
+fn word_of(end: SessionEnd) -> &'static str
     ensures { result.now ≡ end_word end }
 {
     match end {
-        End::Ended => "ended",
-        End::Failed => "failed",
-        End::Spent => "spent",
+        SessionEnd::Ended => "ended",
+        SessionEnd::Failed => "failed",
+        SessionEnd::Spent => "spent",
     }
 }
 
 /// Adds the version that a load published, and the counts of its image.
-fn put_loaded(line: &mut String, loaded: &Loaded) -> Result<(), AllocError>
+fn put_loaded(line: &mut String, loaded: &LoadedVersion) -> Result<(), AllocError>
     ensures { OnOk result (string_bytes line.new ≡ string_bytes line.old ++ loaded_text loaded.now) }
 {
     put_number(line, " version ", loaded.version)?;

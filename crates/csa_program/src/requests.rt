@@ -6,7 +6,7 @@ ghost use Rattle.std.specs.Io.KnownBytes.{ReadConsumes};
 
 use crate::logging::Host;
 use crate::visits::Visit;
-use csa_commands::{Begun, line_ends};
+use csa_commands::{StartInstant, line_ends};
 use std::io;
 use std::io::{ErrorKind, Read};
 use std::net::TcpStream;
@@ -36,7 +36,7 @@ pub struct Requests<S, V> {
     /// Whether a read failed.
     has_failed: bool,
     /// When the last read gave bytes, until the next read.
-    answering: Option<Begun>,
+    answering: Option<StartInstant>,
     /// The longest time from a read that gave bytes to the next read.
     slowest: Duration,
     /// Whose requests they are.

@@ -31,11 +31,12 @@ use crate::requests::Requests;
 use crate::sockets::{Door, Visitor};
 use crate::visits::{SessionRules, Visit};
 use clock_days::instant;
-use command_requests::{Ends, NamedFolder, Seconds, ServeRequest};
+use command_requests::{NamedFolder, Seconds, ServeRequest, SessionCounts};
 use csa_commands::{
-    Begun, PlanFailure, explain_load, open_image, reason_of, refuse_feed, status, zone_and_plan,
+    PlanFailure, StartInstant, explain_load, open_image, reason_of, refuse_feed, status,
+    zone_and_plan,
 };
-use epochs::{Named, NamedNotice, ShelfLoader, ShelfSeat, Shelves};
+use epochs::{NamedNotice, ShelfLoader, ShelfSeat, Shelves, ShelvesName};
 use feed_files::{Disk, FeedFiles, FolderFiles};
 use feed_loader::Plan;
 use feed_plans::plan_at;
@@ -52,8 +53,8 @@ use std::time::{Clock, Instant};
 use std::{io, thread};
 use text_pieces::{put_number, put_text};
 use workers::{
-    Client, Clients, Feeds, LoadRefusal, Loaded, PointForm, Ran, ReplyForm, Served, WorkersFault,
-    run_shelves,
+    Client, Clients, Feeds, LoadRefusal, LoadedVersion, PointForm, ReplyForm, Served,
+    ServingOutcome, WorkersFault, run_shelves,
 };
 
 /// The feeds that may be loaded: those that the command line names.
@@ -78,8 +79,8 @@ impl<'a, H: Disk + Explains + Clock + Sync> Feeds for Folders<'a, H> {
     ghost named = { λ folders. folders.names.items };
 
     // Those of the folder that goes with the feed's name, of which nothing was read yet.
-    ghost are_files = { λ folders place files.
-        (slice_get (map (λ feed. feed.folder.now) folders.request.now.feeds.items) place ≡ Some files.folder.now)
+    ghost are_files = { λ folders index files.
+        (slice_get (map (λ feed. feed.folder.now) folders.request.now.feeds.items) index ≡ Some files.folder.now)
         × (files.reads ≡ []) };
 
     ghost is_plan = { λ folders plan. IsPlanNow folders.request.now.plan folders.zone_bytes.items plan };
@@ -101,14 +102,14 @@ impl<'a, H: Disk + Explains + Clock + Sync> Feeds for Folders<'a, H> {
         }
     }
 
-    fn files(&self, place: usize) -> Option<FolderFiles<'a, H>> {
-        match self.request.feeds.get(place) {
+    fn files(&self, index: usize) -> Option<FolderFiles<'a, H>> {
+        match self.request.feeds.get(index) {
             Some(feed) => Some(FolderFiles::new(self.disk, feed.folder)),
             None => None,
         }
     }
 
-    fn begin(&self, _place: usize) -> Option<Instant> {
+    fn begin(&self, _index: usize) -> Option<Instant> {
         Instant::now(self.disk).ok()
     }
 
@@ -117,11 +118,11 @@ impl<'a, H: Disk + Explains + Clock + Sync> Feeds for Folders<'a, H> {
     fn finish<W: Write>(
         &self,
         errors: &mut W,
-        place: usize,
+        index: usize,
         begun: Option<Instant>,
-        outcome: Result<Loaded, LoadRefusal>,
+        outcome: Result<LoadedVersion, LoadRefusal>,
     ) {
-        let Some(feed) = self.request.feeds.get(place) else {
+        let Some(feed) = self.request.feeds.get(index) else {
             return;
         };
         if self.request.log {
@@ -129,7 +130,7 @@ impl<'a, H: Disk + Explains + Clock + Sync> Feeds for Folders<'a, H> {
                 self.disk,
                 self.alloc,
                 feed.name,
-                Begun::at(begun),
+                StartInstant::at(begun),
                 outcome,
                 errors,
             );
@@ -187,7 +188,7 @@ pub fn run<
 // Serves at the port, while a thread of its own writes what the server's threads report.
 fn serve_at<H: Disk + Explains + Clock + Threads + Wait + Sync, O: Write, E: Write + Send>(
     rt: &H,
-    bound: &Bound,
+    bound: &BoundListener,
     image: Verified,
     folders: &Folders<'_, H>,
     output: &mut O,
@@ -232,12 +233,12 @@ fn name_of(alloc: Global, feed: &NamedFolder<'_>) -> Result<String, AllocError>
 // served: none if the server failed before it served anybody, or if its workers failed. Whatever the server's threads
 // report goes into one queue.
 fn listen<'d, 'f, 'e, H: Disk + Explains + Clock + Threads + Wait + Sync, O: Write>(
-    bound: &'d Bound,
+    bound: &'d BoundListener,
     image: Verified,
     folders: &Folders<'f, H>,
     errors: &'d SharedErrors<'e, H>,
     output: &mut O,
-) -> (u8, Option<Hosted<'d, SharedErrors<'e, H>>>)
+) -> (u8, Option<HostingOutcome<'d, SharedErrors<'e, H>>>)
     ensures end { MatchOption result.1 ((result.0 ≡ INPUT_OUTPUT) ⊎ (result.0 ≡ OUT_OF_MEMORY))
         (λ hosted. IsServerEnd bound.now.port (O.contents output.old) (O.contents output.new)
         hosted.served hosted.door.failed result.0) }
@@ -272,7 +273,7 @@ fn listen<'d, 'f, 'e, H: Disk + Explains + Clock + Threads + Wait + Sync, O: Wri
 
 /// What a server served, and the door to which the clients came.
 #[derive(Drop)]
-struct Hosted<'d, L> {
+struct HostingOutcome<'d, L> {
     served: Served<Requests<TcpStream, Visit<'d, L>>, TcpStream>,
     door: Door<'d, L>,
 }
@@ -281,7 +282,7 @@ struct Hosted<'d, L> {
 fn serve_door<
     'd,
     'f,
-    B: Named + Send + Sync,
+    B: ShelvesName + Send + Sync,
     H: Disk + Explains + Clock + Threads + Wait + Sync,
     L: Host + Sync,
     E: Write + Send + Drop,
@@ -290,7 +291,7 @@ fn serve_door<
     made: (Shelves, ShelfLoader, Vec<ShelfSeat>),
     folders: &Folders<'f, H>,
     errors: E,
-) -> Result<Hosted<'d, L>, WorkersFault>
+) -> Result<HostingOutcome<'d, L>, WorkersFault>
     requires named { made.0 ≡ B.table }
     requires loader { made.1.table ≡ made.0 }
     requires seats { All (λ seat. seat.table ≡ made.0) made.2.items }
@@ -308,14 +309,14 @@ fn serve_door<
 {
     let form = form_of(folders.request.legs, folders.request.longest);
     let ran = serve_all::<B, _, _, _, _>(door, made, folders, form, errors)?;
-    Ok(Hosted {
+    Ok(HostingOutcome {
         served: ran.served,
         door: ran.clients,
     })
 }
 
 // How many sessions ended in each way, and whether accepting failed.
-fn end_of<'d, L: Host + Sync>(hosted: &Hosted<'d, L>) -> (Ends, bool)
+fn end_of<'d, L: Host + Sync>(hosted: &HostingOutcome<'d, L>) -> (SessionCounts, bool)
     ensures ends { result.0 ≡ counts_of hosted.now.served }
     ensures deaf { result.1 ≡ hosted.now.door.failed }
 {
@@ -326,7 +327,7 @@ fn end_of<'d, L: Host + Sync>(hosted: &Hosted<'d, L>) -> (Ends, bool)
 // whose bytes are known is proved of the very code that serves sockets.
 fn serve_all<
     'f,
-    B: Named + Send + Sync,
+    B: ShelvesName + Send + Sync,
     C: Client + Drop + Send,
     K: Clients<C> + Drop,
     H: Disk + Explains + Clock + Threads + Wait + Sync,
@@ -337,7 +338,10 @@ fn serve_all<
     folders: &Folders<'f, H>,
     form: ReplyForm,
     errors: E,
-) -> Result<Ran<C, K, ShelfSeat, ShelfLoader, NamedNotice<B>, FolderFiles<'f, H>>, WorkersFault>
+) -> Result<
+    ServingOutcome<C, K, ShelfSeat, ShelfLoader, NamedNotice<B>, FolderFiles<'f, H>>,
+    WorkersFault,
+>
     requires named { made.0 ≡ B.table }
     requires loader { made.1.table ≡ made.0 }
     requires seats { All (λ seat. seat.table ≡ made.0) made.2.items }
@@ -383,7 +387,7 @@ fn serve_all<
 
 /// What listens, and at which port.
 #[derive(Drop)]
-struct Bound {
+struct BoundListener {
     listener: TcpListener,
     port: u16,
 }
@@ -392,10 +396,10 @@ struct Bound {
 fn bound_at<H: Net<Listener = TcpListener, Stream = TcpStream>>(
     rt: &H,
     port: u16,
-) -> io::Result<Bound> {
+) -> io::Result<BoundListener> {
     let listener = TcpListener::bind(rt, (Ipv4Addr::LOCALHOST, port))?;
     let address = listener.local_addr()?;
-    Ok(Bound {
+    Ok(BoundListener {
         listener,
         port: address.port(),
     })
@@ -494,7 +498,7 @@ fn port_line(alloc: Global, port: u16) -> Result<String, AllocError>
 // line can't be printed.
 fn tell_served<'d, L: Host + Sync, O: Write>(
     alloc: Global,
-    hosted: &Hosted<'d, L>,
+    hosted: &HostingOutcome<'d, L>,
     output: &mut O,
 ) -> u8
     ensures status { (result ≡ status_of hosted.now.door.failed (counts_of hosted.now.served))
@@ -510,7 +514,7 @@ fn tell_served<'d, L: Host + Sync, O: Write>(
     }
 }
 
-fn served_line(alloc: Global, ends: Ends) -> Result<String, AllocError>
+fn served_line(alloc: Global, ends: SessionCounts) -> Result<String, AllocError>
     ensures { IfOk result (λ line. string_bytes line ≡ served_text ends) }
 {
     let mut line = String::new(alloc);
@@ -520,10 +524,10 @@ fn served_line(alloc: Global, ends: Ends) -> Result<String, AllocError>
 }
 
 // How many sessions ended in each way.
-fn ends_of<R, W>(served: &Served<R, W>) -> Ends
+fn ends_of<R, W>(served: &Served<R, W>) -> SessionCounts
     ensures { result ≡ counts_of served.now }
 {
-    Ends {
+    SessionCounts {
         ended: served.ended(),
         failed: served.failed(),
         spent: served.spent(),

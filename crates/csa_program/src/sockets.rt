@@ -14,7 +14,7 @@ use load_orders::Notes;
 use std::io;
 use std::net::{TcpListener, TcpStream};
 use std::time::Duration;
-use workers::{Client, Clients, ConnFault, End};
+use workers::{Client, Clients, ConnFault, SessionEnd};
 
 /// A client whose TCP connection was accepted, and how its session is kept.
 #[derive(Drop)]
@@ -56,7 +56,7 @@ impl<'a, L: Host + Sync> Client for Visitor<'a, L> {
         match (make_ready(&stream, rules.idle), stream.try_clone()) {
             (Ok(()), Ok(reader)) => Ok((Requests::new(reader, visit), stream)),
             _ => {
-                visit.end(End::Failed, 0, Duration::ZERO);
+                visit.end(SessionEnd::Failed, 0, Duration::ZERO);
                 Err(ConnFault)
             }
         }
@@ -64,10 +64,10 @@ impl<'a, L: Host + Sync> Client for Visitor<'a, L> {
 
     /// If the session ended before the client's requests did, the client is left time for the replies that were
     /// written.
-    fn close(reader: Requests<TcpStream, Visit<'a, L>>, writer: TcpStream, end: End) {
+    fn close(reader: Requests<TcpStream, Visit<'a, L>>, writer: TcpStream, end: SessionEnd) {
         let mut reader = reader;
         let slowest = reader.slowest();
-        if end != End::Ended && !reader.has_failed() {
+        if end != SessionEnd::Ended && !reader.has_failed() {
             let host = reader.visit.host();
             drain(&writer, reader.stream(), host);
         }

@@ -4,9 +4,9 @@ ghost use Rattle.std.specs.Prelude.{◌≡◌, is_some};
 
 use crate::logging::Host;
 use command_requests::Seconds;
-use csa_commands::Begun;
+use csa_commands::StartInstant;
 use std::time::Duration;
-use workers::End;
+use workers::SessionEnd;
 
 /// How the sessions of a server are kept.
 #[derive(Clone, Copy, Drop)]
@@ -22,7 +22,7 @@ pub struct SessionRules {
 pub struct Visit<'a, L> {
     /// The client's number among those that were accepted, from 1 on.
     number: u64,
-    begun: Begun,
+    begun: StartInstant,
     rules: SessionRules,
     host: &'a L,
 }
@@ -47,7 +47,7 @@ impl<'a, L: Host> Visit<'a, L> {
 
     /// The session ended so. It is logged if sessions are: with the number of its requests, and the longest time that
     /// one of them took.
-    pub fn end(&self, end: End, requests: u64, slowest: Duration) {
+    pub fn end(&self, end: SessionEnd, requests: u64, slowest: Duration) {
         if self.rules.log {
             self.host
                 .log_end(self.number, end, requests, self.begun, slowest);
@@ -62,7 +62,7 @@ impl<'a, L: Host> Visit<'a, L> {
     }
 
     /// The instant, if the session is logged.
-    pub fn instant(&self) -> Option<Begun> {
+    pub fn instant(&self) -> Option<StartInstant> {
         if self.rules.log {
             Some(self.host.now())
         } else {
@@ -71,7 +71,7 @@ impl<'a, L: Host> Visit<'a, L> {
     }
 
     /// How long something has lasted; nothing if the clock can't be read.
-    pub fn elapsed(&self, begun: Begun) -> Duration {
+    pub fn elapsed(&self, begun: StartInstant) -> Duration {
         match self.host.elapsed(begun) {
             Some(lasted) => lasted,
             None => Duration::ZERO,

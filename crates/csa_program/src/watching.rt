@@ -10,18 +10,18 @@ use std::io::{ErrorKind, Write};
 
 /// A writer that keeps the first reason why it couldn't be written.
 #[derive(Drop)]
-pub struct Watched<W> {
+pub struct WatchedWriter<W> {
     writer: W,
     fault: Option<ErrorKind>,
 }
 
-impl<W> Watched<W> {
+impl<W> WatchedWriter<W> {
     /// It could be written so far.
-    pub fn of(writer: W) -> Watched<W>
+    pub fn of(writer: W) -> WatchedWriter<W>
         ensures writer { result.writer ≡ writer }
         ensures whole { result.fault ≡ None }
     {
-        Watched {
+        WatchedWriter {
             writer,
             fault: None,
         }
@@ -35,7 +35,7 @@ impl<W> Watched<W> {
     }
 }
 
-impl<W: Write> Write for Watched<W> {
+impl<W: Write> Write for WatchedWriter<W> {
     ghost contents = { λ watched. W.contents watched.writer };
 
     fn write(&mut self, bytes: &[u8]) -> io::Result<usize>

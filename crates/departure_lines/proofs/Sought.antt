@@ -73,60 +73,60 @@ not_found_now name q old none = by (bytes_eq name q) (λ e. ap old (sym ((bytes_
     by false same = refl
 
 -- one line is longer by its next name
-pub more_listed : (listed : List (List ℕ)) (place : ℕ) (name : List ℕ) → slice_get listed place ≡ Some name
-    → take (place + 1) listed ≡ take place listed ++ name ∷ []
-more_listed listed place name at =
-    take_more listed place name (slice_get_within listed place name at)
-    ∙ ap (λ (x : List ℕ). take place listed ++ x ∷ []) (get_or_from_slice_get listed place name name at)
+pub more_listed : (listed : List (List ℕ)) (index : ℕ) (name : List ℕ) → slice_get listed index ≡ Some name
+    → take (index + 1) listed ≡ take index listed ++ name ∷ []
+more_listed listed index name at =
+    take_more listed index name (slice_get_within listed index name at)
+    ∙ ap (λ (x : List ℕ). take index listed ++ x ∷ []) (get_or_from_slice_get listed index name name at)
 
 -- the item at a place is the next name
-at_place : {A : Type 0} (f : A → List ℕ) (items : List A) (place : ℕ) (d : A) → place < length items
-    → slice_get (map f items) place ≡ Some (f (get_or items place d))
-at_place f items place d less = slice_get-map f items place ∙ ap (option_map f) (slice_get-get_or items place d less)
+at_index : {A : Type 0} (f : A → List ℕ) (items : List A) (index : ℕ) (d : A) → index < length items
+    → slice_get (map f items) index ≡ Some (f (get_or items index d))
+at_index f items index d less = slice_get-map f items index ∙ ap (option_map f) (slice_get-get_or items index d less)
 
 -- the names so far are sought, and so is the next one
-pub item_sought : {A : Type 0} (f : A → List ℕ) (items : List A) (place : ℕ) (d : A) (old new : BTreeMap (Bor (List ℕ)) Bool)
-    → place < length items → AreSought (take place (map f items)) old
-    → ((q : List ℕ) → found_at new q ≡ (if bytes_eq (f (get_or items place d)) q then Some false else found_at old q))
-    → AreSought (take (place + 1) (map f items)) new
-item_sought f items place d old new less are put =
-    let name = f (get_or items place d) in
-    subst (λ (names : List (List ℕ)). AreSought names new) (sym (more_listed (map f items) place name (at_place f items place d less)))
-    (name_sought (take place (map f items)) name old new are put)
+pub item_sought : {A : Type 0} (f : A → List ℕ) (items : List A) (index : ℕ) (d : A) (old new : BTreeMap (Bor (List ℕ)) Bool)
+    → index < length items → AreSought (take index (map f items)) old
+    → ((q : List ℕ) → found_at new q ≡ (if bytes_eq (f (get_or items index d)) q then Some false else found_at old q))
+    → AreSought (take (index + 1) (map f items)) new
+item_sought f items index d old new less are put =
+    let name = f (get_or items index d) in
+    subst (λ (names : List (List ℕ)). AreSought names new) (sym (more_listed (map f items) index name (at_index f items index d less)))
+    (name_sought (take index (map f items)) name old new are put)
 
 -- a name more was found
-found_more : (listed : List (List ℕ)) (place : ℕ) (name : List ℕ) (found : BTreeMap (Bor (List ℕ)) Bool) → slice_get listed place ≡ Some name
-    → ((other : List ℕ) → Contains (take place listed) other → found_at found other ≡ Some true) → found_at found name ≡ Some true
-    → (other : List ℕ) → Contains (take (place + 1) listed) other → found_at found other ≡ Some true
-found_more listed place name found at before is other h =
-    elim (Contains-push_cases (take place listed) name other
-    (subst (λ (names : List (List ℕ)). Contains names other) (more_listed listed place name at) h)) [
+found_more : (listed : List (List ℕ)) (index : ℕ) (name : List ℕ) (found : BTreeMap (Bor (List ℕ)) Bool) → slice_get listed index ≡ Some name
+    → ((other : List ℕ) → Contains (take index listed) other → found_at found other ≡ Some true) → found_at found name ≡ Some true
+    → (other : List ℕ) → Contains (take (index + 1) listed) other → found_at found other ≡ Some true
+found_more listed index name found at before is other h =
+    elim (Contains-push_cases (take index listed) name other
+    (subst (λ (names : List (List ℕ)). Contains names other) (more_listed listed index name at) h)) [
       | inl earlier ↦ before other earlier
       | inr last ↦ subst (λ (n : List ℕ). found_at found n ≡ Some true) last is
     ]
 
 -- the names so far were found, and so was the next one
-pub item_found : {A : Type 0} (f : A → List ℕ) (items : List A) (place : ℕ) (d : A) (found : BTreeMap (Bor (List ℕ)) Bool) → place < length items
-    → ((other : List ℕ) → Contains (take place (map f items)) other → found_at found other ≡ Some true)
-    → is_set (found_at found (f (get_or items place d))) ≡ true
-    → (other : List ℕ) → Contains (take (place + 1) (map f items)) other → found_at found other ≡ Some true
-item_found f items place d found less before is =
-    let name = f (get_or items place d) in
-    found_more (map f items) place name found (at_place f items place d less) before (set_is (found_at found name) is)
+pub item_found : {A : Type 0} (f : A → List ℕ) (items : List A) (index : ℕ) (d : A) (found : BTreeMap (Bor (List ℕ)) Bool) → index < length items
+    → ((other : List ℕ) → Contains (take index (map f items)) other → found_at found other ≡ Some true)
+    → is_set (found_at found (f (get_or items index d))) ≡ true
+    → (other : List ℕ) → Contains (take (index + 1) (map f items)) other → found_at found other ≡ Some true
+item_found f items index d found less before is =
+    let name = f (get_or items index d) in
+    found_more (map f items) index name found (at_index f items index d less) before (set_is (found_at found name) is)
   where
     set_is : (had : Option Bool) → is_set had ≡ true → had ≡ Some true
     set_is None e = absurd (true≢false (sym e))
     set_is (Some found) e = ap Some e
 
 -- the names so far were found, and the next one wasn't
-pub item_missing : {A : Type 0} (f : A → List ℕ) (items : List A) (place : ℕ) (d : A) (found : BTreeMap (Bor (List ℕ)) Bool) → place < length items
-    → ((other : List ℕ) → Contains (take place (map f items)) other → found_at found other ≡ Some true)
-    → is_set (found_at found (f (get_or items place d))) ≡ false → IsFirstMissing found (map f items) (place + 1)
-item_missing f items place d found less before is = record {
-  place = place;
-  name = f (get_or items place d);
-  numbered = more place;
-  at = at_place f items place d less;
+pub item_missing : {A : Type 0} (f : A → List ℕ) (items : List A) (index : ℕ) (d : A) (found : BTreeMap (Bor (List ℕ)) Bool) → index < length items
+    → ((other : List ℕ) → Contains (take index (map f items)) other → found_at found other ≡ Some true)
+    → is_set (found_at found (f (get_or items index d))) ≡ false → IsFirstMissing found (map f items) (index + 1)
+item_missing f items index d found less before is = record {
+  index = index;
+  name = f (get_or items index d);
+  numbered = more index;
+  at = at_index f items index d less;
   missing = λ e. true≢false (sym (ap is_set e) ∙ is);
   before = before;
 }
@@ -149,13 +149,13 @@ some_is {a} {b} e = ap value e
     value (Some b) = b
 
 -- the next name wasn't found
-pub first_missing_at : (listed : List (List ℕ)) (place : ℕ) (name : List ℕ) (found : BTreeMap (Bor (List ℕ)) Bool)
-    → slice_get listed place ≡ Some name → ((other : List ℕ) → Contains (take place listed) other → found_at found other ≡ Some true)
-    → is_set (found_at found name) ≡ false → IsFirstMissing found listed (place + 1)
-first_missing_at listed place name found at before is = record {
-  place = place;
+pub first_missing_at : (listed : List (List ℕ)) (index : ℕ) (name : List ℕ) (found : BTreeMap (Bor (List ℕ)) Bool)
+    → slice_get listed index ≡ Some name → ((other : List ℕ) → Contains (take index listed) other → found_at found other ≡ Some true)
+    → is_set (found_at found name) ≡ false → IsFirstMissing found listed (index + 1)
+first_missing_at listed index name found at before is = record {
+  index = index;
   name = name;
-  numbered = more place;
+  numbered = more index;
   at = at;
   missing = λ e. absurd (true≢false (sym (ap is_set e) ∙ is));
   before = before;
@@ -303,7 +303,7 @@ stop_has_name names stop less = at ∙ ap Some (sym (ap bytes_or_none at))
 pub unknown_name : (names : NamesValue) (listed : List (List ℕ)) (found : BTreeMap (Bor (List ℕ)) Bool) (number : ℕ)
     → AreFoundBelow names listed (length names.stops) found → IsFirstMissing found listed number → IsUnknownLine names listed number
 unknown_name names listed found number are first = record {
-  place = first.place;
+  index = first.index;
   name = first.name;
   numbered = first.numbered;
   stands = first.at;
@@ -312,7 +312,7 @@ unknown_name names listed found number are first = record {
 }
   where
     by : (had : Option Bool) → found_at found first.name ≡ had → (stop : ℕ) → At names.stops stop first.name → ⊥
-    by None e stop at = are.has first.name (contains_at listed first.place first.name first.at) e
+    by None e stop at = are.has first.name (contains_at listed first.index first.name first.at) e
     by (Some true) e stop at = first.missing e
     by (Some false) e stop at = are.by_none first.name e stop (slice_get_within names.stops stop first.name at) at
 

@@ -10,7 +10,7 @@ use Rattle.std.proofs.lemmas.List.Elements.{filter-append}
 use Rattle.std.proofs.lemmas.List.Sums.{sum_by_push}
 use Rattle.std.proofs.lemmas.Slice.Zip.{all_zipped_more}
 use Rattle.criteria.specs.Laws.{Rules}
-use Rattle.criteria.specs.declared.told.ToldValue.{ToldValue}
+use Rattle.criteria.specs.declared.figures.Figures.{Figures}
 use Rattle.image_layout.specs.Image.{ImageValue}
 use Rattle.profile_scan.specs.Destinations.{query_from}
 use Rattle.profile_scan.specs.Points.{IsAnswer}
@@ -27,8 +27,8 @@ use Rattle.departure_lines.specs.Naming.{is_wanted}
 use Rattle.departure_lines.specs.Showing.{AddsStops, HasJourneys, IsInForm, IsShownFrom, ShowsStop}
 use Rattle.departure_lines.specs.Showing.{is_shown, one_if_some, shown_stops}
 use Rattle.departure_lines.specs.declared.form.LineForm.{LineForm}
-use Rattle.departure_lines.specs.declared.stop_lines.Counts.{Counts}
-use Rattle.departure_lines.specs.declared.stop_lists.Wanted.{Wanted}
+use Rattle.departure_lines.specs.declared.stop_lines.StopCounts.{StopCounts}
+use Rattle.departure_lines.specs.declared.stop_lists.WantedStops.{WantedStops}
 
 -- numbers counted up, and the next
 counted_more : (a n j : ℕ) → a + n ≡ j → range_with_len a (suc n) ≡ range_with_len a n ++ j ∷ []
@@ -42,7 +42,7 @@ counting_more n = ap (range_with_len 0) (next n) ∙ counted_more 0 n n (omega a
     next k = omega arith
 
 -- one stop more, that is shown or not
-stop_taken : (wanted : Wanted) (target n : ℕ) → is_shown wanted target n ≡ true → shown_stops wanted target (n + 1) ≡ shown_stops wanted target n ++ n ∷ []
+stop_taken : (wanted : WantedStops) (target n : ℕ) → is_shown wanted target n ≡ true → shown_stops wanted target (n + 1) ≡ shown_stops wanted target n ++ n ∷ []
 stop_taken wanted target n is =
     ap (filter (is_shown wanted target)) (counting_more n) ∙ filter-append (is_shown wanted target) (range_with_len 0 n) (n ∷ [])
     ∙ ap (λ (ks : List ℕ). shown_stops wanted target n ++ ks) (kept is)
@@ -50,7 +50,7 @@ stop_taken wanted target n is =
     kept : is_shown wanted target n ≡ true → filter (is_shown wanted target) (n ∷ []) ≡ n ∷ []
     kept h = rw h refl
 
-stop_left : (wanted : Wanted) (target n : ℕ) → is_shown wanted target n ≡ false → shown_stops wanted target (n + 1) ≡ shown_stops wanted target n
+stop_left : (wanted : WantedStops) (target n : ℕ) → is_shown wanted target n ≡ false → shown_stops wanted target (n + 1) ≡ shown_stops wanted target n
 stop_left wanted target n is =
     ap (filter (is_shown wanted target)) (counting_more n) ∙ filter-append (is_shown wanted target) (range_with_len 0 n) (n ∷ [])
     ∙ ap (λ (ks : List ℕ). shown_stops wanted target n ++ ks) (dropped is) ∙ append-nil (shown_stops wanted target n)
@@ -58,8 +58,8 @@ stop_left wanted target n is =
     dropped : is_shown wanted target n ≡ false → filter (is_shown wanted target) (n ∷ []) ≡ []
     dropped h = rw h refl
 
-module _ {V : Type 0} (told : V → ToldValue) (rules : Rules V) (form : LineForm) (image : ImageValue) (d : Destination) (wanted : Wanted) where
-  pub none_added : (text : List ℕ) → AddsStops told rules form image d wanted 0 text text (record { stops = 0; points = 0 })
+module _ {V : Type 0} (figures : V → Figures) (rules : Rules V) (form : LineForm) (image : ImageValue) (d : Destination) (wanted : WantedStops) where
+  pub none_added : (text : List ℕ) → AddsStops figures rules form image d wanted 0 text text (record { stops = 0; points = 0 })
   none_added text = record {
     text = [];
     added = sym (append-nil text);
@@ -67,14 +67,14 @@ module _ {V : Type 0} (told : V → ToldValue) (rules : Rules V) (form : LineFor
   }
 
   -- a stop that isn't shown changes nothing
-  pub stop_skipped : (n : ℕ) (old new : List ℕ) (counts : Counts) → is_shown wanted d.target n ≡ false
-      → AddsStops told rules form image d wanted n old new counts → AddsStops told rules form image d wanted (n + 1) old new counts
+  pub stop_skipped : (n : ℕ) (old new : List ℕ) (counts : StopCounts) → is_shown wanted d.target n ≡ false
+      → AddsStops figures rules form image d wanted n old new counts → AddsStops figures rules form image d wanted (n + 1) old new counts
   stop_skipped n old new counts not_shown adds = record {
     text = adds.text;
     added = adds.added;
     listed = record {
       parts = adds.listed.parts;
-      each = subst (λ (ks : List ℕ). AllZip (λ stop (part : ℕ × List ℕ). IsShownFrom told rules form image (query_from d stop) part.0 part.1) ks
+      each = subst (λ (ks : List ℕ). AllZip (λ stop (part : ℕ × List ℕ). IsShownFrom figures rules form image (query_from d stop) part.0 part.1) ks
           adds.listed.parts) (sym (stop_left wanted d.target n not_shown)) adds.listed.each;
       text_is = adds.listed.text_is;
       stops_are = adds.listed.stops_are;
@@ -83,14 +83,14 @@ module _ {V : Type 0} (told : V → ToldValue) (rules : Rules V) (form : LineFor
   }
 
   -- one that is shown adds its text, and counts
-  pub stop_added : (n : ℕ) (old mid new : List ℕ) (counts next : Counts) (points : ℕ) → is_shown wanted d.target n ≡ true
-      → AddsStops told rules form image d wanted n old mid counts → ShowsStop told rules form image (query_from d n) mid new points
+  pub stop_added : (n : ℕ) (old mid new : List ℕ) (counts next : StopCounts) (points : ℕ) → is_shown wanted d.target n ≡ true
+      → AddsStops figures rules form image d wanted n old mid counts → ShowsStop figures rules form image (query_from d n) mid new points
       → next.stops ≡ counts.stops + one_if_some points → next.points ≡ counts.points + points
-      → AddsStops told rules form image d wanted (n + 1) old new next
+      → AddsStops figures rules form image d wanted (n + 1) old new next
   stop_added n old mid new counts next points is adds shows stops_now points_now =
       let parts = adds.listed.parts in
       let part : ℕ × List ℕ = (points, shows.text) in
-      let R : ℕ → ℕ × List ℕ → Type 0 = λ stop p. IsShownFrom told rules form image (query_from d stop) p.0 p.1 in
+      let R : ℕ → ℕ × List ℕ → Type 0 = λ stop p. IsShownFrom figures rules form image (query_from d stop) p.0 p.1 in
       record {
         text = adds.text ++ shows.text;
         added = shows.added ∙ ap (λ (z : List ℕ). z ++ shows.text) adds.added ∙ regroup old adds.text shows.text;
@@ -112,24 +112,24 @@ module _ {V : Type 0} (told : V → ToldValue) (rules : Rules V) (form : LineFor
       regroup a b c = append_assoc a b c
 
 -- the target isn't shown
-pub target_not_shown : (wanted : Wanted) (target stop : ℕ) → stop ≡ target → false ≡ is_shown wanted target stop
+pub target_not_shown : (wanted : WantedStops) (target stop : ℕ) → stop ≡ target → false ≡ is_shown wanted target stop
 target_not_shown wanted target stop same = ap (λ b. not b && is_wanted wanted stop) (sym (eqb_same stop target same))
   where
     eqb_same : (a b : ℕ) → a ≡ b → eqb a b ≡ true
     eqb_same a b e = elim (eqb_tells a b) [ inl yes_same ↦ yes_same.0 | inr other ↦ absurd (other.1 e) ]
 
 -- another one is if it is wanted
-pub other_shown : (wanted : Wanted) (target stop : ℕ) (has : Bool) → (stop ≡ target → ⊥) → has ≡ is_wanted wanted stop → has ≡ is_shown wanted target stop
+pub other_shown : (wanted : WantedStops) (target stop : ℕ) (has : Bool) → (stop ≡ target → ⊥) → has ≡ is_wanted wanted stop → has ≡ is_shown wanted target stop
 other_shown wanted target stop has other is = is ∙ ap (λ b. not b && is_wanted wanted stop) (sym (ne_eqb stop target other))
 
 -- the text of a stop's points, without journeys
-pub points_shown : {K V : Type 0} {c : _} (rules_of : K → Rules V) (told : V → ToldValue) (form : LineForm) (image : ImageValue)
+pub points_shown : {K V : Type 0} {c : _} (rules_of : K → Rules V) (figures : V → Figures) (form : LineForm) (image : ImageValue)
     (profiles : Profiles K V c) (criterion : K) (stop : ℕ) (points : List (Point V)) (text old new : List ℕ)
     → stop < image.timetable.stops → stop ≢ (destination_of profiles).target → criterion_of_profiles profiles ≡ criterion
     → AnswerAll rules_of image.timetable profiles → points ≡ listed_from profiles stop
-    → IsInForm told (rules_of criterion) form image (query_from (destination_of profiles) stop) points (walk_from profiles stop) text → new ≡ old ++ text
-    → ShowsStop told (rules_of criterion) form image (query_from (destination_of profiles) stop) old new (length points)
-points_shown {K} {V} {c} rules_of told form image profiles criterion stop points text old new lt other same all is in_form added =
+    → IsInForm figures (rules_of criterion) form image (query_from (destination_of profiles) stop) points (walk_from profiles stop) text → new ≡ old ++ text
+    → ShowsStop figures (rules_of criterion) form image (query_from (destination_of profiles) stop) old new (length points)
+points_shown {K} {V} {c} rules_of figures form image profiles criterion stop points text old new lt other same all is in_form added =
     let q = query_from (destination_of profiles) stop in
     let from = all.each stop lt other in
     record {
@@ -147,16 +147,16 @@ points_shown {K} {V} {c} rules_of told form image profiles criterion stop points
     }
 
 -- the text of a stop's departures, with journeys
-pub journeys_shown : {K V : Type 0} {c : _} (rules_of : K → Rules V) (told : V → ToldValue) (form : LineForm) (image : ImageValue)
+pub journeys_shown : {K V : Type 0} {c : _} (rules_of : K → Rules V) (figures : V → Figures) (form : LineForm) (image : ImageValue)
     (profiles : Profiles K V c) (criterion : K) (stop : ℕ) (departures : List (Departure V)) (count : ℕ)
     (text old new : List ℕ) → count ≡ length departures → stop < image.timetable.stops → stop ≢ (destination_of profiles).target
     → criterion_of_profiles profiles ≡ criterion
     → AnswerAll rules_of image.timetable profiles
     → IsAnswer (rules_of (criterion_of_profiles profiles)) image.timetable (query_from (destination_of profiles) stop) (map point_of departures)
-    → IsInForm told (rules_of criterion) form image (query_from (destination_of profiles) stop) (map point_of departures) (walk_from profiles stop) text
+    → IsInForm figures (rules_of criterion) form image (query_from (destination_of profiles) stop) (map point_of departures) (walk_from profiles stop) text
     → new ≡ old ++ text
-    → ShowsStop told (rules_of criterion) form image (query_from (destination_of profiles) stop) old new count
-journeys_shown {K} {V} {c} rules_of told form image profiles criterion stop departures count text old new many lt other same all answer in_form added =
+    → ShowsStop figures (rules_of criterion) form image (query_from (destination_of profiles) stop) old new count
+journeys_shown {K} {V} {c} rules_of figures form image profiles criterion stop departures count text old new many lt other same all answer in_form added =
     let q = query_from (destination_of profiles) stop in
     record {
       text = text;

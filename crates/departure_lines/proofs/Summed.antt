@@ -3,12 +3,12 @@ use Rattle.std.proofs.Common.{◌≡◌, ◌<◌, ◌-◌, ℕ, List, [], ◌++�
 use Rattle.std.proofs.lemmas.List.{append-nil}
 use Rattle.std.proofs.lemmas.Option.{slice_get_read}
 use Rattle.bags.specs.declared.point.Point.{Point}
-use Rattle.criteria.specs.declared.told.ToldValue.{ToldValue}
+use Rattle.criteria.specs.declared.figures.Figures.{Figures}
 use Rattle.departure_lines.specs.Lines.{AddsSummary, IsLeast, sum_line, travel}
 
-module _ {V : Type 0} (told : V → ToldValue) (name : List ℕ) (points : List (Point V)) (walk : Option ℕ) where
+module _ {V : Type 0} (figures : V → Figures) (name : List ℕ) (points : List (Point V)) (walk : Option ℕ) where
   -- a stop without departures has none
-  pub no_summary : (old : List ℕ) → length points ≡ 0 → AddsSummary told name points walk old old
+  pub no_summary : (old : List ℕ) → length points ≡ 0 → AddsSummary figures name points walk old old
   no_summary old none = record {
     text = [];
     added = sym (append-nil old);
@@ -16,9 +16,9 @@ module _ {V : Type 0} (told : V → ToldValue) (name : List ℕ) (points : List 
   }
 
   pub summary_added : (first last : Point V) (from to least : ℕ) (old new : List ℕ) → 0 < length points → first ≡ get_or points 0 first
-      → last ≡ get_or points (length points - 1) last → IsLeast (map (travel told) points) least
+      → last ≡ get_or points (length points - 1) last → IsLeast (map (travel figures) points) least
       → from ≡ first.departure → to ≡ last.departure → new ≡ old ++ sum_line name (length points) from to least walk
-      → AddsSummary told name points walk old new
+      → AddsSummary figures name points walk old new
   summary_added first last from to least old new some begins ends is from_is to_is added = record {
     text = sum_line name (length points) first.departure last.departure least walk;
     added = added ∙ ap (λ n. old ++ sum_line name (length points) n to least walk) from_is

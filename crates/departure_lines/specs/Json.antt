@@ -4,7 +4,7 @@ use Rattle.std.specs.List.{flat_map}
 use Rattle.serde_json.specs.Data.{string}
 use Rattle.serde_json.specs.Written.{compact_text}
 use Rattle.bags.specs.declared.point.Point.{Point}
-use Rattle.criteria.specs.declared.told.ToldValue.{ToldValue}
+use Rattle.criteria.specs.declared.figures.Figures.{Figures}
 use Rattle.timetable.specs.Clocks.{clock_bytes}
 use Rattle.journeys.specs.Texts.{text_of}
 use Rattle.journeys.specs.declared.answering.Departure.{Departure}
@@ -16,23 +16,23 @@ times_json departure arrival =
     (codes "{\"arr\":\"" ++ clock_bytes arrival) ++ (codes "\",\"dep\":\"" ++ clock_bytes departure) ++ codes "\""
 
 -- its trips and the seconds walked, each if the criterion counts it
-unfoldable pub counts_json : ToldValue → List ℕ
-counts_json told = number_if_some (codes ",\"trips\":") told.trips ++ number_if_some (codes ",\"walked\":") told.walked ++ codes "}"
+unfoldable pub counts_json : Figures → List ℕ
+counts_json figures = number_if_some (codes ",\"trips\":") figures.trips ++ number_if_some (codes ",\"walked\":") figures.walked ++ codes "}"
 
-unfoldable pub point_json : {V : Type 0} → (V → ToldValue) → Point V → List ℕ
-point_json told point = times_json point.departure (told point.value).arrival ++ counts_json (told point.value)
+unfoldable pub point_json : {V : Type 0} → (V → Figures) → Point V → List ℕ
+point_json figures point = times_json point.departure (figures point.value).arrival ++ counts_json (figures point.value)
 
 unfoldable pub journey_member : List ℕ → List ℕ
 journey_member journey = codes ",\"journey\":\"" ++ journey ++ codes "\""
 
-unfoldable pub journey_json : {V : Type 0} → (V → ToldValue) → Departure V → List ℕ
-journey_json told departure =
-    times_json departure.time (told departure.value).arrival ++ journey_member (text_of departure.journey) ++ counts_json (told departure.value)
+unfoldable pub journey_json : {V : Type 0} → (V → Figures) → Departure V → List ℕ
+journey_json figures departure =
+    times_json departure.time (figures departure.value).arrival ++ journey_member (text_of departure.journey) ++ counts_json (figures departure.value)
 
 -- a comma before each text but the first
 abbrev pub comma_before : ℕ → List ℕ
 comma_before zero = []
-comma_before (suc place) = codes ","
+comma_before (suc index) = codes ","
 
 -- texts with a comma between them
 unfoldable pub with_commas : List (List ℕ) → List ℕ

@@ -2,7 +2,7 @@
 use Rattle.std.specs.Prelude.{◌≡◌, ℕ, Bool, not, ◌&&◌, nat_eq, List, ◌++◌, Option, Contains, filter, length, map, min}
 use Rattle.std.specs.List.{AllZip, flat_map, range_with_len, sum_by}
 use Rattle.criteria.specs.Laws.{Rules}
-use Rattle.criteria.specs.declared.told.ToldValue.{ToldValue}
+use Rattle.criteria.specs.declared.figures.Figures.{Figures}
 use Rattle.bags.specs.declared.point.Point.{Point}
 use Rattle.timetable.specs.TimetableValue.{TimetableValue}
 use Rattle.timetable.specs.declared.query.Query.{Query}
@@ -20,8 +20,8 @@ use Rattle.departure_lines.specs.Json.{counts_json_line, journey_json, json_if_s
 use Rattle.departure_lines.specs.Lines.{IsSummary, counts_line, line_from, point_line}
 use Rattle.departure_lines.specs.Naming.{is_wanted}
 use Rattle.departure_lines.specs.declared.form.LineForm.{LineForm}
-use Rattle.departure_lines.specs.declared.stop_lines.Counts.{Counts}
-use Rattle.departure_lines.specs.declared.stop_lists.Wanted.{Wanted}
+use Rattle.departure_lines.specs.declared.stop_lines.StopCounts.{StopCounts}
+use Rattle.departure_lines.specs.declared.stop_lists.WantedStops.{WantedStops}
 
 -- points with journeys: there are departures, one for each point in order, each with a journey that attains it, of which `said` holds
 pub record HasJourneys {V : Type 0} (rules : Rules V) (t : TimetableValue) (q : Query) (points : List (Point V))
@@ -32,40 +32,40 @@ pub record HasJourneys {V : Type 0} (rules : Rules V) (t : TimetableValue) (q : 
   pub holds : said departures
 
 -- the text of a stop's points, in a form
-abbrev pub IsInForm : {V : Type 0} → (V → ToldValue) → Rules V → LineForm → ImageValue → Query → List (Point V) → Option ℕ → List ℕ → Type 0
-IsInForm told rules LineForm.Journeys image q points walk text =
-    HasJourneys rules image.timetable q points (λ departures. text ≡ flat_map (line_from told (stop_bytes image.names q.source)) departures)
-IsInForm told rules LineForm.Points image q points walk text = text ≡ flat_map (point_line told (stop_bytes image.names q.source)) points
-IsInForm told rules LineForm.Summary image q points walk text = IsSummary told (stop_bytes image.names q.source) points walk text
-IsInForm told rules LineForm.Json image q points walk text =
+abbrev pub IsInForm : {V : Type 0} → (V → Figures) → Rules V → LineForm → ImageValue → Query → List (Point V) → Option ℕ → List ℕ → Type 0
+IsInForm figures rules LineForm.Journeys image q points walk text =
+    HasJourneys rules image.timetable q points (λ departures. text ≡ flat_map (line_from figures (stop_bytes image.names q.source)) departures)
+IsInForm figures rules LineForm.Points image q points walk text = text ≡ flat_map (point_line figures (stop_bytes image.names q.source)) points
+IsInForm figures rules LineForm.Summary image q points walk text = IsSummary figures (stop_bytes image.names q.source) points walk text
+IsInForm figures rules LineForm.Json image q points walk text =
     HasJourneys rules image.timetable q points
-    (λ departures. text ≡ json_if_some (stop_bytes image.names q.source) (map (journey_json told) departures) walk)
-IsInForm told rules LineForm.JsonPoints image q points walk text =
-    text ≡ json_if_some (stop_bytes image.names q.source) (map (point_json told) points) walk
+    (λ departures. text ≡ json_if_some (stop_bytes image.names q.source) (map (journey_json figures) departures) walk)
+IsInForm figures rules LineForm.JsonPoints image q points walk text =
+    text ≡ json_if_some (stop_bytes image.names q.source) (map (point_json figures) points) walk
 
 -- the answer of the query has `count` points, and the text shows them
-pub record IsShownFrom {V : Type 0} (told : V → ToldValue) (rules : Rules V) (form : LineForm) (image : ImageValue) (q : Query)
+pub record IsShownFrom {V : Type 0} (figures : V → Figures) (rules : Rules V) (form : LineForm) (image : ImageValue) (q : Query)
     (count : ℕ) (text : List ℕ) : Type 0 where
   pub points : List (Point V)
   pub walk : Option ℕ
   pub answer : IsAnswer rules image.timetable q points
   pub direct : IsWay image.timetable q.target q.source walk
   pub counted : count ≡ length points
-  pub shown : IsInForm told rules form image q points walk text
+  pub shown : IsInForm figures rules form image q points walk text
 
 -- such a text was added
-pub record ShowsStop {V : Type 0} (told : V → ToldValue) (rules : Rules V) (form : LineForm) (image : ImageValue) (q : Query)
+pub record ShowsStop {V : Type 0} (figures : V → Figures) (rules : Rules V) (form : LineForm) (image : ImageValue) (q : Query)
     (old new : List ℕ) (count : ℕ) : Type 0 where
   pub text : List ℕ
   pub added : new ≡ old ++ text
-  pub shown : IsShownFrom told rules form image q count text
+  pub shown : IsShownFrom figures rules form image q count text
 
 -- the stops that are wanted, except the target
-abbrev pub is_shown : Wanted → ℕ → ℕ → Bool
+abbrev pub is_shown : WantedStops → ℕ → ℕ → Bool
 is_shown wanted target stop = not (nat_eq stop target) && is_wanted wanted stop
 
 -- those below n, in ascending order
-abbrev pub shown_stops : Wanted → ℕ → ℕ → List ℕ
+abbrev pub shown_stops : WantedStops → ℕ → ℕ → List ℕ
 shown_stops wanted target n = filter (is_shown wanted target) (range_with_len 0 n)
 
 -- a stop counts if it has points
@@ -73,20 +73,20 @@ abbrev pub one_if_some : ℕ → ℕ
 one_if_some points = min points 1
 
 -- the text shows the stops below n, one after the other: `stops` of them have points, and `points` points in all
-pub record AreListed {V : Type 0} (told : V → ToldValue) (rules : Rules V) (form : LineForm) (image : ImageValue) (d : Destination)
-    (wanted : Wanted) (n stops points : ℕ) (text : List ℕ) : Type 0 where
+pub record AreListed {V : Type 0} (figures : V → Figures) (rules : Rules V) (form : LineForm) (image : ImageValue) (d : Destination)
+    (wanted : WantedStops) (n stops points : ℕ) (text : List ℕ) : Type 0 where
   pub parts : List (ℕ × List ℕ)
-  pub each : AllZip (λ stop part. IsShownFrom told rules form image (query_from d stop) part.0 part.1) (shown_stops wanted d.target n) parts
+  pub each : AllZip (λ stop part. IsShownFrom figures rules form image (query_from d stop) part.0 part.1) (shown_stops wanted d.target n) parts
   pub text_is : text ≡ flat_map (λ part. part.1) parts
   pub stops_are : stops ≡ sum_by (λ part. one_if_some part.0) parts
   pub points_are : points ≡ sum_by (λ part. part.0) parts
 
 -- such a text was added
-pub record AddsStops {V : Type 0} (told : V → ToldValue) (rules : Rules V) (form : LineForm) (image : ImageValue) (d : Destination)
-    (wanted : Wanted) (n : ℕ) (old new : List ℕ) (counts : Counts) : Type 0 where
+pub record AddsStops {V : Type 0} (figures : V → Figures) (rules : Rules V) (form : LineForm) (image : ImageValue) (d : Destination)
+    (wanted : WantedStops) (n : ℕ) (old new : List ℕ) (counts : StopCounts) : Type 0 where
   pub text : List ℕ
   pub added : new ≡ old ++ text
-  pub listed : AreListed told rules form image d wanted n counts.stops counts.points text
+  pub listed : AreListed figures rules form image d wanted n counts.stops counts.points text
 
 -- the last line, in a form
 abbrev pub last_line : LineForm → ℕ → ℕ → ℕ → List ℕ
@@ -97,10 +97,10 @@ last_line LineForm.Points stops points read = counts_line stops points read
 last_line LineForm.Summary stops points read = counts_line stops points read
 
 -- all wanted stops except the target are shown, and then the counts, with the number of connections of the window
-pub record AreShown {V : Type 0} (told : V → ToldValue) (rules : Rules V) (form : LineForm) (image : ImageValue) (d : Destination)
-    (wanted : Wanted) (printed : List ℕ) : Type 0 where
+pub record AreShown {V : Type 0} (figures : V → Figures) (rules : Rules V) (form : LineForm) (image : ImageValue) (d : Destination)
+    (wanted : WantedStops) (printed : List ℕ) : Type 0 where
   pub stops : ℕ
   pub points : ℕ
   pub text : List ℕ
-  pub listed : AreListed told rules form image d wanted image.timetable.stops stops points text
+  pub listed : AreListed figures rules form image d wanted image.timetable.stops stops points text
   pub printed_is : printed ≡ text ++ last_line form stops points (length (window image.timetable (query_from d d.target)))

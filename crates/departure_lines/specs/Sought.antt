@@ -41,9 +41,9 @@ AreMarkedBelow names listed below marks =
 
 -- the line with this number, from 1 on, is the first whose name wasn't found
 pub record IsFirstMissing (found : BTreeMap (Bor (List ℕ)) Bool) (listed : List (List ℕ)) (number : ℕ) : Type 0 where
-  pub place : ℕ
+  pub index : ℕ
   pub name : List ℕ
-  pub numbered : number ≡ suc place
-  pub at : slice_get listed place ≡ Some name
+  pub numbered : number ≡ suc index
+  pub at : slice_get listed index ≡ Some name
   pub missing : found_at found name ≢ Some true
-  pub before : (other : List ℕ) → Contains (take place listed) other → found_at found other ≡ Some true
+  pub before : (other : List ℕ) → Contains (take index listed) other → found_at found other ≡ Some true

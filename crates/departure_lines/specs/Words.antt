@@ -1,6 +1,6 @@
 -- The line of a best departure.
 use Rattle.std.specs.Prelude.{ℕ, List, [], ◌++◌, codes, decimal, Option, None, Some}
-use Rattle.criteria.specs.declared.told.ToldValue.{ToldValue}
+use Rattle.criteria.specs.declared.figures.Figures.{Figures}
 use Rattle.timetable.specs.Clocks.{clock_bytes}
 use Rattle.timetable.specs.JourneyValue.{JourneyValue}
 use Rattle.journeys.specs.Texts.{text_of}
@@ -16,21 +16,21 @@ number_if_some word None = []
 number_if_some word (Some n) = word ++ decimal n
 
 -- the times of a point, and its trips and the seconds walked, each if the criterion counts it
-unfoldable pub values_text : ℕ → ToldValue → List ℕ
-values_text departure told =
-    times_text departure told.arrival ++ number_if_some (codes " trips ") told.trips ++ number_if_some (codes " walked ") told.walked
+unfoldable pub values_text : ℕ → Figures → List ℕ
+values_text departure figures =
+    times_text departure figures.arrival ++ number_if_some (codes " trips ") figures.trips ++ number_if_some (codes " walked ") figures.walked
 
 -- what is printed of a point before its journey
-unfoldable pub point_text : ℕ → ToldValue → List ℕ
-point_text departure told = values_text departure told ++ codes " :"
+unfoldable pub point_text : ℕ → Figures → List ℕ
+point_text departure figures = values_text departure figures ++ codes " :"
 
 -- a journey by the numbers of the image
 abbrev pub numbered_text : JourneyValue → List ℕ
 numbered_text journey = codes " " ++ text_of journey
 
 -- the line of a best departure, with its journey
-unfoldable pub departure_line : {V : Type 0} → (V → ToldValue) → (JourneyValue → List ℕ) → Departure V → List ℕ
-departure_line told words departure = point_text departure.time (told departure.value) ++ words departure.journey ++ codes "\n"
+unfoldable pub departure_line : {V : Type 0} → (V → Figures) → (JourneyValue → List ℕ) → Departure V → List ℕ
+departure_line figures words departure = point_text departure.time (figures departure.value) ++ words departure.journey ++ codes "\n"
 
 -- the seconds of the direct footpath, or that there is none
 abbrev pub walk_word : Option ℕ → List ℕ

@@ -13,5 +13,5 @@ mod whole;
 
 pub use form::LineForm;
 pub use listing::{append_by_numbers, append_direct, append_point, append_times};
-pub use stop_lists::{ListFault, Wanted};
+pub use stop_lists::{ListFault, WantedStops};
 pub use whole::departures_text;

@@ -82,10 +82,10 @@ pub(crate) fn first_missing(listed: &[&str], found: &FoundNames<'_>) -> Option<u
     ensures all { IfNone result ((name : List ℕ) → Contains (map (λ name. name.now) listed.now) name
         → found_at found.now name ≡ Some true) }
 {
-    for place in 0..listed.len() {
-        let name = listed[place];
+    for index in 0..listed.len() {
+        let name = listed[index];
         if !was_found(found, name) {
-            return Some(place + 1);
+            return Some(index + 1);
         }
     }
     None

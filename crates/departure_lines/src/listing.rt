@@ -1,48 +1,52 @@
 //! The line of a best departure.
 
 ghost use Rattle.std.specs.Prelude.{◌≡◌, ◌++◌, OnOk, string_bytes};
-ghost use Rattle.criteria.specs.declared.told.ToldValue.{ToldValue};
+ghost use Rattle.criteria.specs.declared.figures.Figures.{Figures};
 ghost use Rattle.departure_lines.specs.Words.{departure_line, number_if_some, numbered_text, point_text, times_text};
 ghost use Rattle.departure_lines.specs.Words.{values_text, walk_word};
 
-use criteria::{Told, ToldValue};
+use criteria::{Figures, ShowsFigures};
 use journeys::{Departure, journey_string};
 use std::alloc::{AllocError, Global};
 use text_pieces::{put_clock, put_number, put_text, put_word};
 use timetable::Journey;
 
 /// Adds the line of a best departure, with its journey.
-pub fn append_by_numbers<C: Told>(
+pub fn append_by_numbers<C: ShowsFigures>(
     lines: &mut String,
     alloc: Global,
     criterion: &C,
     departure: &Departure<C::V>,
 ) -> Result<(), AllocError>
     ensures { OnOk result (string_bytes lines.new ≡ string_bytes lines.old
-        ++ departure_line C.told numbered_text departure.now) }
+        ++ departure_line C.figures numbered_text departure.now) }
 {
-    append_point(lines, departure.time, criterion.tell(&departure.value))?;
+    append_point(
+        lines,
+        departure.time,
+        criterion.figures_of(&departure.value),
+    )?;
     append_journey(lines, alloc, &departure.journey)?;
     put_text(lines, "\n")?;
     Ok(())
 }
 
 /// Adds what is printed of a point before its journey, with a colon.
-pub fn append_point(lines: &mut String, departure: u32, told: ToldValue) -> Result<(), AllocError>
-    ensures { OnOk result (string_bytes lines.new ≡ string_bytes lines.old ++ point_text departure told) }
+pub fn append_point(lines: &mut String, departure: u32, figures: Figures) -> Result<(), AllocError>
+    ensures { OnOk result (string_bytes lines.new ≡ string_bytes lines.old ++ point_text departure figures) }
 {
-    append_values(lines, departure, told)?;
+    append_values(lines, departure, figures)?;
     put_text(lines, " :")?;
     Ok(())
 }
 
 /// Adds the times of a point, and its trips and the seconds walked if the criterion counts them.
-pub fn append_values(lines: &mut String, departure: u32, told: ToldValue) -> Result<(), AllocError>
-    ensures { OnOk result (string_bytes lines.new ≡ string_bytes lines.old ++ values_text departure told) }
+pub fn append_values(lines: &mut String, departure: u32, figures: Figures) -> Result<(), AllocError>
+    ensures { OnOk result (string_bytes lines.new ≡ string_bytes lines.old ++ values_text departure figures) }
 {
-    append_times(lines, departure, told.arrival)?;
-    append_number(lines, " trips ", told.trips)?;
-    append_number(lines, " walked ", told.walked)?;
+    append_times(lines, departure, figures.arrival)?;
+    append_number(lines, " trips ", figures.trips)?;
+    append_number(lines, " walked ", figures.walked)?;
     Ok(())
 }
 

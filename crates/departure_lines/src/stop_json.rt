@@ -10,7 +10,7 @@ ghost use Rattle.departure_lines.specs.Json.{walk_json, with_commas};
 
 use crate::listing::append_number;
 use bags::Point;
-use criteria::{Told, ToldValue};
+use criteria::{Figures, ShowsFigures};
 use journeys::{Departure, journey_string};
 use serde_json::Value;
 use std::alloc::{AllocError, Global};
@@ -18,7 +18,7 @@ use text_pieces::{put_clock, put_number, put_text};
 
 /// Adds the line of the stop called `name`, if it has departures, with their journeys and the seconds of the
 /// direct footpath.
-pub fn append_json<C: Told>(
+pub fn append_json<C: ShowsFigures>(
     lines: &mut String,
     alloc: Global,
     criterion: &C,
@@ -27,7 +27,7 @@ pub fn append_json<C: Told>(
     walk: Option<u32>,
 ) -> Result<(), AllocError>
     ensures { OnOk result (string_bytes lines.new ≡ string_bytes lines.old
-        ++ json_if_some (string_bytes name) (map (journey_json C.told) departures.now) walk) }
+        ++ json_if_some (string_bytes name) (map (journey_json C.figures) departures.now) walk) }
 {
     if departures.len() == 0 {
         return Ok(());
@@ -39,7 +39,7 @@ pub fn append_json<C: Told>(
 }
 
 /// Adds the same line without journeys.
-pub fn append_json_points<C: Told>(
+pub fn append_json_points<C: ShowsFigures>(
     lines: &mut String,
     alloc: Global,
     criterion: &C,
@@ -48,7 +48,7 @@ pub fn append_json_points<C: Told>(
     walk: Option<u32>,
 ) -> Result<(), AllocError>
     ensures { OnOk result (string_bytes lines.new ≡ string_bytes lines.old
-        ++ json_if_some (string_bytes name) (map (point_json C.told) points.now) walk) }
+        ++ json_if_some (string_bytes name) (map (point_json C.figures) points.now) walk) }
 {
     if points.len() == 0 {
         return Ok(());
@@ -97,60 +97,60 @@ fn append_walk(lines: &mut String, walk: Option<u32>) -> Result<(), AllocError>
     }
 }
 
-fn append_journeys<C: Told>(
+fn append_journeys<C: ShowsFigures>(
     lines: &mut String,
     alloc: Global,
     criterion: &C,
     departures: &[Departure<C::V>],
 ) -> Result<(), AllocError>
     ensures { OnOk result (string_bytes lines.new ≡ string_bytes lines.old
-        ++ with_commas (map (journey_json C.told) departures.now)) }
+        ++ with_commas (map (journey_json C.figures) departures.now)) }
 {
-    for place in 0..departures.len() {
-        put_comma(lines, place)?;
-        append_journey(lines, alloc, criterion, &departures[place])?;
+    for index in 0..departures.len() {
+        put_comma(lines, index)?;
+        append_journey(lines, alloc, criterion, &departures[index])?;
     }
     Ok(())
 }
 
-fn append_points<C: Told>(
+fn append_points<C: ShowsFigures>(
     lines: &mut String,
     criterion: &C,
     points: &[Point<C::V>],
 ) -> Result<(), AllocError>
     ensures { OnOk result (string_bytes lines.new ≡ string_bytes lines.old
-        ++ with_commas (map (point_json C.told) points.now)) }
+        ++ with_commas (map (point_json C.figures) points.now)) }
 {
-    for place in 0..points.len() {
-        put_comma(lines, place)?;
-        append_point(lines, criterion, &points[place])?;
+    for index in 0..points.len() {
+        put_comma(lines, index)?;
+        append_point(lines, criterion, &points[index])?;
     }
     Ok(())
 }
 
 // Adds a comma, unless this is the first place.
-fn put_comma(lines: &mut String, place: usize) -> Result<(), AllocError>
-    ensures { OnOk result (string_bytes lines.new ≡ string_bytes lines.old ++ comma_before place) }
+fn put_comma(lines: &mut String, index: usize) -> Result<(), AllocError>
+    ensures { OnOk result (string_bytes lines.new ≡ string_bytes lines.old ++ comma_before index) }
 {
-    if place == 0 {
+    if index == 0 {
         return Ok(());
     }
     put_text(lines, ",")
 }
 
-fn append_journey<C: Told>(
+fn append_journey<C: ShowsFigures>(
     lines: &mut String,
     alloc: Global,
     criterion: &C,
     departure: &Departure<C::V>,
 ) -> Result<(), AllocError>
-    ensures { OnOk result (string_bytes lines.new ≡ string_bytes lines.old ++ journey_json C.told departure.now) }
+    ensures { OnOk result (string_bytes lines.new ≡ string_bytes lines.old ++ journey_json C.figures departure.now) }
 {
-    let told = criterion.tell(&departure.value);
+    let figures = criterion.figures_of(&departure.value);
     let journey = journey_string(alloc, &departure.journey)?;
-    append_times(lines, departure.time, told.arrival)?;
+    append_times(lines, departure.time, figures.arrival)?;
     append_member(lines, journey.as_str())?;
-    append_counts(lines, told)?;
+    append_counts(lines, figures)?;
     Ok(())
 }
 
@@ -164,16 +164,16 @@ fn append_member(lines: &mut String, journey: &str) -> Result<(), AllocError>
     Ok(())
 }
 
-fn append_point<C: Told>(
+fn append_point<C: ShowsFigures>(
     lines: &mut String,
     criterion: &C,
     point: &Point<C::V>,
 ) -> Result<(), AllocError>
-    ensures { OnOk result (string_bytes lines.new ≡ string_bytes lines.old ++ point_json C.told point.now) }
+    ensures { OnOk result (string_bytes lines.new ≡ string_bytes lines.old ++ point_json C.figures point.now) }
 {
-    let told = criterion.tell(&point.value);
-    append_times(lines, point.departure, told.arrival)?;
-    append_counts(lines, told)?;
+    let figures = criterion.figures_of(&point.value);
+    append_times(lines, point.departure, figures.arrival)?;
+    append_counts(lines, figures)?;
     Ok(())
 }
 
@@ -186,11 +186,11 @@ fn append_times(lines: &mut String, departure: u32, arrival: u32) -> Result<(), 
     Ok(())
 }
 
-fn append_counts(lines: &mut String, told: ToldValue) -> Result<(), AllocError>
-    ensures { OnOk result (string_bytes lines.new ≡ string_bytes lines.old ++ counts_json told) }
+fn append_counts(lines: &mut String, figures: Figures) -> Result<(), AllocError>
+    ensures { OnOk result (string_bytes lines.new ≡ string_bytes lines.old ++ counts_json figures) }
 {
-    append_number(lines, ",\"trips\":", told.trips)?;
-    append_number(lines, ",\"walked\":", told.walked)?;
+    append_number(lines, ",\"trips\":", figures.trips)?;
+    append_number(lines, ",\"walked\":", figures.walked)?;
     put_text(lines, "}")?;
     Ok(())
 }

@@ -11,10 +11,10 @@ ghost use Rattle.departure_lines.specs.Showing.{AddsStops, ShowsStop, is_shown, 
 
 use crate::form::LineForm;
 use crate::stop_json::{append_json, append_json_points};
-use crate::stop_lists::Wanted;
+use crate::stop_lists::WantedStops;
 use crate::stop_words::{append_lines, append_points, append_summary};
 use answer_pictures::stop_name;
-use criteria::Told;
+use criteria::ShowsFigures;
 use image_verifier::Verified;
 use journeys::{Departure, departures_from};
 use profile_scan::{InPlace, Profiles};
@@ -22,7 +22,7 @@ use std::alloc::{AllocError, Global};
 
 /// The answers from every stop of an image, and what is needed to print them.
 #[derive(Clone, Copy)]
-pub struct Shown<'a, C: Told> {
+pub struct AnswersToPrint<'a, C: ShowsFigures> {
     pub alloc: Global,
     pub image: &'a Verified,
     pub criterion: &'a C,
@@ -31,25 +31,25 @@ pub struct Shown<'a, C: Told> {
 
 /// The number of stops that have departures, and the number of all their departures.
 #[derive(Clone, Copy)]
-pub struct Counts {
+pub struct StopCounts {
     pub stops: usize,
     pub points: usize,
 }
 
 /// Adds the lines of each wanted stop except the target, in order, and returns the counts.
-pub fn append_stops<C: Told>(
+pub fn append_stops<C: ShowsFigures>(
     lines: &mut String,
-    shown: &Shown<'_, C>,
+    shown: &AnswersToPrint<'_, C>,
     form: LineForm,
-    wanted: &Wanted,
-) -> Result<Counts, AllocError>
+    wanted: &WantedStops,
+) -> Result<StopCounts, AllocError>
     requires same { criterion_of_profiles shown.now.profiles.now ≡ shown.now.criterion.now }
     requires answered { AnswerAll C.rules shown.now.image.now.timetable shown.now.profiles.now }
-    ensures { IfOk result (λ counts. AddsStops C.told (C.rules shown.now.criterion.now) form shown.now.image.now
+    ensures { IfOk result (λ counts. AddsStops C.figures (C.rules shown.now.criterion.now) form shown.now.image.now
         (destination_of shown.now.profiles.now) wanted.now shown.now.image.now.timetable.stops
         (string_bytes lines.old) (string_bytes lines.new) counts) }
 {
-    let mut counts = Counts {
+    let mut counts = StopCounts {
         stops: 0,
         points: 0,
     };
@@ -60,21 +60,21 @@ pub fn append_stops<C: Told>(
 }
 
 // Adds the lines of the next stop, if it is shown, and counts its departures.
-fn append_next<C: Told>(
+fn append_next<C: ShowsFigures>(
     lines: &mut String,
-    shown: &Shown<'_, C>,
+    shown: &AnswersToPrint<'_, C>,
     form: LineForm,
-    wanted: &Wanted,
+    wanted: &WantedStops,
     stop: u32,
-    counts: Counts,
-) -> Result<Counts, AllocError>
+    counts: StopCounts,
+) -> Result<StopCounts, AllocError>
     requires stop { stop < shown.now.image.now.timetable.stops }
     requires same { criterion_of_profiles shown.now.profiles.now ≡ shown.now.criterion.now }
     requires answered { AnswerAll C.rules shown.now.image.now.timetable shown.now.profiles.now }
     ensures { IfOk result (λ next. (before : List ℕ)
-        → AddsStops C.told (C.rules shown.now.criterion.now) form shown.now.image.now
+        → AddsStops C.figures (C.rules shown.now.criterion.now) form shown.now.image.now
         (destination_of shown.now.profiles.now) wanted.now stop before (string_bytes lines.old) counts
-        → AddsStops C.told (C.rules shown.now.criterion.now) form shown.now.image.now
+        → AddsStops C.figures (C.rules shown.now.criterion.now) form shown.now.image.now
         (destination_of shown.now.profiles.now) wanted.now (stop + 1) before (string_bytes lines.new) next) }
 {
     let target = shown.profiles.destination().target;
@@ -87,7 +87,7 @@ fn append_next<C: Told>(
 }
 
 // Whether a stop is wanted, and isn't the target.
-fn is_shown(wanted: &Wanted, target: u32, stop: u32) -> bool
+fn is_shown(wanted: &WantedStops, target: u32, stop: u32) -> bool
     ensures shown { result ≡ is_shown wanted.now target stop }
     ensures differ { result ≡ true → stop ≢ target }
 {
@@ -98,13 +98,13 @@ fn is_shown(wanted: &Wanted, target: u32, stop: u32) -> bool
 }
 
 // The counts after one more stop, which has `points` departures. A stop without departures isn't counted.
-fn counted(counts: Counts, points: usize) -> Result<Counts, AllocError>
+fn counted(counts: StopCounts, points: usize) -> Result<StopCounts, AllocError>
     ensures { IfOk result (λ next. (next.stops ≡ counts.stops + one_if_some points)
         × (next.points ≡ counts.points + points)) }
 {
     let stops = sum_of(counts.stops, points.min(1))?;
     let points = sum_of(counts.points, points)?;
-    Ok(Counts { stops, points })
+    Ok(StopCounts { stops, points })
 }
 
 // The sum of two counts. One past 2^64 - 1 is out of memory: no memory has room for so many.
@@ -118,9 +118,9 @@ fn sum_of(count: usize, more: usize) -> Result<usize, AllocError>
 }
 
 // Adds the lines of a stop, and returns how many departures it has.
-fn append_stop<C: Told>(
+fn append_stop<C: ShowsFigures>(
     lines: &mut String,
-    shown: &Shown<'_, C>,
+    shown: &AnswersToPrint<'_, C>,
     form: LineForm,
     stop: u32,
 ) -> Result<usize, AllocError>
@@ -128,7 +128,7 @@ fn append_stop<C: Told>(
     requires differ { stop ≢ (destination_of shown.now.profiles.now).target }
     requires same { criterion_of_profiles shown.now.profiles.now ≡ shown.now.criterion.now }
     requires answered { AnswerAll C.rules shown.now.image.now.timetable shown.now.profiles.now }
-    ensures { IfOk result (ShowsStop C.told (C.rules shown.now.criterion.now) form shown.now.image.now
+    ensures { IfOk result (ShowsStop C.figures (C.rules shown.now.criterion.now) form shown.now.image.now
         (query_from (destination_of shown.now.profiles.now) stop) (string_bytes lines.old) (string_bytes lines.new)) }
 {
     match form {
@@ -140,16 +140,16 @@ fn append_stop<C: Told>(
     }
 }
 
-fn append_journeys<C: Told>(
+fn append_journeys<C: ShowsFigures>(
     lines: &mut String,
-    shown: &Shown<'_, C>,
+    shown: &AnswersToPrint<'_, C>,
     stop: u32,
 ) -> Result<usize, AllocError>
     requires stop { stop < shown.now.image.now.timetable.stops }
     requires differ { stop ≢ (destination_of shown.now.profiles.now).target }
     requires same { criterion_of_profiles shown.now.profiles.now ≡ shown.now.criterion.now }
     requires answered { AnswerAll C.rules shown.now.image.now.timetable shown.now.profiles.now }
-    ensures { IfOk result (ShowsStop C.told (C.rules shown.now.criterion.now) LineForm.Journeys
+    ensures { IfOk result (ShowsStop C.figures (C.rules shown.now.criterion.now) LineForm.Journeys
         shown.now.image.now
         (query_from (destination_of shown.now.profiles.now) stop) (string_bytes lines.old) (string_bytes lines.new)) }
 {
@@ -165,16 +165,16 @@ fn append_journeys<C: Told>(
     Ok(departures.len())
 }
 
-fn append_bare<C: Told>(
+fn append_bare<C: ShowsFigures>(
     lines: &mut String,
-    shown: &Shown<'_, C>,
+    shown: &AnswersToPrint<'_, C>,
     stop: u32,
 ) -> Result<usize, AllocError>
     requires stop { stop < shown.now.image.now.timetable.stops }
     requires differ { stop ≢ (destination_of shown.now.profiles.now).target }
     requires same { criterion_of_profiles shown.now.profiles.now ≡ shown.now.criterion.now }
     requires answered { AnswerAll C.rules shown.now.image.now.timetable shown.now.profiles.now }
-    ensures { IfOk result (ShowsStop C.told (C.rules shown.now.criterion.now) LineForm.Points shown.now.image.now
+    ensures { IfOk result (ShowsStop C.figures (C.rules shown.now.criterion.now) LineForm.Points shown.now.image.now
         (query_from (destination_of shown.now.profiles.now) stop) (string_bytes lines.old) (string_bytes lines.new)) }
 {
     let name = stop_name(shown.alloc, shown.image, stop)?;
@@ -183,16 +183,16 @@ fn append_bare<C: Told>(
     Ok(points.len())
 }
 
-fn append_summed<C: Told>(
+fn append_summed<C: ShowsFigures>(
     lines: &mut String,
-    shown: &Shown<'_, C>,
+    shown: &AnswersToPrint<'_, C>,
     stop: u32,
 ) -> Result<usize, AllocError>
     requires stop { stop < shown.now.image.now.timetable.stops }
     requires differ { stop ≢ (destination_of shown.now.profiles.now).target }
     requires same { criterion_of_profiles shown.now.profiles.now ≡ shown.now.criterion.now }
     requires answered { AnswerAll C.rules shown.now.image.now.timetable shown.now.profiles.now }
-    ensures { IfOk result (ShowsStop C.told (C.rules shown.now.criterion.now) LineForm.Summary shown.now.image.now
+    ensures { IfOk result (ShowsStop C.figures (C.rules shown.now.criterion.now) LineForm.Summary shown.now.image.now
         (query_from (destination_of shown.now.profiles.now) stop) (string_bytes lines.old) (string_bytes lines.new)) }
 {
     let name = stop_name(shown.alloc, shown.image, stop)?;
@@ -202,16 +202,16 @@ fn append_summed<C: Told>(
     Ok(points.len())
 }
 
-fn append_as_json<C: Told>(
+fn append_as_json<C: ShowsFigures>(
     lines: &mut String,
-    shown: &Shown<'_, C>,
+    shown: &AnswersToPrint<'_, C>,
     stop: u32,
 ) -> Result<usize, AllocError>
     requires stop { stop < shown.now.image.now.timetable.stops }
     requires differ { stop ≢ (destination_of shown.now.profiles.now).target }
     requires same { criterion_of_profiles shown.now.profiles.now ≡ shown.now.criterion.now }
     requires answered { AnswerAll C.rules shown.now.image.now.timetable shown.now.profiles.now }
-    ensures { IfOk result (ShowsStop C.told (C.rules shown.now.criterion.now) LineForm.Json shown.now.image.now
+    ensures { IfOk result (ShowsStop C.figures (C.rules shown.now.criterion.now) LineForm.Json shown.now.image.now
         (query_from (destination_of shown.now.profiles.now) stop) (string_bytes lines.old) (string_bytes lines.new)) }
 {
     let name = stop_name(shown.alloc, shown.image, stop)?;
@@ -221,16 +221,16 @@ fn append_as_json<C: Told>(
     Ok(departures.len())
 }
 
-fn append_bare_json<C: Told>(
+fn append_bare_json<C: ShowsFigures>(
     lines: &mut String,
-    shown: &Shown<'_, C>,
+    shown: &AnswersToPrint<'_, C>,
     stop: u32,
 ) -> Result<usize, AllocError>
     requires stop { stop < shown.now.image.now.timetable.stops }
     requires differ { stop ≢ (destination_of shown.now.profiles.now).target }
     requires same { criterion_of_profiles shown.now.profiles.now ≡ shown.now.criterion.now }
     requires answered { AnswerAll C.rules shown.now.image.now.timetable shown.now.profiles.now }
-    ensures { IfOk result (ShowsStop C.told (C.rules shown.now.criterion.now) LineForm.JsonPoints
+    ensures { IfOk result (ShowsStop C.figures (C.rules shown.now.criterion.now) LineForm.JsonPoints
         shown.now.image.now
         (query_from (destination_of shown.now.profiles.now) stop) (string_bytes lines.old) (string_bytes lines.new)) }
 {
@@ -242,8 +242,8 @@ fn append_bare_json<C: Told>(
 }
 
 // The best departures from a stop, each with a journey.
-fn journeys_from<C: Told>(
-    shown: &Shown<'_, C>,
+fn journeys_from<C: ShowsFigures>(
+    shown: &AnswersToPrint<'_, C>,
     stop: u32,
 ) -> Result<Vec<Departure<C::V>>, AllocError>
     requires stop { stop < shown.now.image.now.timetable.stops }

@@ -11,7 +11,7 @@ use std::alloc::{AllocError, Global};
 
 /// Which stops are wanted.
 #[derive(Drop)]
-pub enum Wanted {
+pub enum WantedStops {
     All,
     /// For each stop whether it is wanted.
     Of(Vec<bool>),
@@ -36,7 +36,7 @@ impl From<AllocError> for ListFault {
     }
 }
 
-impl Wanted {
+impl WantedStops {
     ghost use Rattle.std.specs.Prelude.{◌≡◌, ℕ, IfOk, IfErr};
     ghost use Rattle.std.specs.Str.Lines.{lines};
     ghost use Rattle.departure_lines.specs.Naming.{AreWanted, IsUnknownLine, is_wanted};
@@ -45,13 +45,13 @@ impl Wanted {
     /// The stops that a list names, one stop_id on each line: of stops with the same stop_id, the lowest. The error is
     /// the first line that isn't a stop_id of the image, or that memory runs out. Lines and stops are gone through once
     /// each, and each is looked up in a tree.
-    pub fn listed(alloc: Global, image: &Verified, list: &str) -> Result<Wanted, ListFault>
+    pub fn listed(alloc: Global, image: &Verified, list: &str) -> Result<WantedStops, ListFault>
         ensures wanted { IfOk result (λ wanted. AreWanted image.now.names (lines list.now) wanted) }
         ensures unknown { IfErr result (λ fault. (number : ℕ) → fault ≡ UnknownStop number
             → IsUnknownLine image.now.names (lines list.now) number) }
     {
         match marks_of(alloc, image, list) {
-            Ok(marks) => Ok(Wanted::Of(marks)),
+            Ok(marks) => Ok(WantedStops::Of(marks)),
             Err(fault) => Err(fault),
         }
     }
@@ -61,8 +61,8 @@ impl Wanted {
         ensures { result ≡ is_wanted self.now stop }
     {
         match self {
-            Wanted::All => true,
-            Wanted::Of(marks) => is_marked(marks, stop),
+            WantedStops::All => true,
+            WantedStops::Of(marks) => is_marked(marks, stop),
         }
     }
 }

@@ -7,13 +7,13 @@ ghost use Rattle.departure_lines.specs.Lines.{travel};
 
 use crate::listing::{append_by_numbers, append_direct, append_values};
 use bags::Point;
-use criteria::Told;
+use criteria::ShowsFigures;
 use journeys::Departure;
 use std::alloc::{AllocError, Global};
 use text_pieces::{put_clock, put_number, put_text};
 
 /// Adds the line of each departure from the stop called `name`, with its journey.
-pub fn append_lines<C: Told>(
+pub fn append_lines<C: ShowsFigures>(
     lines: &mut String,
     alloc: Global,
     criterion: &C,
@@ -21,7 +21,7 @@ pub fn append_lines<C: Told>(
     departures: &[Departure<C::V>],
 ) -> Result<(), AllocError>
     ensures { OnOk result (string_bytes lines.new ≡ string_bytes lines.old
-        ++ flat_map (line_from C.told name.now) departures.now) }
+        ++ flat_map (line_from C.figures name.now) departures.now) }
 {
     for departure in departures {
         append_line(lines, alloc, criterion, name, departure)?;
@@ -29,7 +29,7 @@ pub fn append_lines<C: Told>(
     Ok(())
 }
 
-fn append_line<C: Told>(
+fn append_line<C: ShowsFigures>(
     lines: &mut String,
     alloc: Global,
     criterion: &C,
@@ -37,7 +37,7 @@ fn append_line<C: Told>(
     departure: &Departure<C::V>,
 ) -> Result<(), AllocError>
     ensures { OnOk result (string_bytes lines.new ≡ string_bytes lines.old
-        ++ line_from C.told name.now departure.now) }
+        ++ line_from C.figures name.now departure.now) }
 {
     put_text(lines, name)?;
     put_text(lines, " ")?;
@@ -46,14 +46,14 @@ fn append_line<C: Told>(
 }
 
 /// Adds the line of each departure, without a journey.
-pub fn append_points<C: Told>(
+pub fn append_points<C: ShowsFigures>(
     lines: &mut String,
     criterion: &C,
     name: &str,
     points: &[Point<C::V>],
 ) -> Result<(), AllocError>
     ensures { OnOk result (string_bytes lines.new ≡ string_bytes lines.old
-        ++ flat_map (point_line C.told name.now) points.now) }
+        ++ flat_map (point_line C.figures name.now) points.now) }
 {
     for point in points {
         append_point_line(lines, criterion, name, point)?;
@@ -61,31 +61,31 @@ pub fn append_points<C: Told>(
     Ok(())
 }
 
-fn append_point_line<C: Told>(
+fn append_point_line<C: ShowsFigures>(
     lines: &mut String,
     criterion: &C,
     name: &str,
     point: &Point<C::V>,
 ) -> Result<(), AllocError>
     ensures { OnOk result (string_bytes lines.new ≡ string_bytes lines.old
-        ++ point_line C.told name.now point.now) }
+        ++ point_line C.figures name.now point.now) }
 {
     put_text(lines, name)?;
     put_text(lines, " ")?;
-    append_values(lines, point.departure, criterion.tell(&point.value))?;
+    append_values(lines, point.departure, criterion.figures_of(&point.value))?;
     put_text(lines, "\n")?;
     Ok(())
 }
 
 /// Adds one line for all departures, if there are any.
-pub fn append_summary<C: Told>(
+pub fn append_summary<C: ShowsFigures>(
     lines: &mut String,
     criterion: &C,
     name: &str,
     points: &[Point<C::V>],
     walk: Option<u32>,
 ) -> Result<(), AllocError>
-    ensures { OnOk result (AddsSummary C.told name.now points.now walk (string_bytes lines.old)
+    ensures { OnOk result (AddsSummary C.figures name.now points.now walk (string_bytes lines.old)
         (string_bytes lines.new)) }
 {
     if points.len() == 0 {
@@ -118,9 +118,9 @@ fn append_sum_words(
 }
 
 // The least seconds from a departure to its arrival.
-fn least_travel<C: Told>(criterion: &C, points: &[Point<C::V>]) -> u32
+fn least_travel<C: ShowsFigures>(criterion: &C, points: &[Point<C::V>]) -> u32
     requires { 0 < length points.now }
-    ensures { IsLeast (map (travel C.told) points.now) result }
+    ensures { IsLeast (map (travel C.figures) points.now) result }
 {
     let mut least = seconds_of(criterion, &points[0]);
     for point in points {
@@ -129,11 +129,11 @@ fn least_travel<C: Told>(criterion: &C, points: &[Point<C::V>]) -> u32
     least
 }
 
-fn seconds_of<C: Told>(criterion: &C, point: &Point<C::V>) -> u32
-    ensures { result ≡ travel C.told point.now }
+fn seconds_of<C: ShowsFigures>(criterion: &C, point: &Point<C::V>) -> u32
+    ensures { result ≡ travel C.figures point.now }
 {
-    let told = criterion.tell(&point.value);
-    told.arrival.saturating_sub(point.departure)
+    let figures = criterion.figures_of(&point.value);
+    figures.arrival.saturating_sub(point.departure)
 }
 
 /// Adds the last line.

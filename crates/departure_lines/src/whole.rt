@@ -6,10 +6,10 @@ ghost use Rattle.departure_lines.specs.Showing.{AreShown, last_line};
 
 use crate::form::LineForm;
 use crate::stop_json::append_json_counts;
-use crate::stop_lines::{Counts, Shown, append_stops};
-use crate::stop_lists::Wanted;
+use crate::stop_lines::{AnswersToPrint, StopCounts, append_stops};
+use crate::stop_lists::WantedStops;
 use crate::stop_words::append_counts;
-use criteria::Told;
+use criteria::ShowsFigures;
 use image_verifier::Verified;
 use journeys::window_len;
 use profile_scan::{Destination, InPlace, profiles_to};
@@ -19,22 +19,22 @@ use std::alloc::{AllocError, Global};
 /// numbers of stops that have departures, of these departures, and of connections read.
 ///
 /// One scan answers for all stops; it reads the image in place. The only error is that memory runs out.
-pub fn departures_text<C: Told>(
+pub fn departures_text<C: ShowsFigures>(
     alloc: Global,
     image: &Verified,
     criterion: &C,
     destination: &Destination,
     form: LineForm,
-    wanted: &Wanted,
+    wanted: &WantedStops,
 ) -> Result<String, AllocError>
     requires { CanBeAsked image.now.timetable.stops destination.now }
-    ensures { IfOk result (λ text. AreShown C.told (C.rules criterion.now) form image.now destination.now wanted.now
+    ensures { IfOk result (λ text. AreShown C.figures (C.rules criterion.now) form image.now destination.now wanted.now
         (string_bytes text)) }
 {
     let mut source = InPlace::new(image);
     let read = window_len(&source, &destination.query_from(destination.target));
     let profiles = profiles_to(alloc, &mut source, criterion, destination)?;
-    let shown = Shown {
+    let shown = AnswersToPrint {
         alloc,
         image,
         criterion,
@@ -50,7 +50,7 @@ pub fn departures_text<C: Told>(
 fn append_last(
     lines: &mut String,
     form: LineForm,
-    counts: Counts,
+    counts: StopCounts,
     read: usize,
 ) -> Result<(), AllocError>
     ensures { OnOk result (string_bytes lines.new ≡ string_bytes lines.old

@@ -14,7 +14,7 @@ use Rattle.version_core.specs.Steps.{Step, LookStep, TakeStep, DropStep, AskStep
 use Rattle.version_core.specs.Runs.{Run}
 use Rattle.version_core.specs.Actors.{actor, NoneOf}
 use Rattle.version_core.proofs.Runs.{runs_part}
-use Rattle.shelf_steps.specs.declared.views.Known.{Known}
+use Rattle.shelf_steps.specs.declared.views.KnownHistory.{KnownHistory}
 use Rattle.shelf_steps.specs.declared.views.LoaderView.{LoaderView}
 use Rattle.shelf_steps.specs.declared.views.View.{View}
 use Rattle.shelf_steps.specs.Course.{Happened}
@@ -110,7 +110,7 @@ last_step t u e [] h = absurd h
 last_step t u e (r ∷ q ∷ rs) h = absurd h.2
 
 -- the state in which the last event came has the shelves that were known before
-before_last : (before after : Known) (shelves : List Shelf) (e : Event) (r : Reply) → LeadsToShelves before shelves → actor e ≡ None
+before_last : (before after : KnownHistory) (shelves : List Shelf) (e : Event) (r : Reply) → LeadsToShelves before shelves → actor e ≡ None
     → Happened before e r after → (u : State) → Run start after.events after.replies u → (t : State) × (t.shelves ≡ shelves) × Step t e r u
 before_last before after shelves e r led loaders h u run =
     let cut = runs_part start u (before.events ++ h.events.0) (e ∷ []) after.replies (subst (λ (l : List Event). Run start l after.replies u) h.events.1 run) in
@@ -130,7 +130,7 @@ before_last before after shelves e r led loaders h u run =
     )
 
 -- what is known after one event of the loader more
-led_on : (before after : Known) (shelves now : List Shelf) (e : Event) (r : Reply) → LeadsToShelves before shelves → actor e ≡ None
+led_on : (before after : KnownHistory) (shelves now : List Shelf) (e : Event) (r : Reply) → LeadsToShelves before shelves → actor e ≡ None
     → Happened before e r after → ((t u : State) → t.shelves ≡ shelves → Step t e r u → u.shelves ≡ now) → LeadsToShelves after now
 led_on before after shelves now e r led loaders h turns = record {
   state = h.state;
@@ -138,29 +138,29 @@ led_on before after shelves now e r led loaders h turns = record {
   each = λ u run. let b = before_last before after shelves e r led loaders h u run in turns b.0 u b.1 b.2;
 }
 
-put_back_led : (before after : Known) (shelves : List Shelf) (k : ℕ) → LeadsToShelves before shelves
+put_back_led : (before after : KnownHistory) (shelves : List Shelf) (k : ℕ) → LeadsToShelves before shelves
     → Happened before (Event.Collect k) Reply.NotNow after → LeadsToShelves after shelves
 put_back_led before after shelves k led h = led_on before after shelves shelves (Event.Collect k) Reply.NotNow led refl h
     (λ t u same step. ap (λ (x : State). x.shelves) step.1 ∙ same)
 
-freed_led : (before after : Known) (shelves : List Shelf) (k : ℕ) → LeadsToShelves before shelves
+freed_led : (before after : KnownHistory) (shelves : List Shelf) (k : ℕ) → LeadsToShelves before shelves
     → Happened before (Event.Collect k) Reply.Freed after → LeadsToShelves after (set shelves k Shelf.Free)
 freed_led before after shelves k led h = led_on before after shelves (set shelves k Shelf.Free) (Event.Collect k) Reply.Freed led refl h
     (λ t u same step. ap (λ (x : State). x.shelves) step.3 ∙ ap (λ (xs : List Shelf). set xs k Shelf.Free) same)
 
-busy_led : (before after : Known) (shelves : List Shelf) (k count : ℕ) → LeadsToShelves before shelves
+busy_led : (before after : KnownHistory) (shelves : List Shelf) (k count : ℕ) → LeadsToShelves before shelves
     → Happened before (Event.Collect k) (Reply.Busy count) after → LeadsToShelves after shelves
 busy_led before after shelves k count led h = led_on before after shelves shelves (Event.Collect k) (Reply.Busy count) led refl h
     (λ t u same step. ap (λ (x : State). x.shelves) step.4 ∙ same)
 
-opened_led : (before after : Known) (shelves : List Shelf) (k version edition : ℕ) → LeadsToShelves before shelves
+opened_led : (before after : KnownHistory) (shelves : List Shelf) (k version edition : ℕ) → LeadsToShelves before shelves
     → Happened before (Event.Open edition) (Reply.Opened version k) after → LeadsToShelves after (set shelves k (Shelf.Open version))
 opened_led before after shelves k version edition led h =
     led_on before after shelves (set shelves k (Shelf.Open version)) (Event.Open edition) (Reply.Opened version k) led refl h
     (λ t u same step. ap (λ (x : State). x.shelves) step.3
     ∙ (ap (λ n. set t.shelves k (Shelf.Open n)) (sym step.2) ∙ ap (λ (xs : List Shelf). set xs k (Shelf.Open version)) same))
 
-published_led : (before after : Known) (shelves : List Shelf) (version : ℕ) → LeadsToShelves before shelves
+published_led : (before after : KnownHistory) (shelves : List Shelf) (version : ℕ) → LeadsToShelves before shelves
     → Happened before Event.Publish (Reply.Published version) after → LeadsToShelves after shelves
 published_led before after shelves version led h = led_on before after shelves shelves Event.Publish (Reply.Published version) led refl h
     (λ t u same step. ap (λ (x : State). x.shelves) step.2 ∙ same)
@@ -168,7 +168,7 @@ published_led before after shelves version led h = led_on before after shelves s
 same_open : (shelves : List Shelf) (k v w : ℕ) → slice_get shelves k ≡ Some (Shelf.Open v) → slice_get shelves k ≡ Some (Shelf.Open w) → w ≡ v
 same_open shelves k v w a b = let both : Some (Shelf.Open w) ≡ Some (Shelf.Open v) = sym b ∙ a in cc
 
-closed_led : (before after : Known) (shelves : List Shelf) (k version : ℕ) → LeadsToShelves before shelves
+closed_led : (before after : KnownHistory) (shelves : List Shelf) (k version : ℕ) → LeadsToShelves before shelves
     → slice_get shelves k ≡ Some (Shelf.Open version) → Happened before (Event.Close k) Reply.Closing after
     → LeadsToShelves after (set shelves k (Shelf.Closing version))
 closed_led before after shelves k version led there h =

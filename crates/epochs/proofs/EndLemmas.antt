@@ -4,7 +4,7 @@ use Rattle.version_core.specs.declared.event.Event.{Event}
 use Rattle.version_core.specs.declared.event.Reply.{Reply}
 use Rattle.version_core.specs.declared.state.Worker.{Worker}
 use Rattle.shelf_steps.specs.declared.edition.Edition.{Edition}
-use Rattle.shelf_steps.specs.declared.views.Known.{Known}
+use Rattle.shelf_steps.specs.declared.views.KnownHistory.{KnownHistory}
 use Rattle.shelf_steps.specs.declared.views.WorkerView.{WorkerView}
 use Rattle.shelf_steps.specs.declared.views.View.{View}
 use Rattle.shelf_steps.specs.Course.{Happened}
@@ -32,7 +32,7 @@ idle_is number (View.Noting v) h = absurd h
 idle_is number View.Spent h = absurd h
 
 -- a try that held ends holding
-took_it : (before : Known) (a b : WorkerView) (number n shelf : ℕ) (e : Edition) → Grows before a.known → TriedWell a n shelf e b → b.number ≡ number
+took_it : (before : KnownHistory) (a b : WorkerView) (number n shelf : ℕ) (e : Edition) → Grows before a.known → TriedWell a n shelf e b → b.number ≡ number
     → EndsHolding before number n b.known
 took_it before a b number n shelf e grows h is =
     let same : a.number ≡ number = sym h.number ∙ is in (
@@ -47,7 +47,7 @@ took_it before a b number n shelf e grows h is =
     )
 
 -- and one that came late ends late
-came_late : (before : Known) (a b : WorkerView) (number n : ℕ) → Grows before a.known → TriedLate a n b → b.number ≡ number
+came_late : (before : KnownHistory) (a b : WorkerView) (number n : ℕ) → Grows before a.known → TriedLate a n b → b.number ≡ number
     → EndsLate before number n b.known
 came_late before a b number n grows h is =
     let same : a.number ≡ number = sym h.number ∙ is in (
@@ -63,7 +63,7 @@ came_late before a b number n grows h is =
       subst (λ m. Happened h.taken (Event.Drop m) Reply.Dropped b.known) same h.drop,
     )
 
-well_ends : (before : Known) (u u' : View) (number n shelf : ℕ) (e : Edition) → Grows before (known_of u) → Well u n shelf e u' → IsOf number u'
+well_ends : (before : KnownHistory) (u u' : View) (number n shelf : ℕ) (e : Edition) → Grows before (known_of u) → Well u n shelf e u' → IsOf number u'
     → EndsHolding before number n (known_of u')
 well_ends before (View.Working a) (View.Working b) number n shelf e grows h is = took_it before a b number n shelf e grows h is
 well_ends before (View.Working a) (View.Loading l) number n shelf e grows h is = absurd h
@@ -73,7 +73,7 @@ well_ends before (View.Loading l) u' number n shelf e grows h is = absurd h
 well_ends before (View.Noting v) u' number n shelf e grows h is = absurd h
 well_ends before View.Spent u' number n shelf e grows h is = absurd h
 
-late_ends : (before : Known) (u u' : View) (number n : ℕ) → Grows before (known_of u) → Late u n u' → IsOf number u'
+late_ends : (before : KnownHistory) (u u' : View) (number n : ℕ) → Grows before (known_of u) → Late u n u' → IsOf number u'
     → EndsLate before number n (known_of u')
 late_ends before (View.Working a) (View.Working b) number n grows h is = came_late before a b number n grows h is
 late_ends before (View.Working a) (View.Loading l) number n grows h is = absurd h

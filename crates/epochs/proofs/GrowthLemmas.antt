@@ -5,7 +5,7 @@ use Rattle.image_layout.specs.Image.{ImageValue}
 use Rattle.version_core.specs.declared.event.Event.{Event}
 use Rattle.version_core.specs.declared.event.Reply.{Reply}
 use Rattle.shelf_steps.specs.declared.edition.Edition.{Edition}
-use Rattle.shelf_steps.specs.declared.views.Known.{Known}
+use Rattle.shelf_steps.specs.declared.views.KnownHistory.{KnownHistory}
 use Rattle.shelf_steps.specs.declared.views.View.{View}
 use Rattle.shelf_steps.specs.Course.{Happened, image_of}
 use Rattle.shelf_steps.specs.Pinning.{Late, Lates, Well, Pins, Moves, Releases}
@@ -15,7 +15,7 @@ use Rattle.reasoning.proofs.ListLemmas.{slice_get-append}
 use Rattle.epochs.specs.SeatHistory.{Grows, GrowthsJoin, OneImageEach, PublishedStay}
 use Rattle.shelf_steps.specs.Events.{known_of}
 
-pub grows_same : (k : Known) → Grows k k
+pub grows_same : (k : KnownHistory) → Grows k k
 grows_same k = record { events = prefix_same k.events; replies = prefix_same k.replies; images = prefix_same k.images }
 
 pub growths_join : GrowthsJoin
@@ -25,7 +25,7 @@ growths_join a b c p q = record {
   images = prefix_trans a.images b.images c.images p.images q.images;
 }
 
-pub happened_grows : (k k' : Known) (e : Event) (r : Reply) → Happened k e r k' → Grows k k'
+pub happened_grows : (k k' : KnownHistory) (e : Event) (r : Reply) → Happened k e r k' → Grows k k'
 happened_grows k k' e r h = record {
   events = (h.events.0 ++ e ∷ [], sym (h.events.1 ∙ append_assoc k.events h.events.0 (e ∷ [])));
   replies = (h.replies.0 ++ r ∷ [], sym (h.replies.1 ∙ append_assoc k.replies h.replies.0 (r ∷ [])));

@@ -10,7 +10,7 @@ use Rattle.version_core.specs.declared.state.Worker.{Worker}
 use Rattle.version_core.specs.declared.state.Shelf.{Shelf}
 use Rattle.version_core.specs.State.{State, start, looked}
 use Rattle.version_core.specs.Steps.{Step, LookStep, TakeStep, DropStep, IsIdle, Holds}
-use Rattle.version_core.specs.Kept.{Kept}
+use Rattle.version_core.specs.Kept.{KeepsInvariants}
 use Rattle.version_core.specs.Rest.{IsNoLoad, RestStays}
 use Rattle.version_core.specs.Laws.{RunsGrow, LooksAndTakesHold, DropsLetGo}
 use Rattle.shelf_steps.specs.declared.edition.Edition.{Edition}
@@ -58,7 +58,7 @@ still_shelved s t editions images same h = subst (λ (l : List Shelf). AreShelve
 
 -- the shelf of the current version has its edition
 pub current_there : (s : State) (editions : List (Option Edition)) (images : List ImageValue) (version shelf : ℕ)
-    (d : Option Edition) → Kept s → AreShelved s.shelves editions images
+    (d : Option Edition) → KeepsInvariants s → AreShelved s.shelves editions images
     → version ≡ s.current → shelf ≡ s.current_shelf → d ≡ get_or editions shelf d → IsEdition images version d
 current_there s editions images version shelf d kept h v k is =
     let within = slice_get_within s.shelves s.current_shelf _ kept.shelves.current_open in let l = kept.shelves.eight in let m = h.eight in
@@ -77,17 +77,17 @@ pub never_none : (images : List ImageValue) (version : ℕ) (d : Option Edition)
 never_none images version d there not = not there.0 there.1
 
 -- an idle worker has seen nothing newer than the current version
-pub idle_seen : (s : State) (w seen : ℕ) → Kept s → IsIdle s w → slice_get s.seen w ≡ Some seen → seen ≤ s.current
+pub idle_seen : (s : State) (w seen : ℕ) → KeepsInvariants s → IsIdle s w → slice_get s.seen w ≡ Some seen → seen ≤ s.current
 idle_seen s w seen kept idle is = let f = kept.workers.each w Worker.Idle idle in let e = get_or_from_slice_get s.seen w seen 0 is in omega arith
 
 -- a worker that has looked has seen the current version
-pub looked_seen : (s : State) (w : ℕ) → Kept s → IsIdle s w → slice_get (looked s w).seen w ≡ Some s.current
+pub looked_seen : (s : State) (w : ℕ) → KeepsInvariants s → IsIdle s w → slice_get (looked s w).seen w ≡ Some s.current
 looked_seen s w kept idle =
     let within = slice_get_within s.workers w _ idle in let m = kept.workers.sixteen in let n = kept.workers.sixteen_seen in
     slice_get-set_same s.seen w s.current (omega arith)
 
 pub looks_and_takes : (s t u : State) (w : ℕ) (first second : Reply) (before events : List Event)
-    (images : List ImageValue) → LooksAndTakesHold → Kept s → IsIdle s w → LookStep s w first t → TakeStep t w second u
+    (images : List ImageValue) → LooksAndTakesHold → KeepsInvariants s → IsIdle s w → LookStep s w first t → TakeStep t w second u
     → events ≡ before ++ Event.Look w ∷ Event.Take w ∷ []
     → IsLookAndTake (record { state = s; events = before; images = images }) w (record { state = u; events = events; images = images })
 looks_and_takes s t u w first second before events images law kept idle look take more =
@@ -101,7 +101,7 @@ looks_and_takes s t u w first second before events images law kept idle look tak
     }
 
 pub drops : (s t : State) (w k v : ℕ) (r : Reply) (before events : List Event) (images : List ImageValue) → DropsLetGo
-    → Kept s → Holds s w k v → DropStep s w r t
+    → KeepsInvariants s → Holds s w k v → DropStep s w r t
     → events ≡ before ++ Event.Drop w ∷ []
     → IsDrop (record { state = s; events = before; images = images }) w (record { state = t; events = events; images = images })
 drops s t w k v r before events images law kept holds drop more =

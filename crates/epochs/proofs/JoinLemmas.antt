@@ -3,7 +3,7 @@ use Rattle.std.proofs.Common.{◌≡◌, ℕ, zero, suc, ◌≤◌, max, [], Som
 use Rattle.version_core.specs.declared.state.Worker.{Worker}
 use Rattle.shelf_steps.specs.declared.edition.Edition.{Edition}
 use Rattle.shelf_steps.specs.declared.views.LoaderView.{LoaderView}
-use Rattle.shelf_steps.specs.declared.views.Known.{Known}
+use Rattle.shelf_steps.specs.declared.views.KnownHistory.{KnownHistory}
 use Rattle.shelf_steps.specs.declared.views.View.{View}
 use Rattle.shelf_steps.specs.Plays.{OfWorker, Mine, IsSettled, IsLoading, joins_notice, with_note, gives_notice, new_notice}
 use Rattle.epochs.specs.declared.faults.PinFault.{PinFault}
@@ -56,7 +56,7 @@ joined_so number n None m h = (idle_joined number n m.0 h.0, h.1)
 joined_so number n (Some x) m h = (
   h.0,
   (holding_joined number x.0 n x.1 m.0 h.1.0, h.1.1),
-  subst (λ (k : Known). HoldsIn k number x.1.version (arc_value x.1.image)) (sym (join_knows m.0 n)) h.2,
+  subst (λ (k : KnownHistory). HoldsIn k number x.1.version (arc_value x.1.image)) (sym (join_knows m.0 n)) h.2,
 )
 
 -- and is then what it was, but for what it has seen

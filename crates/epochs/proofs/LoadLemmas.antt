@@ -13,7 +13,7 @@ use Rattle.version_core.specs.declared.state.Worker.{Worker}
 use Rattle.version_core.specs.State.{State, start, newest}
 use Rattle.version_core.specs.Steps.{IsFree, OpenStep, PublishStep, CloseStep}
 use Rattle.version_core.specs.Runs.{Run, IsRun}
-use Rattle.version_core.specs.Kept.{Kept}
+use Rattle.version_core.specs.Kept.{KeepsInvariants}
 use Rattle.version_core.specs.Rest.{IsAtRest, LoadsRest, loaded}
 use Rattle.version_core.specs.Laws.{RunsGrowByRuns}
 use Rattle.version_core.proofs.Lists.{slice_get-set}
@@ -26,7 +26,7 @@ image_there : (images : List ImageValue) (v : ℕ) → 0 < v → v ≤ length im
 image_there images zero some small = absurd (omega arith)
 image_there images (suc n) some small = at_below images n (omega arith)
 
-pub held_have_images : (s : State) (events : List Event) (images : List ImageValue) → Kept s → IsHistory s events images → HeldHaveImages s images
+pub held_have_images : (s : State) (events : List Event) (images : List ImageValue) → KeepsInvariants s → IsHistory s events images → HeldHaveImages s images
 held_have_images s events images kept h w k v holds =
     let f = kept.workers.each w (Worker.Holding k v) holds in let known = kept.shelves.known k v f.1 in
     let many = h.as_many in let most = known.1 in
@@ -47,7 +47,7 @@ numbered_still xs e i x before last is = elim (got_snoc xs e x i is) [ inl a ↦
 
 -- the shelves after a load
 loaded_shelves : (s : State) (k e : ℕ) (editions : List (Option Edition)) (images : List ImageValue) (new : Edition)
-    → Kept s → IsFree s k → AreShelved s.shelves editions images → length images ≡ newest s → new.version ≡ newest s + 1
+    → KeepsInvariants s → IsFree s k → AreShelved s.shelves editions images → length images ≡ newest s → new.version ≡ newest s + 1
     → AreShelved (loaded s k e).shelves (set editions k (Some new)) (images ++ arc_value new.image ∷ [])
 loaded_shelves s k e editions images new kept free h many version =
     let more = arc_value new.image ∷ [] in
@@ -106,19 +106,19 @@ three_more before one two three a b d first second third =
     third ∙ (ap (λ l. l ++ d ∷ []) (second ∙ (ap (λ l. l ++ b ∷ []) first ∙ append_assoc before (a ∷ []) (b ∷ []))) ∙ append_assoc before (a ∷ b ∷ []) (d ∷ []))
 
 -- what the calls of a load tell: its three steps, and what is added to events and images
-pub record LoadTold (s t : State) (e v k : ℕ) (second third : Reply) (before events : List Event)
+pub record LoadFacts (s t : State) (e v k : ℕ) (second third : Reply) (before events : List Event)
     (images now : List ImageValue) (image : ImageValue) : Type 0 where
   pub steps : ThreeSteps s t e v k second third
   pub noted : events ≡ before ++ Event.Open e ∷ Event.Publish ∷ Event.Close s.current_shelf ∷ []
   pub added : now ≡ images ++ image ∷ []
 
-pub load_told : (s opened published t : State) (e v k shelf : ℕ) (first second third : Reply)
+pub load_facts : (s opened published t : State) (e v k shelf : ℕ) (first second third : Reply)
     (before one two events : List Event) (images now : List ImageValue) (shared image : ImageValue)
     → shelf ≡ s.current_shelf → first ≡ Reply.Opened v k → shared ≡ image
     → OpenStep s e first opened → PublishStep opened second published → CloseStep published shelf third t
     → one ≡ before ++ Event.Open e ∷ [] → two ≡ one ++ Event.Publish ∷ [] → events ≡ two ++ Event.Close shelf ∷ [] → now ≡ images ++ shared ∷ []
-    → LoadTold s t e v k second third before events images now image
-load_told s opened published t e v k shelf first second third before one two events images now shared image at reply
+    → LoadFacts s t e v k second third before events images now image
+load_facts s opened published t e v k shelf first second third before one two events images now shared image at reply
     same opens publishes closes a b d added = record {
       steps = record {
         opened = opened;
@@ -132,12 +132,12 @@ load_told s opened published t e v k shelf first second third before one two eve
     }
 
 pub load_kept : (s t : State) (e v k : ℕ) (second third : Reply) (before events : List Event)
-    (editions : List (Option Edition)) (images now : List ImageValue) (new : Edition) → LoadLaws → Kept s
+    (editions : List (Option Edition)) (images now : List ImageValue) (new : Edition) → LoadLaws → KeepsInvariants s
     → IsHistory s before images → AreShelved s.shelves editions images
-    → LoadTold s t e v k second third before events images now (arc_value new.image) → e ≡ s.current → new.version ≡ v
+    → LoadFacts s t e v k second third before events images now (arc_value new.image) → e ≡ s.current → new.version ≡ v
     → IsHistory t events now × AreShelved t.shelves (set editions k (Some new)) now
-load_kept s t e v k second third before events editions images now new laws kept h shelved told number version =
-    let steps = told.steps in let more = told.noted in let added = told.added in let run = three_run s t e v k second third steps in
+load_kept s t e v k second third before events editions images now new laws kept h shelved fact number version =
+    let steps = fact.steps in let more = fact.noted in let added = fact.added in let run = three_run s t e v k second third steps in
     let rest = laws.loads s t e v k second third kept h.rest run in
     let last : e ≡ newest s = number ∙ sym h.rest.published in
     let is : t ≡ loaded s k e = rest.3 in
@@ -165,11 +165,11 @@ load_kept s t e v k second third before events editions images now new laws kept
     )
 
 pub load_publishes : (s t : State) (e v k : ℕ) (second third : Reply) (before events : List Event)
-    (images now : List ImageValue) (image : ImageValue) → LoadsRest → Kept s → IsHistory s before images
-    → LoadTold s t e v k second third before events images now image → ((j : ℕ) → j < k → ¬ (IsFree s j)) → e ≡ s.current
+    (images now : List ImageValue) (image : ImageValue) → LoadsRest → KeepsInvariants s → IsHistory s before images
+    → LoadFacts s t e v k second third before events images now image → ((j : ℕ) → j < k → ¬ (IsFree s j)) → e ≡ s.current
     → Publishes (record { state = s; events = before; images = images }) image v (record { state = t; events = events; images = now })
-load_publishes s t e v k second third before events images now image law kept h told least number =
-    let steps = told.steps in let run = three_run s t e v k second third steps in
+load_publishes s t e v k second third before events images now image law kept h fact least number =
+    let steps = fact.steps in let run = three_run s t e v k second third steps in
     let rest = law s t e v k second third kept h.rest run in
     let last : e ≡ newest s = number ∙ sym h.rest.published in
     record {
@@ -182,7 +182,7 @@ load_publishes s t e v k second third before events images now image law kept h 
           (subst (λ (r : Reply). Run s (Event.Open e ∷ Event.Publish ∷ Event.Close s.current_shelf
           ∷ []) (Reply.Opened v k ∷ Reply.Published v ∷ r ∷ []) t) rest.2
           (subst (λ (r : Reply). Run s (Event.Open e ∷ Event.Publish ∷ Event.Close s.current_shelf ∷ []) (Reply.Opened v k ∷ r ∷ third ∷ []) t) rest.1 run));
-      events = told.noted ∙ ap (λ i. before ++ Event.Open i ∷ Event.Publish ∷ Event.Close s.current_shelf ∷ []) last;
-      images = told.added;
+      events = fact.noted ∙ ap (λ i. before ++ Event.Open i ∷ Event.Publish ∷ Event.Close s.current_shelf ∷ []) last;
+      images = fact.added;
       current = ap (λ (x : State). x.current) rest.3 ∙ sym rest.0;
     }

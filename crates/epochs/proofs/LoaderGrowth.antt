@@ -9,7 +9,7 @@ use Rattle.version_core.specs.Actors.{NoneOf}
 use Rattle.version_core.specs.declared.event.Event.{Event}
 use Rattle.version_core.specs.declared.event.Reply.{Reply}
 use Rattle.version_core.specs.declared.state.Shelf.{Shelf}
-use Rattle.shelf_steps.specs.declared.views.Known.{Known}
+use Rattle.shelf_steps.specs.declared.views.KnownHistory.{KnownHistory}
 use Rattle.shelf_steps.specs.declared.views.LoaderView.{LoaderView}
 use Rattle.shelf_steps.specs.declared.views.View.{View}
 use Rattle.shelf_steps.specs.Course.{image_of, Happened}
@@ -25,7 +25,7 @@ use Rattle.epochs.proofs.GrowthLemmas.{grows_same, growths_join, happened_grows,
 use Rattle.epochs.proofs.ShelfFull.{freed_is_free}
 
 -- what holds of what two loader's views know holds of what the views know
-both_load : (P : LoaderView → LoaderView → Type 0) (Q : Known → Known → Type 0) (u u' : View) → ((a b : LoaderView) → P a b → Q a.known b.known)
+both_load : (P : LoaderView → LoaderView → Type 0) (Q : KnownHistory → KnownHistory → Type 0) (u u' : View) → ((a b : LoaderView) → P a b → Q a.known b.known)
     → OfLoader u (λ a. OfLoader u' (λ b. P a b)) → Q (known_of u) (known_of u')
 both_load P Q (View.Loading a) (View.Loading b) each h = each a b h
 both_load P Q (View.Loading a) (View.Working v) each h = absurd h
@@ -66,13 +66,13 @@ more_shelves P Q (e ∷ es) each a = (
 )
 
 -- nothing but tries, and no image more
-abbrev OnlyThose : (ℕ → Type 0) → Known → Known → Type 0
+abbrev OnlyThose : (ℕ → Type 0) → KnownHistory → KnownHistory → Type 0
 OnlyThose P before after = OnlyTries P before after × (after.images ≡ before.images)
 
-only_none : (P : ℕ → Type 0) (known : Known) → OnlyTries P known known
+only_none : (P : ℕ → Type 0) (known : KnownHistory) → OnlyTries P known known
 only_none P known = ([], sym (append-nil known.events), tt)
 
-only_join : (P : ℕ → Type 0) (first second third : Known) → OnlyTries P first second → OnlyTries P second third → OnlyTries P first third
+only_join : (P : ℕ → Type 0) (first second third : KnownHistory) → OnlyTries P first second → OnlyTries P second third → OnlyTries P first third
 only_join P first second third a b = (
   a.0 ++ b.0,
   b.1 ∙ (ap (λ (l : List Event). l ++ b.0) a.1 ∙ append_assoc first.events a.0 b.0),
@@ -82,10 +82,10 @@ only_join P first second third a b = (
 those_none : (P : ℕ → Type 0) (u u' : View) → u' ≡ u → OnlyThose P (known_of u) (known_of u')
 those_none P u u' is = subst (λ (v : View). OnlyThose P (known_of u) (known_of v)) (sym is) (only_none P (known_of u), refl)
 
-those_join : (P : ℕ → Type 0) (first second third : Known) → OnlyThose P first second → OnlyThose P second third → OnlyThose P first third
+those_join : (P : ℕ → Type 0) (first second third : KnownHistory) → OnlyThose P first second → OnlyThose P second third → OnlyThose P first third
 those_join P first second third a b = (only_join P first second third a.0 b.0, b.1 ∙ a.1)
 
-one_try : (P : ℕ → Type 0) (k : ℕ) (before : Known) (reply : Reply) (after : Known) → P k
+one_try : (P : ℕ → Type 0) (k : ℕ) (before : KnownHistory) (reply : Reply) (after : KnownHistory) → P k
     → Happened before (Event.Collect k) reply after → OnlyTries P before after
 one_try P k before reply after is h =
     let rest = h.events.0 in (
@@ -111,14 +111,14 @@ loaded_ends a b image version shelf before h = record {
 }
 
 -- what ends so has grown
-ended_grows : (before after : Known) (version : ℕ) → EndsPublish before version after → Grows before after
+ended_grows : (before after : KnownHistory) (version : ℕ) → EndsPublish before version after → Grows before after
 ended_grows before after version h =
     growths_join before h.opened after
     (growths_join before h.ready h.opened h.since (happened_grows h.ready h.opened _ _ h.opening))
     (growths_join h.opened h.current after (happened_grows h.opened h.current _ _ h.publish) (happened_grows h.current after _ _ h.close))
 
 -- and what began earlier, with tries alone, has ended so too
-ended_since : (first before after : Known) (version : ℕ) → Grows first before → OnlyThose (λ k. Unit {0}) first before
+ended_since : (first before after : KnownHistory) (version : ℕ) → Grows first before → OnlyThose (λ k. Unit {0}) first before
     → EndsPublish before version after → EndsPublish first version after
 ended_since first before after version grows tried h = record {
   ready = h.ready;
@@ -169,13 +169,13 @@ busy_tried : (k count : ℕ) (u u' : View) → FindsBusy k count u u' → IsTrie
 busy_tried k count u u' h = both_load (λ a b. FoundBusy a k count b) (λ x y. IsTried x k (Reply.Busy count) y) u u'
     (λ a b f. (a.known, b.known, grows_same a.known, f.collect, grows_same b.known)) h
 
-tried_grow : (before after : Known) (k : ℕ) (reply : Reply) → IsTried before k reply after → Grows before after
+tried_grow : (before after : KnownHistory) (k : ℕ) (reply : Reply) → IsTried before k reply after → Grows before after
 tried_grow before after k reply h = growths_join before h.1 after (growths_join before h.0 h.1 h.2 (happened_grows h.0 h.1 _ _ h.3)) h.4
 
-tried_since : (first before after : Known) (k : ℕ) (reply : Reply) → Grows first before → IsTried before k reply after → IsTried first k reply after
+tried_since : (first before after : KnownHistory) (k : ℕ) (reply : Reply) → Grows first before → IsTried before k reply after → IsTried first k reply after
 tried_since first before after k reply grows h = (h.0, h.1, growths_join first before h.0 grows h.2, h.3, h.4)
 
-tried_until : (before after last : Known) (k : ℕ) (reply : Reply) → Grows after last → IsTried before k reply after → IsTried before k reply last
+tried_until : (before after last : KnownHistory) (k : ℕ) (reply : Reply) → Grows after last → IsTried before k reply after → IsTried before k reply last
 tried_until before after last k reply grows h = (h.0, h.1, h.2, h.3, growths_join h.1 after last h.4 grows)
 
 try_grows : (k : ℕ) (s : Option Shelf) (u : View) (f : Bool) (b : ℕ) (u' : View) → TriedShelf k s u f b u' → Grows (known_of u) (known_of u')
@@ -281,11 +281,11 @@ once_busy k (Some (Shelf.Open v)) u f b u' some t = absurd (let z = t.1 in omega
 once_busy k (Some Shelf.Free) u f b u' some t = absurd (let z = t.1 in omega arith)
 once_busy k None u f b u' some t = absurd (let z = t.1 in omega arith)
 
-once_since : (first before after : Known) (k : ℕ) (reply : Reply) → OnlyTries (λ i. i ≢ k) first before
+once_since : (first before after : KnownHistory) (k : ℕ) (reply : Reply) → OnlyTries (λ i. i ≢ k) first before
     → IsTriedOnce before k reply after → IsTriedOnce first k reply after
 once_since first before after k reply tried h = (h.0, h.1, only_join (λ i. i ≢ k) first before h.0 tried h.2, h.3, h.4)
 
-once_until : (before after last : Known) (k : ℕ) (reply : Reply) → OnlyTries (λ i. i ≢ k) after last
+once_until : (before after last : KnownHistory) (k : ℕ) (reply : Reply) → OnlyTries (λ i. i ≢ k) after last
     → IsTriedOnce before k reply after → IsTriedOnce before k reply last
 once_until before after last k reply tried h = (h.0, h.1, h.2, h.3, only_join (λ i. i ≢ k) h.1 after last h.4 tried)
 
@@ -314,12 +314,13 @@ first_freed k (Some (Shelf.Open v)) u f b u' is t = absurd (let z = t.0 in cc)
 first_freed k (Some Shelf.Free) u f b u' is t = absurd (let z = t.0 in cc)
 first_freed k None u f b u' is t = absurd (let z = t.0 in cc)
 
-first_since : (first before after : Known) (k : ℕ) (reply : Reply) → Grows first before → OnlyTries (λ i. i ≢ k) first before
+first_since : (first before after : KnownHistory) (k : ℕ) (reply : Reply) → Grows first before → OnlyTries (λ i. i ≢ k) first before
     → IsTriedFirst before k reply after → IsTriedFirst first k reply after
 first_since first before after k reply grows tried h =
     (h.0, h.1, growths_join first before h.0 grows h.2, only_join (λ i. i ≢ k) first before h.0 tried h.3, h.4, h.5)
 
-first_until : (before after last : Known) (k : ℕ) (reply : Reply) → Grows after last → IsTriedFirst before k reply after → IsTriedFirst before k reply last
+first_until : (before after last : KnownHistory) (k : ℕ) (reply : Reply) → Grows after last → IsTriedFirst before k reply after
+    → IsTriedFirst before k reply last
 first_until before after last k reply grows h = (h.0, h.1, h.2, h.3, h.4, growths_join h.1 after last h.5 grows)
 
 tries_first : (n : ℕ) (u : View) (freed : List Bool) (busy : List ℕ) (u' : View) → TriesBelow n u freed busy u'
@@ -357,7 +358,7 @@ full_by_tries u u' (PublishFault.ShelvesFull counts) h =
     let found = h.2.0 in
     record {
       found = found;
-      told = h.2.2;
+      counts_are = h.2.2;
       tries = collects_find u u' found h.2.1;
       all = h.2.1.1;
       none_freed = λ k less is. h.3 (k, freed_is_free 8 u found.freed found.busy u' h.2.1.0 k less (got_bool found.freed k true false is));
@@ -372,7 +373,7 @@ room_grows u u' h = elim h [
 ]
 
 -- room is made by tries alone
-any_shelf : (before after : Known) (found : Collected) → FindsByTries before found after → OnlyThose (λ k. Unit {0}) before after
+any_shelf : (before after : KnownHistory) (found : Collected) → FindsByTries before found after → OnlyThose (λ k. Unit {0}) before after
 any_shelf before after found h = ((h.only.0, h.only.1, more_shelves (IsReported found) (λ k. Unit {0}) h.only.0 (λ k is. tt) h.only.2), h.images)
 
 room_only : (u u' : View) → MakesRoomBySteps u u' → OnlyThose (λ k. Unit {0}) (known_of u) (known_of u')

@@ -1,6 +1,6 @@
 -- All seats know beginnings of one history.
 use Rattle.std.proofs.Common.{ℕ, Option, refl, sym, subst}
-use Rattle.shelf_steps.specs.declared.views.Known.{Known}
+use Rattle.shelf_steps.specs.declared.views.KnownHistory.{KnownHistory}
 use Rattle.shelf_steps.specs.declared.views.View.{View}
 use Rattle.shelf_steps.specs.Course.{Begins, Course, all_of}
 use Rattle.shelf_steps.specs.Events.{known_of}
@@ -11,7 +11,7 @@ use Rattle.epochs.specs.Pinned.{SeatsAgreeOnImages, SeatsKnowBeginnings}
 use Rattle.epochs.specs.SeatHistory.{Grows}
 use Rattle.epochs.proofs.GrowthLemmas.{one_image_each, published_stay}
 
-begun : (k : Known) (a : Option ℕ) (c : Course) → Begins k a c → Grows k (all_of c)
+begun : (k : KnownHistory) (a : Option ℕ) (c : Course) → Begins k a c → Grows k (all_of c)
 begun k a c begins = record { events = (begins.events.0, begins.events.1); replies = begins.replies; images = begins.images }
 
 fits_grow : (table : Shelved) (r : Ruled table) (i : ℕ) (u : View) → SeatFits r.course r.loader r.seats.owner i u → Grows (known_of u) (all_of r.course)

@@ -14,7 +14,7 @@ use Rattle.shelf_steps.specs.Events.{known_of}
 use Rattle.shelf_steps.specs.Plays.{Mine, OfWorker}
 use Rattle.shelf_steps.proofs.Says.{held_have}
 use Rattle.shelf_steps.proofs.Held.{slots_are_out, in_use, held_stay}
-use Rattle.epochs.specs.declared.seats.Answer.{Answer}
+use Rattle.epochs.specs.declared.seats.SeatAnswer.{SeatAnswer}
 use Rattle.epochs.specs.ShelfSeats.{ShelfSeatValue, FitsSeat, HoldsByView, ShowsWhatItKnows, slots_of, held_at, seen_of}
 use Rattle.epochs.specs.Pinned.{PinnedAreLeftAlone}
 
@@ -32,7 +32,7 @@ idle_is number (View.Noting n) h = absurd h
 idle_is number View.Spent h = absurd h
 
 -- a seat as its parts show it
-abbrev seat_value : TableId → ℕ → Option (ℕ × Edition) → Mine → List Answer → ShelfSeatValue
+abbrev seat_value : TableId → ℕ → Option (ℕ × Edition) → Mine → List SeatAnswer → ShelfSeatValue
 seat_value table number held m answers = record {
   table = table;
   number = number;
@@ -41,7 +41,7 @@ seat_value table number held m answers = record {
   shown = record { answers = answers; held = held_at held; seen = seen_of m.0 };
 }
 
-pub shows : (table : TableId) (number : ℕ) (held : Option (ℕ × Edition)) (m : Mine) (answers : List Answer) → FitsSeat number held m
+pub shows : (table : TableId) (number : ℕ) (held : Option (ℕ × Edition)) (m : Mine) (answers : List SeatAnswer) → FitsSeat number held m
     → ShowsWhatItKnows (seat_value table number held m answers)
 shows table number None m answers h = (idle_is number m.0 h.0, ap (λ (c : List (ℕ × Option Edition)). map (λ (s : ℕ × Option Edition). s.0) c) h.1)
 shows table number (Some x) m answers h =

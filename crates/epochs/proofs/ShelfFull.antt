@@ -41,12 +41,12 @@ tried_other k j (Some Shelf.Free) u f b u' t ne = ap (λ x. shelf_of x j) t.2
 tried_other k j None u f b u' t ne = ap (λ x. shelf_of x j) t.2
 
 -- what a shelf was, and the count that was found at it
-abbrev Told : Option Shelf → ℕ → Option Shelf → Type 0
-Told was count now = (now ≡ Some Shelf.Free)
+abbrev FoundAs : Option Shelf → ℕ → Option Shelf → Type 0
+FoundAs was count now = (now ≡ Some Shelf.Free)
     ⊎ ((now ≡ was) × ((v : ℕ) → was ≡ Some (Shelf.Closing v) → 0 < count)
     × ((v : ℕ) → was ≡ Some (Shelf.Open v) → count ≡ 0))
 
-tried_here : (k : ℕ) (s : Option Shelf) (u : View) (f : Bool) (b : ℕ) (u' : View) → TriedShelf k s u f b u' → shelf_of u k ≡ s → Told s b (shelf_of u' k)
+tried_here : (k : ℕ) (s : Option Shelf) (u : View) (f : Bool) (b : ℕ) (u' : View) → TriedShelf k s u f b u' → shelf_of u k ≡ s → FoundAs s b (shelf_of u' k)
 tried_here k (Some (Shelf.Closing v)) u true b u' t is = inl (free_here k (Shelf.Closing v) u u' t.1 is)
 tried_here k (Some (Shelf.Closing v)) u false b u' t is = let z = busy_same k b k u u' t in inr (z.1 ∙ is, (λ x e. z.0), (λ x e. absurd (cc)))
 tried_here k (Some (Shelf.Open v)) u f b u' t is = inr (ap (λ x. shelf_of x k) t.2 ∙ is, (λ x e. absurd (cc)), (λ x e. t.1))
@@ -77,14 +77,14 @@ freed_is_free (suc n) u freed busy u' t k less is = dite (ℕ_discrete k n)
     ∙ freed_is_free n u freed busy t.0 t.1 k (omega arith) is)
 
 tried_all : (n : ℕ) (u : View) (freed : List Bool) (busy : List ℕ) (u' : View) → TriesBelow n u freed busy u' → (j : ℕ)
-    → j < n → Told (shelf_of u j) (get_or busy j 0) (shelf_of u' j)
+    → j < n → FoundAs (shelf_of u j) (get_or busy j 0) (shelf_of u' j)
 tried_all zero u freed busy u' t j less = absurd (omega arith)
 tried_all (suc n) u freed busy u' t j less = dite (ℕ_discrete j n)
-    (λ e. subst (λ m. Told (shelf_of u m) (get_or busy m 0) (shelf_of u' m)) (sym e)
-    (subst (λ (s : Option Shelf). Told s (get_or busy n 0) (shelf_of u' n))
+    (λ e. subst (λ m. FoundAs (shelf_of u m) (get_or busy m 0) (shelf_of u' m)) (sym e)
+    (subst (λ (s : Option Shelf). FoundAs s (get_or busy n 0) (shelf_of u' n))
     (untried n u freed busy t.0 t.1 n (omega arith))
     (tried_here n (shelf_of t.0 n) t.0 (get_or freed n false) (get_or busy n 0) u' t.2 refl)))
-    (λ ne. subst (λ (s : Option Shelf). Told (shelf_of u j) (get_or busy j 0) s)
+    (λ ne. subst (λ (s : Option Shelf). FoundAs (shelf_of u j) (get_or busy j 0) s)
     (sym (tried_other n j (shelf_of t.0 n) t.0 (get_or freed n false) (get_or busy n 0) u' t.2 ne))
     (tried_all n u freed busy t.0 t.1 j (omega arith)))
 
@@ -102,7 +102,7 @@ full_so current current_shelf shelves (View.Working v) u' found rest none t none
 full_so current current_shelf shelves (View.Noting x') u' found rest none t none' = absurd rest
 full_so current current_shelf shelves View.Spent u' found rest none t none' = absurd rest
 full_so current current_shelf shelves (View.Loading l) u' found rest none t none' =
-    let told : (j : ℕ) → j < 8 → (shelf_of u' j ≡ shelf_of (View.Loading l) j)
+    let fact : (j : ℕ) → j < 8 → (shelf_of u' j ≡ shelf_of (View.Loading l) j)
     × ((v : ℕ) → shelf_of (View.Loading l) j ≡ Some (Shelf.Closing v) → 0 < get_or found.busy j 0)
     × ((v : ℕ) → shelf_of (View.Loading l) j ≡ Some (Shelf.Open v) → get_or found.busy j 0 ≡ 0) =
     λ j less. elim (tried_all 8 (View.Loading l) found.freed found.busy u' t j less) [ inl a ↦ absurd (none' (j, a)) | inr b ↦ b ] in
@@ -110,7 +110,7 @@ full_so current current_shelf shelves (View.Loading l) u' found rest none t none
     let same : (j : ℕ) → slice_get l.shelves j ≡ slice_get shelves j = λ j. ap (λ (xs : List Shelf). slice_get xs j) rest.shelves_are in
     let small = rest.small.0 in let eight = rest.small.1 in (
       omega arith,
-      (told l.current_shelf (omega arith)).2 current (same l.current_shelf ∙ (ap (λ n. slice_get shelves n) cur ∙ rest.stands)),
+      (fact l.current_shelf (omega arith)).2 current (same l.current_shelf ∙ (ap (λ n. slice_get shelves n) cur ∙ rest.stands)),
       λ k less ne.
           let x = at_below shelves k (omega arith) in
           let is : slice_get l.shelves k ≡ Some x.0 = same k ∙ x.1 in
@@ -118,7 +118,7 @@ full_so current current_shelf shelves (View.Loading l) u' found rest none t none
             k,
             is ∙ ap (λ (y : Shelf). Some y) e,
           )) (λ v e.
-          ne (rest.one_open k v (x.1 ∙ ap (λ (y : Shelf). Some y) e) ∙ sym cur)) (told k less).1,
+          ne (rest.one_open k v (x.1 ∙ ap (λ (y : Shelf). Some y) e) ∙ sym cur)) (fact k less).1,
     )
 
 pub unspent : (current current_shelf : ℕ) (shelves : List Shelf) (u : View)
@@ -137,9 +137,9 @@ busy_but_one (View.Loading l) counts full = (l.current_shelf, full.0, full.1, fu
 -- what is noted of a refusal
 pub refuses : (u u' : View) (fault : PublishFault) (before after : List LoaderAnswer) → RefusesBySteps u fault u'
     → after ≡ before ++ LoaderAnswer.PublishRefused fault ∷ [] → RefuseStep before fault after
-refuses u u' PublishFault.VersionsSpent before after told is = is
-refuses u u' PublishFault.OutOfMemory before after told is = is
-refuses u u' (PublishFault.ShelvesFull counts) before after told is = (busy_but_one u counts told.4, is)
+refuses u u' PublishFault.VersionsSpent before after fact is = is
+refuses u u' PublishFault.OutOfMemory before after fact is = is
+refuses u u' (PublishFault.ShelvesFull counts) before after fact is = (busy_but_one u counts fact.4, is)
 
 -- what was freed was found with nobody there
 freed_empty : (k : ℕ) (s : Option Shelf) (u : View) (f : Bool) (b : ℕ) (u' : View) → TriedShelf k s u f b u' → f ≡ true → b ≡ 0

@@ -9,7 +9,7 @@ use Rattle.shelf_steps.specs.declared.views.View.{View}
 use Rattle.shelf_steps.specs.Plays.{OfWorker, Mine}
 use Rattle.shelf_steps.specs.Pinning.{Late, Lates, Well, Pins, Moves, Releases, IsHoldingAs}
 use Rattle.std.specs.declared.snapshot.Snapshot.{Snapshot}
-use Rattle.epochs.specs.declared.seats.Answer.{Answer}
+use Rattle.epochs.specs.declared.seats.SeatAnswer.{SeatAnswer}
 use Rattle.epochs.specs.Seats.{SeatValue, pinned}
 use Rattle.epochs.specs.SeatHistory.{HoldsIn}
 use Rattle.shelf_steps.specs.Events.{known_of}
@@ -84,8 +84,8 @@ pub pins_hold : (u : View) (m : Mine) (number shelf : ℕ) (e : Edition) → Pin
 pins_hold u m number shelf e h is = well_holds h.2 m number e.version shelf e h.4 is refl
 
 -- what a seat shows after a pin
-pub pinned_is : (a : SeatValue) (answers : List Answer) (image : Snapshot ImageValue) (shown : ImageValue) (version seen : ℕ)
-    → answers ≡ a.answers ++ Answer.Pinned version image ∷ [] → image.value ≡ shown → seen ≡ version
+pub pinned_is : (a : SeatValue) (answers : List SeatAnswer) (image : Snapshot ImageValue) (shown : ImageValue) (version seen : ℕ)
+    → answers ≡ a.answers ++ SeatAnswer.Pinned version image ∷ [] → image.value ≡ shown → seen ≡ version
     → ◌≡◌ {A = SeatValue} (record { answers = answers; held = Some (version, shown); seen = seen }) (pinned a version image)
 pinned_is a answers image shown version seen noted shows same = λ i. record { answers = noted i; held = Some (version, sym shows i); seen = same i }
 

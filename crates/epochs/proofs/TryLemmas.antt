@@ -13,7 +13,7 @@ use Rattle.version_core.specs.declared.state.Shelf.{Shelf}
 use Rattle.version_core.specs.State.{State, newest, shelved}
 use Rattle.version_core.specs.Steps.{CollectStep, IsClosing, IsUnpublished, MayOpen}
 use Rattle.version_core.specs.Runs.{IsRun}
-use Rattle.version_core.specs.Kept.{Kept}
+use Rattle.version_core.specs.Kept.{KeepsInvariants}
 use Rattle.version_core.specs.Rest.{IsAtRest, RestIsFull}
 use Rattle.version_core.specs.Laws.{RunsJoin}
 use Rattle.version_core.proofs.Lists.{slice_get-set}
@@ -174,7 +174,7 @@ one_more_tried n a m b freed busy f c law small h t =
     let e : suc n ≡ n + 1 = omega arith in
     subst (λ i. CollectsBelow i a (set freed n f) (set busy n c) b) e (one_more n a m b freed busy f c law small h t)
 
-pub all_tried : (n : ℕ) (a : TableValue) (found : Collected) (b : TableValue) → Kept a.state → 8 ≤ n
+pub all_tried : (n : ℕ) (a : TableValue) (found : Collected) (b : TableValue) → KeepsInvariants a.state → 8 ≤ n
     → CollectsBelow n a found.freed found.busy b → Collects a found b
 all_tried n a found b kept done h =
     let most = h.most in
@@ -196,7 +196,7 @@ left_busy zero v b k none here = absurd (none (k, here))
 left_busy (suc n) v b k none here = omega arith
 
 -- where no shelf is free after all tries, workers are at each but the current one
-pub full_after : (a : TableValue) (found : Collected) (b : TableValue) → RestIsFull → Kept a.state → IsAtRest a.state
+pub full_after : (a : TableValue) (found : Collected) (b : TableValue) → RestIsFull → KeepsInvariants a.state → IsAtRest a.state
     → newest a.state < 1000000000 → ¬ (HasFree a.state) → ¬ (HasFree b.state) → Collects a found b
     → AreFull a.state found.busy
 full_after a found b law kept rest left none still h = record {

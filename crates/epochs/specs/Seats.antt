@@ -8,40 +8,40 @@ use Rattle.version_core.specs.declared.state.Worker.{Worker}
 use Rattle.epochs.specs.declared.collected.Collected.{Collected}
 use Rattle.epochs.specs.declared.faults.PinFault.{PinFault}
 use Rattle.epochs.specs.declared.faults.PublishFault.{PublishFault}
-use Rattle.epochs.specs.declared.seats.Answer.{Answer}
+use Rattle.epochs.specs.declared.seats.SeatAnswer.{SeatAnswer}
 use Rattle.epochs.specs.declared.seats.LoaderAnswer.{LoaderAnswer}
 use Rattle.epochs.specs.declared.seats.Pin.{Pin}
 
 pub record SeatValue : Type 0 where
-  pub answers : List Answer  -- so far
+  pub answers : List SeatAnswer  -- so far
   pub held : Option (ℕ × ImageValue)  -- the version that the seat holds, with its image
   pub seen : ℕ  -- the greatest version that the seat has seen
 
 -- the seat after an answer that changes nothing else
-abbrev pub told : SeatValue → Answer → SeatValue
-told a answer = record a { answers = a.answers ++ answer ∷ [] }
+abbrev pub with_answer : SeatValue → SeatAnswer → SeatValue
+with_answer a answer = record a { answers = a.answers ++ answer ∷ [] }
 
-abbrev pub emptied : SeatValue → Answer → SeatValue
+abbrev pub emptied : SeatValue → SeatAnswer → SeatValue
 emptied a answer = record a { answers = a.answers ++ answer ∷ []; held = None }
 
 abbrev pub pinned : SeatValue → ℕ → Snapshot ImageValue → SeatValue
-pinned a version image = record { answers = a.answers ++ Answer.Pinned version image ∷ []; held = Some (version, image.value); seen = version }
+pinned a version image = record { answers = a.answers ++ SeatAnswer.Pinned version image ∷ []; held = Some (version, image.value); seen = version }
 
 -- from one value of a seat to the next, by a pin with this result. If it moved, its four looks found four versions, each greater than the one before
 abbrev pub PinStep : SeatValue → Result (Unit {0}) PinFault → SeatValue → Type 0
 PinStep a (Ok u) b = (a.held ≡ None) × ((version : ℕ) × (image : Snapshot ImageValue) × (a.seen ≤ version) × (b ≡ pinned a version image))
 PinStep a (Err (PinFault.Moved newest)) b =
-    (a.held ≡ None) × (a.seen + 3 ≤ newest) × (b ≡ record a { answers = a.answers ++ Answer.PinRefused (PinFault.Moved newest) ∷ []; seen = newest })
-PinStep a (Err PinFault.AlreadyPinned) b = (a.held ≢ None) × (b ≡ told a (Answer.PinRefused PinFault.AlreadyPinned))
-PinStep a (Err PinFault.SeatLost) b = (a.held ≡ None) × (b ≡ told a (Answer.PinRefused PinFault.SeatLost))
-PinStep a (Err PinFault.OutOfMemory) b = (a.held ≡ None) × (b ≡ told a (Answer.PinRefused PinFault.OutOfMemory))
+    (a.held ≡ None) × (a.seen + 3 ≤ newest) × (b ≡ record a { answers = a.answers ++ SeatAnswer.PinRefused (PinFault.Moved newest) ∷ []; seen = newest })
+PinStep a (Err PinFault.AlreadyPinned) b = (a.held ≢ None) × (b ≡ with_answer a (SeatAnswer.PinRefused PinFault.AlreadyPinned))
+PinStep a (Err PinFault.SeatLost) b = (a.held ≡ None) × (b ≡ with_answer a (SeatAnswer.PinRefused PinFault.SeatLost))
+PinStep a (Err PinFault.OutOfMemory) b = (a.held ≡ None) × (b ≡ with_answer a (SeatAnswer.PinRefused PinFault.OutOfMemory))
 PinStep a (Err PinFault.NotPinned) b = ⊥
 
 -- from one value of a seat to the next, by a release with this result
 abbrev pub ReleaseStep : SeatValue → Result (Unit {0}) PinFault → SeatValue → Type 0
-ReleaseStep a (Ok u) b = (a.held ≢ None) × (b ≡ emptied a Answer.Released)
-ReleaseStep a (Err PinFault.NotPinned) b = (a.held ≡ None) × (b ≡ told a (Answer.ReleaseRefused PinFault.NotPinned))
-ReleaseStep a (Err PinFault.SeatLost) b = (a.held ≢ None) × (b ≡ emptied a (Answer.ReleaseRefused PinFault.SeatLost))
+ReleaseStep a (Ok u) b = (a.held ≢ None) × (b ≡ emptied a SeatAnswer.Released)
+ReleaseStep a (Err PinFault.NotPinned) b = (a.held ≡ None) × (b ≡ with_answer a (SeatAnswer.ReleaseRefused PinFault.NotPinned))
+ReleaseStep a (Err PinFault.SeatLost) b = (a.held ≢ None) × (b ≡ emptied a (SeatAnswer.ReleaseRefused PinFault.SeatLost))
 ReleaseStep a (Err _) b = ⊥
 
 -- the refusal is one of shelves that know their seats and pin without memory: neither SeatLost nor OutOfMemory, with which a lock may have to refuse

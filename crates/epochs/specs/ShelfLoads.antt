@@ -4,7 +4,7 @@ use Rattle.atomic_table.specs.Seated.{TableId}
 use Rattle.version_core.specs.declared.state.Shelf.{Shelf}
 use Rattle.version_core.specs.State.{State, start}
 use Rattle.version_core.specs.Runs.{Run}
-use Rattle.shelf_steps.specs.declared.views.Known.{Known}
+use Rattle.shelf_steps.specs.declared.views.KnownHistory.{KnownHistory}
 use Rattle.shelf_steps.specs.declared.views.LoaderView.{LoaderView}
 use Rattle.shelf_steps.specs.declared.views.View.{View}
 use Rattle.epochs.specs.declared.faults.PublishFault.{PublishFault}
@@ -38,7 +38,7 @@ pub record Rests (current current_shelf : ℕ) (shelves : List Shelf) (l : Loade
   pub closing : (k v : ℕ) → slice_get shelves k ≡ Some (Shelf.Closing v) → v ≤ 1000000000
 
 -- what is known leads to a state, and each state to which it leads has these shelves
-pub record LeadsToShelves (known : Known) (shelves : List Shelf) : Type 0 where
+pub record LeadsToShelves (known : KnownHistory) (shelves : List Shelf) : Type 0 where
   pub state : State
   pub history : Goes (leading_to state known)
   pub each : (s : State) → Run start known.events known.replies s → s.shelves ≡ shelves

@@ -19,10 +19,10 @@ pub use collected::Collected;
 pub use faults::{PinFault, PublishFault};
 pub use locked::LockedShelves;
 pub use named::{
-    AtTable, ManySeats, Named, NamedLoader, NamedNotice, NamedSeat, NamedShelves, UnderName,
+    AtTable, ManySeats, NamedLoader, NamedNotice, NamedSeat, NamedShelves, ShelvesName, UnderName,
 };
 pub use notice::Notice;
-pub use seats::{Answer, LoaderAnswer, LoaderSeat, WorkerSeat};
+pub use seats::{LoaderAnswer, LoaderSeat, SeatAnswer, WorkerSeat};
 pub use shelf_loader::ShelfLoader;
 pub use shelf_seats::ShelfSeat;
 pub use shelf_steps::Edition;

@@ -68,7 +68,7 @@ impl LockedShelves {
 }
 
 // Returns the same table: its events lead to its state.
-fn told<'a>(table: MutexGuard<'a, VersionTable>) -> MutexGuard<'a, VersionTable>
+fn with_history<'a>(table: MutexGuard<'a, VersionTable>) -> MutexGuard<'a, VersionTable>
     ensures { HasHistory (mutex_guard_value result) }
 {
     table.history();
@@ -112,7 +112,7 @@ impl LockedShelves {
         ensures pin { PinStep seat.old.shown result seat.new.shown }
         ensures table { UnderLock (λ a b. PinsAt a seat.old result b seat.new) }
     {
-        let mut table = told(self.table.lock(rt));
+        let mut table = with_history(self.table.lock(rt));
         let answer = table.pin(seat);
         table.history();
         answer
@@ -135,7 +135,7 @@ impl LockedShelves {
         ensures release { ReleaseStep seat.old.shown result seat.new.shown }
         ensures table { UnderLock (λ a b. ReleasesAt a seat.old result b seat.new) }
     {
-        let mut table = told(self.table.lock(rt));
+        let mut table = with_history(self.table.lock(rt));
         let answer = table.release(seat);
         table.history();
         answer
@@ -154,7 +154,7 @@ impl LockedShelves {
         ensures table { MatchResult result (λ v. UnderLock (λ a b. PublishesAt a (arc_value image) (Ok v) b))
             (λ e. UnderLock (λ a b. PublishesAt a (arc_value image) (Err e.1) b)) }
     {
-        let mut table = told(self.table.lock(rt));
+        let mut table = with_history(self.table.lock(rt));
         publish_at(&mut table, loader, image)
     }
 
@@ -163,7 +163,7 @@ impl LockedShelves {
         ensures loader { CollectStep loader.old result loader.new }
         ensures table { UnderLock (λ a b. Collects a result b) }
     {
-        let mut table = told(self.table.lock(rt));
+        let mut table = with_history(self.table.lock(rt));
         let found = table.collect(loader);
         table.history();
         found

@@ -29,13 +29,13 @@ use std::sync::Arc;
 
 /// A name of shelves: a type that stands for one table, so that the type of a seat, a notice or a loader says to which
 /// table it belongs. `Brand` gives a fresh one for each call.
-pub trait Named {
+pub trait ShelvesName {
     ghost use Rattle.atomic_table.specs.Seated.{TableId};
 
     ghost table: { TableId };
 }
 
-impl Named for Brand {
+impl ShelvesName for Brand {
     ghost use Rattle.std.specs.Prelude.{[]};
 
     ghost table = { record {
@@ -71,12 +71,12 @@ impl AtTable for Notice {
 
 /// A seat, a loader or a notice that belongs to the shelves of a name. Contracts see it as one without a name.
 #[derive(Drop)]
-pub struct UnderName<B: Named, S: AtTable + Drop> {
+pub struct UnderName<B: ShelvesName, S: AtTable + Drop> {
     inner: S,
     of: PhantomData<B>,
 }
 
-impl<B: Named, S: AtTable + Drop> Model for UnderName<B, S> {
+impl<B: ShelvesName, S: AtTable + Drop> Model for UnderName<B, S> {
     ghost use Rattle.std.specs.Prelude.{◌≡◌};
 
     ghost Value = { S };
@@ -86,7 +86,7 @@ impl<B: Named, S: AtTable + Drop> Model for UnderName<B, S> {
     ghost invariant = { λ s. S.table s.inner ≡ B.table };
 }
 
-impl<B: Named, S: AtTable + Drop> UnderName<B, S> {
+impl<B: ShelvesName, S: AtTable + Drop> UnderName<B, S> {
     /// Puts a seat, a loader or a notice under the name of its shelves.
     pub fn of(inner: S) -> UnderName<B, S>
         requires { S.table inner ≡ B.table }
@@ -110,7 +110,7 @@ impl<B: Named, S: AtTable + Drop> UnderName<B, S> {
 /// A worker's seat at the shelves of a name.
 pub type NamedSeat<B> = UnderName<B, ShelfSeat>;
 
-impl<B: Named> NamedSeat<B> {
+impl<B: ShelvesName> NamedSeat<B> {
     /// The number of the seat's worker, from 0 to 15.
     pub fn number(&self) -> usize
         ensures { result ≡ self.now.number }
@@ -132,7 +132,7 @@ pub type NamedLoader<B> = UnderName<B, ShelfLoader>;
 /// The fact that a version was published at the shelves of a name.
 pub type NamedNotice<B> = UnderName<B, Notice>;
 
-impl<B: Named> NamedNotice<B> {
+impl<B: ShelvesName> NamedNotice<B> {
     /// The version that was published.
     pub fn version(&self) -> u64
         ensures { result ≡ self.now.version }
@@ -147,13 +147,13 @@ pub struct ManySeats;
 /// Shelves without a lock, under a name: seats, the loader's seat and notices of the name are of
 /// these shelves. `K` says for whom they are, `ManySeats` or `OneSeat`.
 #[derive(Drop)]
-pub struct NamedShelves<B: Named, K = ManySeats> {
+pub struct NamedShelves<B: ShelvesName, K = ManySeats> {
     shelves: Shelves,
     of: PhantomData<B>,
     kind: PhantomData<K>,
 }
 
-impl<B: Named, K> Model for NamedShelves<B, K> {
+impl<B: ShelvesName, K> Model for NamedShelves<B, K> {
     ghost use Rattle.std.specs.Prelude.{◌≡◌};
     ghost use Rattle.atomic_table.specs.Seated.{TableId};
 
@@ -164,7 +164,7 @@ impl<B: Named, K> Model for NamedShelves<B, K> {
     ghost invariant = { λ s. s.shelves ≡ B.table };
 }
 
-impl<B: Named, K> NamedShelves<B, K> {
+impl<B: ShelvesName, K> NamedShelves<B, K> {
     // Puts the shelves under their name.
     pub(crate) fn under(shelves: Shelves) -> NamedShelves<B, K>
         requires { shelves ≡ B.table }
@@ -185,7 +185,7 @@ impl<B: Named, K> NamedShelves<B, K> {
     }
 }
 
-impl<B: Named> NamedShelves<B> {
+impl<B: ShelvesName> NamedShelves<B> {
     /// Puts the shelves under their name.
     pub fn of(shelves: Shelves) -> NamedShelves<B>
         requires { shelves ≡ B.table }
@@ -196,7 +196,7 @@ impl<B: Named> NamedShelves<B> {
 }
 
 // A version and its notice, under the shelves' name.
-fn under_name<B: Named>(published: (u64, Option<Notice>)) -> (u64, Option<NamedNotice<B>>)
+fn under_name<B: ShelvesName>(published: (u64, Option<Notice>)) -> (u64, Option<NamedNotice<B>>)
     requires { IfSome published.1 (λ notice. notice.table ≡ B.table) }
     ensures { result ≡ published }
 {
@@ -206,7 +206,7 @@ fn under_name<B: Named>(published: (u64, Option<Notice>)) -> (u64, Option<NamedN
     }
 }
 
-impl<B: Named, K> Versions for NamedShelves<B, K> {
+impl<B: ShelvesName, K> Versions for NamedShelves<B, K> {
     type Seat = NamedSeat<B>;
 
     type Notice = NamedNotice<B>;
@@ -267,7 +267,7 @@ impl<B: Named, K> Versions for NamedShelves<B, K> {
     }
 }
 
-impl<B: Named, K> Loads for NamedShelves<B, K> {
+impl<B: ShelvesName, K> Loads for NamedShelves<B, K> {
     type Loader = NamedLoader<B>;
 
     // The loader's seat is of these shelves.

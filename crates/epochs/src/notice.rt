@@ -3,13 +3,13 @@
 ghost use Rattle.std.specs.Prelude.{◌≡◌};
 ghost use Rattle.shelf_steps.specs.Plays.{IsNotice};
 
-use shelf_steps::Place;
+use shelf_steps::TableSeat;
 use std::marker::Model;
 
 /// The fact that a version was published at some shelves. Contracts see which shelves, and the version.
 #[derive(Drop)]
 pub struct Notice {
-    place: Place,
+    table_seat: TableSeat,
     version: u64,
 }
 
@@ -19,17 +19,20 @@ impl Model for Notice {
 
     ghost Value = { NoticeValue };
 
-    ghost view = { λ s. record { table = s.place.table; version = s.version } };
+    ghost view = { λ s. record { table = s.table_seat.table; version = s.version } };
 
-    ghost invariant = { λ s. IsNotice s.version s.place.me };
+    ghost invariant = { λ s. IsNotice s.version s.table_seat.me };
 }
 
 impl Notice {
-    pub(crate) fn of(place: Place, version: u64) -> Notice
-        requires { IsNotice version place.me }
-        ensures { result ≡ record { table = place.table; version = version } }
+    pub(crate) fn of(table_seat: TableSeat, version: u64) -> Notice
+        requires { IsNotice version table_seat.me }
+        ensures { result ≡ record { table = table_seat.table; version = version } }
     {
-        Notice { place, version }
+        Notice {
+            table_seat,
+            version,
+        }
     }
 
     /// The version that was published.
@@ -39,9 +42,9 @@ impl Notice {
         self.version
     }
 
-    pub(crate) fn into_place(self) -> Place
+    pub(crate) fn into_seat(self) -> TableSeat
         ensures { (result.table ≡ self.table) × IsNotice self.version result.me }
     {
-        self.place
+        self.table_seat
     }
 }

@@ -4,7 +4,7 @@ ghost use Rattle.std.specs.Prelude.{◌≡◌, ◌≢◌, ◌≤◌, Ok, Err, No
 ghost use Rattle.std.specs.Arc.{arc_value};
 ghost use Rattle.version_core.specs.declared.state.Worker.{Worker};
 ghost use Rattle.epochs.specs.declared.faults.PinFault.{PinFault};
-ghost use Rattle.epochs.specs.Seats.{PinStep, IsHolding, IsEmpty, idle_seat, told, emptied};
+ghost use Rattle.epochs.specs.Seats.{PinStep, IsHolding, IsEmpty, idle_seat, with_answer, emptied};
 
 use crate::collected::Collected;
 use crate::faults::{PinFault, PublishFault};
@@ -17,7 +17,7 @@ use version_core::Worker;
 
 /// An answer to a worker's seat. Only contracts see it.
 #[derive(Drop)]
-pub enum Answer {
+pub enum SeatAnswer {
     Pinned {
         version: u64,
         image: Snapshot<Verified>,
@@ -45,7 +45,7 @@ pub struct WorkerSeat {
     number: usize,
     seen: u64,
     held: Option<Pin>,
-    answers: Trace<Answer>,
+    answers: Trace<SeatAnswer>,
 }
 
 impl Model for WorkerSeat {
@@ -135,7 +135,7 @@ impl WorkerSeat {
         ensures pin { PinStep self.old.shown (Ok tt) self.new.shown }
     {
         let image = Snapshot::of(&*edition.image);
-        self.answers.note(&Answer::Pinned {
+        self.answers.note(&SeatAnswer::Pinned {
             version: edition.version,
             image,
         });
@@ -144,14 +144,14 @@ impl WorkerSeat {
     }
 
     // Notes an answer; nothing else changes.
-    pub(crate) fn tell(&mut self, answer: Answer)
-        ensures { self.new ≡ record self.old { shown = told self.old.shown answer } }
+    pub(crate) fn note_answer(&mut self, answer: SeatAnswer)
+        ensures { self.new ≡ record self.old { shown = with_answer self.old.shown answer } }
     {
         self.answers.note(&answer);
     }
 
     // Notes an answer, after which the seat holds nothing.
-    pub(crate) fn empty(&mut self, answer: Answer)
+    pub(crate) fn empty(&mut self, answer: SeatAnswer)
         ensures { self.new ≡ record self.old { worker = Worker.Idle; shown = emptied self.old.shown answer } }
     {
         self.answers.note(&answer);
@@ -200,7 +200,7 @@ impl LoaderSeat {
         }
     }
 
-    pub(crate) fn tell(&mut self, answer: LoaderAnswer)
+    pub(crate) fn note_answer(&mut self, answer: LoaderAnswer)
         ensures { self.new ≡ self.old ++ answer ∷ [] }
     {
         self.answers.note(&answer);

@@ -21,7 +21,7 @@ use crate::faults::PublishFault;
 use crate::notice::Notice;
 use crate::seats::LoaderAnswer;
 use image_verifier::Verified;
-use shelf_steps::{Place, ShelfTable, load, note, try_shelf};
+use shelf_steps::{ShelfTable, TableSeat, load, note, try_shelf};
 use std::alloc::{AllocError, Global};
 use std::marker::Model;
 use std::snapshot::Snapshot;
@@ -33,7 +33,7 @@ use version_core::{MOST_VERSIONS, Shelf};
 /// shelf is for, which nobody else changes.
 #[derive(Drop)]
 pub struct ShelfLoader {
-    place: Place,
+    table_seat: TableSeat,
     current: u64,
     current_shelf: usize,
     shelves: [Shelf; 8],
@@ -46,26 +46,26 @@ impl Model for ShelfLoader {
     ghost Value = { ShelfLoaderValue };
 
     ghost view = { λ s. record {
-      table = s.place.table;
-      view = s.place.me.0;
+      table = s.table_seat.table;
+      view = s.table_seat.me.0;
       current = s.current;
       answers =
           s.answers;
     } };
 
-    ghost invariant = { λ s. RestsHere s.current s.current_shelf s.shelves s.place.me };
+    ghost invariant = { λ s. RestsHere s.current s.current_shelf s.shelves s.table_seat.me };
 }
 
 impl ShelfLoader {
     /// The loader's seat at new shelves.
-    pub(crate) fn first(place: Place) -> ShelfLoader
-        requires { (image : ImageValue) × (place.me ≡ (View.Loading (handed 16 image), [])) }
-        ensures { result ≡ record { table = place.table; view = place.me.0; current = 1; answers = [] } }
+    pub(crate) fn first(table_seat: TableSeat) -> ShelfLoader
+        requires { (image : ImageValue) × (table_seat.me ≡ (View.Loading (handed 16 image), [])) }
+        ensures { result ≡ record { table = table_seat.table; view = table_seat.me.0; current = 1; answers = [] } }
     {
         let mut shelves = [Shelf::Free; 8];
         shelves[0] = Shelf::Open { version: 1 };
         ShelfLoader {
-            place,
+            table_seat,
             current: 1,
             current_shelf: 0,
             shelves,
@@ -84,12 +84,12 @@ impl ShelfLoader {
         ensures all { EachClosingIsTried (known_of self.old.view) result }
     {
         let found = self.try_all(table);
-        self.tell(LoaderAnswer::Collected { found });
+        self.note_answer(LoaderAnswer::Collected { found });
         found
     }
 
     // Notes an answer; nothing else changes.
-    pub(crate) fn tell(&mut self, answer: LoaderAnswer)
+    pub(crate) fn note_answer(&mut self, answer: LoaderAnswer)
         ensures { self.new ≡ record self.old { answers = self.old.answers ++ answer ∷ [] } }
     {
         self.answers.note(&answer);
@@ -102,8 +102,8 @@ impl ShelfLoader {
         ensures notice { (result.table ≡ self.old.table) × (result.version ≡ self.old.current) }
     {
         let _ = &self.current;
-        let place = note(table, &mut self.place);
-        Notice::of(place, self.current)
+        let table_seat = note(table, &mut self.table_seat);
+        Notice::of(table_seat, self.current)
     }
 
     // Publishes, or returns why not, and notes the answer.
@@ -131,14 +131,14 @@ impl ShelfLoader {
         match self.publish_quietly(table, alloc, &image) {
             Ok(version) => {
                 let shown = Snapshot::of(&*image);
-                self.tell(LoaderAnswer::Published {
+                self.note_answer(LoaderAnswer::Published {
                     version,
                     image: shown,
                 });
                 Ok(version)
             }
             Err(fault) => {
-                self.tell(LoaderAnswer::PublishRefused { fault });
+                self.note_answer(LoaderAnswer::PublishRefused { fault });
                 Err((image, fault))
             }
         }
@@ -241,7 +241,15 @@ impl ShelfLoader {
     {
         let version = self.current + 1;
         let before = self.current_shelf;
-        match load(table, &mut self.place, alloc, shelf, version, before, image) {
+        match load(
+            table,
+            &mut self.table_seat,
+            alloc,
+            shelf,
+            version,
+            before,
+            image,
+        ) {
             Ok(()) => {
                 self.shelves[shelf] = Shelf::Open { version };
                 self.shelves[before] = Shelf::Closing {
@@ -284,7 +292,7 @@ impl ShelfLoader {
         let Shelf::Closing { version } = self.shelves[shelf] else {
             return (false, 0);
         };
-        match try_shelf(table, &mut self.place, shelf, version) {
+        match try_shelf(table, &mut self.table_seat, shelf, version) {
             Some(count) => (false, count),
             None => {
                 self.shelves[shelf] = Shelf::Free;

@@ -11,8 +11,8 @@ ghost use Rattle.epochs.specs.ShelfSeats.{PinsBySteps, ReleasesBySteps, JoinsByS
 
 use crate::faults::PinFault;
 use crate::notice::Notice;
-use crate::seats::Answer;
-use shelf_steps::{Edition, Place, ShelfTable, join, pin, release};
+use crate::seats::SeatAnswer;
+use shelf_steps::{Edition, ShelfTable, TableSeat, join, pin, release};
 use std::marker::Model;
 use std::snapshot::Snapshot;
 use timetable::Trace;
@@ -20,10 +20,10 @@ use timetable::Trace;
 /// A worker's seat at shelves without a lock. While it holds a version, its edition lies here and not in a slot.
 #[derive(Drop)]
 pub struct ShelfSeat {
-    place: Place,
+    table_seat: TableSeat,
     number: usize,
     held: Option<(usize, Edition)>,
-    answers: Trace<Answer>,
+    answers: Trace<SeatAnswer>,
 }
 
 impl Model for ShelfSeat {
@@ -33,25 +33,25 @@ impl Model for ShelfSeat {
     ghost Value = { ShelfSeatValue };
 
     ghost view = { λ s. record {
-      table = s.place.table;
+      table = s.table_seat.table;
       number = s.number;
-      view = s.place.me.0;
-      slots = slots_of s.place.me;
+      view = s.table_seat.me.0;
+      slots = slots_of s.table_seat.me;
       shown =
-          record { answers = s.answers; held = held_at s.held; seen = seen_of s.place.me.0 };
+          record { answers = s.answers; held = held_at s.held; seen = seen_of s.table_seat.me.0 };
     } };
 
-    ghost invariant = { λ s. (s.number < 16) × FitsSeat s.number s.held s.place.me };
+    ghost invariant = { λ s. (s.number < 16) × FitsSeat s.number s.held s.table_seat.me };
 }
 
 impl ShelfSeat {
     /// The seat of a worker that has done nothing.
-    pub(crate) fn idle(place: Place, number: usize) -> ShelfSeat
-        requires { (number < 16) × (place.me ≡ (View.Working (newcomer number), [])) }
-        ensures { result ≡ new_seat place.table number }
+    pub(crate) fn idle(table_seat: TableSeat, number: usize) -> ShelfSeat
+        requires { (number < 16) × (table_seat.me ≡ (View.Working (newcomer number), [])) }
+        ensures { result ≡ new_seat table_seat.table number }
     {
         ShelfSeat {
-            place,
+            table_seat,
             number,
             held: None,
             answers: Trace::new(),
@@ -98,20 +98,20 @@ impl ShelfSeat {
     {
         if self.held.is_some() {
             let fault = PinFault::AlreadyPinned;
-            self.answers.note(&Answer::PinRefused { fault });
+            self.answers.note(&SeatAnswer::PinRefused { fault });
             return Err(PinFault::AlreadyPinned);
         }
-        match pin(shelves, &mut self.place, self.number) {
+        match pin(shelves, &mut self.table_seat, self.number) {
             Ok((shelf, edition)) => {
                 let image = Snapshot::of(&*edition.image);
                 let version = edition.version;
-                self.answers.note(&Answer::Pinned { version, image });
+                self.answers.note(&SeatAnswer::Pinned { version, image });
                 self.held = Some((shelf, edition));
                 Ok(())
             }
             Err(newest) => {
                 let fault = PinFault::Moved { newest };
-                self.answers.note(&Answer::PinRefused { fault });
+                self.answers.note(&SeatAnswer::PinRefused { fault });
                 Err(PinFault::Moved { newest })
             }
         }
@@ -128,13 +128,13 @@ impl ShelfSeat {
     {
         match self.held.take() {
             Some((shelf, edition)) => {
-                release(shelves, &mut self.place, self.number, shelf, edition);
-                self.answers.note(&Answer::Released);
+                release(shelves, &mut self.table_seat, self.number, shelf, edition);
+                self.answers.note(&SeatAnswer::Released);
                 Ok(())
             }
             None => {
                 let fault = PinFault::NotPinned;
-                self.answers.note(&Answer::ReleaseRefused { fault });
+                self.answers.note(&SeatAnswer::ReleaseRefused { fault });
                 Err(PinFault::NotPinned)
             }
         }
@@ -149,6 +149,6 @@ impl ShelfSeat {
         ensures same { known_of self.new.view ≡ known_of self.old.view }
     {
         let _ = &self.number;
-        join(shelves, &mut self.place, notice.into_place());
+        join(shelves, &mut self.table_seat, notice.into_seat());
     }
 }

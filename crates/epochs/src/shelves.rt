@@ -179,10 +179,10 @@ fn open(
     ensures seats { IfOk result (λ made. SeatsHanded made.0 16 made.2.items) }
 {
     let mut seats = Vec::with_capacity(alloc, 16)?;
-    let (table, mut place) = new_shelves(alloc, first)?;
+    let (table, mut table_seat) = new_shelves(alloc, first)?;
     for number in 0..16usize {
-        let worker = new_worker(&table, &mut place);
+        let worker = new_worker(&table, &mut table_seat);
         seats.push(ShelfSeat::idle(worker, number))?;
     }
-    Ok((table, ShelfLoader::first(place), seats))
+    Ok((table, ShelfLoader::first(table_seat), seats))
 }

@@ -2,7 +2,7 @@
 
 ghost use Rattle.std.specs.Prelude.{◌≡◌};
 
-use crate::named::{Named, NamedLoader, NamedSeat, NamedShelves};
+use crate::named::{NamedLoader, NamedSeat, NamedShelves, ShelvesName};
 use crate::shelf_loader::ShelfLoader;
 use crate::shelf_seats::ShelfSeat;
 use crate::shelves::Shelves;
@@ -13,7 +13,7 @@ pub struct OneSeat;
 /// Named shelves for one worker. Their calls are those of `NamedShelves`.
 pub type SoloShelves<B> = NamedShelves<B, OneSeat>;
 
-impl<B: Named> SoloShelves<B> {
+impl<B: ShelvesName> SoloShelves<B> {
     /// Puts the shelves, the loader's seat and one worker's seat under the shelves' name.
     pub fn of(
         shelves: Shelves,

@@ -5,7 +5,7 @@ ghost use Rattle.std.specs.Prelude.{MatchBool, MatchResult};
 ghost use Rattle.std.specs.Arc.{arc_value};
 ghost use Rattle.version_core.specs.State.{start, newest};
 ghost use Rattle.version_core.specs.Steps.{IsIdle, Holds, IsClosing};
-ghost use Rattle.version_core.specs.Kept.{Kept};
+ghost use Rattle.version_core.specs.Kept.{KeepsInvariants};
 ghost use Rattle.version_core.specs.Laws.{LooksAndTakesHold, DropsLetGo, RunsGrow};
 ghost use Rattle.version_core.specs.Rest.{RestStays};
 ghost use Rattle.version_core.specs.declared.state.Worker.{Worker};
@@ -19,7 +19,7 @@ ghost use Rattle.epochs.specs.declared.faults.PublishFault.{PublishFault};
 
 use crate::collected::Collected;
 use crate::faults::{PinFault, PublishFault};
-use crate::seats::{Answer, LoaderAnswer, LoaderSeat, WorkerSeat};
+use crate::seats::{LoaderAnswer, LoaderSeat, SeatAnswer, WorkerSeat};
 use image_verifier::Verified;
 use shelf_steps::Edition;
 use std::alloc::{AllocError, Global};
@@ -80,7 +80,7 @@ impl VersionTable {
     pub fn history(&self)
         ensures history { IsHistory self.now.state self.now.events self.now.images }
         ensures leads { LeadsTo self.now.state self.now.events self.now.images }
-        ensures kept { Kept self.now.state }
+        ensures kept { KeepsInvariants self.now.state }
         ensures held { HeldHaveImages self.now.state self.now.images }
     {
         every_run();
@@ -105,7 +105,7 @@ impl VersionTable {
                 Ok(())
             }
             Err(fault) => {
-                seat.tell(Answer::PinRefused { fault });
+                seat.note_answer(SeatAnswer::PinRefused { fault });
                 Err(fault)
             }
         }
@@ -140,7 +140,7 @@ impl VersionTable {
     // The current shelf and its edition.
     fn current_edition(&self) -> Result<(usize, Edition), AllocError>
         ensures current { IfOk result (λ p. IsCurrent self.now p.0 p.1.version (arc_value p.1.image)) }
-        ensures kept { Kept self.now.state }
+        ensures kept { KeepsInvariants self.now.state }
     {
         let (version, shelf) = self.core.current();
         let Some(edition) = &self.editions[shelf] else {
@@ -152,7 +152,7 @@ impl VersionTable {
 
     // Does nothing: its contract has the laws of a worker's events.
     fn laws(&self)
-        ensures kept { Kept self.now.state }
+        ensures kept { KeepsInvariants self.now.state }
         ensures takes { LooksAndTakesHold }
         ensures drops { DropsLetGo }
         ensures grow { RunsGrow }
@@ -188,16 +188,16 @@ impl VersionTable {
     {
         if !seat.is_holding() {
             let fault = PinFault::NotPinned;
-            seat.tell(Answer::ReleaseRefused { fault });
+            seat.note_answer(SeatAnswer::ReleaseRefused { fault });
             return Err(fault);
         }
         if !self.fits(seat) {
             let fault = PinFault::SeatLost;
-            seat.empty(Answer::ReleaseRefused { fault });
+            seat.empty(SeatAnswer::ReleaseRefused { fault });
             return Err(fault);
         }
         self.leave(seat.number());
-        seat.empty(Answer::Released);
+        seat.empty(SeatAnswer::Released);
         Ok(())
     }
 
@@ -218,7 +218,7 @@ impl VersionTable {
     {
         self.history();
         let found = self.try_shelves();
-        loader.tell(LoaderAnswer::Collected { found });
+        loader.note_answer(LoaderAnswer::Collected { found });
         found
     }
 
@@ -301,14 +301,14 @@ impl VersionTable {
         match self.publish_next(image) {
             Ok(version) => {
                 self.history();
-                loader.tell(LoaderAnswer::Published {
+                loader.note_answer(LoaderAnswer::Published {
                     version,
                     image: shown,
                 });
                 Ok(version)
             }
             Err((image, fault)) => {
-                loader.tell(LoaderAnswer::PublishRefused { fault });
+                loader.note_answer(LoaderAnswer::PublishRefused { fault });
                 Err((image, fault))
             }
         }

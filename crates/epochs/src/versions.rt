@@ -7,7 +7,7 @@ ghost use Rattle.epochs.specs.Seats.{KnowsItsSeats};
 ghost use Rattle.epochs.specs.SeatHistory.{Grows, HoldsAsKnown, EndsPin, EndsRelease, IsPublished, EndsPublish};
 ghost use Rattle.epochs.specs.SeatHistory.{FindsByTries, EachClosingIsTried, IsFullByTries, EndsRefused};
 ghost use Rattle.epochs.specs.ShelfLoads.{IsSpentAt};
-ghost use Rattle.shelf_steps.specs.declared.views.Known.{Known};
+ghost use Rattle.shelf_steps.specs.declared.views.KnownHistory.{KnownHistory};
 ghost use Rattle.epochs.specs.declared.seats.LoaderAnswer.{LoaderAnswer};
 
 use crate::collected::Collected;
@@ -34,7 +34,7 @@ pub trait Versions {
     ghost number: { Self.Seat → ℕ };
 
     // What the seat knows of the one history of its shelves: a beginning of it, which only grows.
-    ghost known: { Self.Seat → Known };
+    ghost known: { Self.Seat → KnownHistory };
 
     // The version that the notice is of.
     ghost noted: { Self.Notice → ℕ };
@@ -97,7 +97,7 @@ pub trait Loads: Versions {
     ghost current: { Self.Loader → ℕ };
 
     // What the loader knows of its shelves' one history: a beginning of it, which only grows.
-    ghost learned: { Self.Loader → Known };
+    ghost learned: { Self.Loader → KnownHistory };
 
     /// Publishes the image as the next version, and returns that version with a notice of it. A refusal returns the
     /// image: with `VersionsSpent` exactly if the current version is the last that there is; with `ShelvesFull` if each

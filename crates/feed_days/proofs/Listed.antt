@@ -8,7 +8,7 @@ use Rattle.gtfs_rows.specs.declared.values.Day.{Day}
 use Rattle.service_days.specs.Days.{day_after}
 use Rattle.connections.specs.Days.{days_from}
 use Rattle.feed_days.specs.Days.{days_after, days_of, first_unlisted, listed_days}
-use Rattle.feed_days.specs.Service.{day_place}
+use Rattle.feed_days.specs.Service.{day_number}
 use Rattle.feed_days.specs.declared.span.Span.{Span}
 
 after_first : (day : Day) (n : ℕ) → days_after (day_after day) n ≡ day_after (days_after day n)
@@ -46,7 +46,7 @@ line_more line first day n old before new is was now =
     ∙ ap (λ (days : List Day). old ++ flat_map line days) (sym (days_more first n))
 
 -- all days have their lines
-pub all_listed : (span : Span) (n : ℕ) → day_place span.last ≡ day_place span.first + n → n < 366
+pub all_listed : (span : Span) (n : ℕ) → day_number span.last ≡ day_number span.first + n → n < 366
     → (listed_days span ≡ days_from span.first (n + 1)) × (first_unlisted span ≡ None)
 unfolding listed_days first_unlisted
 all_listed span n is few =
@@ -58,7 +58,7 @@ all_listed span n is few =
     )
 
 -- or there are more
-pub more_listed : (span : Span) → day_place span.first + 366 ≤ day_place span.last
+pub more_listed : (span : Span) → day_number span.first + 366 ≤ day_number span.last
     → (listed_days span ≡ days_from span.first 366) × (first_unlisted span ≡ Some (days_after span.first 366))
 unfolding listed_days first_unlisted
 more_listed span many =

@@ -14,7 +14,7 @@ use Rattle.gtfs_tables.specs.declared.tables.Feed.{Feed}
 use Rattle.service_days.specs.Services.{adds, exception_of, is_added, is_not_after, is_same_day, weekday_on}
 use Rattle.feed_days.specs.Service.{HoldsOfNone, IsSpan, SpansDays, give_once, give_weekly, gives_once, gives_weekly, has_service}
 use Rattle.feed_days.specs.declared.span.Span.{Span}
-use Rattle.feed_days.proofs.Order.{after_first, before_last, first_day, last_day, not_after_itself, place_by_not_after, same_parts}
+use Rattle.feed_days.proofs.Order.{after_first, before_last, first_day, last_day, not_after_itself, number_by_not_after, same_parts}
 use Rattle.feed_days.proofs.Spans.{HoldsFrom, HoldsTo, IsOfCivil, either, none_if, span_same}
 
 both : (a b : Bool) → a ≡ true → b ≡ true → (a && b) ≡ true
@@ -89,7 +89,7 @@ starts row day own other =
     elim (cases_Bool (is_civil row.start)) [
       | inl civil ↦ rw (own civil) (
         civil,
-        record { from = λ d is. place_by_not_after row.start d civil (of_row row d is).civil (of_row row d is).from },
+        record { from = λ d is. number_by_not_after row.start d civil (of_row row d is).civil (of_row row d is).from },
       )
       | inr none ↦ rw (other none) (refl, record { from = λ d is. after_first d (of_row row d is).civil })
     ]
@@ -100,7 +100,7 @@ ends row day own other =
     elim (cases_Bool (is_civil row.end)) [
       | inl civil ↦ rw (own civil) (
         civil,
-        record { to = λ d is. place_by_not_after d row.end (of_row row d is).civil civil (of_row row d is).to },
+        record { to = λ d is. number_by_not_after d row.end (of_row row d is).civil civil (of_row row d is).to },
       )
       | inr none ↦ rw (other none) (refl, record { to = λ d is. before_last d (of_row row d is).civil })
     ]

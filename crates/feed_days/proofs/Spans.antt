@@ -5,9 +5,9 @@ use Rattle.std.proofs.lemmas.Bool.{cases_Bool, cases_order, false≢true}
 use Rattle.gtfs_rows.specs.Values.{is_civil}
 use Rattle.gtfs_rows.specs.declared.values.Day.{Day}
 use Rattle.service_days.specs.Services.{is_not_after}
-use Rattle.feed_days.specs.Service.{day_place, HoldsOfNone, IsFirst, IsLast, IsSpan, SpansDays}
+use Rattle.feed_days.specs.Service.{day_number, HoldsOfNone, IsFirst, IsLast, IsSpan, SpansDays}
 use Rattle.feed_days.specs.declared.span.Span.{Span}
-use Rattle.feed_days.proofs.Order.{not_after_by_place, not_after_joined, not_after_turned, same_place}
+use Rattle.feed_days.proofs.Order.{not_after_by_number, not_after_joined, not_after_turned, same_number}
 
 -- tests that hold of the same days have the same span
 first_same : (p q : Day → Bool) → ((d : Day) → p d ≡ q d) → (first : Day) → IsFirst p first → IsFirst q first
@@ -109,42 +109,42 @@ pub record IsOfCivil (test : Day → Bool) : Type 0 where
 
 -- it holds of no civil day before this one, or of none after it
 pub record HoldsFrom (test : Day → Bool) (day : Day) : Type 0 where
-  pub from : (d : Day) → test d ≡ true → day_place day ≤ day_place d
+  pub from : (d : Day) → test d ≡ true → day_number day ≤ day_number d
 
 pub record HoldsTo (test : Day → Bool) (day : Day) : Type 0 where
-  pub to : (d : Day) → test d ≡ true → day_place d ≤ day_place day
+  pub to : (d : Day) → test d ≡ true → day_number d ≤ day_number day
 
-other_place : (test : Day → Bool) (day d : Day) → IsOfCivil test → is_civil day ≡ true → test day ≡ false → test d ≡ true → day_place d ≡ day_place day → ⊥
-other_place test day d of civil none is same =
-    false≢true (sym none ∙ sym (ap test (same_place d day (of.civil d is) civil same)) ∙ is)
+other_number : (test : Day → Bool) (day d : Day) → IsOfCivil test → is_civil day ≡ true → test day ≡ false → test d ≡ true → day_number d ≡ day_number day → ⊥
+other_number test day d of civil none is same =
+    false≢true (sym none ∙ sym (ap test (same_number d day (of.civil d is) civil same)) ∙ is)
 
 pub from_found : (test : Day → Bool) (day : Day) → IsOfCivil test → is_civil day ≡ true → test day ≡ true → HoldsFrom test day → IsFirst test day
 from_found test day of civil is from = record {
   holds = is;
-  least = λ d holds. not_after_by_place day d civil (of.civil d holds) (from.from d holds);
+  least = λ d holds. not_after_by_number day d civil (of.civil d holds) (from.from d holds);
 }
 
 pub to_found : (test : Day → Bool) (day : Day) → IsOfCivil test → is_civil day ≡ true → test day ≡ true → HoldsTo test day → IsLast test day
 to_found test day of civil is to = record {
   holds = is;
-  most = λ d holds. not_after_by_place d day (of.civil d holds) civil (to.to d holds);
+  most = λ d holds. not_after_by_number d day (of.civil d holds) civil (to.to d holds);
 }
 
-pub from_next : (test : Day → Bool) (day next : Day) → IsOfCivil test → is_civil day ≡ true → test day ≡ false → day_place next ≡ day_place day + 1
+pub from_next : (test : Day → Bool) (day next : Day) → IsOfCivil test → is_civil day ≡ true → test day ≡ false → day_number next ≡ day_number day + 1
     → HoldsFrom test day → HoldsFrom test next
 from_next test day next of civil none more from = record {
-  from = λ d holds. elim (cases_order (day_place d) (day_place day)) [
-    | inl same ↦ absurd (other_place test day d of civil none holds same)
+  from = λ d holds. elim (cases_order (day_number d) (day_number day)) [
+    | inl same ↦ absurd (other_number test day d of civil none holds same)
     | inr (inl lt) ↦ absurd (let le = from.from d holds in omega (arith, lt, le))
     | inr (inr gt) ↦ omega (arith, gt, more)
   ];
 }
 
-pub to_before : (test : Day → Bool) (day before : Day) → IsOfCivil test → is_civil day ≡ true → test day ≡ false → day_place before + 1 ≡ day_place day
+pub to_before : (test : Day → Bool) (day before : Day) → IsOfCivil test → is_civil day ≡ true → test day ≡ false → day_number before + 1 ≡ day_number day
     → HoldsTo test day → HoldsTo test before
 to_before test day before of civil none more to = record {
-  to = λ d holds. elim (cases_order (day_place d) (day_place day)) [
-    | inl same ↦ absurd (other_place test day d of civil none holds same)
+  to = λ d holds. elim (cases_order (day_number d) (day_number day)) [
+    | inl same ↦ absurd (other_number test day d of civil none holds same)
     | inr (inl lt) ↦ omega (arith, lt, more)
     | inr (inr gt) ↦ absurd (let le = to.to d holds in omega (arith, gt, le))
   ];
@@ -159,28 +159,28 @@ none_if test never d =
     ]
 
 pub none_from_last : (test : Day → Bool) (day : Day) → IsOfCivil test → is_civil day ≡ true → test day ≡ false → HoldsFrom test day
-    → ((d : Day) → is_civil d ≡ true → day_place d ≤ day_place day) → HoldsOfNone test
+    → ((d : Day) → is_civil d ≡ true → day_number d ≤ day_number day) → HoldsOfNone test
 none_from_last test day of civil none from last =
-    none_if test (λ d is. other_place test day d of civil none is
+    none_if test (λ d is. other_number test day d of civil none is
     (let le = from.from d is in let ge = last d (of.civil d is) in omega (arith, le, ge)))
 
 pub none_to_first : (test : Day → Bool) (day : Day) → IsOfCivil test → is_civil day ≡ true → test day ≡ false → HoldsTo test day
-    → ((d : Day) → is_civil d ≡ true → day_place day ≤ day_place d) → HoldsOfNone test
+    → ((d : Day) → is_civil d ≡ true → day_number day ≤ day_number d) → HoldsOfNone test
 none_to_first test day of civil none to first =
-    none_if test (λ d is. other_place test day d of civil none is
+    none_if test (λ d is. other_number test day d of civil none is
     (let le = to.to d is in let ge = first d (of.civil d is) in omega (arith, le, ge)))
 
 pub none_from_end : (test : Day → Bool) (day end : Day) → IsOfCivil test → is_civil day ≡ true → HoldsFrom test day → is_not_after day end ≡ false
     → ((d : Day) → test d ≡ true → is_not_after d end ≡ true) → HoldsOfNone test
 none_from_end test day end of civil from past within =
     none_if test (λ d is. false≢true (sym past
-    ∙ not_after_joined day d end (not_after_by_place day d civil (of.civil d is) (from.from d is)) (within d is)))
+    ∙ not_after_joined day d end (not_after_by_number day d civil (of.civil d is) (from.from d is)) (within d is)))
 
 pub none_to_start : (test : Day → Bool) (day start : Day) → IsOfCivil test → is_civil day ≡ true → HoldsTo test day → is_not_after start day ≡ false
     → ((d : Day) → test d ≡ true → is_not_after start d ≡ true) → HoldsOfNone test
 none_to_start test day start of civil to past within =
     none_if test (λ d is. false≢true (sym past
-    ∙ not_after_joined start d day (within d is) (not_after_by_place d day (of.civil d is) civil (to.to d is))))
+    ∙ not_after_joined start d day (within d is) (not_after_by_number d day (of.civil d is) civil (to.to d is))))
 
 -- what holds is so where there is no value
 pub if_none : {X : Type 0} (found : Option X) (P : Type 0) → P → IfNone found P

@@ -8,7 +8,7 @@ use Rattle.timetable.specs.Clocks.{two_digits}
 use Rattle.service_days.specs.Days.{day_after}
 use Rattle.connections.specs.Days.{days_from}
 use Rattle.feed_days.specs.declared.span.Span.{Span}
-use Rattle.feed_days.specs.Service.{HoldsOfNone, IsSpan, day_place, has_service, trips_on}
+use Rattle.feed_days.specs.Service.{HoldsOfNone, IsSpan, day_number, has_service, trips_on}
 
 -- a day as YYYYMMDD
 unfoldable pub date_text : Day → List ℕ
@@ -29,7 +29,7 @@ days_after day (suc n) = day_after (days_after day n)
 
 -- how many days there are from the first to the last, both included
 abbrev pub days_of : Span → ℕ
-days_of span = day_place span.last + 1 - day_place span.first
+days_of span = day_number span.last + 1 - day_number span.first
 
 -- the days that have a line: the first 366, or all if there are fewer
 unfoldable pub listed_days : Span → List Day

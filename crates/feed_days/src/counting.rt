@@ -64,8 +64,8 @@ fn count_running(active: &[bool], indices: &[usize], trips: &[Trip]) -> usize
         → active.now ≡ active_among feed names day → result ≡ count_by (runs_on feed day) trips.now }
 {
     let mut count = 0usize;
-    for (place, trip) in trips.iter().enumerate() {
-        count += running(active, indices[place], trip);
+    for (index, trip) in trips.iter().enumerate() {
+        count += running(active, indices[index], trip);
     }
     count
 }

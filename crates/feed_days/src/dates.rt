@@ -7,7 +7,7 @@ ghost use Rattle.jiff_core.specs.Date.{IsYmd};
 ghost use Rattle.gtfs_rows.specs.Values.{is_civil};
 ghost use Rattle.gtfs_rows.specs.declared.values.Day.{Day as CivilDay};
 ghost use Rattle.service_days.specs.Services.{is_not_after};
-ghost use Rattle.feed_days.specs.Service.{day_place};
+ghost use Rattle.feed_days.specs.Service.{day_number};
 
 use gtfs_tables::Day;
 use jiff_core::civil::{Date, days_in_month};
@@ -42,8 +42,8 @@ pub fn civil_date(day: Day) -> Option<Date>
 // Returns the day after a civil day, unless it is the calendar's last.
 pub fn next_day(day: Day) -> Option<Day>
     requires { is_civil day ≡ true }
-    ensures some { IfSome result (λ next. (is_civil next ≡ true) × (day_place next ≡ day_place day + 1)) }
-    ensures none { IfNone result ((other : CivilDay) → is_civil other ≡ true → day_place other ≤ day_place day) }
+    ensures some { IfSome result (λ next. (is_civil next ≡ true) × (day_number next ≡ day_number day + 1)) }
+    ensures none { IfNone result ((other : CivilDay) → is_civil other ≡ true → day_number other ≤ day_number day) }
 {
     if day == LAST {
         return None;
@@ -54,8 +54,8 @@ pub fn next_day(day: Day) -> Option<Day>
 // Returns the day before a civil day, unless it is the calendar's first.
 pub fn day_before(day: Day) -> Option<Day>
     requires { is_civil day ≡ true }
-    ensures some { IfSome result (λ before. (is_civil before ≡ true) × (day_place before + 1 ≡ day_place day)) }
-    ensures none { IfNone result ((other : CivilDay) → is_civil other ≡ true → day_place day ≤ day_place other) }
+    ensures some { IfSome result (λ before. (is_civil before ≡ true) × (day_number before + 1 ≡ day_number day)) }
+    ensures none { IfNone result ((other : CivilDay) → is_civil other ≡ true → day_number day ≤ day_number other) }
 {
     if day.day > 1 {
         return Some(Day {

@@ -5,7 +5,7 @@ use Rattle.std.specs.declared.alloc.Global.{Global}
 use Rattle.std.specs.Prelude.{All, IfSome, option_map, OnOk, ⊤, if◌then◌else◌, ◌==◌, get_or}
 use Rattle.std.proofs.lemmas.List.{append-nil, append_assoc, append_cancel_left, map-append}
 use Rattle.std.proofs.lemmas.List.Elements.{All-append, All-cons, All-head, All-map, All-nil, All-tail, All-weaker}
-use Rattle.gtfs_rows.specs.Told.{file_name}
+use Rattle.gtfs_rows.specs.FaultNumber.{file_name}
 use Rattle.gtfs_rows.specs.declared.fault.Table.{Table}
 use Rattle.gtfs_rows.specs.declared.fault.Table.TheVariants as tables
 use Rattle.feed_files.specs.Files.{FileRead, given}
@@ -166,15 +166,15 @@ read_gave content ts old new read made grown =
     subst (All (Gave content)) same (All-map (Gave content) (read_of content) ts (λ k d lt. read_of_gave content (get_or ts k d)))
 
 -- the content that reads in the order of tables show
-place : Table → ℕ
-place tables.Agency = 0
-place tables.Stops = 1
-place tables.Trips = 2
-place tables.StopTimes = 3
-place tables.Calendar = 4
-place tables.CalendarDates = 5
-place tables.Transfers = 6
-place tables.Frequencies = 7
+index : Table → ℕ
+index tables.Agency = 0
+index tables.Stops = 1
+index tables.Trips = 2
+index tables.StopTimes = 3
+index tables.Calendar = 4
+index tables.CalendarDates = 5
+index tables.Transfers = 6
+index tables.Frequencies = 7
 
 bytes_at : List FileRead → ℕ → Option (List ℕ)
 bytes_at [] k = None
@@ -183,7 +183,7 @@ bytes_at (read ∷ reads) (suc k) = bytes_at reads k
 
 AreInPlace : ℕ → List Table → Type 0
 AreInPlace k [] = ⊤
-AreInPlace k (t ∷ ts) = (place t ≡ k) × AreInPlace (suc k) ts
+AreInPlace k (t ∷ ts) = (index t ≡ k) × AreInPlace (suc k) ts
 
 first_in_place : (count k : ℕ) (ts : List Table) → AreInPlace k ts → AreInPlace k (take count ts)
 unfolding AreInPlace
@@ -194,7 +194,7 @@ first_in_place (suc n) k (t ∷ ts) (here, rest) = (here, first_in_place n (suc 
 -- reads of tables in place, of which the first is at k
 shown : (bytes : ℕ → Option (List ℕ)) (k : ℕ) (ts : List Table) (made : List FileRead)
     → AreInPlace k ts → map (λ (read : FileRead). read.0) made ≡ map file_name ts
-    → ((j : ℕ) → bytes (k + j) ≡ bytes_at made j) → made ≡ map (read_of (λ table. bytes (place table))) ts
+    → ((j : ℕ) → bytes (k + j) ≡ bytes_at made j) → made ≡ map (read_of (λ table. bytes (index table))) ts
 unfolding AreInPlace bytes_at
 shown bytes k [] [] h names same = refl
 shown bytes k [] (read ∷ made) h names same = absurd cc
@@ -203,20 +203,20 @@ shown bytes k (t ∷ ts) ((name, file) ∷ made) (here, rest) names same =
     let first : name ≡ file_name t = cc in
     let others : map (λ (read : FileRead). read.0) made ≡ map file_name ts = cc in
     let at : k + 0 ≡ k = omega arith in
-    let held : file ≡ bytes (place t) = sym (same 0) ∙ ap bytes (at ∙ sym here) in
+    let held : file ≡ bytes (index t) = sym (same 0) ∙ ap bytes (at ∙ sym here) in
     let later = shown bytes (suc k) ts made rest others (λ j. let e : suc k + j ≡ k + suc j = omega arith in ap bytes e ∙ same (suc j)) in
     ap (λ (read : FileRead). read ∷ made) (ap (λ (x : List ℕ). (x, file)) first ∙ ap (λ (x : Option (List ℕ)). (file_name t, x)) held)
-    ∙ ap (λ (reads : List FileRead). (file_name t, bytes (place t)) ∷ reads) later
+    ∙ ap (λ (reads : List FileRead). (file_name t, bytes (index t)) ∷ reads) later
 
 pub have_content : {holds : List ℕ → Option (Option (List ℕ))} {old new : List FileRead} (count : ℕ)
     → AreAsked holds (take count all_tables) old new → (content : Content) × AreRead content (take count all_tables) old new
-unfolding AreInPlace place
+unfolding AreInPlace index
 have_content {holds} {old} {new} count asked =
     let bytes : ℕ → Option (List ℕ) = bytes_at asked.made in
     let whole : AreInPlace 0 all_tables = (refl, (refl, (refl, (refl, (refl, (refl, (refl, (refl, tt)))))))) in
     let from_none : (j : ℕ) → bytes (0 + j) ≡ bytes j = λ j. let e : 0 + j ≡ j = omega arith in ap bytes e in
     let made = shown bytes 0 (take count all_tables) asked.made (first_in_place count 0 all_tables whole) asked.names from_none in
-    ((λ table. bytes (place table)), asked.grown ∙ ap (λ reads. old ++ reads) made)
+    ((λ table. bytes (index table)), asked.grown ∙ ap (λ reads. old ++ reads) made)
 
 pub have_all : {T : Type 0} (holds : List ℕ → Option (Option (List ℕ))) (old new : List FileRead) (result : Result T ReadFault)
     → AskedFor holds all_tables old new result → OnOk result ((content : Content) × AreRead content all_tables old new)

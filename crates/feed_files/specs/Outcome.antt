@@ -1,6 +1,6 @@
 -- How the reading of files ends.
 use Rattle.std.specs.Prelude.{ℕ, ◌++◌, ◌∷◌, List, [], length, Result, Ok, Err}
-use Rattle.gtfs_rows.specs.Told.{file_name}
+use Rattle.gtfs_rows.specs.FaultNumber.{file_name}
 use Rattle.gtfs_rows.specs.declared.fault.Table.{Table}
 use Rattle.gtfs_rows.specs.declared.fault.TableFault.{TableFault}
 use Rattle.feed_files.specs.declared.reading.ReadFault.{ReadFault}

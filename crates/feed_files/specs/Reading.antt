@@ -7,7 +7,7 @@ use Rattle.gtfs_rows.specs.Tables.{agency_shape, calendar_dates_shape, calendar_
 use Rattle.gtfs_rows.specs.Tables.{stop_times_shape, transfers_shape}
 use Rattle.feed_files.specs.Outcome.{RefusedOrFailed}
 use Rattle.feed_files.specs.declared.reading.ReadFault.{ReadFault}
-use Rattle.gtfs_rows.specs.Told.{file_name}
+use Rattle.gtfs_rows.specs.FaultNumber.{file_name}
 use Rattle.gtfs_rows.specs.declared.fault.FaultKind.{FaultKind}
 use Rattle.gtfs_rows.specs.declared.fault.FaultKind.TheVariants as kinds
 use Rattle.gtfs_rows.specs.declared.fault.Table.{Table}

@@ -1,6 +1,6 @@
 -- The reads of a feed's files between two moments.
 use Rattle.std.specs.Prelude.{◌≡◌, ◌++◌, ◌∷◌, ℕ, List, [], Option, Result, Ok, Err, All, IfSome, map, take}
-use Rattle.gtfs_rows.specs.Told.{file_name}
+use Rattle.gtfs_rows.specs.FaultNumber.{file_name}
 use Rattle.gtfs_rows.specs.declared.fault.Table.{Table}
 use Rattle.gtfs_rows.specs.declared.fault.Table.TheVariants as tables
 use Rattle.feed_files.specs.Files.{FileRead, MayBeRead, MayGive}

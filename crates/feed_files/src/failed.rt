@@ -4,12 +4,12 @@ ghost use Rattle.std.specs.Prelude.{◌≡◌, ◌++◌, ◌∷◌, [], ℕ, Lis
 
 use std::collections::LinkedList;
 use std::marker::Model;
-use timetable::Kept;
+use timetable::GhostValue;
 
 /// The names of the files whose reads failed, in order. Only contracts see them: they take no memory.
 #[derive(Drop)]
 pub struct FailedNames {
-    names: Kept<LinkedList<LinkedList<u8>>>,
+    names: GhostValue<LinkedList<LinkedList<u8>>>,
 }
 
 impl Model for FailedNames {
@@ -24,7 +24,7 @@ impl FailedNames {
         ensures { result ≡ [] }
     {
         FailedNames {
-            names: Kept::at(&(), &()),
+            names: GhostValue::at(&(), &()),
         }
     }
 
@@ -32,6 +32,6 @@ impl FailedNames {
     pub fn note(&mut self, name: &str)
         ensures { self.new ≡ self.old ++ name.now ∷ [] }
     {
-        self.names = Kept::at(&self.names, &name);
+        self.names = GhostValue::at(&self.names, &name);
     }
 }

@@ -43,7 +43,7 @@ pub trait FeedFiles {
 
     /// Returns the bytes of a file, or none if there is no such file. `OutOfMemory` doesn't count as a failure.
     fn read(&mut self, alloc: Global, name: &str) -> Result<Option<Vec<u8>>, FileFault>
-        ensures told { IfOk result (λ file. IfSome (holds self.old name.now)
+        ensures content { IfOk result (λ file. IfSome (holds self.old name.now)
             (λ bytes. option_map (λ read. read.items) file ≡ bytes)) }
         ensures gives { may_give self.old name.now result }
         ensures stays { (other : List ℕ) (answer : FileAnswer)
@@ -57,5 +57,5 @@ pub trait FeedFiles {
     /// Returns the hash by which ids in the files are looked up, with a random key if strangers may have made the ids.
     /// No result depends on it.
     fn id_hash(&self) -> IdHash
-        ensures { (told : Hash) → hash self.now ≡ Some told → result ≡ told };
+        ensures { (content : Hash) → hash self.now ≡ Some content → result ≡ content };
 }

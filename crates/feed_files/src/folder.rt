@@ -151,14 +151,14 @@ fn bytes_up_to<F: OpenFile + Read + Drop>(
     ensures short { IfOk result (λ bytes. length bytes.items ≤ limit) }
     ensures whole { IfOk result (λ bytes. IfSome (F.remaining file) (λ held. bytes.items ≡ held)) }
 {
-    let told = match file.metadata() {
+    let size = match file.metadata() {
         Ok(metadata) => metadata.len(),
         Err(error) => return Err(fault_of(error.kind())),
     };
-    if told > limit as u64 {
+    if size > limit as u64 {
         return Err(FileFault::Failed);
     }
-    let Ok(mut bytes) = Vec::with_capacity(alloc, told as usize + 1) else {
+    let Ok(mut bytes) = Vec::with_capacity(alloc, size as usize + 1) else {
         return Err(FileFault::OutOfMemory);
     };
     match file.take(limit as u64 + 1).read_to_end(&mut bytes) {

@@ -5,7 +5,7 @@ ghost use Rattle.std.specs.Prelude.{◌∷◌, option_map, IfSome, OnOk};
 ghost use Rattle.gtfs_rows.specs.declared.id_hash.IdHash.{IdHash as Hash};
 ghost use Rattle.gtfs_rows.specs.declared.fault.Table.{Table as TableName};
 ghost use Rattle.gtfs_rows.specs.declared.fault.Table.TheVariants as tables;
-ghost use Rattle.gtfs_rows.specs.Told.{file_name};
+ghost use Rattle.gtfs_rows.specs.FaultNumber.{file_name};
 ghost use Rattle.feed_files.specs.Outcome.{failed_by, failed_in};
 ghost use Rattle.feed_files.specs.Files.{read_also};
 ghost use Rattle.feed_files.specs.Reading.{Content, FineBefore, HoldsCalendars, HoldsRequired, HoldsTables, IsHeld};
@@ -16,8 +16,8 @@ ghost use Rattle.feed_files.specs.Hashed.{AreHashed};
 
 use crate::files::{FeedFiles, FileFault};
 use gtfs_tables::{
-    AgencyRow, CalendarDateRow, CalendarRow, FaultKind, FrequencyRow, IdHash, Limited, StopRow,
-    StopTimes, Table, TableFault, TableFile, Tables, TransferRow, TripRow,
+    AgencyRow, CalendarDateRow, CalendarRow, FaultKind, FrequencyRow, IdHash, RowsWithinLimit,
+    StopRow, StopTimes, Table, TableFault, TableFile, Tables, TransferRow, TripRow,
 };
 use std::alloc::Global;
 use thiserror::Error;
@@ -174,8 +174,8 @@ fn calendars<F: FeedFiles>(
 #[derive(Drop)]
 struct RequiredTables {
     agencies: Vec<AgencyRow>,
-    stops: Limited<StopRow>,
-    trips: Limited<TripRow>,
+    stops: RowsWithinLimit<StopRow>,
+    trips: RowsWithinLimit<TripRow>,
     stop_times: StopTimes,
 }
 

@@ -5,13 +5,13 @@ ghost use Rattle.feed_files.specs.Files.{given};
 
 use std::collections::LinkedList;
 use std::marker::Model;
-use timetable::Kept;
+use timetable::GhostValue;
 
 /// The results of reading files, in order: the name of each file, and its bytes, or none if there is no such file.
 /// Only contracts see them: they take no memory.
 #[derive(Drop)]
 pub struct FileReads {
-    reads: Kept<LinkedList<(LinkedList<u8>, Option<LinkedList<u8>>)>>,
+    reads: GhostValue<LinkedList<(LinkedList<u8>, Option<LinkedList<u8>>)>>,
 }
 
 impl Model for FileReads {
@@ -29,7 +29,7 @@ impl FileReads {
         ensures { result ≡ [] }
     {
         FileReads {
-            reads: Kept::at(&(), &()),
+            reads: GhostValue::at(&(), &()),
         }
     }
 
@@ -37,6 +37,6 @@ impl FileReads {
     pub fn note(&mut self, name: &str, file: &Option<Vec<u8>>)
         ensures { self.new ≡ self.old ++ given name.now file.now ∷ [] }
     {
-        self.reads = Kept::at(&self.reads, &(name, file));
+        self.reads = GhostValue::at(&self.reads, &(name, file));
     }
 }

@@ -39,25 +39,26 @@ wants_memory (runs.Table fault) wants = wants
 wants_memory (runs.Day fault) wants = wants
 
 -- the runs are refused
-pub runs_refused : (feed : Feed) (plan : Plan) (fault : RunsFault) (told : LoadFault) → told ≡ load_fault_of_runs fault → length feed.stops.items ≤ MAX_STOPS
-    → RunsWantMemory fault ⊎ IsFirstRefusal feed plan.zone plan.first_day plan.days fault → IsWantOfMemory told ⊎ IsFeedRefusal feed plan told
-runs_refused feed plan fault told is few (inl wants) = inl (subst (λ (x : LoadFault). IsWantOfMemory x) (sym is) (wants_memory fault wants))
-runs_refused feed plan fault told is few (inr first) = inr (inr (inl (record { refusal = fault; is = is; few_stops = few; first = first })))
+pub runs_refused : (feed : Feed) (plan : Plan) (fault : RunsFault) (outcome : LoadFault) → outcome ≡ load_fault_of_runs fault → length feed.stops.items
+    ≤ MAX_STOPS
+    → RunsWantMemory fault ⊎ IsFirstRefusal feed plan.zone plan.first_day plan.days fault → IsWantOfMemory outcome ⊎ IsFeedRefusal feed plan outcome
+runs_refused feed plan fault outcome is few (inl wants) = inl (subst (λ (x : LoadFault). IsWantOfMemory x) (sym is) (wants_memory fault wants))
+runs_refused feed plan fault outcome is few (inr first) = inr (inr (inl (record { refusal = fault; is = is; few_stops = few; first = first })))
 
 -- the names are refused
-pub names_refused : (feed : Feed) (plan : Plan) (connections : List Connection) (runs_are : List Run) (told : LoadFault)
+pub names_refused : (feed : Feed) (plan : Plan) (connections : List Connection) (runs_are : List Run) (outcome : LoadFault)
     → 1 ≤ plan.days → length feed.stops.items ≤ MAX_STOPS
-    → IsListing feed plan.zone plan.first_day plan.days connections runs_are → AreNamesRefused feed plan runs_are told
-    → IsWantOfMemory told ⊎ IsFeedRefusal feed plan told
-names_refused feed plan connections runs_are told some few listing (inl wants) = inl wants
-names_refused feed plan connections runs_are told some few listing (inr (inl (is, missing))) =
+    → IsListing feed plan.zone plan.first_day plan.days connections runs_are → AreNamesRefused feed plan runs_are outcome
+    → IsWantOfMemory outcome ⊎ IsFeedRefusal feed plan outcome
+names_refused feed plan connections runs_are outcome some few listing (inl wants) = inl wants
+names_refused feed plan connections runs_are outcome some few listing (inr (inl (is, missing))) =
     inr (inr (inl (record {
       refusal = runs.Day DayOutOfRange;
       is = is;
       few_stops = few;
       first = inl (record { is = refl; among = first_missing plan.zone plan.first_day plan.days some missing });
     })))
-names_refused feed plan connections runs_are told some few listing (inr (inr (is, names, named, long))) =
+names_refused feed plan connections runs_are outcome some few listing (inr (inr (is, names, named, long))) =
     inr (inr (inr (inl (record {
       is = is;
       names = names;

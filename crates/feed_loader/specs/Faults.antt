@@ -1,8 +1,8 @@
 -- The faults of the steps as faults of the load.
 use Rattle.std.specs.Prelude.{ℕ, ◌++◌, ◌∷◌, List, [], Result, Ok, Err, codes}
-use Rattle.gtfs_rows.specs.Told.{fault_told as kind_told, file_name}
-use Rattle.service_days.specs.Faults.{fault_told as day_told}
-use Rattle.footpaths.specs.FaultNumber.{fault_told as foot_told}
+use Rattle.gtfs_rows.specs.FaultNumber.{numbered_fault as numbered_kind, file_name}
+use Rattle.service_days.specs.Faults.{numbered_fault as numbered_day_fault}
+use Rattle.footpaths.specs.FaultNumber.{numbered_fault as numbered_foot_fault}
 use Rattle.image_verifier.specs.FaultNumber.{fault_name as image_name, fault_number as image_number}
 use Rattle.gtfs_rows.specs.declared.fault.FaultKind.TheVariants as kinds
 use Rattle.gtfs_rows.specs.declared.fault.Table.{Table}
@@ -49,15 +49,15 @@ failed_by before (Err (faults.FileFailed table)) = before ++ file_name table ∷
 
 -- the number and the name of a fault
 abbrev pub fault_number : LoadFault → ℕ
-fault_number (faults.Table fault) = (kind_told fault.kind).0
-fault_number (faults.Day fault) = (day_told fault).0
-fault_number (faults.Footpaths fault) = (foot_told fault).0
+fault_number (faults.Table fault) = (numbered_kind fault.kind).0
+fault_number (faults.Day fault) = (numbered_day_fault fault).0
+fault_number (faults.Footpaths fault) = (numbered_foot_fault fault).0
 fault_number (faults.Image fault) = image_number fault
 fault_number (faults.FileFailed table) = 101
 
 abbrev pub fault_name : LoadFault → List ℕ
-fault_name (faults.Table fault) = (kind_told fault.kind).1
-fault_name (faults.Day fault) = (day_told fault).1
-fault_name (faults.Footpaths fault) = (foot_told fault).1
+fault_name (faults.Table fault) = (numbered_kind fault.kind).1
+fault_name (faults.Day fault) = (numbered_day_fault fault).1
+fault_name (faults.Footpaths fault) = (numbered_foot_fault fault).1
 fault_name (faults.Image fault) = image_name fault
 fault_name (faults.FileFailed table) = codes "FileFailed"

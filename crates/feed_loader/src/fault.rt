@@ -84,7 +84,7 @@ impl From<ReadFault> for LoadFault {
     ghost use Rattle.std.specs.Prelude.{◌≡◌};
     ghost use Rattle.feed_loader.specs.Faults.{load_fault_of_read};
 
-    ghost from_gives = { λ fault told. told ≡ load_fault_of_read fault };
+    ghost from_gives = { λ fault outcome. outcome ≡ load_fault_of_read fault };
 
     fn from(fault: ReadFault) -> LoadFault {
         match fault {
@@ -98,7 +98,7 @@ impl From<RunsFault> for LoadFault {
     ghost use Rattle.std.specs.Prelude.{◌≡◌};
     ghost use Rattle.feed_loader.specs.Faults.{load_fault_of_runs};
 
-    ghost from_gives = { λ fault told. told ≡ load_fault_of_runs fault };
+    ghost from_gives = { λ fault outcome. outcome ≡ load_fault_of_runs fault };
 
     fn from(fault: RunsFault) -> LoadFault {
         match fault {
@@ -112,7 +112,7 @@ impl From<TableFault> for LoadFault {
     ghost use Rattle.std.specs.Prelude.{◌≡◌};
     ghost use Rattle.feed_loader.specs.declared.fault.LoadFault.TheVariants.{Table as OfTable};
 
-    ghost from_gives = { λ fault told. told ≡ OfTable fault };
+    ghost from_gives = { λ fault outcome. outcome ≡ OfTable fault };
 
     fn from(fault: TableFault) -> LoadFault {
         LoadFault::Table(fault)
@@ -123,7 +123,7 @@ impl From<DayFault> for LoadFault {
     ghost use Rattle.std.specs.Prelude.{◌≡◌};
     ghost use Rattle.feed_loader.specs.declared.fault.LoadFault.TheVariants.{Day as OfDay};
 
-    ghost from_gives = { λ fault told. told ≡ OfDay fault };
+    ghost from_gives = { λ fault outcome. outcome ≡ OfDay fault };
 
     fn from(fault: DayFault) -> LoadFault {
         LoadFault::Day(fault)
@@ -134,7 +134,7 @@ impl From<FootFault> for LoadFault {
     ghost use Rattle.std.specs.Prelude.{◌≡◌};
     ghost use Rattle.feed_loader.specs.declared.fault.LoadFault.TheVariants.{Footpaths as OfFootpaths};
 
-    ghost from_gives = { λ fault told. told ≡ OfFootpaths fault };
+    ghost from_gives = { λ fault outcome. outcome ≡ OfFootpaths fault };
 
     fn from(fault: FootFault) -> LoadFault {
         LoadFault::Footpaths(fault)

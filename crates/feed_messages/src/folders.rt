@@ -82,12 +82,12 @@ pub fn missing_file<H: Files + AllocGlobal>(rt: &H, folder: &str, table: Table) 
             format!(in alloc; "{folder}: neither calendar.txt nor calendar_dates.txt is there").ok()
         }
         Table::Agency => match found_elsewhere(rt, folder) {
-            Some(Elsewhere::Below(below)) => {
+            Some(OtherLocation::Below(below)) => {
                 format!(in alloc;
                     "{folder}: no file {name}, but {below} has one: name that folder"
                 ).ok()
             }
-            Some(Elsewhere::Zipped(zip)) => {
+            Some(OtherLocation::Zipped(zip)) => {
                 format!(in alloc; "{folder}: no file {name}; if {zip} is the feed, unpack it").ok()
             }
             None => format!(in alloc; "{folder}: no file {name}").ok(),
@@ -98,7 +98,7 @@ pub fn missing_file<H: Files + AllocGlobal>(rt: &H, folder: &str, table: Table) 
 
 /// Where a feed may be, if it isn't in the folder itself.
 #[derive(Drop)]
-enum Elsewhere {
+enum OtherLocation {
     /// In this folder, one level below.
     Below(String),
     /// Perhaps in this zip file.
@@ -106,7 +106,7 @@ enum Elsewhere {
 }
 
 /// Where else the feed may be: the first folder with an `agency.txt`, or zip file, among the folder's names.
-fn found_elsewhere<H: Files + AllocGlobal>(rt: &H, folder: &str) -> Option<Elsewhere> {
+fn found_elsewhere<H: Files + AllocGlobal>(rt: &H, folder: &str) -> Option<OtherLocation> {
     let mut names = rt.open_dir(folder).ok()?;
     let mut piece = new_piece(rt.alloc(), PIECE_BYTES)?;
     for _ in 0..MOST_PIECES {
@@ -127,7 +127,11 @@ fn new_piece(alloc: Global, bytes: usize) -> Option<Vec<u8>> {
 }
 
 /// The first folder with an `agency.txt`, or zip file, among these names, each of which ends with a zero byte.
-fn elsewhere_in<H: Files + AllocGlobal>(rt: &H, folder: &str, names: &[u8]) -> Option<Elsewhere> {
+fn elsewhere_in<H: Files + AllocGlobal>(
+    rt: &H,
+    folder: &str,
+    names: &[u8],
+) -> Option<OtherLocation> {
     for name in names.split(|byte| *byte == 0) {
         let found = elsewhere_at(rt, folder, name);
         if found.is_some() {
@@ -138,7 +142,11 @@ fn elsewhere_in<H: Files + AllocGlobal>(rt: &H, folder: &str, names: &[u8]) -> O
 }
 
 /// The folder of this name, if it has an `agency.txt`, or the zip file of this name.
-fn elsewhere_at<H: Files + AllocGlobal>(rt: &H, folder: &str, name: &[u8]) -> Option<Elsewhere> {
+fn elsewhere_at<H: Files + AllocGlobal>(
+    rt: &H,
+    folder: &str,
+    name: &[u8],
+) -> Option<OtherLocation> {
     let name = str::from_utf8(name).ok()?;
     if name.is_empty() || name == "." || name == ".." {
         return None;
@@ -146,11 +154,11 @@ fn elsewhere_at<H: Files + AllocGlobal>(rt: &H, folder: &str, name: &[u8]) -> Op
     let root = folder.strip_suffix('/').unwrap_or(folder);
     let path = format!(in rt.alloc(); "{root}/{name}").ok()?;
     if name.ends_with(".zip") {
-        return Some(Elsewhere::Zipped(path));
+        return Some(OtherLocation::Zipped(path));
     }
     let agency = format!(in rt.alloc(); "{path}/agency.txt").ok()?;
     if is_folder(rt, path.as_str()) && is_file(rt, agency.as_str()) {
-        return Some(Elsewhere::Below(path));
+        return Some(OtherLocation::Below(path));
     }
     None
 }

@@ -43,8 +43,8 @@ fn long_field(record: &ByteRecord) -> Option<&[u8]> {
 /// What comes before an id in a field of several lines, if the id is there.
 fn text_before<'a>(record: &'a ByteRecord, id: &[u8]) -> Option<&'a [u8]> {
     let field = long_field(record)?;
-    for place in 0..field.len() {
-        let (before, rest) = (field.get(..place)?, field.get(place..)?);
+    for position in 0..field.len() {
+        let (before, rest) = (field.get(..position)?, field.get(position..)?);
         if is_at_end(before.last()) && begins_with(rest, id) {
             return Some(before);
         }

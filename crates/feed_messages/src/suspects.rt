@@ -5,7 +5,7 @@ use gtfs_rows::{Day, FaultKind, Key, Table, TableFault, Time};
 
 /// What the text of a field must be.
 #[derive(Clone, Copy, PartialEq, Eq)]
-pub enum Form {
+pub enum FieldForm {
     Time,
     TimeOrBlank,
     Date,
@@ -22,17 +22,17 @@ pub enum Form {
     Other,
 }
 
-impl Form {
+impl FieldForm {
     /// Whether a text isn't as it must be, as far as the text alone can tell.
     pub fn is_missed_by(self, text: &[u8]) -> bool {
         match self {
-            Form::Time => Time::parse(text).is_err(),
-            Form::TimeOrBlank => !text.is_empty() && Time::parse(text).is_err(),
-            Form::Date => Day::parse(text).is_err(),
-            Form::Number => number(text).is_none(),
-            Form::Weekday => !matches!(number(text), Some(0) | Some(1)),
-            Form::Exception => !matches!(number(text), Some(1) | Some(2)),
-            Form::Id | Form::End | Form::Other => true,
+            FieldForm::Time => Time::parse(text).is_err(),
+            FieldForm::TimeOrBlank => !text.is_empty() && Time::parse(text).is_err(),
+            FieldForm::Date => Day::parse(text).is_err(),
+            FieldForm::Number => number(text).is_none(),
+            FieldForm::Weekday => !matches!(number(text), Some(0) | Some(1)),
+            FieldForm::Exception => !matches!(number(text), Some(1) | Some(2)),
+            FieldForm::Id | FieldForm::End | FieldForm::Other => true,
         }
     }
 }
@@ -47,34 +47,40 @@ pub fn home_of(column: &str) -> (Table, &'static str) {
 }
 
 /// The columns that can be at fault, in order: the first whose text isn't of this form is the one that is at fault.
-pub fn suspects_of(fault: &TableFault) -> (&'static [&'static str], Form) {
+pub fn suspects_of(fault: &TableFault) -> (&'static [&'static str], FieldForm) {
     match (fault.kind, fault.file) {
         (FaultKind::BadTime, Table::StopTimes) => {
-            (&["arrival_time", "departure_time"], Form::TimeOrBlank)
+            (&["arrival_time", "departure_time"], FieldForm::TimeOrBlank)
         }
-        (FaultKind::BadTime, _) => (&["start_time", "end_time"], Form::Time),
-        (FaultKind::BadDate, Table::Calendar) => (&["start_date", "end_date"], Form::Date),
-        (FaultKind::BadDate, _) => (&["date"], Form::Date),
-        (FaultKind::BadNumber, Table::StopTimes) => (&["stop_sequence"], Form::Number),
-        (FaultKind::BadNumber, Table::Calendar) => (weekdays(), Form::Weekday),
-        (FaultKind::BadNumber, Table::CalendarDates) => (&["exception_type"], Form::Exception),
-        (FaultKind::BadNumber, _) => (&["headway_secs"], Form::Number),
+        (FaultKind::BadTime, _) => (&["start_time", "end_time"], FieldForm::Time),
+        (FaultKind::BadDate, Table::Calendar) => (&["start_date", "end_date"], FieldForm::Date),
+        (FaultKind::BadDate, _) => (&["date"], FieldForm::Date),
+        (FaultKind::BadNumber, Table::StopTimes) => (&["stop_sequence"], FieldForm::Number),
+        (FaultKind::BadNumber, Table::Calendar) => (weekdays(), FieldForm::Weekday),
+        (FaultKind::BadNumber, Table::CalendarDates) => (&["exception_type"], FieldForm::Exception),
+        (FaultKind::BadNumber, _) => (&["headway_secs"], FieldForm::Number),
         _ => suspects_by_id(fault),
     }
 }
 
-fn suspects_by_id(fault: &TableFault) -> (&'static [&'static str], Form) {
+fn suspects_by_id(fault: &TableFault) -> (&'static [&'static str], FieldForm) {
     match (fault.kind, fault.file) {
-        (FaultKind::IdTwice, _) => (last_of(key_of(fault)), Form::Other),
-        (FaultKind::UnknownId, Table::Stops) => (&["parent_station"], Form::Other),
-        (FaultKind::UnknownId, Table::Transfers) => (&["from_stop_id", "to_stop_id"], Form::Id),
-        (FaultKind::UnknownId, _) => (&["trip_id", "stop_id"], Form::Id),
-        (FaultKind::NotAStop, Table::Transfers) => (&["from_stop_id", "to_stop_id"], Form::End),
-        (FaultKind::NotAStop, _) => (&["stop_id"], Form::Other),
-        (FaultKind::ZonesDiffer, _) => (&["agency_timezone"], Form::Other),
-        (FaultKind::SequenceTwice, _) => (&["stop_sequence"], Form::Other),
-        (FaultKind::BadHeadway, _) => (&["headway_secs"], Form::Other),
-        _ => (&["trip_id"], Form::Other),
+        (FaultKind::IdTwice, _) => (last_of(key_of(fault)), FieldForm::Other),
+        (FaultKind::UnknownId, Table::Stops) => (&["parent_station"], FieldForm::Other),
+        (FaultKind::UnknownId, Table::Transfers) => (
+            &["from_stop_id", "to_stop_id"],
+            FieldForm::Id,
+        ),
+        (FaultKind::UnknownId, _) => (&["trip_id", "stop_id"], FieldForm::Id),
+        (FaultKind::NotAStop, Table::Transfers) => (
+            &["from_stop_id", "to_stop_id"],
+            FieldForm::End,
+        ),
+        (FaultKind::NotAStop, _) => (&["stop_id"], FieldForm::Other),
+        (FaultKind::ZonesDiffer, _) => (&["agency_timezone"], FieldForm::Other),
+        (FaultKind::SequenceTwice, _) => (&["stop_sequence"], FieldForm::Other),
+        (FaultKind::BadHeadway, _) => (&["headway_secs"], FieldForm::Other),
+        _ => (&["trip_id"], FieldForm::Other),
     }
 }
 
@@ -93,7 +99,9 @@ pub fn key_of(fault: &TableFault) -> &'static [&'static str] {
     let columns = fault.file.columns();
     match (fault.kind, fault.file.key()) {
         (FaultKind::SequenceTwice, _) => &["trip_id", "stop_sequence"],
-        (FaultKind::IdTwice, Key::Column(place)) => columns.get(place..=place).unwrap_or(&[]),
+        (FaultKind::IdTwice, Key::Column(position)) => columns
+            .get(position..=position)
+            .unwrap_or(&[]),
         (FaultKind::IdTwice, Key::Columns(first, last)) => {
             columns.get(first..=last).unwrap_or(&[])
         }

@@ -3,7 +3,7 @@
 use crate::files::{advance, file_bytes, record_with};
 use crate::folders::missing_file;
 use crate::quotes::{is_long, quote_before, quote_in};
-use crate::suspects::{Form, home_of, key_of, reason_of, suspects_of, whose_key};
+use crate::suspects::{FieldForm, home_of, key_of, reason_of, suspects_of, whose_key};
 use crate::words::{explain, quoted};
 use csv::ByteRecord;
 use gtfs_rows::values::number;
@@ -36,13 +36,13 @@ fn line_of<H: Files + AllocGlobal>(rt: &H, folder: &str, fault: &TableFault) -> 
         }
         _ => {
             let bytes = file_bytes(rt, folder, file)?;
-            let place = FaultPlace {
+            let position = FaultLocation {
                 rt,
                 folder,
                 fault,
                 bytes: &bytes,
             };
-            place.line()
+            position.line()
         }
     }
 }
@@ -126,14 +126,14 @@ fn shown_header(alloc: Global, header: &ByteRecord) -> Result<String, AllocError
 
 /// A fault of a record, and where to look for its cause.
 #[derive(Drop)]
-struct FaultPlace<'a, H> {
+struct FaultLocation<'a, H> {
     rt: &'a H,
     folder: &'a str,
     fault: &'a TableFault,
     bytes: &'a [u8],
 }
 
-impl<'a, H: Files + AllocGlobal> FaultPlace<'a, H> {
+impl<'a, H: Files + AllocGlobal> FaultLocation<'a, H> {
     /// The message: the line, what is wrong there, if that can be found, and whether a double quote is the cause.
     fn line(&self) -> Option<String> {
         let alloc = self.rt.alloc();
@@ -167,9 +167,9 @@ impl<'a, H: Files + AllocGlobal> FaultPlace<'a, H> {
     fn wrong_value(&self, found: &FoundRecord) -> Option<String> {
         let (names, form) = suspects_of(self.fault);
         for name in names {
-            let place = column(&found.header, name.as_bytes());
-            let value = cell(&found.record, place);
-            if place.is_some() && self.is_wrong(name, form, value)? {
+            let position = column(&found.header, name.as_bytes());
+            let value = cell(&found.record, position);
+            if position.is_some() && self.is_wrong(name, form, value)? {
                 return self.what_is_wrong(found, name, value);
             }
         }
@@ -215,13 +215,13 @@ impl<'a, H: Files + AllocGlobal> FaultPlace<'a, H> {
     fn further_rows(&self, name: &str, id: &[u8]) -> Option<u64> {
         let mut records = Records::open(self.rt.alloc(), self.bytes);
         advance(&mut records)?;
-        let places = self.places_like(records.last(), name)?;
+        let column_indices = self.columns_like(records.last(), name)?;
         let mut rows = 0u64;
         for number in 1..u64::MAX {
             if advance(&mut records).is_none() {
                 return Some(rows);
             }
-            if number > self.fault.row && has_any(records.last(), &places, id) {
+            if number > self.fault.row && has_any(records.last(), &column_indices, id) {
                 rows = rows.saturating_add(1);
             }
         }
@@ -229,21 +229,21 @@ impl<'a, H: Files + AllocGlobal> FaultPlace<'a, H> {
     }
 
     /// The places of the columns whose ids are looked up as those of this one.
-    fn places_like(&self, header: &ByteRecord, name: &str) -> Option<Vec<Option<usize>>> {
-        let mut places = Vec::new(self.rt.alloc());
+    fn columns_like(&self, header: &ByteRecord, name: &str) -> Option<Vec<Option<usize>>> {
+        let mut column_indices = Vec::new(self.rt.alloc());
         for other in suspects_of(self.fault).0 {
             if home_of(other) == home_of(name) {
-                places.push(column(header, other.as_bytes())).ok()?;
+                column_indices.push(column(header, other.as_bytes())).ok()?;
             }
         }
-        Some(places)
+        Some(column_indices)
     }
 
     /// The line of the first record with the key of the faulty one, if that is the fault.
     fn earlier_line(&self, found: &FoundRecord) -> Option<u64> {
-        let mut places = Vec::new(self.rt.alloc());
+        let mut column_indices = Vec::new(self.rt.alloc());
         for name in key_of(self.fault) {
-            places
+            column_indices
                 .push((
                     column(&found.header, name.as_bytes()),
                     *name == "stop_sequence",
@@ -254,7 +254,9 @@ impl<'a, H: Files + AllocGlobal> FaultPlace<'a, H> {
         advance(&mut records)?;
         for _ in 1..self.fault.row {
             advance(&mut records)?;
-            if !places.is_empty() && has_key_of(records.last(), &found.record, &places) {
+            if !column_indices.is_empty()
+                && has_key_of(records.last(), &found.record, &column_indices)
+            {
                 return Some(records.position().line);
             }
         }
@@ -262,14 +264,14 @@ impl<'a, H: Files + AllocGlobal> FaultPlace<'a, H> {
     }
 
     /// Whether a value isn't as it must be; an id is looked up in its file. None if that file can't be read.
-    fn is_wrong(&self, name: &str, form: Form, value: &[u8]) -> Option<bool> {
-        if form != Form::Id && form != Form::End {
+    fn is_wrong(&self, name: &str, form: FieldForm, value: &[u8]) -> Option<bool> {
+        if form != FieldForm::Id && form != FieldForm::End {
             return Some(form.is_missed_by(value));
         }
         let (table, id) = home_of(name);
         let bytes = file_bytes(self.rt, self.folder, table.file_name())?;
         let found = record_with(self.rt.alloc(), &bytes, id, value);
-        if form == Form::Id {
+        if form == FieldForm::Id {
             Some(found.is_none())
         } else {
             Some(is_inside(&found))
@@ -292,16 +294,18 @@ fn is_inside(stop: &Option<FoundRecord>) -> bool {
 }
 
 /// Whether a record has this text at one of these places.
-fn has_any(record: &ByteRecord, places: &[Option<usize>], text: &[u8]) -> bool {
-    places
-        .iter()
-        .any(|place| place.is_some() && cell(record, *place) == text)
+fn has_any(record: &ByteRecord, column_indices: &[Option<usize>], text: &[u8]) -> bool {
+    column_indices.iter().any(|position| position.is_some() && cell(record, *position) == text)
 }
 
 /// Whether a record has the values of a later one at these places; at that of a number `1` and `01.0` are the same.
-fn has_key_of(record: &ByteRecord, later: &ByteRecord, places: &[(Option<usize>, bool)]) -> bool {
-    places.iter().all(|(place, is_number)| {
-        let (value, other) = (cell(record, *place), cell(later, *place));
+fn has_key_of(
+    record: &ByteRecord,
+    later: &ByteRecord,
+    column_indices: &[(Option<usize>, bool)],
+) -> bool {
+    column_indices.iter().all(|(position, is_number)| {
+        let (value, other) = (cell(record, *position), cell(later, *position));
         value == other || (*is_number && number(value) == number(other))
     })
 }

@@ -16,7 +16,7 @@ use Rattle.footpaths.specs.declared.fault.FootFault.{FootFault}
 use Rattle.footpaths.specs.declared.fault.FootFault.TheVariants.{WalkTooLong, TooManyFootpaths, OutOfMemory}
 use Rattle.footpaths.specs.Walks.{on_foot, AreJoined}
 use Rattle.footpaths.specs.Closure.{IsClosure, HasMorePairs, HasLongerWalk, AreInRange}
-use Rattle.footpaths.specs.Search.{time_at, AreReached, IsToldLeast, AreToldLeast}
+use Rattle.footpaths.specs.Search.{time_at, AreReached, IsCappedLeast, AreCappedLeast}
 use Rattle.footpaths.specs.Collected.{IsClosedInto, taken, IsTakeFault, IsCountFault}
 use Rattle.footpaths.proofs.OrderLemmas.{no_longer}
 use Rattle.timetable.proofs.LegalLemmas.{in_order_push}
@@ -36,7 +36,7 @@ pub record IsClosing (listed : List Footpath) (cap target : ℕ) (start : List (
     (closed : List Footpath) : Type 0 where
   pub in_order : AreInOrder closed
   pub below : (f : Footpath) → Contains closed f → (f.to < target) ⊎ ((f.to ≡ target) × IsAmongFirst reached i f.from)
-  pub least : (f : Footpath) → Contains closed f → IsToldLeast listed cap f.from f.to (Some f.secs)
+  pub least : (f : Footpath) → Contains closed f → IsCappedLeast listed cap f.from f.to (Some f.secs)
   pub whole : (from to : ℕ) → to < target → AreJoined listed from to → (secs : ℕ) × HasFootpath closed from to secs
   pub moved : (s secs : ℕ) → time_at start s ≡ Some secs → (time_at times s ≡ Some secs) ⊎ HasFootpath closed s target secs
 
@@ -125,7 +125,7 @@ module _ (listed : List Footpath) (cap target : ℕ) (start : List (Option ℕ))
           ]
 
   -- the stop has a time
-  closing_some : AreToldLeast listed cap target start → (secs : ℕ) → time_at times stop ≡ Some secs
+  closing_some : AreCappedLeast listed cap target start → (secs : ℕ) → time_at times stop ≡ Some secs
       → IsClosing listed cap target start reached (i + 1) (set times stop None) (closed ++ record { from = stop; to = target; secs = secs } ∷ [])
   closing_some least secs at = record {
     in_order = in_order_push closed (record { from = stop; to = target; secs = secs }) old.in_order (behind secs at);
@@ -135,8 +135,8 @@ module _ (listed : List Footpath) (cap target : ℕ) (start : List (Option ℕ))
     ];
     least = λ f in_it. elim (Contains-push_cases closed (record { from = stop; to = target; secs = secs }) f in_it) [
       | inl before ↦ old.least f before
-      | inr same ↦ subst (λ (g : Footpath). IsToldLeast listed cap g.from g.to (Some g.secs)) same
-          (subst (λ (o : Option ℕ). IsToldLeast listed cap stop target o) (out.left stop secs at) (least stop))
+      | inr same ↦ subst (λ (g : Footpath). IsCappedLeast listed cap g.from g.to (Some g.secs)) same
+          (subst (λ (o : Option ℕ). IsCappedLeast listed cap stop target o) (out.left stop secs at) (least stop))
     ];
     whole = λ from to below joined. let (d, has) = old.whole from to below joined in
         (d, HasFootpath-append closed (record { from = stop; to = target; secs = secs } ∷ []) from to d has);
@@ -153,7 +153,7 @@ module _ (listed : List Footpath) (cap target : ℕ) (start : List (Option ℕ))
     ];
   }
 
-  pub closing_more : AreToldLeast listed cap target start → IsClosing listed cap target start reached (i + 1) (set times stop None)
+  pub closing_more : AreCappedLeast listed cap target start → IsClosing listed cap target start reached (i + 1) (set times stop None)
       (closed ++ taken (time_at times stop) stop target)
   closing_more least = elim (option_cases (time_at times stop)) [
     | inl none ↦
@@ -166,7 +166,7 @@ module _ (listed : List Footpath) (cap target : ℕ) (start : List (Option ℕ))
   ]
 
   -- why it isn't taken
-  pub take_fault : AreToldLeast listed cap target start → (most : ℕ) (fault : FootFault) → IsTakeFault (time_at times stop) (length closed) most fault
+  pub take_fault : AreCappedLeast listed cap target start → (most : ℕ) (fault : FootFault) → IsTakeFault (time_at times stop) (length closed) most fault
       → IsCountFault listed most fault
   take_fault least most TooManyFootpaths (secs, at, full) =
       let more = closing_some least secs at in
@@ -210,7 +210,7 @@ all_taken start reached i times all ones out stop = elim (option_cases (time_at 
 
 pub closed_more : (listed : List Footpath) (cap target : ℕ) (start : List (Option ℕ)) (reached : List ℕ) (i : ℕ) (times : List (Option ℕ))
     (closed : List Footpath)
-    → ((stop : ℕ) → time_at times stop ≡ None) → AreToldLeast listed cap target start → IsClosing listed cap target start reached i times closed
+    → ((stop : ℕ) → time_at times stop ≡ None) → AreCappedLeast listed cap target start → IsClosing listed cap target start reached i times closed
     → IsClosedInto listed cap (target + 1) closed
 closed_more listed cap target start reached i times closed empty least closing = record {
   in_order = closing.in_order;
@@ -226,7 +226,7 @@ closed_more listed cap target start reached i times closed empty least closing =
     into_target : (from : ℕ) → AreJoined listed from target → (secs : ℕ) × HasFootpath closed from target secs
     into_target from (walk, walks) = elim (option_cases (time_at start from)) [
       | inl none ↦
-          let never : IsToldLeast listed cap from target None = subst (λ (o : Option ℕ). IsToldLeast listed cap from target o) none (least from) in
+          let never : IsCappedLeast listed cap from target None = subst (λ (o : Option ℕ). IsCappedLeast listed cap from target o) none (least from) in
           absurd (never walk walks)
       | inr (secs, at) ↦ elim (closing.moved from secs at) [
         | inl there ↦ absurd (none-some secs (sym (empty from) ∙ there))
@@ -248,12 +248,12 @@ joined_in_range listed stops from to in_range (walk, walks) =
 
 module _ (listed closed : List Footpath) (stops longest : ℕ) (in_range : AreInRange listed stops) (all : IsClosedInto listed (longest + 1) stops closed) where
   -- where no time is told as the cap, the closure is there
-  pub closure_of_told : All (λ f. f.secs ≤ longest) closed → IsClosure listed closed
-  closure_of_told short = record {
+  pub closure_of_capped : All (λ f. f.secs ≤ longest) closed → IsClosure listed closed
+  closure_of_capped short = record {
     in_order = all.in_order;
     least = λ f in_it.
-        let (told, none_less) = all.least f in_it in
-        let (walk, walks, time) = told in
+        let (capped, none_less) = all.least f in_it in
+        let (walk, walks, time) = capped in
         let small : f.secs ≤ longest = All-contains (λ (g : Footpath). g.secs ≤ longest) closed f short in_it in
         record { walked = (walk, walks, omega (arith, time, small)); least = none_less };
     whole = λ from to joined. all.whole from to (joined_in_range listed stops from to in_range joined) joined;
@@ -270,8 +270,8 @@ module _ (listed closed : List Footpath) (stops longest : ℕ) (in_range : AreIn
   -- a time told as the cap is of walks that take longer
   pub longer_walk : (f : Footpath) → Contains closed f → longest < f.secs → HasLongerWalk listed longest
   longer_walk f in_it long =
-      let (told, none_less) = all.least f in_it in
-      let (walk, walks, time) = told in
+      let (capped, none_less) = all.least f in_it in
+      let (walk, walks, time) = capped in
       (f.from, f.to, record { joined = (walk, walks); longer = λ other is. let least = none_less other is in omega (arith, least, long) })
 
 -- what a slice of the whole table leaves in the vector is what the slice holds

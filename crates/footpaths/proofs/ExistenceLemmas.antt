@@ -51,11 +51,11 @@ cut_walk f fs (g ∷ rest) a b (in_list, start, more) ends = elim (contains_case
 ]
 
 -- no walk joins the stops, or one of the walks takes the least time
-abbrev IsTold : List Footpath → ℕ → ℕ → Type 0
-IsTold listed a b = (¬ AreJoined listed a b) ⊎ ((secs : ℕ) × IsLeastTime listed a b secs)
+abbrev HasLeastWalk : List Footpath → ℕ → ℕ → Type 0
+HasLeastWalk listed a b = (¬ AreJoined listed a b) ⊎ ((secs : ℕ) × IsLeastTime listed a b secs)
 
-abbrev AreTold : List Footpath → Type 0
-AreTold listed = (a b : ℕ) → IsTold listed a b
+abbrev HaveLeastWalks : List Footpath → Type 0
+HaveLeastWalks listed = (a b : ℕ) → HasLeastWalk listed a b
 
 -- the least time where a walk may have no footpath
 record IsLeastReach (fs : List Footpath) (a b secs : ℕ) : Type 0 where
@@ -65,11 +65,11 @@ record IsLeastReach (fs : List Footpath) (a b secs : ℕ) : Type 0 where
 moves : (fs walk : List Footpath) (a b : ℕ) → a ≢ b → IsWalk (on_foot fs) a walk → walk_end a walk ≡ b → IsWalkBetween fs a b walk
 moves fs walk a b differ leads ends = record { leads = leads; some = λ none. differ (subst (λ (w : List Footpath). walk_end a w ≡ b) none ends); ends = ends }
 
-reach : (fs : List Footpath) → AreTold fs → (a b : ℕ) → ((walk : List Footpath) → IsWalk (on_foot fs) a walk → walk_end a walk ≡ b → ⊥)
+reach : (fs : List Footpath) → HaveLeastWalks fs → (a b : ℕ) → ((walk : List Footpath) → IsWalk (on_foot fs) a walk → walk_end a walk ≡ b → ⊥)
     ⊎ ((secs : ℕ) × IsLeastReach fs a b secs)
-reach fs told a b = elim (cases_eq a b) [
+reach fs capped a b = elim (cases_eq a b) [
   | inl same ↦ inr (0, record { walked = ([], tt, same, refl); least = λ walk leads ends. omega arith })
-  | inr differ ↦ elim (told a b) [
+  | inr differ ↦ elim (capped a b) [
     | inl never ↦ inl (λ walk leads ends. never (walk, moves fs walk a b differ leads ends))
     | inr (secs, is) ↦
         let (walk, walks, time) = is.walked in
@@ -78,7 +78,7 @@ reach fs told a b = elim (cases_eq a b) [
 ]
 
 -- one footpath more is let in
-module _ (f : Footpath) (fs : List Footpath) (told : AreTold fs) (a b : ℕ) where
+module _ (f : Footpath) (fs : List Footpath) (capped : HaveLeastWalks fs) (a b : ℕ) where
   -- the least time of a way by it
   record IsLeastWay (secs : ℕ) : Type 0 where
     pub walked : (walk : List Footpath) × IsWalkBetween (f ∷ fs) a b walk × (walk_secs walk ≡ secs)
@@ -100,9 +100,9 @@ module _ (f : Footpath) (fs : List Footpath) (told : AreTold fs) (a b : ℕ) whe
       some (x ∷ xs) = λ e. cc
 
   by_it : NoWay ⊎ ((secs : ℕ) × IsLeastWay secs)
-  by_it = elim (reach fs told a f.from) [
+  by_it = elim (reach fs capped a f.from) [
     | inl never ↦ inl (λ front back way. never front way.leads way.arrives)
-    | inr (s, first) ↦ elim (reach fs told f.to b) [
+    | inr (s, first) ↦ elim (reach fs capped f.to b) [
       | inl never ↦ inl (λ front back way. never back way.leaves way.ends)
       | inr (t, second) ↦
           let (front, leads, arrives, front_time) = first.walked in
@@ -147,8 +147,8 @@ module _ (f : Footpath) (fs : List Footpath) (told : AreTold fs) (a b : ℕ) whe
             no_less d is.least ways;
       }
 
-  one_more : IsTold (f ∷ fs) a b
-  one_more = elim (told a b) [
+  one_more : HasLeastWalk (f ∷ fs) a b
+  one_more = elim (capped a b) [
     | inl apart ↦ elim by_it [
       | inl never ↦ inl (λ joined.
           let (walk, is) = joined in
@@ -179,9 +179,9 @@ no_walk : (walk : List Footpath) (a b : ℕ) → IsWalkBetween [] a b walk → �
 no_walk [] a b is = is.some refl
 no_walk (g ∷ rest) a b is = let (in_list, start, more) = is.leads in absurd (omega (arith, in_list.1))
 
-all_told : (listed : List Footpath) → AreTold listed
-all_told [] a b = inl (λ joined. no_walk joined.0 a b joined.1)
-all_told (f ∷ fs) a b = one_more f fs (λ x y. all_told fs x y) a b
+all_least_walks : (listed : List Footpath) → HaveLeastWalks listed
+all_least_walks [] a b = inl (λ joined. no_walk joined.0 a b joined.1)
+all_least_walks (f ∷ fs) a b = one_more f fs (λ x y. all_least_walks fs x y) a b
 
 -- a pair stands before a place: it leads into a stop below, or into the same from a stop below
 abbrev IsBefore : ℕ → ℕ → ℕ → ℕ → Type 0
@@ -241,7 +241,7 @@ module _ (listed : List Footpath) (to from : ℕ) (closed : List Footpath) (old 
   }
 
   pair_more : (more : List Footpath) × IsClosedUpTo listed to (suc from) more
-  pair_more = elim (all_told listed from to) [
+  pair_more = elim (all_least_walks listed from to) [
     | inl apart ↦ (closed, none_more apart)
     | inr (secs, is) ↦ (closed ++ record { from = from; to = to; secs = secs } ∷ [], one_pair_more secs is)
   ]

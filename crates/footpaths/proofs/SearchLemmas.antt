@@ -12,11 +12,11 @@ use Rattle.std.proofs.lemmas.List.Sorted.{Contains-permutation, All-permutation}
 use Rattle.std.proofs.lemmas.List.Sums.{sum_by-set}
 use Rattle.reasoning.proofs.ListLemmas.{contains_first, contains_rest}
 use Rattle.timetable.specs.declared.network.Footpath.{Footpath}
-use Rattle.footpaths.specs.declared.search.Found.{Found}
+use Rattle.footpaths.specs.declared.search.HeapEntry.{HeapEntry}
 use Rattle.footpaths.specs.declared.search.Search.{Search}
-use Rattle.footpaths.specs.Search.{time_at, found_at, IsWithin, IsUndercut, IsToldTime, AreWalked, AreReached, Grows, TakesTime, weight_of, weight}
+use Rattle.footpaths.specs.Search.{time_at, found_at, IsWithin, IsUndercut, IsCappedTime, AreWalked, AreReached, Grows, TakesTime, weight_of, weight}
 
-pub Grows-trans : (a b c : List (Option ℕ)) (p q r : List Found) → Grows a p b q → Grows b q c r → Grows a p c r
+pub Grows-trans : (a b c : List (Option ℕ)) (p q r : List HeapEntry) → Grows a p b q → Grows b q c r → Grows a p c r
 Grows-trans a b c p q r first second = record {
   same_length = second.same_length ∙ first.same_length;
   inside = λ old. second.inside (first.inside old);
@@ -29,10 +29,10 @@ Grows-trans a b c p q r first second = record {
 }
 
 -- what is pending, and one time more
-abbrev pub IsJoinedBy : List Found → Found → List Found → Type 0
+abbrev pub IsJoinedBy : List HeapEntry → HeapEntry → List HeapEntry → Type 0
 IsJoinedBy pending x pending' = IsPermutation (x ∷ pending) pending'
 
-module _ (times : List (Option ℕ)) (pending pending' : List Found) (stop secs : ℕ) (inside : stop < length times)
+module _ (times : List (Option ℕ)) (pending pending' : List HeapEntry) (stop secs : ℕ) (inside : stop < length times)
     (joined : IsJoinedBy pending (found_at secs stop) pending') where
   time_now : time_at (set times stop (Some secs)) stop ≡ Some secs
   time_now = get_or-set_same times stop (Some secs) None inside
@@ -68,12 +68,12 @@ module _ (times : List (Option ℕ)) (pending pending' : List Found) (stop secs 
     ];
   }
 
-  pub AreWalked-set : (listed : List Footpath) (cap target : ℕ) → IsToldTime listed cap stop target secs → AreWalked listed cap target times
+  pub AreWalked-set : (listed : List Footpath) (cap target : ℕ) → IsCappedTime listed cap stop target secs → AreWalked listed cap target times
       → AreWalked listed cap target (set times stop (Some secs))
-  AreWalked-set listed cap target told walked = λ other d at. elim (cases_eq other stop) [
+  AreWalked-set listed cap target capped walked = λ other d at. elim (cases_eq other stop) [
     | inl same ↦
         let equal : secs ≡ d = same_Some secs d (sym time_now ∙ subst (λ (s : ℕ). time_at (set times stop (Some secs)) s ≡ Some d) same at) in
-        subst (λ (s : ℕ). IsToldTime listed cap s target d) (sym same) (subst (λ (s : ℕ). IsToldTime listed cap stop target s) equal told)
+        subst (λ (s : ℕ). IsCappedTime listed cap s target d) (sym same) (subst (λ (s : ℕ). IsCappedTime listed cap stop target s) equal capped)
     | inr differ ↦ walked other d (sym (time_other other differ) ∙ at)
   ]
 

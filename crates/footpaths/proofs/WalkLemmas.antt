@@ -10,9 +10,9 @@ use Rattle.timetable.specs.declared.network.Footpath.{Footpath}
 use Rattle.timetable.specs.Journeys.{IsWalk, walk_end, walk_secs}
 use Rattle.footpaths.specs.Walks.{on_foot, IsWalkBetween}
 use Rattle.footpaths.specs.Index.{AreThoseInto}
-use Rattle.footpaths.specs.declared.search.Found.{Found}
-use Rattle.footpaths.specs.Search.{time_at, found_at, IsWithin, IsToldTime, IsBackFrom, AreWalked, Grows, IsFollowed, AreFollowed, ArePendingOrFollowed}
-use Rattle.footpaths.specs.Search.{IsToldLeast, AreToldLeast}
+use Rattle.footpaths.specs.declared.search.HeapEntry.{HeapEntry}
+use Rattle.footpaths.specs.Search.{time_at, found_at, IsWithin, IsCappedTime, IsBackFrom, AreWalked, Grows, IsFollowed, AreFollowed, ArePendingOrFollowed}
+use Rattle.footpaths.specs.Search.{IsCappedLeast, AreCappedLeast}
 
 -- a listed footpath is a walk
 pub alone : (listed : List Footpath) (f : Footpath) → Contains listed f → IsWalkBetween listed f.from f.to (f ∷ [])
@@ -23,12 +23,12 @@ pub in_front : (listed : List Footpath) (f : Footpath) (to : ℕ) (walk : List F
     → IsWalkBetween listed f.from to (f ∷ walk)
 in_front listed f to walk in_list is = record { leads = (in_list, refl, is.leads); some = λ e. cc; ends = is.ends }
 
-pub told_alone : (listed : List Footpath) (cap target : ℕ) (f : Footpath) → Contains listed f → f.to ≡ target → IsBackFrom listed cap target f 0
-told_alone listed cap target f in_list to = (f ∷ [], subst (λ (s : ℕ). IsWalkBetween listed f.from s (f ∷ [])) to (alone listed f in_list), refl)
+pub capped_alone : (listed : List Footpath) (cap target : ℕ) (f : Footpath) → Contains listed f → f.to ≡ target → IsBackFrom listed cap target f 0
+capped_alone listed cap target f in_list to = (f ∷ [], subst (λ (s : ℕ). IsWalkBetween listed f.from s (f ∷ [])) to (alone listed f in_list), refl)
 
-pub told_in_front : (listed : List Footpath) (cap target stop secs : ℕ) (f : Footpath) → Contains listed f → f.to ≡ stop
-    → IsToldTime listed cap stop target secs → IsBackFrom listed cap target f secs
-told_in_front listed cap target stop secs f in_list to (walk, is, time) =
+pub capped_in_front : (listed : List Footpath) (cap target stop secs : ℕ) (f : Footpath) → Contains listed f → f.to ≡ stop
+    → IsCappedTime listed cap stop target secs → IsBackFrom listed cap target f secs
+capped_in_front listed cap target stop secs f in_list to (walk, is, time) =
     let from_there : IsWalkBetween listed f.to target walk = subst (λ (s : ℕ). IsWalkBetween listed s target walk) (sym to) is in
     (f ∷ walk, in_front listed f target walk in_list from_there, omega (arith, time))
 
@@ -39,7 +39,7 @@ followed_those listed times stop secs paths those within f in_list to =
     All-contains (λ (g : Footpath). IsWithin times g.from (g.secs + secs)) paths f within (those.whole f in_list to)
 
 -- a time comes out of those that are pending, and is followed unless it is no longer in the table
-pub still_pending_or_followed : (listed : List Footpath) (times times' : List (Option ℕ)) (all pending pending' : List Found) (next : Found)
+pub still_pending_or_followed : (listed : List Footpath) (times times' : List (Option ℕ)) (all pending pending' : List HeapEntry) (next : HeapEntry)
     → IsPermutation all (next ∷ pending) → Grows times pending times' pending'
     → (time_at times' next.stop ≡ Some next.secs.0 → IsFollowed listed times' next.stop next.secs.0)
     → ArePendingOrFollowed listed times all → ArePendingOrFollowed listed times' pending'
@@ -51,8 +51,8 @@ still_pending_or_followed listed times times' all pending pending' next moved gr
         | inl in_it ↦ elim (contains_cases (found_at secs stop) next pending (Contains-permutation all (next ∷ pending) (found_at secs stop) moved in_it)) [
           | inr rest ↦ inl (grows.kept (found_at secs stop) rest)
           | inl same ↦
-              let its_stop : next.stop ≡ stop = ap (λ (x : Found). x.stop) same in
-              let its_secs : next.secs.0 ≡ secs = ap (λ (x : Found). x.secs.0) same in
+              let its_stop : next.stop ≡ stop = ap (λ (x : HeapEntry). x.stop) same in
+              let its_secs : next.secs.0 ≡ secs = ap (λ (x : HeapEntry). x.secs.0) same in
               let now : time_at times' next.stop ≡ Some next.secs.0 =
               subst (λ (s : ℕ). time_at times' s ≡ Some next.secs.0) (sym its_stop) (at ∙ ap (λ (n : ℕ). Some n) (sym its_secs)) in
               let done : IsFollowed listed times' next.stop next.secs.0 = followed now in
@@ -62,7 +62,8 @@ still_pending_or_followed listed times times' all pending pending' next moved gr
     ]
 
 -- where none is pending, each was followed
-pub all_followed : (listed : List Footpath) (times : List (Option ℕ)) (pending : List Found) → length pending ≡ 0 → ArePendingOrFollowed listed times pending
+pub all_followed : (listed : List Footpath) (times : List (Option ℕ)) (pending : List HeapEntry) → length pending ≡ 0
+    → ArePendingOrFollowed listed times pending
     → AreFollowed listed times
 all_followed listed times pending none old stop secs at = elim (old stop secs at) [
   | inr followed ↦ followed
@@ -82,10 +83,10 @@ arrives listed times target started followed (f ∷ g ∷ rest) stop (in_list, s
 
 -- so the table has the least times
 pub least : (listed : List Footpath) (cap target : ℕ) (times : List (Option ℕ)) → AreWalked listed cap target times → IsFollowed listed times target 0
-    → AreFollowed listed times → AreToldLeast listed cap target times
+    → AreFollowed listed times → AreCappedLeast listed cap target times
 least listed cap target times walked started followed stop = by (time_at times stop) refl
   where
-    by : (o : Option ℕ) → time_at times stop ≡ o → IsToldLeast listed cap stop target o
+    by : (o : Option ℕ) → time_at times stop ≡ o → IsCappedLeast listed cap stop target o
     by None at = λ walk is.
         let (d, known, le) = arrives listed times target started followed walk stop is.leads is.some is.ends in
         none-some d (sym at ∙ known)

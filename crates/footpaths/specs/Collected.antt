@@ -5,14 +5,14 @@ use Rattle.timetable.specs.Legal.{HasFootpath, AreInOrder}
 use Rattle.footpaths.specs.declared.fault.FootFault.{FootFault}
 use Rattle.footpaths.specs.declared.fault.FootFault.TheVariants.{WalkTooLong, TooManyFootpaths, OutOfMemory}
 use Rattle.footpaths.specs.Walks.{AreJoined}
-use Rattle.footpaths.specs.Search.{IsToldLeast}
+use Rattle.footpaths.specs.Search.{IsCappedLeast}
 use Rattle.footpaths.specs.Closure.{HasMorePairs}
 
 -- the footpaths of the closure into stops below `stops`, with greater times cut to the cap
 pub record IsClosedInto (listed : List Footpath) (cap stops : ℕ) (closed : List Footpath) : Type 0 where
   pub in_order : AreInOrder closed
   pub below : (f : Footpath) → Contains closed f → f.to < stops
-  pub least : (f : Footpath) → Contains closed f → IsToldLeast listed cap f.from f.to (Some f.secs)
+  pub least : (f : Footpath) → Contains closed f → IsCappedLeast listed cap f.from f.to (Some f.secs)
   pub whole : (from to : ℕ) → to < stops → AreJoined listed from to → (secs : ℕ) × HasFootpath closed from to secs
 
 -- a time of the table as a footpath from its stop into the target

@@ -6,7 +6,7 @@ ghost use Rattle.std.specs.Prelude.{Contains, IfOk, IfErr, OnOk, slice_set};
 ghost use Rattle.std.specs.List.Sorted.{IsNonDecreasing};
 ghost use Rattle.footpaths.specs.Closure.{IsClosure, IsFault, AreInRange, HasLoops, HasLegalFootpaths};
 ghost use Rattle.footpaths.specs.Collected.{IsClosedInto, taken, IsTakeFault, IsAddFault, IsCountFault};
-ghost use Rattle.footpaths.specs.Search.{time_at, AreReached, AreToldLeast};
+ghost use Rattle.footpaths.specs.Search.{time_at, AreReached, AreCappedLeast};
 
 use crate::fault::FootFault;
 use crate::index::Index;
@@ -70,11 +70,11 @@ fn collect(
     requires sorted { IsNonDecreasing reached.now }
     ensures cleared { OnOk result ((stop : ℕ) → time_at times.new stop ≡ None) }
     ensures closed { (listed : _) (cap : ℕ) → IsClosedInto listed cap target closed.old.items
-        → AreToldLeast listed cap target times.old
+        → AreCappedLeast listed cap target times.old
         → OnOk result (IsClosedInto listed cap (target + 1) closed.new.items) }
     ensures few { length closed.old.items ≤ most → OnOk result (length closed.new.items ≤ most) }
     ensures fault { (listed : _) (cap : ℕ) → IsClosedInto listed cap target closed.old.items
-        → AreToldLeast listed cap target times.old
+        → AreCappedLeast listed cap target times.old
         → IfErr result (IsCountFault listed most) }
 {
     for stop in reached {

@@ -22,18 +22,18 @@ pub enum FootFault {
 
 impl FootFault {
     ghost use Rattle.std.specs.Prelude.{codes};
-    ghost use Rattle.footpaths.specs.FaultNumber.{fault_told};
+    ghost use Rattle.footpaths.specs.FaultNumber.{numbered_fault};
 
     /// The number of the fault, from 41 to 43.
     pub fn number(self) -> u8
-        ensures { result ≡ (fault_told self).0 }
+        ensures { result ≡ (numbered_fault self).0 }
     {
         self as u8
     }
 
     /// The name of the fault, such as `WalkTooLong`.
     pub fn name(self) -> &'static str
-        ensures { result.now ≡ (fault_told self).1 }
+        ensures { result.now ≡ (numbered_fault self).1 }
     {
         variant_name!(self, FootFault: WalkTooLong, TooManyFootpaths, OutOfMemory)
     }

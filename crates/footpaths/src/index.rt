@@ -56,10 +56,10 @@ fn add_chain(
     ensures { (stop : ℕ) → IsLastInto listed.now stop (length listed.now) last
         → OnOk result (AddsThoseFrom listed.now stop 0 paths.old.items paths.new.items) }
 {
-    let mut place = last;
-    while place > 0 {
-        paths.push(listed[place - 1])?;
-        place = before[place - 1];
+    let mut position = last;
+    while position > 0 {
+        paths.push(listed[position - 1])?;
+        position = before[position - 1];
     }
     Ok(())
 }

@@ -8,7 +8,7 @@ ghost use Rattle.timetable.specs.declared.network.Footpath.{Footpath};
 ghost use Rattle.footpaths.specs.Index.{IsIndex, IsOver};
 ghost use Rattle.footpaths.specs.Search.{time_at, IsWithin, IsUndercut, IsBackFrom, TakesTime, AreWalked};
 ghost use Rattle.footpaths.specs.Search.{AreReached, ArePendingInside, Grows, IsFollowed};
-ghost use Rattle.footpaths.specs.Search.{AreFollowed, ArePendingOrFollowed, weight, AreToldLeast};
+ghost use Rattle.footpaths.specs.Search.{AreFollowed, ArePendingOrFollowed, weight, AreCappedLeast};
 
 use crate::index::Index;
 use std::alloc::{AllocError, Global};
@@ -18,7 +18,7 @@ use timetable::Footpath;
 
 /// A time that was found for a stop. In the order of this type, the greatest has the least time.
 #[derive(Clone, Copy, Debug, PartialEq, Eq, PartialOrd, Ord)]
-pub(crate) struct Found {
+pub(crate) struct HeapEntry {
     pub secs: Reverse<u32>,
     pub stop: u32,
 }
@@ -31,7 +31,7 @@ pub(crate) struct Search {
     /// The stops that have a time.
     pub reached: Vec<u32>,
     /// Times that were found and not followed back yet. Those that are no longer in the table are obsolete.
-    pub pending: BinaryHeap<Found>,
+    pub pending: BinaryHeap<HeapEntry>,
 }
 
 // Whether `secs` is less than the known time, or no time is known.
@@ -83,7 +83,7 @@ impl Search {
         ensures { OnOk result (TakesTime self.old stop secs self.new) }
     {
         self.times[stop as usize] = Some(secs);
-        self.pending.push(Found {
+        self.pending.push(HeapEntry {
             secs: Reverse(secs),
             stop,
         })?;
@@ -134,7 +134,7 @@ impl Search {
     }
 
     // Follows a time back, unless a lower one was found since.
-    fn follow(&mut self, index: &Index, next: Found, cap: u32) -> Result<(), AllocError>
+    fn follow(&mut self, index: &Index, next: HeapEntry, cap: u32) -> Result<(), AllocError>
         requires over { IsOver (length self.old.times.items) index.now.first.items index.now.paths.items }
         requires in_table { next.stop < length self.old.times.items }
         ensures grows { OnOk result (Grows self.old.times.items (heap_items self.old.pending) self.new.times.items
@@ -190,7 +190,7 @@ impl Search {
         requires idle { heap_items self.old.pending ≡ [] }
         ensures count { OnOk result (length self.new.times.items ≡ length self.old.times.items) }
         ensures least { (listed : _) → IsIndex listed index.now.first.items index.now.paths.items
-            → OnOk result (AreToldLeast listed cap target self.new.times.items) }
+            → OnOk result (AreCappedLeast listed cap target self.new.times.items) }
         ensures reached { OnOk result (AreReached self.new.times.items self.new.reached.items) }
         ensures sorted { OnOk result (IsNonDecreasing self.new.reached.items) }
         ensures idle { OnOk result (heap_items self.new.pending ≡ []) }

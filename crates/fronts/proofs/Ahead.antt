@@ -5,8 +5,8 @@ use Rattle.std.proofs.lemmas.List.Elements.{Contains-push, Contains-push_cases}
 use Rattle.reasoning.proofs.ListLemmas.{not_in_nil}
 use Rattle.criteria.specs.Laws.{Rules, Laws, Admits, IsSecs}
 use Rattle.fronts.specs.declared.entry.Item.{Item}
-use Rattle.fronts.specs.declared.entry.Entry.{Entry}
-use Rattle.fronts.specs.declared.entry.Ridden.{Ridden}
+use Rattle.fronts.specs.declared.entry.FrontEntry.{FrontEntry}
+use Rattle.fronts.specs.declared.entry.RiddenLabel.{RiddenLabel}
 use Rattle.fronts.specs.declared.entry.Step.{Step}
 use Rattle.fronts.specs.Front.{front, departure_of, points_from, Betters}
 use Rattle.fronts.specs.Entries.{AreEntries}
@@ -17,7 +17,7 @@ use Rattle.fronts.proofs.OnePut.{betters_some}
 use Rattle.fronts.proofs.Inserted.{AreWalked, takes_none, takes_may, takes_put}
 
 -- a front that was read betters a value
-pub read_low : {V : Type 0} (rules : Rules V) (entries met : List (Entry V)) (items met_items : List (Item V)) (m : ℕ) (v w : V) (test : Bool)
+pub read_low : {V : Type 0} (rules : Rules V) (entries met : List (FrontEntry V)) (items met_items : List (Item V)) (m : ℕ) (v w : V) (test : Bool)
     → met ≡ entries → met_items ≡ items → v ≡ w → test ≡ betters rules (front met met_items m) v → test ≡ true
     → Betters rules (front entries items m) w
 read_low rules entries met items met_items m v w test met_is items_are worth is low =
@@ -25,11 +25,11 @@ read_low rules entries met items met_items m v w test met_is items_are worth is 
     subst (λ es. Betters rules (front es items m) w) met_is (subst (λ ps. Betters rules (front met ps m) w) items_are
     (subst (λ z. Betters rules (front met met_items m) z) worth read))
 
-module _ {V : Type 0} (rules : Rules V) (ride : Ridden V) where
-  fair_one : Admits rules ride.value → (r : Ridden V) → Contains (ride ∷ []) r → Admits rules r.value
+module _ {V : Type 0} (rules : Rules V) (ride : RiddenLabel V) where
+  fair_one : Admits rules ride.value → (r : RiddenLabel V) → Contains (ride ∷ []) r → Admits rules r.value
   fair_one fair r h = elim (Contains-push_cases [] ride r h) [
     | inl n ↦ absurd (not_in_nil r n)
-    | inr e ↦ subst (λ (z : Ridden V). Admits rules z.value) e fair
+    | inr e ↦ subst (λ (z : RiddenLabel V). Admits rules z.value) e fair
   ]
 
   one_walked : (secs : ℕ) (points kept : List (Item V))
@@ -39,7 +39,7 @@ module _ {V : Type 0} (rules : Rules V) (ride : Ridden V) where
   one_walked secs points kept low (suc k) d lt = absurd (omega arith)
 
   -- the value is bettered by a front of what departs at a time or later
-  pub late_none : (laws : Laws rules) (entries : List (Entry V)) (items : List (Item V)) → AreEntries rules entries items
+  pub late_none : (laws : Laws rules) (entries : List (FrontEntry V)) (items : List (Item V)) → AreEntries rules entries items
       → (head departure first walk secs after : ℕ) → IsLate entries items head departure after → IsSecs secs
       → Admits rules ride.value → (steps : List Step)
       → Betters rules (front entries items after) (rules.walk secs ride.value)
@@ -55,8 +55,8 @@ module _ {V : Type 0} (rules : Rules V) (ride : Ridden V) where
       } in
       takes_none rules laws entries items head departure first walk secs after (ride ∷ []) steps [] known refl
 
-module _ {V : Type 0} (rules : Rules V) (laws : Laws rules) (entries : List (Entry V)) (items : List (Item V))
-    (are : AreEntries rules entries items) (head departure first walk secs : ℕ) (ride : Ridden V)
+module _ {V : Type 0} (rules : Rules V) (laws : Laws rules) (entries : List (FrontEntry V)) (items : List (Item V))
+    (are : AreEntries rules entries items) (head departure first walk secs : ℕ) (ride : RiddenLabel V)
     (within : head < length entries) (ahead : departure ≤ departure_of entries head) (short : IsSecs secs)
     (fair : Admits rules ride.value) where
   -- the list itself is what departs then or later

@@ -5,7 +5,7 @@ use Rattle.std.proofs.lemmas.List.{take-append-le, drop-append-le}
 use Rattle.reasoning.proofs.ListLemmas.{slice_get-front}
 use Rattle.criteria.specs.Laws.{Rules}
 use Rattle.fronts.specs.declared.entry.Item.{Item}
-use Rattle.fronts.specs.declared.entry.Entry.{Entry}
+use Rattle.fronts.specs.declared.entry.FrontEntry.{FrontEntry}
 use Rattle.fronts.specs.Front.{own, front_of, front, next_in, next_of, departure_in, departure_of, points_to, points_from, Extends}
 use Rattle.fronts.specs.Entries.{AreEntries, IsLinked}
 
@@ -22,18 +22,18 @@ same_part {X} old new ext r c within =
     ∙ ap (take c) (drop-append-le r old ext.0 (omega arith))
     ∙ take-append-le c (drop r old) ext.0 (omega arith)
 
-front_of_same : {V : Type 0} (old new : List (Item V)) → Extends old new → (o : Option (Entry V))
-    → ((e : Entry V) → o ≡ Some e → e.rest + e.count ≤ length old) → front_of new o ≡ front_of old o
+front_of_same : {V : Type 0} (old new : List (Item V)) → Extends old new → (o : Option (FrontEntry V))
+    → ((e : FrontEntry V) → o ≡ Some e → e.rest + e.count ≤ length old) → front_of new o ≡ front_of old o
 front_of_same old new ext None within = refl
 front_of_same old new ext (Some e) within = ap (λ ps. own e ∷ ps) (same_part old new ext e.rest e.count (within e refl))
 
 -- a front as before, among more items
-pub front_more : {V : Type 0} (rules : Rules V) (entries : List (Entry V)) (old new : List (Item V))
+pub front_more : {V : Type 0} (rules : Rules V) (entries : List (FrontEntry V)) (old new : List (Item V))
     → AreEntries rules entries old → Extends old new → (m : ℕ) → front entries new m ≡ front entries old m
 front_more rules entries old new are ext zero = refl
 front_more rules entries old new are ext (suc m) = front_of_same old new ext (slice_get entries (suc m)) (λ e at. are.within (suc m) e at)
 
-pub are_more : {V : Type 0} (rules : Rules V) (entries : List (Entry V)) (old new : List (Item V))
+pub are_more : {V : Type 0} (rules : Rules V) (entries : List (FrontEntry V)) (old new : List (Item V))
     → AreEntries rules entries old → Extends old new → AreEntries rules entries new
 are_more rules entries old new are ext = record {
   some = are.some;
@@ -50,7 +50,7 @@ are_more rules entries old new are ext = record {
       (sym (front_more rules entries old new are ext (next_of entries m))) (are.each m));
 }
 
-module _ {V : Type 0} (rules : Rules V) (old_entries new_entries : List (Entry V)) (old_items new_items : List (Item V))
+module _ {V : Type 0} (rules : Rules V) (old_entries new_entries : List (FrontEntry V)) (old_items new_items : List (Item V))
     (are : AreEntries rules old_entries old_items) (entries : Extends old_entries new_entries)
     (items : Extends old_items new_items) where
   pub same_front : (m : ℕ) → m < length old_entries → front new_entries new_items m ≡ front old_entries old_items m

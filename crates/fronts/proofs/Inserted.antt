@@ -4,8 +4,8 @@ use Rattle.std.proofs.lemmas.List.Elements.{Contains-append_cases, Contains-push
 use Rattle.reasoning.proofs.ListLemmas.{not_in_nil}
 use Rattle.criteria.specs.Laws.{Rules, Laws, Admits, IsSecs}
 use Rattle.fronts.specs.declared.entry.Item.{Item}
-use Rattle.fronts.specs.declared.entry.Entry.{Entry}
-use Rattle.fronts.specs.declared.entry.Ridden.{Ridden}
+use Rattle.fronts.specs.declared.entry.FrontEntry.{FrontEntry}
+use Rattle.fronts.specs.declared.entry.RiddenLabel.{RiddenLabel}
 use Rattle.fronts.specs.declared.entry.Step.{Step}
 use Rattle.fronts.specs.Front.{front, next_of, departure_of, points_from, Betters, Covers, Extends}
 use Rattle.fronts.specs.Entries.{AreEntries}
@@ -14,14 +14,14 @@ use Rattle.fronts.specs.Walking.{AreBoardings, AllWalked, TakesBoardings}
 use Rattle.fronts.proofs.Growth.{extends_long, same_points, same_departure, same_next}
 use Rattle.fronts.proofs.Points.{of_front}
 
-path_within : {V : Type 0} (entries : List (Entry V)) (head : ℕ) (bs : List ℕ) (m b : ℕ) → IsPath entries head bs m → Contains bs b → b < length entries
+path_within : {V : Type 0} (entries : List (FrontEntry V)) (head : ℕ) (bs : List ℕ) (m b : ℕ) → IsPath entries head bs m → Contains bs b → b < length entries
 path_within entries head [] m b path h = absurd (not_in_nil b h)
 path_within entries head (x ∷ xs) m b path h = elim (Contains-append_cases (x ∷ []) xs b h) [
   | inl a ↦ elim (Contains-push_cases [] x b a) [ inl n ↦ absurd (not_in_nil b n) | inr e ↦ subst (λ k. k < length entries) e path.2 ]
   | inr later ↦ path_within entries (next_of entries x) xs m b path.3 later
 ]
 
-module _ {V : Type 0} (rules : Rules V) (old mid : List (Entry V)) (old_items mid_items : List (Item V))
+module _ {V : Type 0} (rules : Rules V) (old mid : List (FrontEntry V)) (old_items mid_items : List (Item V))
     (are : AreEntries rules old old_items) (more : Extends old mid) (more_items : Extends old_items mid_items) where
   pub path_more : (head : ℕ) (bs : List ℕ) (m : ℕ) → IsPath old head bs m → IsPath mid head bs m
   path_more head [] m path = path
@@ -42,29 +42,29 @@ module _ {V : Type 0} (rules : Rules V) (old mid : List (Entry V)) (old_items mi
       let lt = before b h in
       omega arith
 
-late_covers : {V : Type 0} (rules : Rules V) (entries : List (Entry V)) (items : List (Item V))
+late_covers : {V : Type 0} (rules : Rules V) (entries : List (FrontEntry V)) (items : List (Item V))
     → AreEntries rules entries items → (departure m : ℕ) (v : V) → departure ≤ departure_of entries m
     → Betters rules (front entries items m) v → Covers rules (points_from entries items m) departure v
 late_covers rules entries items are departure m v early (p, h, w) =
     (let late = (are.each m).late p h in (p, of_front rules entries items are m p h, omega arith, w))
 
 -- what is known of an insertion once its values are walked: those that no point of the list's front betters are kept
-pub record AreWalked {V : Type 0} (rules : Rules V) (entries : List (Entry V)) (items : List (Item V))
-    (head departure first walk secs after : ℕ) (ridden : List (Ridden V)) (steps : List Step)
+pub record AreWalked {V : Type 0} (rules : Rules V) (entries : List (FrontEntry V)) (items : List (Item V))
+    (head departure first walk secs after : ℕ) (ridden : List (RiddenLabel V)) (steps : List Step)
     (kept : List (Item V)) : Type 0 where
   pub short : IsSecs secs
-  pub fair : (r : Ridden V) → Contains ridden r → Admits rules r.value
+  pub fair : (r : RiddenLabel V) → Contains ridden r → Admits rules r.value
   pub are : AreEntries rules entries items
   pub late : IsLate entries items head departure after
   pub boarded : AreBoardings rules steps departure first walk secs ridden kept
   pub all : AllWalked rules (front entries items after) secs ridden (length ridden) kept
 
 -- the same, where the list was passed and the values were walked in what was read of it
-pub walked : {V : Type 0} (rules : Rules V) (entries : List (Entry V)) (items : List (Item V))
-    (head departure first walk secs after : ℕ) (ridden : List (Ridden V)) (steps : List Step) (kept : List (Item V))
-    (passed met : List (Entry V)) (passed_items met_items : List (Item V))
+pub walked : {V : Type 0} (rules : Rules V) (entries : List (FrontEntry V)) (items : List (Item V))
+    (head departure first walk secs after : ℕ) (ridden : List (RiddenLabel V)) (steps : List Step) (kept : List (Item V))
+    (passed met : List (FrontEntry V)) (passed_items met_items : List (Item V))
     → passed ≡ entries → passed_items ≡ items → met ≡ entries → met_items ≡ items → IsSecs secs
-    → ((r : Ridden V) → Contains ridden r → Admits rules r.value) → AreEntries rules entries items
+    → ((r : RiddenLabel V) → Contains ridden r → Admits rules r.value) → AreEntries rules entries items
     → IsLate passed passed_items head departure after
     → AreBoardings rules steps departure first walk secs ridden kept
     → AllWalked rules (front met met_items after) secs ridden (length ridden) kept
@@ -80,17 +80,17 @@ walked {V} rules entries items head departure first walk secs after ridden steps
           (subst (λ ps. AllWalked rules (front met ps after) secs ridden (length ridden) kept) met_items_is all);
     }
 
-module _ {V : Type 0} (rules : Rules V) (laws : Laws rules) (entries : List (Entry V)) (items : List (Item V))
-    (head departure first walk secs after : ℕ) (ridden : List (Ridden V)) (steps : List Step) (kept : List (Item V))
+module _ {V : Type 0} (rules : Rules V) (laws : Laws rules) (entries : List (FrontEntry V)) (items : List (Item V))
+    (head departure first walk secs after : ℕ) (ridden : List (RiddenLabel V)) (steps : List Step) (kept : List (Item V))
     (are : AreWalked rules entries items head departure first walk secs after ridden steps kept) where
   kept_admitted : (p : Item V) → Contains kept p → Admits rules p.value
   kept_admitted p h = let b = are.boarded p h in subst (Admits rules) (sym b.worth) (laws.walk_admits secs b.by.value are.short (are.fair b.by b.is_ridden))
 
   -- each of the values is bettered by what is kept, or covered already
-  bettered : (r : Ridden V) → Contains ridden r
+  bettered : (r : RiddenLabel V) → Contains ridden r
       → Betters rules kept (rules.walk secs r.value)
       ⊎ Covers rules (points_from entries items after) departure (rules.walk secs r.value)
-  bettered r h = subst (λ (z : Ridden V). Betters rules kept (rules.walk secs z.value)
+  bettered r h = subst (λ (z : RiddenLabel V). Betters rules kept (rules.walk secs z.value)
       ⊎ Covers rules (points_from entries items after) departure (rules.walk secs z.value)) h.2
       (elim (are.all h.0 r h.1) [
         | inl b ↦ inl b
@@ -118,13 +118,13 @@ module _ {V : Type 0} (rules : Rules V) (laws : Laws rules) (entries : List (Ent
     admitted = kept_admitted;
   }
 
-  pub takes_covers : (two : List (Entry V)) (two_items : List (Item V)) (put : List (Item V)) → Extends entries two
+  pub takes_covers : (two : List (FrontEntry V)) (two_items : List (Item V)) (put : List (Item V)) → Extends entries two
       → Extends items two_items → IsUnion rules kept (points_from entries items after) put
       → CoversAll rules (points_from two two_items after) put
   takes_covers two two_items put ext ext_items union d v a c =
       union.kept_second d v a (subst (λ ps. Covers rules ps d v) (same_points rules entries two items two_items are.are ext ext_items after are.late.within) c)
 
-  pub takes_all : (two : List (Entry V)) (two_items put new : List (Item V)) → Extends entries two
+  pub takes_all : (two : List (FrontEntry V)) (two_items put new : List (Item V)) → Extends entries two
       → Extends items two_items → head < length entries → IsUnion rules kept (points_from entries items after) put
       → IsUnion rules (points_from two two_items head) put new
       → TakesBoardings rules steps departure first walk secs ridden (points_from entries items head) new

@@ -5,7 +5,7 @@ use Rattle.std.proofs.lemmas.List.{take_more, get_or-drop, get_or-take, get_or_a
 use Rattle.std.proofs.lemmas.List.Elements.{filter-append}
 use Rattle.criteria.specs.Laws.{Rules}
 use Rattle.fronts.specs.declared.entry.Item.{Item}
-use Rattle.fronts.specs.declared.entry.Entry.{Entry}
+use Rattle.fronts.specs.declared.entry.FrontEntry.{FrontEntry}
 use Rattle.fronts.specs.Front.{own, front, Extends}
 use Rattle.fronts.specs.Entries.{AreEntries}
 use Rattle.fronts.specs.Putting.{betters, left_by}
@@ -63,7 +63,7 @@ module _ {V : Type 0} (rules : Rules V) (points : List (Item V)) where
       was ∙ ap (λ n. old ++ left_by rules points (take n (drop rest old))) e
 
   -- the own point, and then the items
-  pub leave_both : (entries : List (Entry V)) (old mid new : List (Item V)) (m : ℕ) (e : Entry V) → 0 < m
+  pub leave_both : (entries : List (FrontEntry V)) (old mid new : List (Item V)) (m : ℕ) (e : FrontEntry V) → 0 < m
       → m < length entries → e ≡ get_or entries m e → e.rest + e.count ≤ length old
       → mid ≡ old ++ left_by rules points (own e ∷ [])
       → new ≡ mid ++ left_by rules points (take e.count (drop e.rest mid))
@@ -77,7 +77,7 @@ module _ {V : Type 0} (rules : Rules V) (points : List (Item V)) where
       ∙ ap (λ xs. old ++ xs) (sym (left_append (own e ∷ []) part) ∙ ap (left_by rules points) (sym (front_at entries old m e some lt is)))
 
   -- other items, and then what the points leave of a front
-  pub leave_behind : (entries : List (Entry V)) (old mid new first : List (Item V)) → AreEntries rules entries old
+  pub leave_behind : (entries : List (FrontEntry V)) (old mid new first : List (Item V)) → AreEntries rules entries old
       → (m : ℕ) → mid ≡ old ++ first → new ≡ mid ++ left_by rules points (front entries mid m)
       → new ≡ old ++ (first ++ left_by rules points (front entries old m))
   leave_behind entries old mid new first are m first_is then_front =
@@ -85,12 +85,12 @@ module _ {V : Type 0} (rules : Rules V) (points : List (Item V)) where
       then_front ∙ ap₂ (λ xs ys. xs ++ left_by rules points ys) first_is (front_more rules entries old mid are (first, first_is) m)
       ∙ append_assoc old first left
 
-  pub leave_nothing : (entries : List (Entry V)) (old : List (Item V)) (m : ℕ) → m ≡ 0 → old ≡ old ++ left_by rules points (front entries old m)
+  pub leave_nothing : (entries : List (FrontEntry V)) (old : List (Item V)) (m : ℕ) → m ≡ 0 → old ≡ old ++ left_by rules points (front entries old m)
   leave_nothing entries old m e = sym (append-nil old) ∙ ap (λ n. old ++ left_by rules points (front entries old n)) (sym e)
 
 -- the same into an empty list
-pub keep_both : {V : Type 0} (rules : Rules V) (points : List (Item V)) (entries : List (Entry V))
-    (items start mid new : List (Item V)) (m : ℕ) (e : Entry V) → 0 < m → m < length entries → e ≡ get_or entries m e
+pub keep_both : {V : Type 0} (rules : Rules V) (points : List (Item V)) (entries : List (FrontEntry V))
+    (items start mid new : List (Item V)) (m : ℕ) (e : FrontEntry V) → 0 < m → m < length entries → e ≡ get_or entries m e
     → start ≡ [] → mid ≡ start ++ left_by rules points (own e ∷ [])
     → new ≡ mid ++ left_by rules points (take e.count (drop e.rest items))
     → new ≡ left_by rules points (front entries items m)

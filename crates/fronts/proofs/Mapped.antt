@@ -6,8 +6,8 @@ use Rattle.criteria.specs.Laws.{Rules, Laws, Admits}
 use Rattle.bags.specs.declared.point.Point.{Point}
 use Rattle.bags.specs.Dominance.{IsCovered}
 use Rattle.fronts.specs.declared.entry.Item.{Item}
-use Rattle.fronts.specs.declared.entry.Entry.{Entry}
-use Rattle.fronts.specs.declared.entry.Ridden.{Ridden}
+use Rattle.fronts.specs.declared.entry.FrontEntry.{FrontEntry}
+use Rattle.fronts.specs.declared.entry.RiddenLabel.{RiddenLabel}
 use Rattle.fronts.specs.declared.entry.Step.{Step}
 use Rattle.fronts.specs.Front.{front, points_from, Covers}
 use Rattle.fronts.specs.Entries.{AreEntries}
@@ -46,7 +46,7 @@ module _ {V : Type 0} where
       let x = from_points xs p h in
       (x.0, x.1, subst (λ (z : Point V). d ≤ z.departure) (sym x.2) late, subst (λ (z : Point V). rules.no_worse z.value v ≡ true) (sym x.2) w)
 
-  pub takes_points : (rules : Rules V) (steps : List Step) (departure first walk secs : ℕ) (ridden : List (Ridden V))
+  pub takes_points : (rules : Rules V) (steps : List Step) (departure first walk secs : ℕ) (ridden : List (RiddenLabel V))
       (old new : List (Item V)) → TakesBoardings rules steps departure first walk secs ridden old new
       → TakesRidden rules steps departure first walk secs ridden (map point_of old) (map point_of new)
   takes_points rules steps departure first walk secs ridden old new takes = record {
@@ -60,7 +60,7 @@ module _ {V : Type 0} where
     covered = λ r h. covered_points rules new departure (rules.walk secs r.value) (takes.covered r h);
   }
 
-  pub points_made_of : (rules : Rules V) (laws : Laws rules) (entries : List (Entry V)) (items : List (Item V))
+  pub points_made_of : (rules : Rules V) (laws : Laws rules) (entries : List (FrontEntry V)) (items : List (Item V))
       → AreEntries rules entries items → (head time m : ℕ) → IsLate entries items head time m
       → (p : Point V) → Contains (map point_of (front entries items m)) p
       → Contains (map point_of (points_from entries items head)) p × (time ≤ p.departure) × Admits rules p.value
@@ -72,7 +72,7 @@ module _ {V : Type 0} where
         subst (λ (z : Point V). Admits rules z.value) x.2 ((are.each m).admitted x.0 x.1),
       )
 
-  pub points_bettered : (rules : Rules V) (laws : Laws rules) (entries : List (Entry V)) (items : List (Item V))
+  pub points_bettered : (rules : Rules V) (laws : Laws rules) (entries : List (FrontEntry V)) (items : List (Item V))
       → AreEntries rules entries items → (head time m : ℕ) → IsLate entries items head time m
       → (p : Point V) → Contains (map point_of (points_from entries items head)) p → time ≤ p.departure
       → IsBettered rules (map point_of (front entries items m)) p.value
@@ -81,7 +81,7 @@ module _ {V : Type 0} where
       let b = (front_from rules entries items are laws head time m late).1 x.0 x.1 (subst (λ (z : Point V). time ≤ z.departure) (sym x.2) after) in
       (point_of b.0, into_points (front entries items m) b.0 b.1, subst (λ (z : Point V). rules.no_worse b.0.value z.value ≡ true) x.2 b.2)
 
-  pub list_admitted : (rules : Rules V) (entries : List (Entry V)) (items : List (Item V))
+  pub list_admitted : (rules : Rules V) (entries : List (FrontEntry V)) (items : List (Item V))
       → AreEntries rules entries items → (head : ℕ) (p : Point V)
       → Contains (map point_of (points_from entries items head)) p → Admits rules p.value
   list_admitted rules entries items are head p h =

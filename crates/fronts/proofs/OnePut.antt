@@ -8,7 +8,7 @@ use Rattle.std.proofs.lemmas.List.Elements.{Contains-append_left, Contains-appen
 use Rattle.reasoning.proofs.ListLemmas.{from_filter, into_filter, one_passes, slice_get-middle}
 use Rattle.criteria.specs.Laws.{Rules, Laws, Admits}
 use Rattle.fronts.specs.declared.entry.Item.{Item}
-use Rattle.fronts.specs.declared.entry.Entry.{Entry}
+use Rattle.fronts.specs.declared.entry.FrontEntry.{FrontEntry}
 use Rattle.fronts.specs.Front.{own, front, next_in, next_of, departure_in, departure_of, points_from, Betters, Extends}
 use Rattle.fronts.specs.Entries.{IsLinked, AreEntries}
 use Rattle.fronts.specs.Putting.{betters, outdoes_alone, left_by, MayPut, IsUnion, Follows}
@@ -39,9 +39,9 @@ none_left rules x (p ∷ []) out = ap (λ b. cond (not (b || false)) (p ∷ []) 
 none_left rules x (p ∷ q ∷ points) out = absurd (true≢false (sym out))
 
 -- what is put
-module _ {V : Type 0} (rules : Rules V) (laws : Laws rules) (entries : List (Entry V)) (items more : List (Item V))
+module _ {V : Type 0} (rules : Rules V) (laws : Laws rules) (entries : List (FrontEntry V)) (items more : List (Item V))
     (are : AreEntries rules entries items) (departure m : ℕ) (points : List (Item V))
-    (may : MayPut rules entries departure m points) (e : Entry V) (first : own e ∷ drop 1 points
+    (may : MayPut rules entries departure m points) (e : FrontEntry V) (first : own e ∷ drop 1 points
     ≡ points) (departs : e.departure ≡ departure)
     (follows : Follows (departure_of entries m) (next_of entries m) m departure e.next)
     (filled : more ≡ items ++ (drop 1 points ++ left_by rules points (front entries items m)))
@@ -203,7 +203,7 @@ module _ {V : Type 0} (rules : Rules V) (laws : Laws rules) (entries : List (Ent
     ];
   }
 
-follows_at : {V : Type 0} (entries : List (Entry V)) (m departure after : ℕ) (e : Entry V) → m < length entries
+follows_at : {V : Type 0} (entries : List (FrontEntry V)) (m departure after : ℕ) (e : FrontEntry V) → m < length entries
     → e ≡ get_or entries m e → Follows e.departure e.next m departure after
     → Follows (departure_of entries m) (next_of entries m) m departure after
 follows_at entries m departure after e lt is f =
@@ -211,24 +211,24 @@ follows_at entries m departure after e lt is f =
     (subst (λ n. Follows e.departure n m departure after) (sym (next_at entries m e lt is)) f)
 
 -- what a list is, with a front put before it
-pub record IsPut {V : Type 0} (rules : Rules V) (old now : List (Entry V)) (items more : List (Item V))
-    (departure m : ℕ) (points : List (Item V)) (place : ℕ) : Type 0 where
+pub record IsPut {V : Type 0} (rules : Rules V) (old now : List (FrontEntry V)) (items more : List (Item V))
+    (departure m : ℕ) (points : List (Item V)) (index : ℕ) : Type 0 where
   pub are : AreEntries rules now more
-  pub within : place < length now
-  pub departs : departure_of now place ≡ departure
-  pub union : IsUnion rules points (points_from old items m) (points_from now more place)
+  pub within : index < length now
+  pub departs : departure_of now index ≡ departure
+  pub union : IsUnion rules points (points_from old items m) (points_from now more index)
 
-is_put : {V : Type 0} (rules : Rules V) (laws : Laws rules) (entries : List (Entry V)) (items more : List (Item V))
+is_put : {V : Type 0} (rules : Rules V) (laws : Laws rules) (entries : List (FrontEntry V)) (items more : List (Item V))
     (are : AreEntries rules entries items) (departure m : ℕ) (points : List (Item V)) (may : MayPut rules entries departure m points)
-    (e : Entry V) → own e ∷ drop 1 points ≡ points → e.departure ≡ departure
+    (e : FrontEntry V) → own e ∷ drop 1 points ≡ points → e.departure ≡ departure
     → Follows (departure_of entries m) (next_of entries m) m departure e.next
     → more ≡ items ++ (drop 1 points ++ left_by rules points (front entries items m))
     → take e.count (drop e.rest more) ≡ drop 1 points ++ left_by rules points (front entries items m)
-    → e.rest + e.count ≤ length more → (now : List (Entry V)) (place : ℕ) → now ≡ entries ++ e ∷ [] → place ≡ length entries
-    → IsPut rules entries now items more departure m points place
-is_put {V} rules laws entries items more are departure m points may e first departs f filled part room now place pushed_is place_is =
+    → e.rest + e.count ≤ length more → (now : List (FrontEntry V)) (index : ℕ) → now ≡ entries ++ e ∷ [] → index ≡ length entries
+    → IsPut rules entries now items more departure m points index
+is_put {V} rules laws entries items more are departure m points may e first departs f filled part room now index pushed_is place_is =
     subst (λ n. IsPut rules entries now items more departure m points n) (sym place_is)
-    (subst (λ (es : List (Entry V)). IsPut rules entries es items more departure m points (length entries)) (sym pushed_is) (record {
+    (subst (λ (es : List (FrontEntry V)). IsPut rules entries es items more departure m points (length entries)) (sym pushed_is) (record {
       are = put_are rules laws entries items more are departure m points may e first departs f filled part room;
       within = put_within rules laws entries items more are departure m points may e first departs f filled part room;
       departs = put_departs rules laws entries items more are departure m points may e first departs f filled part room;
@@ -236,29 +236,29 @@ is_put {V} rules laws entries items more are departure m points may e first depa
     }))
 
 -- one point put before a list whose front it outdoes: nothing is left of that front, and no item is pushed
-pub put_one : {V : Type 0} (rules : Rules V) (laws : Laws rules) (entries now : List (Entry V)) (items : List (Item V))
-    (m place : ℕ) (x : Item V) (e after : Entry V) → AreEntries rules entries items
+pub put_one : {V : Type 0} (rules : Rules V) (laws : Laws rules) (entries now : List (FrontEntry V)) (items : List (Item V))
+    (m index : ℕ) (x : Item V) (e after : FrontEntry V) → AreEntries rules entries items
     → MayPut rules entries x.departure m (x ∷ []) → outdoes_alone rules x.value (front entries items m) ≡ true
     → own e ≡ x → e.rest ≡ 0 → e.count ≡ 0 → after ≡ get_or entries m after
-    → Follows after.departure after.next m x.departure e.next → now ≡ entries ++ e ∷ [] → place ≡ length entries
-    → IsPut rules entries now items items x.departure m (x ∷ []) place
-put_one {V} rules laws entries now items m place x e after are may out own_is rest count after_is follows pushed_is place_is =
+    → Follows after.departure after.next m x.departure e.next → now ≡ entries ++ e ∷ [] → index ≡ length entries
+    → IsPut rules entries now items items x.departure m (x ∷ []) index
+put_one {V} rules laws entries now items m index x e after are may out own_is rest count after_is follows pushed_is place_is =
     let left = none_left rules x (front entries items m) out in
     let f = follows_at entries m x.departure e.next after may.within after_is follows in
     is_put rules laws entries items items are x.departure m (x ∷ []) may e (ap (λ z. z ∷ []) own_is)
     (ap (λ (z : Item V). z.departure) own_is) f (sym (append-nil items) ∙ ap (λ xs. items ++ xs) (sym left))
-    (ap (λ n. take n (drop e.rest items)) count ∙ sym left) (omega arith) now place pushed_is place_is
+    (ap (λ n. take n (drop e.rest items)) count ∙ sym left) (omega arith) now index pushed_is place_is
 
 -- all that the code does, at the end
-pub put_all : {V : Type 0} (rules : Rules V) (laws : Laws rules) (entries read now : List (Entry V))
-    (items more : List (Item V)) (departure m place : ℕ) (points : List (Item V)) (e after : Entry V) (x : Item V)
+pub put_all : {V : Type 0} (rules : Rules V) (laws : Laws rules) (entries read now : List (FrontEntry V))
+    (items more : List (Item V)) (departure m index : ℕ) (points : List (Item V)) (e after : FrontEntry V) (x : Item V)
     → AreEntries rules entries items → MayPut rules entries departure m points
     → read ≡ entries → x ≡ get_or points 0 x → e.value ≡ x.value → e.tag ≡ x.tag → e.departure ≡ departure
     → after ≡ get_or entries m after → Follows after.departure after.next m departure e.next
     → more ≡ items ++ (drop 1 points ++ left_by rules points (front read items m)) → e.rest ≡ length items → length items + e.count ≡ length more
-    → now ≡ entries ++ e ∷ [] → place ≡ length entries
-    → IsPut rules entries now items more departure m points place
-put_all {V} rules laws entries read now items more departure m place points e after x are may same x_is worth tag
+    → now ≡ entries ++ e ∷ [] → index ≡ length entries
+    → IsPut rules entries now items more departure m points index
+put_all {V} rules laws entries read now items more departure m index points e after x are may same x_is worth tag
     departs after_is follows filled rest count pushed_is place_is =
     let x_in : Contains points x = (0, may.some, sym x_is) in
     let d : e.departure ≡ x.departure = departs ∙ sym (may.departs x x_in) in
@@ -267,10 +267,10 @@ put_all {V} rules laws entries read now items more departure m place points e af
     let first : own e ∷ drop 1 points ≡ points = ap (λ z. z ∷ drop 1 points) own_is ∙ first_and_rest points x may.some x_is in
     let f = follows_at entries m departure e.next after may.within after_is follows in
     let filled_here : more ≡ items ++ (drop 1 points ++ left_by rules points (front entries items m)) =
-    filled ∙ ap (λ (es : List (Entry V)). items
+    filled ∙ ap (λ (es : List (FrontEntry V)). items
     ++ (drop 1 points ++ left_by rules points (front es items m))) same in
     let part = part_pushed items more (drop 1 points ++ left_by rules points (front entries items m)) e.rest e.count filled_here rest count in
-    is_put rules laws entries items more are departure m points may e first departs f filled_here part (omega arith) now place
+    is_put rules laws entries items more are departure m points may e first departs f filled_here part (omega arith) now index
     pushed_is place_is
   where
     item : ℕ → V → ℕ → Item V

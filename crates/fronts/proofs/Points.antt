@@ -7,28 +7,29 @@ use Rattle.std.proofs.lemmas.Option.{slice_get-get_or}
 use Rattle.reasoning.proofs.ListLemmas.{not_in_nil, contains_first, contains_rest}
 use Rattle.criteria.specs.Laws.{Rules, Laws, Admits}
 use Rattle.fronts.specs.declared.entry.Item.{Item}
-use Rattle.fronts.specs.declared.entry.Entry.{Entry}
+use Rattle.fronts.specs.declared.entry.FrontEntry.{FrontEntry}
 use Rattle.fronts.specs.Front.{own, front_of, front, next_in, departure_in, next_of, departure_of, points_to, points_from, Betters}
 use Rattle.fronts.specs.Entries.{AreEntries}
 use Rattle.fronts.specs.Putting.{IsLate, betters, outdoes_alone}
 
 -- on the way to the first late entry
-pub record LeadsTo {V : Type 0} (entries : List (Entry V)) (items : List (Item V)) (head time m : ℕ) : Type 0 where
+pub record LeadsTo {V : Type 0} (entries : List (FrontEntry V)) (items : List (Item V)) (head time m : ℕ) : Type 0 where
   pub within : m < length entries
   pub only : (p : Item V) → Contains (points_from entries items m) p → Contains (points_from entries items head) p
   pub all : (p : Item V) → Contains (points_from entries items head) p → time ≤ p.departure → Contains (points_from entries items m) p
 
-pub leads_here : {V : Type 0} (entries : List (Entry V)) (items : List (Item V)) (head time : ℕ) → head < length entries → LeadsTo entries items head time head
+pub leads_here : {V : Type 0} (entries : List (FrontEntry V)) (items : List (Item V)) (head time : ℕ) → head < length entries
+    → LeadsTo entries items head time head
 leads_here entries items head time lt = record { within = lt; only = λ p h. h; all = λ p h late. h }
 
-pub departs_at : {V : Type 0} (entries : List (Entry V)) (m : ℕ) (e : Entry V) → m < length entries
+pub departs_at : {V : Type 0} (entries : List (FrontEntry V)) (m : ℕ) (e : FrontEntry V) → m < length entries
     → e ≡ get_or entries m e → departure_of entries m ≡ e.departure
 departs_at entries m e lt is = ap departure_in (slice_get-get_or entries m e lt ∙ ap Some (sym is))
 
-pub next_at : {V : Type 0} (entries : List (Entry V)) (m : ℕ) (e : Entry V) → m < length entries → e ≡ get_or entries m e → next_of entries m ≡ e.next
+pub next_at : {V : Type 0} (entries : List (FrontEntry V)) (m : ℕ) (e : FrontEntry V) → m < length entries → e ≡ get_or entries m e → next_of entries m ≡ e.next
 next_at entries m e lt is = ap next_in (slice_get-get_or entries m e lt ∙ ap Some (sym is))
 
-module _ {V : Type 0} (rules : Rules V) (entries : List (Entry V)) (items : List (Item V)) (are : AreEntries rules entries items) where
+module _ {V : Type 0} (rules : Rules V) (entries : List (FrontEntry V)) (items : List (Item V)) (are : AreEntries rules entries items) where
   fuel : (n k m : ℕ) → m ≤ n → m ≤ k → points_to entries items n m ≡ points_to entries items k m
   unfolding points_to
   fuel zero zero m a b = refl
@@ -152,12 +153,12 @@ module _ {V : Type 0} (rules : Rules V) (entries : List (Entry V)) (items : List
   )
 
 -- an entry that is read, read once more
-pub read_again : {V : Type 0} (entries : List (Entry V)) (m : ℕ) (e : Entry V)
+pub read_again : {V : Type 0} (entries : List (FrontEntry V)) (m : ℕ) (e : FrontEntry V)
     → e ≡ get_or entries m e → get_or entries m e ≡ get_or entries m (get_or entries m e)
-read_again {V} entries m e is = ap (λ (x : Entry V). get_or entries m x) is
+read_again {V} entries m e is = ap (λ (x : FrontEntry V). get_or entries m x) is
 
 -- what a front has to be tested for, in two parts
-pub front_at : {V : Type 0} (entries : List (Entry V)) (items : List (Item V)) (m : ℕ) (e : Entry V) → 0 < m
+pub front_at : {V : Type 0} (entries : List (FrontEntry V)) (items : List (Item V)) (m : ℕ) (e : FrontEntry V) → 0 < m
     → m < length entries → e ≡ get_or entries m e → front entries items m ≡ own e ∷ take e.count (drop e.rest items)
 front_at entries items zero e some lt is = absurd (omega arith)
 front_at entries items (suc m) e some lt is = ap (front_of items) (slice_get-get_or entries (suc m) e lt ∙ ap Some (sym is))
@@ -171,7 +172,7 @@ pub rest_betters : {V : Type 0} (rules : Rules V) (points rest : List (Item V)) 
 rest_betters rules points rest p v e t = ap (λ ps. betters rules ps v) e ∙ ap (λ b. b || betters rules rest v) t
 
 -- whether a front is outdone, by what its entry has
-pub one_outdone : {V : Type 0} (rules : Rules V) (v : V) (points items : List (Item V)) (e : Entry V)
+pub one_outdone : {V : Type 0} (rules : Rules V) (v : V) (points items : List (Item V)) (e : FrontEntry V)
     → points ≡ own e ∷ take e.count (drop e.rest items) → e.count ≡ 0 → outdoes_alone rules v points ≡ rules.no_worse v e.value
 one_outdone rules v points items e is none =
     ap (outdoes_alone rules v) (is ∙ ap (λ n. own e ∷ take n (drop e.rest items)) none)
@@ -181,7 +182,7 @@ of_several : {V : Type 0} (rules : Rules V) (v : V) (p : Item V) (points : List 
 of_several rules v p [] some = absurd (omega arith)
 of_several rules v p (q ∷ points) some = refl
 
-pub several_not_outdone : {V : Type 0} (rules : Rules V) (v : V) (points items : List (Item V)) (e : Entry V)
+pub several_not_outdone : {V : Type 0} (rules : Rules V) (v : V) (points items : List (Item V)) (e : FrontEntry V)
     → points ≡ own e ∷ take e.count (drop e.rest items) → 0 < e.count → e.rest + e.count ≤ length items
     → outdoes_alone rules v points ≡ false
 several_not_outdone rules v points items e is some within =
@@ -189,20 +190,20 @@ several_not_outdone rules v points items e is some within =
     let long = length-take-le e.count (drop e.rest items) (omega arith) in
     ap (outdoes_alone rules v) is ∙ of_several rules v (own e) (take e.count (drop e.rest items)) (omega arith)
 
-pub entry_part : {V : Type 0} (rules : Rules V) (entries : List (Entry V)) (items : List (Item V))
-    → AreEntries rules entries items → (m : ℕ) (e : Entry V) → m < length entries → e ≡ get_or entries m e
+pub entry_part : {V : Type 0} (rules : Rules V) (entries : List (FrontEntry V)) (items : List (Item V))
+    → AreEntries rules entries items → (m : ℕ) (e : FrontEntry V) → m < length entries → e ≡ get_or entries m e
     → e.rest + e.count ≤ length items
 entry_part rules entries items are m e lt is = are.within m e (slice_get-get_or entries m e lt ∙ ap Some (sym is))
 
-pub entry_admitted : {V : Type 0} (rules : Rules V) (entries : List (Entry V)) (items : List (Item V))
-    → AreEntries rules entries items → (m : ℕ) (e : Entry V) → 0 < m → m < length entries → e ≡ get_or entries m e
+pub entry_admitted : {V : Type 0} (rules : Rules V) (entries : List (FrontEntry V)) (items : List (Item V))
+    → AreEntries rules entries items → (m : ℕ) (e : FrontEntry V) → 0 < m → m < length entries → e ≡ get_or entries m e
     → Admits rules e.value
 entry_admitted rules entries items are m e some lt is =
     (are.each m).admitted (own e) (subst (λ ps. Contains ps (own e)) (sym (front_at entries items m e some lt is))
     (contains_first (own e) (take e.count (drop e.rest items))))
 
-pub part_admitted : {V : Type 0} (rules : Rules V) (entries : List (Entry V)) (items : List (Item V))
-    → AreEntries rules entries items → (m : ℕ) (e : Entry V) → 0 < m → m < length entries → e ≡ get_or entries m e
+pub part_admitted : {V : Type 0} (rules : Rules V) (entries : List (FrontEntry V)) (items : List (Item V))
+    → AreEntries rules entries items → (m : ℕ) (e : FrontEntry V) → 0 < m → m < length entries → e ≡ get_or entries m e
     → (p : Item V) → Contains (take e.count (drop e.rest items)) p → Admits rules p.value
 part_admitted rules entries items are m e some lt is p h =
     (are.each m).admitted p (subst (λ ps. Contains ps p) (sym (front_at entries items m e some lt is))

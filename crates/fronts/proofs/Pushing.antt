@@ -7,7 +7,7 @@ use Rattle.std.proofs.lemmas.Option.{slice_get_past, slice_get_within, same_Some
 use Rattle.reasoning.proofs.ListLemmas.{not_in_nil, slice_get-front, slice_get-middle}
 use Rattle.criteria.specs.Laws.{Rules}
 use Rattle.fronts.specs.declared.entry.Item.{Item}
-use Rattle.fronts.specs.declared.entry.Entry.{Entry}
+use Rattle.fronts.specs.declared.entry.FrontEntry.{FrontEntry}
 use Rattle.fronts.specs.Front.{own, front_of, front, next_in, next_of, departure_in, departure_of, Extends}
 use Rattle.fronts.specs.Entries.{IsLinked, IsEntry, AreEntries}
 use Rattle.fronts.proofs.Growth.{extends_long, same_front, same_next, same_departure}
@@ -31,7 +31,7 @@ linked_none rules d l = record {
 }
 
 -- the front of what was pushed last
-pub front_new : {V : Type 0} (entries : List (Entry V)) (items : List (Item V)) (e : Entry V) → 0 < length entries
+pub front_new : {V : Type 0} (entries : List (FrontEntry V)) (items : List (Item V)) (e : FrontEntry V) → 0 < length entries
     → front (entries ++ e ∷ []) items (length entries) ≡ own e ∷ take e.count (drop e.rest items)
 front_new {V} entries items e some = go (length entries) some (slice_get-middle entries e [])
   where
@@ -39,15 +39,15 @@ front_new {V} entries items e some = go (length entries) some (slice_get-middle 
     go zero lt at = absurd (omega arith)
     go (suc n) lt at = ap (front_of items) at
 
-front_past : {V : Type 0} (entries : List (Entry V)) (items : List (Item V)) (m : ℕ) → slice_get entries m ≡ None → front entries items m ≡ []
+front_past : {V : Type 0} (entries : List (FrontEntry V)) (items : List (Item V)) (m : ℕ) → slice_get entries m ≡ None → front entries items m ≡ []
 front_past entries items zero at = refl
 front_past entries items (suc m) at = ap (front_of items) at
 
-module _ {V : Type 0} (rules : Rules V) (entries : List (Entry V)) (items more : List (Item V))
-    (are : AreEntries rules entries items) (ext : Extends items more) (e : Entry V)
+module _ {V : Type 0} (rules : Rules V) (entries : List (FrontEntry V)) (items more : List (Item V))
+    (are : AreEntries rules entries items) (ext : Extends items more) (e : FrontEntry V)
     (fits : e.rest + e.count ≤ length more) (next : e.next < length entries)
     (linked : IsLinked rules e.departure e.next (departure_of entries e.next) (own e ∷ take e.count (drop e.rest more)) (front entries items e.next)) where
-  new : List (Entry V)
+  new : List (FrontEntry V)
   new = entries ++ e ∷ []
 
   pub pushed : AreEntries rules (entries ++ e ∷ []) more
@@ -70,7 +70,7 @@ module _ {V : Type 0} (rules : Rules V) (entries : List (Entry V)) (items more :
         within = λ m f at. elim (cases_order m (length entries)) [
           | inl here ↦ (let same : e ≡ f = same_Some e f
               (sym (ap (slice_get (entries ++ e ∷ [])) here ∙ slice_get-middle entries e []) ∙ at) in
-              subst (λ (z : Entry V). z.rest + z.count ≤ length more) same fits)
+              subst (λ (z : FrontEntry V). z.rest + z.count ≤ length more) same fits)
           | inr o ↦ elim o [
             | inl low ↦ (let old = are.within m f (sym (slice_get-front entries (e ∷ []) m low) ∙ at) in let grows = extends_long items more ext in omega arith)
             | inr high ↦ (let lt = slice_get_within (entries ++ e ∷ []) m f at in absurd (omega arith))

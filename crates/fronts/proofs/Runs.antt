@@ -9,7 +9,7 @@ use Rattle.std.proofs.lemmas.List.Elements.{Contains-append_cases, Contains-appe
 use Rattle.reasoning.proofs.ListLemmas.{extends_none, from_filter}
 use Rattle.criteria.specs.Laws.{Rules, Admits}
 use Rattle.fronts.specs.declared.labels.Label.{Label}
-use Rattle.fronts.specs.declared.run_labels.Run.{Run}
+use Rattle.fronts.specs.declared.run_labels.LabelRun.{LabelRun}
 use Rattle.fronts.specs.RunLabels.{AreApart, AreRuns, AreRunLabels, ArePut, ArePartlyPut, StayRunLabels, labels_in, no_run, run_at}
 use Rattle.fronts.specs.declared.run_labels.RunLabels.{RunLabels}
 use Rattle.fronts.specs.Offered.{is_beaten, others}
@@ -29,7 +29,7 @@ in_rest {X} xs n x h = subst (λ (ys : List X). Contains ys x) (take-append-drop
 
 module _ {V : Type 0} where
   -- over what stood in the run
-  pub over_puts : (old : List (Label V)) (run : Run) (new now : List (Label V)) (count : ℕ) → count ≡ length new
+  pub over_puts : (old : List (Label V)) (run : LabelRun) (new now : List (Label V)) (count : ℕ) → count ≡ length new
       → count ≤ run.room → run.first + run.room ≤ length old
       → now ≡ take run.first old ++ (new ++ drop (run.first + length new) old)
       → ArePut old run new (record { first = run.first; count = count; room = run.room }) now
@@ -68,7 +68,7 @@ module _ {V : Type 0} where
       }
 
   -- at the end, with room behind
-  pub end_puts : (old : List (Label V)) (run : Run) (new mid now : List (Label V)) (first count room : ℕ)
+  pub end_puts : (old : List (Label V)) (run : LabelRun) (new mid now : List (Label V)) (first count room : ℕ)
       → first ≡ length old → count ≡ length new → room ≡ length now - first → mid ≡ old ++ new → now ≡ mid ++ drop 1 new
       → ArePut old run new (record { first = first; count = count; room = room }) now
   end_puts old run new mid now first count room at long roomy e_mid e_now =
@@ -116,15 +116,15 @@ module _ {V : Type 0} where
       }
 
   -- a run among them has the labels that it had
-  pub partly_same : (old new now : List (Label V)) (run : Run) → run.count ≤ run.room → run.first + run.room ≤ length old
+  pub partly_same : (old new now : List (Label V)) (run : LabelRun) → run.count ≤ run.room → run.first + run.room ≤ length old
       → ArePartlyPut old new now → labels_in now run ≡ labels_in old run
   partly_same old new now run counted within put = same_part old now put.extends run.first run.count (omega arith)
 
-swap : (a b : Run) → AreApart a b → AreApart b a
+swap : (a b : LabelRun) → AreApart a b → AreApart b a
 swap a b apart = elim apart [ inl before ↦ inr before | inr after ↦ inl after ]
 
 -- one run replaced
-module _ (runs : List Run) (trip : ℕ) (placed : Run) (in_runs : trip < length runs) where
+module _ (runs : List LabelRun) (trip : ℕ) (placed : LabelRun) (in_runs : trip < length runs) where
   pub run_here : (k : ℕ) → k ≡ trip → run_at (set runs trip placed) k ≡ placed
   run_here k e = ap (run_at (set runs trip placed)) e ∙ get_or-set_same runs trip placed no_run in_runs
 
@@ -132,34 +132,34 @@ module _ (runs : List Run) (trip : ℕ) (placed : Run) (in_runs : trip < length 
   run_there k other = get_or-set_other runs trip k placed no_run other
 
   pub runs_put : (places now : ℕ) → AreRuns runs places → placed.count ≤ placed.room → placed.first + placed.room ≤ now
-      → places ≤ now → ((other : Run) → other.first + other.room ≤ places → AreApart other (run_at runs trip)
+      → places ≤ now → ((other : LabelRun) → other.first + other.room ≤ places → AreApart other (run_at runs trip)
       → AreApart other placed) → AreRuns (set runs trip placed) now
   runs_put places now are counted within longer keeps = record {
     counted = λ k. elim (cases_eq k trip) [
-      | inl e ↦ subst (λ (r : Run). r.count ≤ r.room) (sym (run_here k e)) counted
-      | inr other ↦ subst (λ (r : Run). r.count ≤ r.room) (sym (run_there k other)) (are.counted k)
+      | inl e ↦ subst (λ (r : LabelRun). r.count ≤ r.room) (sym (run_here k e)) counted
+      | inr other ↦ subst (λ (r : LabelRun). r.count ≤ r.room) (sym (run_there k other)) (are.counted k)
     ];
     within = λ k. elim (cases_eq k trip) [
-      | inl e ↦ subst (λ (r : Run). r.first + r.room ≤ now) (sym (run_here k e)) within
-      | inr other ↦ (let was = are.within k in subst (λ (r : Run). r.first + r.room ≤ now) (sym (run_there k other)) (omega arith))
+      | inl e ↦ subst (λ (r : LabelRun). r.first + r.room ≤ now) (sym (run_here k e)) within
+      | inr other ↦ (let was = are.within k in subst (λ (r : LabelRun). r.first + r.room ≤ now) (sym (run_there k other)) (omega arith))
     ];
     apart = λ a b differ. elim (cases_eq a trip) [
       | inl ea ↦ elim (cases_eq b trip) [
         | inl eb ↦ absurd (differ (ea ∙ sym eb))
         | inr ob ↦
-            subst (λ (r : Run). AreApart r (run_at (set runs trip placed) b)) (sym (run_here a ea))
-            (subst (λ (r : Run). AreApart placed r) (sym (run_there b ob))
+            subst (λ (r : LabelRun). AreApart r (run_at (set runs trip placed) b)) (sym (run_here a ea))
+            (subst (λ (r : LabelRun). AreApart placed r) (sym (run_there b ob))
             (swap (run_at runs b) placed (keeps (run_at runs b) (are.within b) (are.apart b trip ob))))
       ]
-      | inr oa ↦ subst (λ (r : Run). AreApart r (run_at (set runs trip placed) b)) (sym (run_there a oa)) (elim (cases_eq b trip) [
-        | inl eb ↦ subst (λ (r : Run). AreApart (run_at runs a) r) (sym (run_here b eb)) (keeps (run_at runs a) (are.within a) (are.apart a trip oa))
-        | inr ob ↦ subst (λ (r : Run). AreApart (run_at runs a) r) (sym (run_there b ob)) (are.apart a b differ)
+      | inr oa ↦ subst (λ (r : LabelRun). AreApart r (run_at (set runs trip placed) b)) (sym (run_there a oa)) (elim (cases_eq b trip) [
+        | inl eb ↦ subst (λ (r : LabelRun). AreApart (run_at runs a) r) (sym (run_here b eb)) (keeps (run_at runs a) (are.within a) (are.apart a trip oa))
+        | inr ob ↦ subst (λ (r : LabelRun). AreApart (run_at runs a) r) (sym (run_there b ob)) (are.apart a b differ)
       ])
     ];
   }
 
 -- a value that comes, and the labels that stay
-pub with_admitted : {V : Type 0} (rules : Rules V) (labels : List (Label V)) (run : Run) (v : V) (label : Label V)
+pub with_admitted : {V : Type 0} (rules : Rules V) (labels : List (Label V)) (run : LabelRun) (v : V) (label : Label V)
     → ((l : Label V) → Contains labels l → Admits rules l.value) → Admits rules label.value → (l : Label V)
     → Contains (others rules v (labels_in labels run) ++ label ∷ []) l → Admits rules l.value
 with_admitted rules labels run v label admitted fits l h = elim (Contains-push_cases (others rules v (labels_in labels run)) label l h) [
@@ -175,7 +175,7 @@ runs_stay {V} rules old now new are fits same put =
     let grows = extends_long old.labels.items now.labels.items put.extends in
     record {
       labels = record {
-        runs = subst (λ (runs : List Run). AreRuns runs (length now.labels.items)) (sym same) (record {
+        runs = subst (λ (runs : List LabelRun). AreRuns runs (length now.labels.items)) (sym same) (record {
           counted = are.runs.counted;
           within = λ k. let within = are.runs.within k in omega arith;
           apart = are.runs.apart;
@@ -183,12 +183,12 @@ runs_stay {V} rules old now new are fits same put =
         admitted = λ l h. elim (put.only l h) [ inl was ↦ are.admitted l was | inr is ↦ fits l is ];
       };
       long = ap length same;
-      same = λ trip. ap (λ (runs : List Run). labels_in now.labels.items (run_at runs trip)) same
+      same = λ trip. ap (λ (runs : List LabelRun). labels_in now.labels.items (run_at runs trip)) same
           ∙ partly_same old.labels.items new now.labels.items (run_at old.runs.items trip) (are.runs.counted trip) (are.runs.within trip) put;
     }
 
 -- a value that none of a run's labels betters isn't beaten
-pub run_unbeaten : {V : Type 0} (rules : Rules V) (runs : List Run) (labels part : List (Label V)) (trip : ℕ) (run : Run) (v : V)
+pub run_unbeaten : {V : Type 0} (rules : Rules V) (runs : List LabelRun) (labels part : List (Label V)) (trip : ℕ) (run : LabelRun) (v : V)
     (some : Bool) → run ≡ run_at runs trip → part ≡ labels_in labels run → some ≡ is_beaten rules part v → some ≡ false
     → is_beaten rules (labels_in labels (run_at runs trip)) v ≡ false
 run_unbeaten {V} rules runs labels part trip run v some run_is part_is is none =

@@ -8,8 +8,8 @@ use Rattle.std.proofs.lemmas.Option.{slice_get_within}
 use Rattle.reasoning.proofs.ListLemmas.{not_in_nil, slice_get-middle}
 use Rattle.criteria.specs.Laws.{Rules, Laws, Admits}
 use Rattle.fronts.specs.declared.entry.Item.{Item}
-use Rattle.fronts.specs.declared.entry.Entry.{Entry}
-use Rattle.fronts.specs.declared.entry.Ridden.{Ridden}
+use Rattle.fronts.specs.declared.entry.FrontEntry.{FrontEntry}
+use Rattle.fronts.specs.declared.entry.RiddenLabel.{RiddenLabel}
 use Rattle.fronts.specs.declared.entry.Step.{Step}
 use Rattle.fronts.specs.Front.{Betters, Extends}
 use Rattle.fronts.specs.Entries.{IsEntry, AreEntries}
@@ -17,7 +17,7 @@ use Rattle.fronts.specs.Walking.{IsKept, IsBoarding, AreBoardings, AllWalked}
 use Rattle.fronts.proofs.Growth.{same_at}
 use Rattle.fronts.proofs.Pushing.{linked_none}
 
-module _ {V : Type 0} (rules : Rules V) (departure first walk secs : ℕ) (ridden : List (Ridden V)) where
+module _ {V : Type 0} (rules : Rules V) (departure first walk secs : ℕ) (ridden : List (RiddenLabel V)) where
   boarding_stays : (steps new : List Step) (p : Item V) → Extends steps new
       → IsBoarding rules steps departure first walk secs ridden p
       → IsBoarding rules new departure first walk secs ridden p
@@ -33,7 +33,7 @@ module _ {V : Type 0} (rules : Rules V) (departure first walk secs : ℕ) (ridde
   boardings_none steps kept e p h = absurd (not_in_nil p (subst (λ ps. Contains ps p) e h))
 
   -- a value is kept
-  pub boardings_more : (laws : Laws rules) (steps new : List Step) (kept now : List (Item V)) (v : V) (r : Ridden V)
+  pub boardings_more : (laws : Laws rules) (steps new : List Step) (kept now : List (Item V)) (v : V) (r : RiddenLabel V)
       → AreBoardings rules steps departure first walk secs ridden kept → Admits rules v → Contains ridden r
       → v ≡ rules.walk secs r.value
       → IsKept steps kept departure v (record { first = first; label = r.label; walk = walk }) new now
@@ -57,14 +57,14 @@ module _ {V : Type 0} (rules : Rules V) (departure first walk secs : ℕ) (ridde
   betters_more kept now v ext (p, h, w) = (p, subst (λ ps. Contains ps p) (sym ext.1) (Contains-append_left kept ext.0 p h), w)
 
   -- one more of them is bettered
-  pub all_more : (points kept now : List (Item V)) (i : ℕ) (r : Ridden V) → Extends kept now → i < length ridden
+  pub all_more : (points kept now : List (Item V)) (i : ℕ) (r : RiddenLabel V) → Extends kept now → i < length ridden
       → r ≡ get_or ridden i r → AllWalked rules points secs ridden i kept
       → Betters rules now (rules.walk secs r.value) ⊎ Betters rules points (rules.walk secs r.value)
       → AllWalked rules points secs ridden (i + 1) now
   all_more points kept now i r ext lt is before this k d low = elim (cases_order k i) [
     | inl e ↦
         let same : r ≡ get_or ridden k d = is ∙ get_or_default ridden i r d lt ∙ ap (λ n. get_or ridden n d) (sym e) in
-        subst (λ (z : Ridden V). Betters rules now (rules.walk secs z.value) ⊎ Betters rules points (rules.walk secs z.value)) same this
+        subst (λ (z : RiddenLabel V). Betters rules now (rules.walk secs z.value) ⊎ Betters rules points (rules.walk secs z.value)) same this
     | inr o ↦ elim o [
       | inl less ↦ elim (before k d less) [ inl b ↦ inl (betters_more kept now (rules.walk secs (get_or ridden k d).value) ext b) | inr b ↦ inr b ]
       | inr more ↦ absurd (omega arith)
@@ -72,7 +72,7 @@ module _ {V : Type 0} (rules : Rules V) (departure first walk secs : ℕ) (ridde
   ]
 
 -- an entry that carries nothing and leads nowhere
-ending : {V : Type 0} → V → Entry V
+ending : {V : Type 0} → V → FrontEntry V
 ending v = record { departure = 4294967295; next = 0; rest = 0; count = 0; tag = 0; value = v }
 
 -- the entry that ends each list, alone
@@ -87,15 +87,15 @@ only_end {V} rules v = record {
   each = each;
 }
   where
-    within : (m : ℕ) (e : Entry V) → slice_get (ending v ∷ []) m ≡ Some e → e.rest + e.count ≤ length {A = Item V} []
-    within zero e at = (let same : ending v ≡ e = cc in subst (λ (z : Entry V). z.rest + z.count ≤ 0) same (omega arith))
+    within : (m : ℕ) (e : FrontEntry V) → slice_get (ending v ∷ []) m ≡ Some e → e.rest + e.count ≤ length {A = Item V} []
+    within zero e at = (let same : ending v ≡ e = cc in subst (λ (z : FrontEntry V). z.rest + z.count ≤ 0) same (omega arith))
     within (suc m) e at = absurd cc
 
     each : (m : ℕ) → IsEntry rules (ending v ∷ []) [] m
     each zero = linked_none rules 4294967295 4294967295
     each (suc m) = linked_none rules 0 4294967295
 
-pub first_sound : {V : Type 0} (rules : Rules V) (v : V) (start entries : List (Entry V)) (items : List (Item V))
+pub first_sound : {V : Type 0} (rules : Rules V) (v : V) (start entries : List (FrontEntry V)) (items : List (Item V))
     → start ≡ [] → entries ≡ start ++ record {
       departure = 4294967295;
       next = 0;
@@ -108,5 +108,5 @@ pub first_sound : {V : Type 0} (rules : Rules V) (v : V) (start entries : List (
 unfolding ending
 first_sound {V} rules v start entries items empty pushed_is none =
     subst (AreEntries rules entries) (sym none)
-    (subst (λ (es : List (Entry V)). AreEntries rules es [])
-    (sym (pushed_is ∙ ap (λ (es : List (Entry V)). es ++ ending v ∷ []) empty)) (only_end rules v))
+    (subst (λ (es : List (FrontEntry V)). AreEntries rules es [])
+    (sym (pushed_is ∙ ap (λ (es : List (FrontEntry V)). es ++ ending v ∷ []) empty)) (only_end rules v))

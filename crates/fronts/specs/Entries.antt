@@ -2,7 +2,7 @@
 use Rattle.std.specs.Prelude.{◌≡◌, ◌⊎◌, ℕ, suc, ◌+◌, ◌<◌, ◌≤◌, List, Contains, slice_get, Some, length}
 use Rattle.criteria.specs.Laws.{Rules, Admits}
 use Rattle.fronts.specs.declared.entry.Item.{Item}
-use Rattle.fronts.specs.declared.entry.Entry.{Entry}
+use Rattle.fronts.specs.declared.entry.FrontEntry.{FrontEntry}
 use Rattle.fronts.specs.Front.{front, next_of, departure_of, Betters}
 
 -- an entry carries a front, given the next entry on its list, if there is one
@@ -19,16 +19,16 @@ pub record IsLinked {V : Type 0} (rules : Rules V) (departure next later : ℕ)
   pub over : (p : Item V) → Contains rest p → Betters rules points p.value
 
 -- the entry at an index carries a front
-abbrev pub IsEntry : {V : Type 0} → Rules V → List (Entry V) → List (Item V) → ℕ → Type 0
+abbrev pub IsEntry : {V : Type 0} → Rules V → List (FrontEntry V) → List (Item V) → ℕ → Type 0
 IsEntry rules entries items m =
     IsLinked rules (departure_of entries m) (next_of entries m) (departure_of entries (next_of entries m))
     (front entries items m) (front entries items (next_of entries m))
 
 -- all entries: links lead back, to entry 0, which departs at the greatest time
-pub record AreEntries {V : Type 0} (rules : Rules V) (entries : List (Entry V)) (items : List (Item V)) : Type 0 where
+pub record AreEntries {V : Type 0} (rules : Rules V) (entries : List (FrontEntry V)) (items : List (Item V)) : Type 0 where
   pub some : 0 < length entries
   pub ends : next_of entries 0 ≡ 0
   pub never : departure_of entries 0 ≡ 4294967295
   pub back : (m : ℕ) → next_of entries (suc m) ≤ m
-  pub within : (m : ℕ) (e : Entry V) → slice_get entries m ≡ Some e → e.rest + e.count ≤ length items
+  pub within : (m : ℕ) (e : FrontEntry V) → slice_get entries m ≡ Some e → e.rest + e.count ≤ length items
   pub each : (m : ℕ) → IsEntry rules entries items m

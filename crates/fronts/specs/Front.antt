@@ -4,47 +4,47 @@ use Rattle.std.specs.Prelude.{Option, Some, None}
 pub use Rattle.reasoning.specs.Lists.{Extends}
 use Rattle.criteria.specs.Laws.{Rules, NoWorse}
 use Rattle.fronts.specs.declared.entry.Item.{Item}
-use Rattle.fronts.specs.declared.entry.Entry.{Entry}
+use Rattle.fronts.specs.declared.entry.FrontEntry.{FrontEntry}
 
 -- the own point of an entry, the first of its front
-abbrev pub own : {V : Type 0} → Entry V → Item V
+abbrev pub own : {V : Type 0} → FrontEntry V → Item V
 own e = record { departure = e.departure; value = e.value; tag = e.tag }
 
 -- the front that an entry carries, if there is one: its own point, then its part of the items
-abbrev pub front_of : {V : Type 0} → List (Item V) → Option (Entry V) → List (Item V)
+abbrev pub front_of : {V : Type 0} → List (Item V) → Option (FrontEntry V) → List (Item V)
 front_of items None = []
 front_of items (Some e) = own e ∷ take e.count (drop e.rest items)
 
 -- the front of the entry at an index: its own point, then a part of the items; entry 0 ends each list, and has no front
-abbrev pub front : {V : Type 0} → List (Entry V) → List (Item V) → ℕ → List (Item V)
+abbrev pub front : {V : Type 0} → List (FrontEntry V) → List (Item V) → ℕ → List (Item V)
 front entries items zero = []
 front entries items (suc m) = front_of items (slice_get entries (suc m))
 
-abbrev pub next_in : {V : Type 0} → Option (Entry V) → ℕ
+abbrev pub next_in : {V : Type 0} → Option (FrontEntry V) → ℕ
 next_in None = 0
 next_in (Some e) = e.next
 
 -- the index of the next entry on the list
-abbrev pub next_of : {V : Type 0} → List (Entry V) → ℕ → ℕ
+abbrev pub next_of : {V : Type 0} → List (FrontEntry V) → ℕ → ℕ
 next_of entries m = next_in (slice_get entries m)
 
-abbrev pub departure_in : {V : Type 0} → Option (Entry V) → ℕ
+abbrev pub departure_in : {V : Type 0} → Option (FrontEntry V) → ℕ
 departure_in None = 0
 departure_in (Some e) = e.departure
 
 -- the departure of the entry at an index
-abbrev pub departure_of : {V : Type 0} → List (Entry V) → ℕ → ℕ
+abbrev pub departure_of : {V : Type 0} → List (FrontEntry V) → ℕ → ℕ
 departure_of entries m = departure_in (slice_get entries m)
 
 -- the points of the fronts along the list from entry m on, of at most n entries
-unfoldable pub points_to : {V : Type 0} → List (Entry V) → List (Item V) → ℕ → ℕ → List (Item V)
+unfoldable pub points_to : {V : Type 0} → List (FrontEntry V) → List (Item V) → ℕ → ℕ → List (Item V)
 points_to entries items zero m = []
 points_to entries items (suc n) zero = []
 points_to entries items (suc n) (suc m) =
     front entries items (suc m) ++ points_to entries items n (next_of entries (suc m))
 
 -- the points of the list that begins at an entry
-abbrev pub points_from : {V : Type 0} → List (Entry V) → List (Item V) → ℕ → List (Item V)
+abbrev pub points_from : {V : Type 0} → List (FrontEntry V) → List (Item V) → ℕ → List (Item V)
 points_from entries items head = points_to entries items head head
 
 -- a point of the list is no worse than v (an equal one counts)

@@ -4,9 +4,9 @@ use Rattle.criteria.specs.Laws.{Rules, Admits, NoWorse}
 use Rattle.bags.specs.declared.point.Point.{Point}
 use Rattle.bags.specs.Dominance.{IsCovered}
 use Rattle.fronts.specs.declared.entry.Item.{Item}
-use Rattle.fronts.specs.declared.entry.Entry.{Entry}
+use Rattle.fronts.specs.declared.entry.FrontEntry.{FrontEntry}
 use Rattle.fronts.specs.declared.entry.Step.{Step}
-use Rattle.fronts.specs.declared.entry.Ridden.{Ridden}
+use Rattle.fronts.specs.declared.entry.RiddenLabel.{RiddenLabel}
 use Rattle.fronts.specs.declared.front_lists.FrontLists.{FrontLists}
 use Rattle.fronts.specs.Entries.{AreEntries}
 use Rattle.fronts.specs.Front.{front, points_from}
@@ -17,7 +17,7 @@ abbrev pub lists_criterion : {K V : Type 0} → FrontLists K V → K
 lists_criterion lists = lists.criterion
 
 -- the entries of all lists, in one vector
-abbrev pub entries_of : {K V : Type 0} → FrontLists K V → List (Entry V)
+abbrev pub entries_of : {K V : Type 0} → FrontLists K V → List (FrontEntry V)
 entries_of lists = lists.entries.items
 
 -- the items of the fronts of all entries, in one vector
@@ -38,7 +38,7 @@ list_points lists head = map point_of (points_from lists.entries.items lists.ite
 
 -- the front of the entry at an index
 abbrev pub front_at : {K V : Type 0} → FrontLists K V → ℕ → List (Point V)
-front_at lists place = map point_of (front lists.entries.items lists.items.items place)
+front_at lists index = map point_of (front lists.entries.items lists.items.items index)
 
 -- the entries of all lists carry their fronts
 abbrev pub IsSound : {K V : Type 0} → (K → Rules V) → FrontLists K V → Type 0
@@ -51,9 +51,9 @@ IsBettered {V} rules points v = (p : Point V) × Contains points p × NoWorse ru
 -- a list takes the ridden values in: each of its points was there before, or is one of these values after the footpath, and its tag names a step that says so;
 -- what was covered stays covered, and each of these values is
 pub record TakesRidden {V : Type 0} (rules : Rules V) (steps : List Step) (departure first walk secs : ℕ)
-    (ridden : List (Ridden V)) (old new : List (Point V)) : Type 0 where
+    (ridden : List (RiddenLabel V)) (old new : List (Point V)) : Type 0 where
   pub only : (p : Point V) → Contains new p
       → Contains old p ⊎ ((item : Item V) × (point_of item ≡ p)
       × IsBoarding rules steps departure first walk secs ridden item)
   pub kept : (d : ℕ) (v : V) → Admits rules v → IsCovered rules old d v → IsCovered rules new d v
-  pub covered : (r : Ridden V) → Contains ridden r → IsCovered rules new departure (rules.walk secs r.value)
+  pub covered : (r : RiddenLabel V) → Contains ridden r → IsCovered rules new departure (rules.walk secs r.value)

@@ -4,7 +4,7 @@ use Rattle.std.specs.Prelude.{Contains, length}
 use Rattle.std.specs.List.{list_any}
 use Rattle.criteria.specs.Laws.{Rules, Admits}
 use Rattle.fronts.specs.declared.entry.Item.{Item}
-use Rattle.fronts.specs.declared.entry.Entry.{Entry}
+use Rattle.fronts.specs.declared.entry.FrontEntry.{FrontEntry}
 use Rattle.fronts.specs.Front.{next_of, departure_of, points_from, Covers}
 
 -- whether a point of a list is no worse than v (an equal one counts)
@@ -22,7 +22,7 @@ abbrev pub left_by : {V : Type 0} → Rules V → List (Item V) → List (Item V
 left_by rules points others = filter (λ p. not (betters rules points p.value)) others
 
 -- entry m of a list departs at a time or later, and all points of the list that depart then or later are on the list from there on
-pub record IsLate {V : Type 0} (entries : List (Entry V)) (items : List (Item V)) (head time m : ℕ) : Type 0 where
+pub record IsLate {V : Type 0} (entries : List (FrontEntry V)) (items : List (Item V)) (head time m : ℕ) : Type 0 where
   pub within : m < length entries
   pub late : time ≤ departure_of entries m
   pub only : (p : Item V) → Contains (points_from entries items m) p → Contains (points_from entries items head) p
@@ -30,12 +30,12 @@ pub record IsLate {V : Type 0} (entries : List (Entry V)) (items : List (Item V)
       → Contains (points_from entries items m) p
 
 -- these entries, one after the other, lead from `head` to m along a list
-abbrev pub IsPath : {V : Type 0} → List (Entry V) → ℕ → List ℕ → ℕ → Type 0
+abbrev pub IsPath : {V : Type 0} → List (FrontEntry V) → ℕ → List ℕ → ℕ → Type 0
 IsPath entries head [] m = head ≡ m
 IsPath entries head (b ∷ bs) m = (head ≡ b) × (0 < b) × (b < length entries) × IsPath entries (next_of entries b) bs m
 
 -- these entries depart before a time
-abbrev pub DepartBefore : {V : Type 0} → List (Entry V) → ℕ → List ℕ → Type 0
+abbrev pub DepartBefore : {V : Type 0} → List (FrontEntry V) → ℕ → List ℕ → Type 0
 DepartBefore entries time places = (b : ℕ) → Contains places b → departure_of entries b < time
 
 -- a list covers all that another covers
@@ -44,7 +44,7 @@ CoversAll {V} rules old new =
     (departure : ℕ) (v : V) → Admits rules v → Covers rules old departure v → Covers rules new departure v
 
 -- points of one departure that may be put before the list from entry m on
-pub record MayPut {V : Type 0} (rules : Rules V) (entries : List (Entry V)) (departure m : ℕ)
+pub record MayPut {V : Type 0} (rules : Rules V) (entries : List (FrontEntry V)) (departure m : ℕ)
     (points : List (Item V)) : Type 0 where
   pub within : m < length entries
   pub early : departure ≤ departure_of entries m
@@ -58,8 +58,8 @@ pub record IsUnion {V : Type 0} (rules : Rules V) (a b new : List (Item V)) : Ty
   pub kept_first : CoversAll rules a new
   pub kept_second : CoversAll rules b new
 
--- `after` is the entry that follows a front put before the list from `place` on: `next` if the entry at `place` departs together with the front, and `place` if
+-- `after` is the entry that follows a front put before the list from `index` on: `next` if the entry at `index` departs together with the front, and `index` if
 -- it departs later
 abbrev pub Follows : ℕ → ℕ → ℕ → ℕ → ℕ → Type 0
-Follows later next place departure after =
-    ((later ≡ departure) × (after ≡ next)) ⊎ ((departure < later) × (after ≡ place))
+Follows later next index departure after =
+    ((later ≡ departure) × (after ≡ next)) ⊎ ((departure < later) × (after ≡ index))

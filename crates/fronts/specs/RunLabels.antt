@@ -3,21 +3,21 @@ use Rattle.std.specs.Prelude.{◌≡◌, ◌⊎◌, ℕ, ◌+◌, ◌≤◌, Lis
 use Rattle.reasoning.specs.Lists.{Extends}
 use Rattle.criteria.specs.Laws.{Rules, Admits}
 use Rattle.fronts.specs.declared.labels.Label.{Label}
-use Rattle.fronts.specs.declared.run_labels.Run.{Run}
+use Rattle.fronts.specs.declared.run_labels.LabelRun.{LabelRun}
 use Rattle.fronts.specs.declared.run_labels.RunLabels.{RunLabels}
 
 -- no labels, and no room
-abbrev pub no_run : Run
+abbrev pub no_run : LabelRun
 no_run = record { first = 0; count = 0; room = 0 }
 
-abbrev pub run_at : List Run → ℕ → Run
+abbrev pub run_at : List LabelRun → ℕ → LabelRun
 run_at runs trip = slice_index_or runs trip no_run
 
 -- the labels of a run
-abbrev pub labels_in : {V : Type 0} → List (Label V) → Run → List (Label V)
+abbrev pub labels_in : {V : Type 0} → List (Label V) → LabelRun → List (Label V)
 labels_in labels run = take run.count (drop run.first labels)
 
-abbrev pub runs_of : {V : Type 0} → RunLabels V → List Run
+abbrev pub runs_of : {V : Type 0} → RunLabels V → List LabelRun
 runs_of labels = labels.runs.items
 
 -- the labels of a trip
@@ -25,11 +25,11 @@ abbrev pub run_labels : {V : Type 0} → RunLabels V → ℕ → List (Label V)
 run_labels labels trip = labels_in labels.labels.items (run_at labels.runs.items trip)
 
 -- the room of one run ends before that of the other begins
-abbrev pub AreApart : Run → Run → Type 0
+abbrev pub AreApart : LabelRun → LabelRun → Type 0
 AreApart a b = (a.first + a.room ≤ b.first) ⊎ (b.first + b.room ≤ a.first)
 
 -- runs of a vector of `places` labels: each has room for its labels, within the vector, and no two overlap
-pub record AreRuns (runs : List Run) (places : ℕ) : Type 0 where
+pub record AreRuns (runs : List LabelRun) (places : ℕ) : Type 0 where
   pub counted : (k : ℕ) → (run_at runs k).count ≤ (run_at runs k).room
   pub within : (k : ℕ) → (run_at runs k).first + (run_at runs k).room ≤ places
   pub apart : (a b : ℕ) → (a ≡ b → ⊥) → AreApart (run_at runs a) (run_at runs b)
@@ -40,15 +40,15 @@ pub record AreRunLabels {V : Type 0} (rules : Rules V) (labels : RunLabels V) : 
   pub admitted : (l : Label V) → Contains labels.labels.items l → Admits rules l.value
 
 -- the new labels are in a run, and those of other runs where they were; what was in the room of the old run may be gone
-pub record ArePut {V : Type 0} (old : List (Label V)) (run : Run) (new : List (Label V)) (placed : Run)
+pub record ArePut {V : Type 0} (old : List (Label V)) (run : LabelRun) (new : List (Label V)) (placed : LabelRun)
     (now : List (Label V)) : Type 0 where
   pub counted : placed.count ≤ placed.room
   pub within : placed.first + placed.room ≤ length now
   pub longer : length old ≤ length now
   pub here : labels_in now placed ≡ new
-  pub others : (other : Run) → other.count ≤ other.room → other.first + other.room ≤ length old → AreApart other run
+  pub others : (other : LabelRun) → other.count ≤ other.room → other.first + other.room ≤ length old → AreApart other run
       → labels_in now other ≡ labels_in old other
-  pub apart : (other : Run) → other.first + other.room ≤ length old → AreApart other run → AreApart other placed
+  pub apart : (other : LabelRun) → other.first + other.room ≤ length old → AreApart other run → AreApart other placed
   pub only : (l : Label V) → Contains now l → Contains old l ⊎ Contains new l
 
 -- the new labels may not all be there: the old ones are where they were, and behind them are only new ones

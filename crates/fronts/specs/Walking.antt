@@ -2,7 +2,7 @@
 use Rattle.std.specs.Prelude.{◌≡◌, ◌⊎◌, ℕ, ◌<◌, List, [], ◌∷◌, ◌++◌, Contains, slice_get, slice_index_or, Some, length}
 use Rattle.criteria.specs.Laws.{Rules}
 use Rattle.fronts.specs.declared.entry.Item.{Item}
-use Rattle.fronts.specs.declared.entry.Ridden.{Ridden}
+use Rattle.fronts.specs.declared.entry.RiddenLabel.{RiddenLabel}
 use Rattle.fronts.specs.declared.entry.Step.{Step}
 use Rattle.fronts.specs.Front.{Betters, Covers}
 use Rattle.fronts.specs.Putting.{CoversAll}
@@ -15,27 +15,27 @@ pub record IsKept {V : Type 0} (steps : List Step) (kept : List (Item V)) (depar
 
 -- a point is one of the ridden values after a footpath, and its tag is the index of a step that says so
 pub record IsBoarding {V : Type 0} (rules : Rules V) (steps : List Step) (departure first walk secs : ℕ)
-    (ridden : List (Ridden V)) (p : Item V) : Type 0 where
-  pub by : Ridden V
+    (ridden : List (RiddenLabel V)) (p : Item V) : Type 0 where
+  pub by : RiddenLabel V
   pub is_ridden : Contains ridden by
   pub departs : p.departure ≡ departure
   pub worth : p.value ≡ rules.walk secs by.value
   pub goes_on : slice_get steps p.tag ≡ Some (record { first = first; label = by.label; walk = walk })
 
 -- each of these points is one
-abbrev pub AreBoardings : {V : Type 0} → Rules V → List Step → ℕ → ℕ → ℕ → ℕ → List (Ridden V) → List (Item V) → Type 0
+abbrev pub AreBoardings : {V : Type 0} → Rules V → List Step → ℕ → ℕ → ℕ → ℕ → List (RiddenLabel V) → List (Item V) → Type 0
 AreBoardings {V} rules steps departure first walk secs ridden points =
     (p : Item V) → Contains points p → IsBoarding rules steps departure first walk secs ridden p
 
 -- the first n ridden values are bettered, after the footpath, by points that are kept or by those of a front
-abbrev pub AllWalked : {V : Type 0} → Rules V → List (Item V) → ℕ → List (Ridden V) → ℕ → List (Item V) → Type 0
+abbrev pub AllWalked : {V : Type 0} → Rules V → List (Item V) → ℕ → List (RiddenLabel V) → ℕ → List (Item V) → Type 0
 AllWalked {V} rules points secs ridden n kept =
-    (k : ℕ) (d : Ridden V) → k < n → Betters rules kept (rules.walk secs (slice_index_or ridden k d).value)
+    (k : ℕ) (d : RiddenLabel V) → k < n → Betters rules kept (rules.walk secs (slice_index_or ridden k d).value)
     ⊎ Betters rules points (rules.walk secs (slice_index_or ridden k d).value)
 
 -- a list takes the ridden values in: each of its points was there before or is one of them, what was covered stays covered, and each of them is
 pub record TakesBoardings {V : Type 0} (rules : Rules V) (steps : List Step) (departure first walk secs : ℕ)
-    (ridden : List (Ridden V)) (old new : List (Item V)) : Type 0 where
+    (ridden : List (RiddenLabel V)) (old new : List (Item V)) : Type 0 where
   pub only : (p : Item V) → Contains new p → Contains old p ⊎ IsBoarding rules steps departure first walk secs ridden p
   pub kept : CoversAll rules old new
-  pub covered : (r : Ridden V) → Contains ridden r → Covers rules new departure (rules.walk secs r.value)
+  pub covered : (r : RiddenLabel V) → Contains ridden r → Covers rules new departure (rules.walk secs r.value)

@@ -12,7 +12,7 @@ pub struct Item<V> {
 ///
 /// The front is the entry's own point, and then `count` items from index `rest` on.
 #[derive(Clone, Copy, Drop)]
-pub struct Entry<V> {
+pub struct FrontEntry<V> {
     pub departure: u32,
     // the index of the next entry on the list
     pub next: u32,
@@ -25,7 +25,7 @@ pub struct Entry<V> {
 /// All entries, and the items of their fronts, to be read.
 #[derive(Clone, Copy)]
 pub struct Arena<'e, 'i, V> {
-    pub entries: &'e [Entry<V>],
+    pub entries: &'e [FrontEntry<V>],
     pub items: &'i [Item<V>],
 }
 
@@ -40,7 +40,7 @@ pub struct Step {
 
 /// A label's value after a ride, and the number of the label.
 #[derive(Clone, Copy, Drop)]
-pub struct Ridden<V> {
+pub struct RiddenLabel<V> {
     pub value: V,
     pub label: u32,
 }

@@ -1,8 +1,8 @@
 //! Lists of fronts: the front from a time on, its points, and insertions.
 
-use crate::entry::{Arena, Boarding, Entry, Item, Ridden, Step};
+use crate::entry::{Arena, Boarding, FrontEntry, Item, RiddenLabel, Step};
 use crate::insertion::insert;
-use crate::putting::{place_of, put, put_alone};
+use crate::putting::{index_of, put, put_alone};
 use crate::search::{front_betters, late, outdoes};
 use bags::Point;
 use criteria::Criterion;
@@ -15,14 +15,14 @@ use std::alloc::{AllocError, Global};
 #[derive(Drop)]
 pub struct FrontLists<C: Criterion> {
     criterion: C,
-    entries: Vec<Entry<C::V>>,
+    entries: Vec<FrontEntry<C::V>>,
     items: Vec<Item<C::V>>,
     steps: Vec<Step>,
     // scratch memory of an insertion
     passed: Vec<u32>,
     kept: Vec<Item<C::V>>,
     // scratch memory: one ridden value as a list, for the general insertion
-    alone: Vec<Ridden<C::V>>,
+    alone: Vec<RiddenLabel<C::V>>,
 }
 
 impl<C: Criterion> FrontLists<C> {
@@ -44,7 +44,7 @@ impl<C: Criterion> FrontLists<C> {
         ensures no_steps { IfOk result (λ lists. steps_of lists ≡ []) }
     {
         let mut entries = Vec::new(alloc);
-        entries.push(Entry {
+        entries.push(FrontEntry {
             departure: u32::MAX,
             next: 0,
             rest: 0,
@@ -82,27 +82,27 @@ impl<C: Criterion> FrontLists<C> {
         late(&self.criterion, arena, head, time)
     }
 
-    /// The number of points that the front of entry `place` has.
-    pub fn front_len(&self, place: u32) -> usize
+    /// The number of points that the front of entry `index` has.
+    pub fn front_len(&self, index: u32) -> usize
         requires sound { IsSound C.rules self.now }
-        requires within { place < length (entries_of self.now) }
-        ensures { result ≡ length (front_at self.now place) }
+        requires within { index < length (entries_of self.now) }
+        ensures { result ≡ length (front_at self.now index) }
     {
-        if place == 0 {
+        if index == 0 {
             return 0;
         }
-        let entry = self.entries[place as usize];
+        let entry = self.entries[index as usize];
         with_own(entry.count)
     }
 
-    /// The point at index `k` of the front of entry `place`.
-    pub fn front_point(&self, place: u32, k: usize) -> Point<C::V>
+    /// The point at index `k` of the front of entry `index`.
+    pub fn front_point(&self, index: u32, k: usize) -> Point<C::V>
         requires sound { IsSound C.rules self.now }
-        requires within { place < length (entries_of self.now) }
-        requires point { k < length (front_at self.now place) }
-        ensures { slice_get (front_at self.now place) k ≡ Some result }
+        requires within { index < length (entries_of self.now) }
+        requires point { k < length (front_at self.now index) }
+        ensures { slice_get (front_at self.now index) k ≡ Some result }
     {
-        let entry = self.entries[place as usize];
+        let entry = self.entries[index as usize];
         if k == 0 {
             return point(entry.departure, entry.value, entry.tag);
         }
@@ -127,7 +127,7 @@ impl<C: Criterion> FrontLists<C> {
         first: u32,
         walk: u32,
         secs: u32,
-        ridden: &[Ridden<C::V>],
+        ridden: &[RiddenLabel<C::V>],
     ) -> Result<u32, AllocError>
         requires sound { IsSound C.rules self.old }
         requires head { head < length (entries_of self.old) }
@@ -138,8 +138,8 @@ impl<C: Criterion> FrontLists<C> {
         ensures more_entries { Extends (entries_of self.old) (entries_of self.new) }
         ensures grows { length (entries_of self.old) ≤ length (entries_of self.new) }
         ensures more_steps { Extends (steps_of self.old) (steps_of self.new) }
-        ensures same { (place : ℕ) → place < length (entries_of self.old)
-            → list_points self.new place ≡ list_points self.old place }
+        ensures same { (index : ℕ) → index < length (entries_of self.old)
+            → list_points self.new index ≡ list_points self.old index }
         ensures within { IfOk result (λ new. new < length (entries_of self.new)) }
         ensures takes { IfOk result (λ new. TakesRidden (C.rules (lists_criterion self.old)) (steps_of self.new)
             departure first walk secs ridden.now (list_points self.old head) (list_points self.new new)) }
@@ -175,7 +175,7 @@ impl<C: Criterion> FrontLists<C> {
         first: u32,
         walk: u32,
         secs: u32,
-        ride: Ridden<C::V>,
+        ride: RiddenLabel<C::V>,
     ) -> Result<u32, AllocError>
         requires sound { IsSound C.rules self.old }
         requires head { head < length (entries_of self.old) }
@@ -186,8 +186,8 @@ impl<C: Criterion> FrontLists<C> {
         ensures more_entries { Extends (entries_of self.old) (entries_of self.new) }
         ensures grows { length (entries_of self.old) ≤ length (entries_of self.new) }
         ensures more_steps { Extends (steps_of self.old) (steps_of self.new) }
-        ensures same { (place : ℕ) → place < length (entries_of self.old)
-            → list_points self.new place ≡ list_points self.old place }
+        ensures same { (index : ℕ) → index < length (entries_of self.old)
+            → list_points self.new index ≡ list_points self.old index }
         ensures within { IfOk result (λ new. new < length (entries_of self.new)) }
         ensures takes { IfOk result (λ new. TakesRidden (C.rules (lists_criterion self.old)) (steps_of self.new)
             departure first walk secs (ride ∷ []) (list_points self.old head) (list_points self.new new)) }
@@ -208,7 +208,7 @@ impl<C: Criterion> FrontLists<C> {
         &mut self,
         head: u32,
         boarding: Boarding,
-        ride: Ridden<C::V>,
+        ride: RiddenLabel<C::V>,
     ) -> Result<u32, AllocError>
         requires sound { IsSound C.rules self.old }
         requires head { head < length (entries_of self.old) }
@@ -233,8 +233,8 @@ impl<C: Criterion> FrontLists<C> {
             entries: &self.entries,
             items: &self.items,
         };
-        let place = late(&self.criterion, arena, head, boarding.departure);
-        if front_betters(&self.criterion, arena, place, &value) {
+        let index = late(&self.criterion, arena, head, boarding.departure);
+        if front_betters(&self.criterion, arena, index, &value) {
             return Ok(head);
         }
         self.insert_behind(head, boarding, ride)
@@ -246,7 +246,7 @@ impl<C: Criterion> FrontLists<C> {
         &mut self,
         head: u32,
         boarding: Boarding,
-        ride: Ridden<C::V>,
+        ride: RiddenLabel<C::V>,
     ) -> Result<u32, AllocError>
         requires sound { IsSound C.rules self.old }
         requires head { head < length (entries_of self.old) }
@@ -285,7 +285,7 @@ impl<C: Criterion> FrontLists<C> {
         &mut self,
         head: u32,
         boarding: Boarding,
-        ride: Ridden<C::V>,
+        ride: RiddenLabel<C::V>,
     ) -> Result<u32, AllocError>
         requires sound { IsSound C.rules self.old }
         requires head { head < length (entries_of self.old) }
@@ -311,7 +311,7 @@ impl<C: Criterion> FrontLists<C> {
         if front_betters(&self.criterion, arena, head, &value) {
             return Ok(head);
         }
-        let tag = place_of(self.steps.len())?;
+        let tag = index_of(self.steps.len())?;
         self.steps.push(Step {
             first: boarding.first,
             label: ride.label,

@@ -7,48 +7,48 @@ ghost use Rattle.fronts.specs.Entries.{AreEntries};
 ghost use Rattle.fronts.specs.Putting.{left_by};
 ghost use Rattle.fronts.specs.Walking.{IsKept, AreBoardings, AllWalked};
 
-use crate::entry::{Arena, Boarding, Item, Ridden, Step};
-use crate::putting::place_of;
+use crate::entry::{Arena, Boarding, Item, RiddenLabel, Step};
+use crate::putting::index_of;
 use crate::search::{front_betters, part};
 use criteria::Criterion;
 use std::alloc::AllocError;
 
-// Adds a point to those kept, unless the front of entry `place` betters it.
+// Adds a point to those kept, unless the front of entry `index` betters it.
 fn keep_point<C: Criterion>(
     criterion: &C,
     arena: Arena<'_, '_, C::V>,
-    place: u32,
+    index: u32,
     kept: &mut Vec<Item<C::V>>,
     point: Item<C::V>,
 ) -> Result<(), AllocError>
     requires entries { AreEntries (C.rules criterion.now) arena.entries.now arena.items.now }
-    requires place { place < length arena.entries.now }
+    requires index { index < length arena.entries.now }
     requires point { Admits (C.rules criterion.now) point.value }
     ensures { OnOk result (kept.new.items ≡ kept.old.items
-        ++ left_by (C.rules criterion.now) (front arena.entry.entries.now arena.entry.items.now place) (point
+        ++ left_by (C.rules criterion.now) (front arena.entry.entries.now arena.entry.items.now index) (point
         ∷ [])) }
 {
-    if !front_betters(criterion, arena, place, &point.value) {
+    if !front_betters(criterion, arena, index, &point.value) {
         kept.push(point)?;
     }
     Ok(())
 }
 
-/// Keeps the points of the front of entry `from` that the front of entry `place` doesn't better, instead of those
+/// Keeps the points of the front of entry `from` that the front of entry `index` doesn't better, instead of those
 /// kept before.
 pub fn keep_front<C: Criterion>(
     criterion: &C,
     arena: Arena<'_, '_, C::V>,
     from: u32,
-    place: u32,
+    index: u32,
     kept: &mut Vec<Item<C::V>>,
 ) -> Result<(), AllocError>
     requires entries { AreEntries (C.rules criterion.now) arena.entries.now arena.items.now }
-    requires place { place < length arena.entries.now }
+    requires index { index < length arena.entries.now }
     requires some { 0 < from }
     requires from { from < length arena.entries.now }
     ensures { OnOk result (kept.new.items ≡ left_by (C.rules criterion.now)
-        (front arena.entry.entries.now arena.entry.items.now place)
+        (front arena.entry.entries.now arena.entry.items.now index)
         (front arena.entry.entries.now arena.entry.items.now from)) }
 {
     kept.clear();
@@ -58,29 +58,29 @@ pub fn keep_front<C: Criterion>(
         value: entry.value,
         tag: entry.tag,
     };
-    keep_point(criterion, arena, place, kept, own)?;
+    keep_point(criterion, arena, index, kept, own)?;
     let others = part(arena.items, entry.rest, entry.count);
-    keep_each(criterion, arena, others, place, kept)?;
+    keep_each(criterion, arena, others, index, kept)?;
     Ok(())
 }
 
-// Adds to those kept the points that the front of entry `place` doesn't better.
+// Adds to those kept the points that the front of entry `index` doesn't better.
 fn keep_each<C: Criterion>(
     criterion: &C,
     arena: Arena<'_, '_, C::V>,
     points: &[Item<C::V>],
-    place: u32,
+    index: u32,
     kept: &mut Vec<Item<C::V>>,
 ) -> Result<(), AllocError>
     requires entries { AreEntries (C.rules criterion.now) arena.entries.now arena.items.now }
-    requires place { place < length arena.entries.now }
+    requires index { index < length arena.entries.now }
     requires points { (p : _) → Contains points.now p → Admits (C.rules criterion.now) p.value }
     ensures { OnOk result (kept.new.items ≡ kept.old.items
-        ++ left_by (C.rules criterion.now) (front arena.entry.entries.now arena.entry.items.now place) points.now) }
+        ++ left_by (C.rules criterion.now) (front arena.entry.entries.now arena.entry.items.now index) points.now) }
 {
     for k in 0..points.len() {
         let point = points[k];
-        keep_point(criterion, arena, place, kept, point)?;
+        keep_point(criterion, arena, index, kept, point)?;
     }
     Ok(())
 }
@@ -97,7 +97,7 @@ fn keep_value<V: Copy>(
     ensures keeps { OnOk result (IsKept steps.old.items kept.old.items departure value step steps.new.items
         kept.new.items) }
 {
-    let tag = place_of(steps.len())?;
+    let tag = index_of(steps.len())?;
     steps.push(step)?;
     kept.push(Item {
         departure,
@@ -107,34 +107,34 @@ fn keep_value<V: Copy>(
     Ok(())
 }
 
-/// Keeps the ridden values, each after the footpath, that the front of entry `place` doesn't better, instead of the
+/// Keeps the ridden values, each after the footpath, that the front of entry `index` doesn't better, instead of the
 /// points kept before.
 #[inline(always)]
 pub fn keep_walked<C: Criterion>(
     criterion: &C,
     arena: Arena<'_, '_, C::V>,
-    place: u32,
+    index: u32,
     steps: &mut Vec<Step>,
     kept: &mut Vec<Item<C::V>>,
     boarding: Boarding,
-    ridden: &[Ridden<C::V>],
+    ridden: &[RiddenLabel<C::V>],
 ) -> Result<(), AllocError>
     requires entries { AreEntries (C.rules criterion.now) arena.entries.now arena.items.now }
-    requires place { place < length arena.entries.now }
+    requires index { index < length arena.entries.now }
     requires secs { IsSecs boarding.secs }
     requires ridden { (r : _) → Contains ridden.now r → Admits (C.rules criterion.now) r.value }
     ensures more { Extends steps.old.items steps.new.items }
     ensures boarded { OnOk result (AreBoardings (C.rules criterion.now) steps.new.items boarding.departure
         boarding.first boarding.walk boarding.secs ridden.now kept.new.items) }
     ensures all { OnOk result (AllWalked (C.rules criterion.now)
-        (front arena.entry.entries.now arena.entry.items.now place) boarding.secs ridden.now (length ridden.now)
+        (front arena.entry.entries.now arena.entry.items.now index) boarding.secs ridden.now (length ridden.now)
         kept.new.items) }
 {
     kept.clear();
     for i in 0..ridden.len() {
         let ride = ridden[i];
         let value = criterion.walk(boarding.secs, &ride.value);
-        if !front_betters(criterion, arena, place, &value) {
+        if !front_betters(criterion, arena, index, &value) {
             let step = Step {
                 first: boarding.first,
                 label: ride.label,

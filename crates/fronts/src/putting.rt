@@ -7,14 +7,14 @@ ghost use Rattle.fronts.specs.Front.{front, departure_of, points_from, Extends};
 ghost use Rattle.fronts.specs.Entries.{AreEntries};
 ghost use Rattle.fronts.specs.Putting.{Follows, left_by, outdoes_alone, MayPut, IsUnion};
 
-use crate::entry::{Entry, Item};
+use crate::entry::{FrontEntry, Item};
 use crate::valued::some_no_worse;
 use criteria::Criterion;
 use std::alloc::AllocError;
 
 /// Returns a length as a 32-bit index. Past 2^32 - 1 it fails, as if memory had run out.
-pub fn place_of(len: usize) -> Result<u32, AllocError>
-    ensures place { IfOk result (λ place. place ≡ len) }
+pub fn index_of(len: usize) -> Result<u32, AllocError>
+    ensures index { IfOk result (λ index. index ≡ len) }
     ensures full { OnErr result (4294967295 < len) }
 {
     if len > u32::MAX as usize {
@@ -66,26 +66,26 @@ fn leave_part<C: Criterion>(
     Ok(())
 }
 
-// Pushes the points of the front of entry `place` that `points` don't better.
+// Pushes the points of the front of entry `index` that `points` don't better.
 #[inline(always)]
 fn leave_front<C: Criterion>(
     criterion: &C,
-    entries: &[Entry<C::V>],
+    entries: &[FrontEntry<C::V>],
     items: &mut Vec<Item<C::V>>,
     points: &[Item<C::V>],
-    place: u32,
+    index: u32,
 ) -> Result<(), AllocError>
     requires entries { AreEntries (C.rules criterion.now) entries.now items.old.items }
-    requires place { place < length entries.now }
+    requires index { index < length entries.now }
     requires points { (p : _) → Contains points.now p → Admits (C.rules criterion.now) p.value }
     ensures extends { Extends items.old.items items.new.items }
     ensures left { OnOk result (items.new.items ≡ items.old.items
-        ++ left_by (C.rules criterion.now) points.now (front entries.now items.old.items place)) }
+        ++ left_by (C.rules criterion.now) points.now (front entries.now items.old.items index)) }
 {
-    if place == 0 {
+    if index == 0 {
         return Ok(());
     }
-    let entry = entries[place as usize];
+    let entry = entries[index as usize];
     let own = Item {
         departure: entry.departure,
         value: entry.value,
@@ -108,16 +108,16 @@ fn push_others<V: Copy>(items: &mut Vec<Item<V>>, points: &[Item<V>]) -> Result<
     Ok(())
 }
 
-// The entry that follows a front which is put before the list of `entry`: `entry` itself, at `place`, or the next one
+// The entry that follows a front which is put before the list of `entry`: `entry` itself, at `index`, or the next one
 // if `entry` departs together with that front.
-fn follow<V: Copy>(entry: &Entry<V>, place: u32, departure: u32) -> u32
+fn follow<V: Copy>(entry: &FrontEntry<V>, index: u32, departure: u32) -> u32
     requires { departure ≤ entry.now.departure }
-    ensures { Follows entry.now.departure entry.now.next place departure result }
+    ensures { Follows entry.now.departure entry.now.next index departure result }
 {
     if entry.departure == departure {
         entry.next
     } else {
-        place
+        index
     }
 }
 
@@ -126,30 +126,30 @@ fn follow<V: Copy>(entry: &Entry<V>, place: u32, departure: u32) -> u32
 #[inline(always)]
 pub fn put<C: Criterion>(
     criterion: &C,
-    entries: &mut Vec<Entry<C::V>>,
+    entries: &mut Vec<FrontEntry<C::V>>,
     items: &mut Vec<Item<C::V>>,
     points: &[Item<C::V>],
-    place: u32,
+    index: u32,
     departure: u32,
 ) -> Result<u32, AllocError>
     requires entries { AreEntries (C.rules criterion.now) entries.old.items items.old.items }
-    requires may { MayPut (C.rules criterion.now) entries.old.items departure place points.now }
+    requires may { MayPut (C.rules criterion.now) entries.old.items departure index points.now }
     ensures entries { AreEntries (C.rules criterion.now) entries.new.items items.new.items }
     ensures more_entries { Extends entries.old.items entries.new.items }
     ensures more_items { Extends items.old.items items.new.items }
     ensures within { IfOk result (λ new. new < length entries.new.items) }
     ensures departs { IfOk result (λ new. departure_of entries.new.items new ≡ departure) }
     ensures union { IfOk result (λ new. IsUnion (C.rules criterion.now) points.now
-        (points_from entries.old.items items.old.items place) (points_from entries.new.items items.new.items new)) }
+        (points_from entries.old.items items.old.items index) (points_from entries.new.items items.new.items new)) }
 {
-    let new = place_of(entries.len())?;
-    let rest = place_of(items.len())?;
+    let new = index_of(entries.len())?;
+    let rest = index_of(items.len())?;
     push_others(items, points)?;
-    leave_front(criterion, entries, items, points, place)?;
-    let count = place_of(items.len() - rest as usize)?;
-    let next = follow(&entries[place as usize], place, departure);
+    leave_front(criterion, entries, items, points, index)?;
+    let count = index_of(items.len() - rest as usize)?;
+    let next = follow(&entries[index as usize], index, departure);
     let first = points[0];
-    let entry = Entry {
+    let entry = FrontEntry {
         departure,
         next,
         rest,
@@ -166,24 +166,24 @@ pub fn put<C: Criterion>(
 #[inline(always)]
 pub fn put_alone<C: Criterion>(
     criterion: &C,
-    entries: &mut Vec<Entry<C::V>>,
+    entries: &mut Vec<FrontEntry<C::V>>,
     items: &[Item<C::V>],
     point: Item<C::V>,
-    place: u32,
+    index: u32,
 ) -> Result<u32, AllocError>
     requires entries { AreEntries (C.rules criterion.now) entries.old.items items.now }
-    requires may { MayPut (C.rules criterion.now) entries.old.items point.departure place (point ∷ []) }
-    requires outdone { outdoes_alone (C.rules criterion.now) point.value (front entries.old.items items.now place)
+    requires may { MayPut (C.rules criterion.now) entries.old.items point.departure index (point ∷ []) }
+    requires outdone { outdoes_alone (C.rules criterion.now) point.value (front entries.old.items items.now index)
         ≡ true }
     ensures entries { AreEntries (C.rules criterion.now) entries.new.items items.now }
     ensures more_entries { Extends entries.old.items entries.new.items }
     ensures within { IfOk result (λ new. new < length entries.new.items) }
     ensures union { IfOk result (λ new. IsUnion (C.rules criterion.now) (point ∷ [])
-        (points_from entries.old.items items.now place) (points_from entries.new.items items.now new)) }
+        (points_from entries.old.items items.now index) (points_from entries.new.items items.now new)) }
 {
-    let new = place_of(entries.len())?;
-    let next = follow(&entries[place as usize], place, point.departure);
-    let entry = Entry {
+    let new = index_of(entries.len())?;
+    let next = follow(&entries[index as usize], index, point.departure);
+    let entry = FrontEntry {
         departure: point.departure,
         next,
         rest: 0,

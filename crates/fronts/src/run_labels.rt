@@ -8,20 +8,20 @@ ghost use Rattle.std.specs.Prelude.{◌≡◌, ◌+◌, ◌++◌, ◌∷◌, [],
 ghost use Rattle.std.specs.Prelude.{Contains, IfOk, OnOk, OnErr, false};
 ghost use Rattle.criteria.specs.Laws.{Rules, Admits};
 ghost use Rattle.fronts.specs.declared.labels.Label.{Label};
-ghost use Rattle.fronts.specs.declared.run_labels.Run.{Run};
+ghost use Rattle.fronts.specs.declared.run_labels.LabelRun.{LabelRun};
 ghost use Rattle.fronts.specs.Offered.{is_beaten, others};
 ghost use Rattle.fronts.specs.RunLabels.{AreRunLabels, ArePut, ArePartlyPut, StayRunLabels, labels_in, no_run};
 ghost use Rattle.fronts.specs.RunLabels.{run_labels, runs_of};
 
 use crate::labels::Label;
-use crate::putting::place_of;
+use crate::putting::index_of;
 use crate::valued::some_no_worse;
 use criteria::Criterion;
 use std::alloc::{AllocError, Global};
 
 /// Where a trip's labels are: `count` of them from index `first` on, where there is room for `room`.
 #[derive(Clone, Copy, Drop)]
-pub struct Run {
+pub struct LabelRun {
     pub first: u32,
     pub count: u32,
     pub room: u32,
@@ -30,7 +30,7 @@ pub struct Run {
 /// The labels of a number of trips. None of a trip's labels is no worse than another.
 #[derive(Drop)]
 pub struct RunLabels<V> {
-    runs: Vec<Run>,
+    runs: Vec<LabelRun>,
     labels: Vec<Label<V>>,
     // scratch memory: the labels of one trip
     kept: Vec<Label<V>>,
@@ -75,10 +75,10 @@ impl<V: Copy> RunLabels<V> {
 }
 
 // Returns `count` runs without labels or room.
-fn no_runs(alloc: Global, count: usize) -> Result<Vec<Run>, AllocError>
+fn no_runs(alloc: Global, count: usize) -> Result<Vec<LabelRun>, AllocError>
     ensures { IfOk result (λ runs. runs.items ≡ replicate count no_run) }
 {
-    let none = Run {
+    let none = LabelRun {
         first: 0,
         count: 0,
         room: 0,
@@ -87,7 +87,7 @@ fn no_runs(alloc: Global, count: usize) -> Result<Vec<Run>, AllocError>
 }
 
 // The labels of a run.
-fn part<V>(labels: &[Label<V>], run: Run) -> &[Label<V>]
+fn part<V>(labels: &[Label<V>], run: LabelRun) -> &[Label<V>]
     requires { run.first + run.count ≤ length labels.now }
     ensures { result.now ≡ labels_in labels.now run }
 {
@@ -142,32 +142,37 @@ fn write_over<V: Copy>(labels: &mut Vec<Label<V>>, first: u32, new: &[Label<V>])
 }
 
 // Puts labels at the end, with room for nearly as many again. Returns where they are.
-fn append<V: Copy>(labels: &mut Vec<Label<V>>, new: &[Label<V>]) -> Result<Run, AllocError>
+fn append<V: Copy>(labels: &mut Vec<Label<V>>, new: &[Label<V>]) -> Result<LabelRun, AllocError>
     requires some { 0 < length new.now }
-    ensures put { IfOk result (λ placed. (run : Run) → ArePut labels.old.items run new.now placed labels.new.items) }
+    ensures put { IfOk result (λ placed. (run : LabelRun)
+        → ArePut labels.old.items run new.now placed labels.new.items) }
     ensures err { OnErr result (ArePartlyPut labels.old.items new.now labels.new.items) }
 {
-    let first = place_of(labels.len())?;
+    let first = index_of(labels.len())?;
     labels.extend_from_slice(new)?;
     labels.extend_from_slice(&new[1..])?;
-    let room = place_of(labels.len() - first as usize)?;
-    let count = place_of(new.len())?;
-    Ok(Run { first, count, room })
+    let room = index_of(labels.len() - first as usize)?;
+    let count = index_of(new.len())?;
+    Ok(LabelRun { first, count, room })
 }
 
 // Puts labels where a run is, if it has room for them, or else at the end. Returns where they are.
-fn put<V: Copy>(labels: &mut Vec<Label<V>>, run: Run, new: &[Label<V>]) -> Result<Run, AllocError>
+fn put<V: Copy>(
+    labels: &mut Vec<Label<V>>,
+    run: LabelRun,
+    new: &[Label<V>],
+) -> Result<LabelRun, AllocError>
     requires some { 0 < length new.now }
     requires within { run.first + run.room ≤ length labels.old.items }
     ensures put { IfOk result (λ placed. ArePut labels.old.items run new.now placed labels.new.items) }
     ensures err { OnErr result (ArePartlyPut labels.old.items new.now labels.new.items) }
 {
-    let count = place_of(new.len())?;
+    let count = index_of(new.len())?;
     if count > run.room {
         return append(labels, new);
     }
     write_over(labels, run.first, new);
-    Ok(Run { count, ..run })
+    Ok(LabelRun { count, ..run })
 }
 
 /// Adds a value with its tag to the labels of a trip, unless one of them is no worse, and drops those that it is no
@@ -201,7 +206,7 @@ pub fn offer_run<C: Criterion>(
     if some_no_worse(criterion, part(&labels.labels, run), &value) {
         return Ok(false);
     }
-    let tag = place_of(tag)?;
+    let tag = index_of(tag)?;
     keep_others(
         criterion,
         part(&labels.labels, run),

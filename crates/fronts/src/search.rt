@@ -11,47 +11,47 @@ use crate::valued::some_no_worse;
 use criteria::Criterion;
 use std::alloc::AllocError;
 
-/// Whether a point of the front of entry `place` is no worse than a value (an equal one counts).
+/// Whether a point of the front of entry `index` is no worse than a value (an equal one counts).
 pub fn front_betters<C: Criterion>(
     criterion: &C,
     arena: Arena<'_, '_, C::V>,
-    place: u32,
+    index: u32,
     value: &C::V,
 ) -> bool
     requires entries { AreEntries (C.rules criterion.now) arena.entries.now arena.items.now }
-    requires place { place < length arena.entries.now }
+    requires index { index < length arena.entries.now }
     requires value { Admits (C.rules criterion.now) value.now }
-    ensures { result ≡ betters (C.rules criterion.now) (front arena.entry.entries.now arena.entry.items.now place)
+    ensures { result ≡ betters (C.rules criterion.now) (front arena.entry.entries.now arena.entry.items.now index)
         value.now }
 {
-    if place == 0 {
+    if index == 0 {
         return false;
     }
-    let entry = arena.entries[place as usize];
+    let entry = arena.entries[index as usize];
     if criterion.no_worse(&entry.value, value) {
         return true;
     }
     some_no_worse(criterion, part(arena.items, entry.rest, entry.count), value)
 }
 
-/// Whether the front of entry `place` has no point, or only one, than which the value is no worse.
+/// Whether the front of entry `index` has no point, or only one, than which the value is no worse.
 #[inline(always)]
 pub fn outdoes<C: Criterion>(
     criterion: &C,
     arena: Arena<'_, '_, C::V>,
-    place: u32,
+    index: u32,
     value: &C::V,
 ) -> bool
     requires entries { AreEntries (C.rules criterion.now) arena.entries.now arena.items.now }
-    requires place { place < length arena.entries.now }
+    requires index { index < length arena.entries.now }
     requires value { Admits (C.rules criterion.now) value.now }
     ensures { result ≡ outdoes_alone (C.rules criterion.now) value.now
-        (front arena.entry.entries.now arena.entry.items.now place) }
+        (front arena.entry.entries.now arena.entry.items.now index) }
 {
-    if place == 0 {
+    if index == 0 {
         return true;
     }
-    let entry = arena.entries[place as usize];
+    let entry = arena.entries[index as usize];
     if entry.count > 0 {
         return false;
     }
@@ -72,11 +72,11 @@ pub fn late<C: Criterion>(criterion: &C, arena: Arena<'_, '_, C::V>, head: u32, 
     requires head { head < length arena.entries.now }
     ensures { IsLate arena.entry.entries.now arena.entry.items.now head time result }
 {
-    let mut place = head;
-    while arena.entries[place as usize].departure < time {
-        place = arena.entries[place as usize].next;
+    let mut index = head;
+    while arena.entries[index as usize].departure < time {
+        index = arena.entries[index as usize].next;
     }
-    place
+    index
 }
 
 /// Returns the index of the first entry on a list that departs at a time or later, as [`late`] does. In `passed` it
@@ -90,15 +90,15 @@ pub fn pass<C: Criterion>(
 ) -> Result<u32, AllocError>
     requires entries { AreEntries (C.rules criterion.now) arena.entries.now arena.items.now }
     requires head { head < length arena.entries.now }
-    ensures late { IfOk result (λ place. IsLate arena.entry.entries.now arena.entry.items.now head time place) }
-    ensures path { IfOk result (λ place. IsPath arena.entry.entries.now head passed.new.items place) }
+    ensures late { IfOk result (λ index. IsLate arena.entry.entries.now arena.entry.items.now head time index) }
+    ensures path { IfOk result (λ index. IsPath arena.entry.entries.now head passed.new.items index) }
     ensures early { OnOk result (DepartBefore arena.entry.entries.now time passed.new.items) }
 {
     passed.clear();
-    let mut place = head;
-    while arena.entries[place as usize].departure < time {
-        passed.push(place)?;
-        place = arena.entries[place as usize].next;
+    let mut index = head;
+    while arena.entries[index as usize].departure < time {
+        passed.push(index)?;
+        index = arena.entries[index as usize].next;
     }
-    Ok(place)
+    Ok(index)
 }

@@ -11,7 +11,7 @@ ghost use Rattle.fronts.specs.SlotLabels.{AreSlots, label_in, no_tag, slot_label
 
 use crate::copying::copies;
 use crate::labels::Label;
-use crate::putting::place_of;
+use crate::putting::index_of;
 use criteria::Criterion;
 use std::alloc::{AllocError, Global};
 
@@ -88,7 +88,7 @@ fn slot_tag(number: usize) -> Result<u32, AllocError>
     ensures tag { IfOk result (λ tag. (tag ≡ number) × (tag < no_tag)) }
     ensures full { OnErr result (no_tag ≤ number) }
 {
-    let tag = place_of(number)?;
+    let tag = index_of(number)?;
     if tag >= NO_TAG {
         return Err(AllocError);
     }

@@ -9,7 +9,7 @@ use crate::labels::Label;
 use criteria::Criterion;
 
 /// A thing with a value.
-pub trait Valued<V> {
+pub trait HasValue<V> {
     // its value
     ghost value_of: { Self → V };
 
@@ -18,7 +18,7 @@ pub trait Valued<V> {
         ensures { result.now ≡ value_of self.now };
 }
 
-impl<V> Valued<V> for V {
+impl<V> HasValue<V> for V {
     ghost value_of = { λ value. value };
 
     #[inline(always)]
@@ -27,7 +27,7 @@ impl<V> Valued<V> for V {
     }
 }
 
-impl<V> Valued<V> for Item<V> {
+impl<V> HasValue<V> for Item<V> {
     ghost value_of = { λ item. item.value };
 
     #[inline(always)]
@@ -36,7 +36,7 @@ impl<V> Valued<V> for Item<V> {
     }
 }
 
-impl<V> Valued<V> for Label<V> {
+impl<V> HasValue<V> for Label<V> {
     ghost value_of = { λ label. label.value };
 
     #[inline(always)]
@@ -47,7 +47,7 @@ impl<V> Valued<V> for Label<V> {
 
 /// Whether one of some values, items or labels is no worse than a value (an equal one counts). Specs then say that
 /// points *better* the value, and that labels *beat* it. The loop goes over all of them, without a branch.
-pub fn some_no_worse<C: Criterion, T: Valued<C::V>>(
+pub fn some_no_worse<C: Criterion, T: HasValue<C::V>>(
     criterion: &C,
     points: &[T],
     value: &C::V,

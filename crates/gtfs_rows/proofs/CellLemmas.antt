@@ -9,7 +9,7 @@ use Rattle.std.proofs.lemmas.Bool.{eqb-true, ne_eqb}
 use Rattle.reasoning.proofs.BoolLemmas.{and-right}
 use Rattle.csv.specs.Records.{AllText, field_at}
 use Rattle.gtfs_rows.specs.Source.{AllRecordsText, Record}
-use Rattle.gtfs_rows.specs.Cells.{cell, column, kept_len, places_of, trim_front, trim_spaces}
+use Rattle.gtfs_rows.specs.Cells.{cell, column, kept_len, indices_of, trim_front, trim_spaces}
 
 -- a space at the end is not kept
 pub kept-space : (xs : List ℕ) → kept_len (xs ++ 32 ∷ []) ≡ kept_len xs
@@ -74,7 +74,7 @@ field_text (f ∷ rest) zero h = h.0
 field_text (f ∷ rest) (suc i) h = field_text rest i h.1
 
 -- a record of text has text in each cell
-pub cell_text : (place : Option ℕ) (r : Record) → AllText r → IsUtf8 (cell place r)
+pub cell_text : (index : Option ℕ) (r : Record) → AllText r → IsUtf8 (cell index r)
 cell_text None r h = IsUtf8-nil
 cell_text (Some i) r h = trim_text (unwrap_or (field_at r i) []) (field_text r i h)
 
@@ -96,7 +96,7 @@ pub column-later : (name : List ℕ) (header : Record) (i : ℕ) (f : List ℕ) 
 column-later name header i f e h = rw (e, h) refl
 
 -- the columns of lent names
-pub places_names : (names : List (Bor (List ℕ))) (header : Record)
-    → map (λ name. column name.now header) names ≡ places_of (map (λ name. name.now) names) header
-places_names [] header = refl
-places_names (n ∷ names) header = ap (λ places. column n.now header ∷ places) (places_names names header)
+pub indices_names : (names : List (Bor (List ℕ))) (header : Record)
+    → map (λ name. column name.now header) names ≡ indices_of (map (λ name. name.now) names) header
+indices_names [] header = refl
+indices_names (n ∷ names) header = ap (λ indices. column n.now header ∷ indices) (indices_names names header)

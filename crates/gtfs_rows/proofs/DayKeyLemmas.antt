@@ -27,9 +27,9 @@ same_parts (x ∷ xs) (u ∷ us) ys vs long whole =
     let parts = same_parts xs us ys vs long rest in
     (let same = parts.0 in cc, parts.1)
 
-pub told_from_key : (services others texts dates : List ℕ) (d e : Day) → day_of texts ≡ Some d → day_of dates ≡ Some e
+pub split_from_key : (services others texts dates : List ℕ) (d e : Day) → day_of texts ≡ Some d → day_of dates ≡ Some e
     → Some (services ++ texts) ≡ Some (others ++ dates) → (services ≡ others) × (d ≡ e)
-told_from_key services others texts dates d e one other same =
+split_from_key services others texts dates d e one other same =
     let whole : services ++ texts ≡ others ++ dates = cc in
     let long : length texts ≡ length dates = eight_bytes texts d one ∙ sym (eight_bytes dates e other) in
     let parts = same_parts services others texts dates long whole in

@@ -8,7 +8,7 @@ use Rattle.std.specs.Option.{option_to_list}
 use Rattle.std.specs.Str.{bytes_eq}
 use Rattle.gtfs_rows.specs.Source.{Record}
 use Rattle.gtfs_rows.specs.Faults.{fault_if, is_among, keys_of}
-use Rattle.gtfs_rows.specs.Cells.{Places}
+use Rattle.gtfs_rows.specs.Cells.{ColumnIndices}
 use Rattle.gtfs_rows.specs.Rows.{AreKept, StandsAt, key_fault, value}
 use Rattle.gtfs_rows.specs.declared.columns.Key.TheVariants as keys
 use Rattle.gtfs_rows.specs.declared.fault.FaultKind.TheVariants as kinds
@@ -45,19 +45,19 @@ no_keys [] r = refl
 no_keys (b ∷ bs) r = no_keys bs r
 
 -- records are judged by the text of the first
-pub shared_with : (k : ℕ) (places : Places) (before : List Record) (r : Record) (old : List (String Global))
-    (s : String Global) → AreKept (keys.Shared k) places before old
+pub shared_with : (k : ℕ) (indices : ColumnIndices) (before : List Record) (r : Record) (old : List (String Global))
+    (s : String Global) → AreKept (keys.Shared k) indices before old
     → slice_get old 0 ≡ Some s
-    → (key_fault (keys.Shared k) places before r
-    ≡ fault_if (not (bytes_eq (string_bytes s) (value places k r))) kinds.ZonesDiffer)
-    × AreKept (keys.Shared k) places (before ++ r ∷ []) old
-shared_with k places [] r [] s held there = cc
-shared_with k places [] r (x ∷ xs) s held there = cc
-shared_with k places (first ∷ rest) r [] s held there = cc
-shared_with k places (first ∷ rest) r (x ∷ xs) s held there =
+    → (key_fault (keys.Shared k) indices before r
+    ≡ fault_if (not (bytes_eq (string_bytes s) (value indices k r))) kinds.ZonesDiffer)
+    × AreKept (keys.Shared k) indices (before ++ r ∷ []) old
+shared_with k indices [] r [] s held there = cc
+shared_with k indices [] r (x ∷ xs) s held there = cc
+shared_with k indices (first ∷ rest) r [] s held there = cc
+shared_with k indices (first ∷ rest) r (x ∷ xs) s held there =
     let is : x ≡ s = cc in
-    let same : string_bytes x ≡ value places k first = cc in
-    (ap (λ (text : List ℕ). fault_if (not (bytes_eq text (value places k r))) kinds.ZonesDiffer) (sym same ∙ ap string_bytes is), held)
+    let same : string_bytes x ≡ value indices k first = cc in
+    (ap (λ (text : List ℕ). fault_if (not (bytes_eq text (value indices k r))) kinds.ZonesDiffer) (sym same ∙ ap string_bytes is), held)
 
 -- two facts on one result
 pub on_ok_both : {T E P Q S : Type 0} (r : Result T E) → (P → Q → S) → OnOk r P → OnOk r Q → OnOk r S

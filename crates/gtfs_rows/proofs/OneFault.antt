@@ -7,7 +7,7 @@ use Rattle.std.proofs.lemmas.Option.{none-some, same_Some}
 use Rattle.std.proofs.lemmas.Str.{IsUtf8-from_is_utf8, is_utf8-from_IsUtf8}
 use Rattle.reasoning.proofs.BoolLemmas.{where_true}
 use Rattle.gtfs_rows.specs.Source.{Record, table_records}
-use Rattle.gtfs_rows.specs.Cells.{Places, has_required, places_of}
+use Rattle.gtfs_rows.specs.Cells.{ColumnIndices, has_required, indices_of}
 use Rattle.gtfs_rows.specs.Faults.{HoldsFile, HoldsRecords, IsFaultOf, IsFaultOfRecords, IsFirstFault, Judge, Shape, fault_at, judge_under}
 use Rattle.gtfs_rows.specs.declared.fault.FaultKind.{FaultKind}
 use Rattle.gtfs_rows.specs.declared.fault.FaultKind.TheVariants as kinds
@@ -35,7 +35,7 @@ one_of_records : (s : Shape) (records : List Record) (n m : ℕ) (kind other : F
     → IsFaultOfRecords s records n kind → IsFaultOfRecords s records m other → (n ≡ m) × (kind ≡ other)
 one_of_records s [] n m kind other a b = (a.0 ∙ sym b.0, a.1 ∙ sym b.1)
 one_of_records s (header ∷ records) n m kind other a b =
-    one_under (has_required s.required (places_of s.names header)) (judge_under s header) records n m kind other a b
+    one_under (has_required s.required (indices_of s.names header)) (judge_under s header) records n m kind other a b
 
 pub one_fault : (s : Shape) (bytes : List ℕ) (n m : ℕ) (kind other : FaultKind) → IsFaultOf s bytes n kind
     → IsFaultOf s bytes m other → (n ≡ m) × (kind ≡ other)
@@ -51,15 +51,15 @@ one_fault s bytes n m kind other a b = by (cases_Bool (is_utf8 bytes))
         let y : (m ≡ 0) × (other ≡ kinds.BadUtf8) = b.1 no_text in
         (x.0 ∙ sym y.0, x.1 ∙ sym y.1)
 
-no_fault_of_records : {T : Type 0} (s : Shape) (holds : Places → List Record → T → Type 0) (records : List Record) (t : T) (n : ℕ) (kind : FaultKind)
+no_fault_of_records : {T : Type 0} (s : Shape) (holds : ColumnIndices → List Record → T → Type 0) (records : List Record) (t : T) (n : ℕ) (kind : FaultKind)
     → HoldsRecords s holds records t → IsFaultOfRecords s records n kind → ⊥
 no_fault_of_records s holds [] t n kind held fault = held
 no_fault_of_records s holds (header ∷ records) t n kind held fault =
-    let (k, n_is, first) = where_true (has_required s.required (places_of s.names header)) ((k : ℕ) × (n ≡ k + 1)
+    let (k, n_is, first) = where_true (has_required s.required (indices_of s.names header)) ((k : ℕ) × (n ≡ k + 1)
     × IsFirstFault (judge_under s header) records k kind) ((n ≡ 0) × (kind ≡ kinds.MissingColumn)) held.0 fault in
     none-some kind (sym (held.1 k first.within) ∙ first.here)
 
-pub no_fault : {T : Type 0} (s : Shape) (holds : Places → List Record → T
+pub no_fault : {T : Type 0} (s : Shape) (holds : ColumnIndices → List Record → T
     → Type 0) (bytes : List ℕ) (t : T) (n : ℕ) (kind : FaultKind) → HoldsFile s holds bytes t → IsFaultOf s bytes n kind
     → ⊥
 no_fault s holds bytes t n kind held fault = no_fault_of_records s holds (table_records bytes) t n kind held.1 (fault.0 held.0)

@@ -13,7 +13,7 @@ use Rattle.reasoning.proofs.ListLemmas.{all_zip-push}
 use Rattle.reasoning.proofs.OrderLemmas.{texts_differ}
 use Rattle.indexmap.specs.IndexSet.{insert_key}
 use Rattle.gtfs_rows.specs.Source.{Record}
-use Rattle.gtfs_rows.specs.Cells.{Places}
+use Rattle.gtfs_rows.specs.Cells.{ColumnIndices}
 use Rattle.gtfs_rows.specs.Ids.{first_seen, given_also, is_given, seen_also}
 use Rattle.gtfs_rows.specs.Rows.{IsStopId, SpellsStopTime, StandsAt, stop_ids, trip_ids, value}
 use Rattle.gtfs_rows.specs.declared.rows.StopTimeRow.{StopTimeRow}
@@ -83,24 +83,25 @@ first_seen_more (x ∷ texts) t = ap (λ (seen : List (List ℕ)). x
     ∷ filter (λ other. not (bytes_eq x other)) seen) (first_seen_more texts t) ∙ one_more x (first_seen texts) t
 
 -- the ids of one record more
-pub trips_more : (places : Places) (before : List Record) (r : Record) (ids new : List (List ℕ)) → ids ≡ first_seen (trip_ids places before)
-    → new ≡ seen_also ids (value places 0 r) → new ≡ first_seen (trip_ids places (before ++ r ∷ []))
-trips_more places before r ids new held e =
-    let one : trip_ids places (before ++ r ∷ []) ≡ trip_ids places before ++ value places 0 r ∷ [] = map-append (value places 0) before (r ∷ []) in
-    e ∙ ap (λ (seen : List (List ℕ)). seen_also seen (value places 0 r)) held
-    ∙ sym (ap first_seen one ∙ first_seen_more (trip_ids places before) (value places 0 r))
+pub trips_more : (indices : ColumnIndices) (before : List Record) (r : Record) (ids new : List (List ℕ)) → ids ≡ first_seen (trip_ids indices before)
+    → new ≡ seen_also ids (value indices 0 r) → new ≡ first_seen (trip_ids indices (before ++ r ∷ []))
+trips_more indices before r ids new held e =
+    let one : trip_ids indices (before ++ r ∷ []) ≡ trip_ids indices before ++ value indices 0 r ∷ [] = map-append (value indices 0) before (r ∷ []) in
+    e ∙ ap (λ (seen : List (List ℕ)). seen_also seen (value indices 0 r)) held
+    ∙ sym (ap first_seen one ∙ first_seen_more (trip_ids indices before) (value indices 0 r))
 
 given_more : (texts : List (List ℕ)) (t : List ℕ) → first_seen (filter is_given (texts ++ t ∷ [])) ≡ given_also (first_seen (filter is_given texts)) t
 given_more texts [] = ap first_seen (drops_last is_given texts [] refl)
 given_more texts (b ∷ t) = ap first_seen (keeps_last is_given texts (b ∷ t) refl) ∙ first_seen_more (filter is_given texts) (b ∷ t)
 
-pub stops_more : (places : Places) (before : List Record) (r : Record) (ids new : List (List ℕ)) → ids ≡ first_seen (stop_ids places before)
-    → new ≡ given_also ids (value places 3 r) → new ≡ first_seen (stop_ids places (before ++ r ∷ []))
-stops_more places before r ids new held e =
-    let one : map (value places 3) (before ++ r ∷ []) ≡ map (value places 3) before ++ value places 3 r ∷ [] = map-append (value places 3) before (r ∷ []) in
-    e ∙ ap (λ (seen : List (List ℕ)). given_also seen (value places 3 r)) held
+pub stops_more : (indices : ColumnIndices) (before : List Record) (r : Record) (ids new : List (List ℕ)) → ids ≡ first_seen (stop_ids indices before)
+    → new ≡ given_also ids (value indices 3 r) → new ≡ first_seen (stop_ids indices (before ++ r ∷ []))
+stops_more indices before r ids new held e =
+    let one : map (value indices 3) (before ++ r ∷ []) ≡ map (value indices 3) before ++ value indices 3 r ∷ [] = map-append (value indices 3) before (r ∷ [])
+    in
+    e ∙ ap (λ (seen : List (List ℕ)). given_also seen (value indices 3 r)) held
     ∙ sym (ap (λ (texts : List (List ℕ)). first_seen (filter is_given texts)) one
-    ∙ given_more (map (value places 3) before) (value places 3 r))
+    ∙ given_more (map (value indices 3) before) (value indices 3 r))
 
 -- a text that stands somewhere is among the texts
 pub stands_among : (texts : List (List ℕ)) (k : ℕ) (text : List ℕ) → StandsAt texts k text → texts ≡ seen_also texts text
@@ -143,35 +144,35 @@ stands_given texts [] k text h = h
 stands_given texts (b ∷ new) k text h = stands_also texts (b ∷ new) k text h
 
 -- rows of stop times as more ids are seen
-stop_id_also : (stops : List (List ℕ)) (new : List ℕ) (place : Option ℕ) (text : List ℕ) → IsStopId stops place text
-    → IsStopId (given_also stops new) place text
+stop_id_also : (stops : List (List ℕ)) (new : List ℕ) (index : Option ℕ) (text : List ℕ) → IsStopId stops index text
+    → IsStopId (given_also stops new) index text
 stop_id_also stops new None text h = h
 stop_id_also stops new (Some k) text h = (h.0, stands_given stops new k text h.1)
 
-spells_also : (trips stops : List (List ℕ)) (trip stop : List ℕ) (places : Places) (records : List Record) (rows : List StopTimeRow)
-    → AllZip (SpellsStopTime trips stops places) records rows → AllZip (SpellsStopTime (seen_also trips trip) (given_also stops stop) places) records rows
-spells_also trips stops trip stop places [] [] h = h
-spells_also trips stops trip stop places [] (row ∷ rows) h = absurd h
-spells_also trips stops trip stop places (r ∷ records) [] h = absurd h
-spells_also trips stops trip stop places (r ∷ records) (row ∷ rows) h = (
+spells_also : (trips stops : List (List ℕ)) (trip stop : List ℕ) (indices : ColumnIndices) (records : List Record) (rows : List StopTimeRow)
+    → AllZip (SpellsStopTime trips stops indices) records rows → AllZip (SpellsStopTime (seen_also trips trip) (given_also stops stop) indices) records rows
+spells_also trips stops trip stop indices [] [] h = h
+spells_also trips stops trip stop indices [] (row ∷ rows) h = absurd h
+spells_also trips stops trip stop indices (r ∷ records) [] h = absurd h
+spells_also trips stops trip stop indices (r ∷ records) (row ∷ rows) h = (
   record {
-    trip = stands_also trips trip row.trip (value places 0 r) h.0.trip;
+    trip = stands_also trips trip row.trip (value indices 0 r) h.0.trip;
     arrival = h.0.arrival;
     departure = h.0.departure;
-    stop = stop_id_also stops stop row.stop (value places 3 r) h.0.stop;
+    stop = stop_id_also stops stop row.stop (value indices 3 r) h.0.stop;
     sequence = h.0.sequence;
     board = h.0.board;
     alight = h.0.alight;
   },
-  spells_also trips stops trip stop places records rows h.1,
+  spells_also trips stops trip stop indices records rows h.1,
 )
 
 -- the rows of one record more
-pub rows_more : (trips stops new_trips new_stops : List (List ℕ)) (trip stop : List ℕ) (places : Places)
+pub rows_more : (trips stops new_trips new_stops : List (List ℕ)) (trip stop : List ℕ) (indices : ColumnIndices)
     (before : List Record) (r : Record) (rows new : List StopTimeRow) (row : StopTimeRow)
     → new_trips ≡ seen_also trips trip → new_stops ≡ given_also stops stop → new ≡ rows ++ row ∷ []
-    → AllZip (SpellsStopTime trips stops places) before rows → SpellsStopTime new_trips new_stops places r row
-    → AllZip (SpellsStopTime new_trips new_stops places) (before ++ r ∷ []) new
-rows_more trips stops new_trips new_stops trip stop places before r rows new row t s n held spelled =
-    let earlier : AllZip (SpellsStopTime new_trips new_stops places) before rows = rw (t, s) (spells_also trips stops trip stop places before rows held) in
-    rw n (all_zip-push (SpellsStopTime new_trips new_stops places) before rows r row earlier spelled)
+    → AllZip (SpellsStopTime trips stops indices) before rows → SpellsStopTime new_trips new_stops indices r row
+    → AllZip (SpellsStopTime new_trips new_stops indices) (before ++ r ∷ []) new
+rows_more trips stops new_trips new_stops trip stop indices before r rows new row t s n held spelled =
+    let earlier : AllZip (SpellsStopTime new_trips new_stops indices) before rows = rw (t, s) (spells_also trips stops trip stop indices before rows held) in
+    rw n (all_zip-push (SpellsStopTime new_trips new_stops indices) before rows r row earlier spelled)

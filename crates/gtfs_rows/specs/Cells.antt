@@ -28,15 +28,15 @@ abbrev pub column : List ℕ → Record → Option ℕ
 column name header = column_from name 0 header
 
 -- the index in the header of each of a table's columns
-abbrev pub Places : Type 0
-Places = List (Option ℕ)
+abbrev pub ColumnIndices : Type 0
+ColumnIndices = List (Option ℕ)
 
-abbrev pub places_of : List (List ℕ) → Record → Places
-places_of names header = map (λ name. column name header) names
+abbrev pub indices_of : List (List ℕ) → Record → ColumnIndices
+indices_of names header = map (λ name. column name header) names
 
 -- all required columns, which come first, are there
-abbrev pub has_required : ℕ → Places → Bool
-has_required required places = list_all is_some (take required places)
+abbrev pub has_required : ℕ → ColumnIndices → Bool
+has_required required indices = list_all is_some (take required indices)
 
 -- a record's value in a column, without spaces around it; blank if the column is absent
 abbrev pub cell : Option ℕ → Record → List ℕ

@@ -6,7 +6,7 @@ use Rattle.std.specs.List.{AllZip, list_any}
 use Rattle.std.specs.Option.{option_to_list}
 use Rattle.std.specs.Str.{bytes_eq}
 use Rattle.gtfs_rows.specs.Source.{Record, table_records}
-use Rattle.gtfs_rows.specs.Cells.{Places, has_required, places_of}
+use Rattle.gtfs_rows.specs.Cells.{ColumnIndices, has_required, indices_of}
 use Rattle.gtfs_rows.specs.declared.fault.FaultKind.{FaultKind}
 use Rattle.gtfs_rows.specs.declared.fault.FaultKind.TheVariants as kinds
 
@@ -37,15 +37,15 @@ length_first width judge before r = if length r == width then judge before r els
 pub record Shape : Type 0 where
   pub names : List (List ℕ)
   pub required : ℕ
-  pub judge : Places → Judge
+  pub judge : ColumnIndices → Judge
 
 abbrev pub judge_under : Shape → Record → Judge
-judge_under s header = length_first (length header) (s.judge (places_of s.names header))
+judge_under s header = length_first (length header) (s.judge (indices_of s.names header))
 
 -- the first fault of a table with this header, and the number of the record; 0 stands for the file
 abbrev pub IsFaultUnder : Shape → Record → List Record → ℕ → FaultKind → Type 0
 IsFaultUnder s header records n kind =
-    MatchBool (has_required s.required (places_of s.names header))
+    MatchBool (has_required s.required (indices_of s.names header))
     ((k : ℕ) × (n ≡ k + 1) × IsFirstFault (judge_under s header) records k kind)
     ((n ≡ 0) × (kind ≡ kinds.MissingColumn))
 
@@ -60,21 +60,21 @@ IsFaultOf s bytes n kind =
     (IsUtf8 bytes → IsFaultOfRecords s (table_records bytes) n kind) × (¬ (IsUtf8 bytes) → (n ≡ 0) × (kind ≡ kinds.BadUtf8))
 
 -- the header has the required columns, the records have no fault, and the table holds them
-abbrev pub HoldsUnder : {T : Type 0} → Shape → (Places → List Record → T → Type 0) → Record → List Record → T → Type 0
+abbrev pub HoldsUnder : {T : Type 0} → Shape → (ColumnIndices → List Record → T → Type 0) → Record → List Record → T → Type 0
 HoldsUnder s holds header records table =
-    (has_required s.required (places_of s.names header) ≡ true) × IsFaultless (judge_under s header) records
-    × holds (places_of s.names header) records table
+    (has_required s.required (indices_of s.names header) ≡ true) × IsFaultless (judge_under s header) records
+    × holds (indices_of s.names header) records table
 
-abbrev pub HoldsRecords : {T : Type 0} → Shape → (Places → List Record → T → Type 0) → List Record → T → Type 0
+abbrev pub HoldsRecords : {T : Type 0} → Shape → (ColumnIndices → List Record → T → Type 0) → List Record → T → Type 0
 HoldsRecords s holds [] table = ⊥
 HoldsRecords s holds (header ∷ records) table = HoldsUnder s holds header records table
 
-abbrev pub HoldsFile : {T : Type 0} → Shape → (Places → List Record → T → Type 0) → List ℕ → T → Type 0
+abbrev pub HoldsFile : {T : Type 0} → Shape → (ColumnIndices → List Record → T → Type 0) → List ℕ → T → Type 0
 HoldsFile s holds bytes table = IsUtf8 bytes × HoldsRecords s holds (table_records bytes) table
 
 -- the bytes have no fault, and each record spells the row of the same index
-abbrev pub HoldsRows : {R : Type 0} → Shape → (Places → Record → R → Type 0) → List ℕ → List R → Type 0
-HoldsRows s spells bytes rows = HoldsFile s (λ places records table. AllZip (spells places) records table) bytes rows
+abbrev pub HoldsRows : {R : Type 0} → Shape → (ColumnIndices → Record → R → Type 0) → List ℕ → List R → Type 0
+HoldsRows s spells bytes rows = HoldsFile s (λ indices records table. AllZip (spells indices) records table) bytes rows
 
 -- the first of two faults, if either is there
 abbrev pub or_fault : Option FaultKind → Option FaultKind → Option FaultKind

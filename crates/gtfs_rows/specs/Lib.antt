@@ -5,5 +5,5 @@ pub mod Positions
 pub mod Rows
 pub mod Source
 pub mod Tables
-pub mod Told
+pub mod FaultNumber
 pub mod Values

@@ -6,7 +6,7 @@ use Rattle.std.specs.Str.{bytes_eq}
 use Rattle.std.specs.String.{string_bytes}
 use Rattle.std.specs.declared.alloc.Global.{Global}
 use Rattle.gtfs_rows.specs.Source.{Record}
-use Rattle.gtfs_rows.specs.Cells.{Places, cell}
+use Rattle.gtfs_rows.specs.Cells.{ColumnIndices, cell}
 use Rattle.gtfs_rows.specs.Faults.{Judge, fault_if, fault_unless, is_among, keys_of, or_fault}
 use Rattle.gtfs_rows.specs.Ids.{first_seen, is_given}
 use Rattle.gtfs_rows.specs.Values.{day_of, number_of, time_of}
@@ -33,40 +33,40 @@ use Rattle.gtfs_rows.specs.declared.rows.TripRow.{TripRow}
 use Rattle.gtfs_rows.specs.declared.stop_times.StopTimes.{StopTimes}
 
 -- a record's value in the k-th of a table's columns, counted from 0
-abbrev pub value : Places → ℕ → Record → List ℕ
-value places k r = cell (slice_index_or places k None) r
+abbrev pub value : ColumnIndices → ℕ → Record → List ℕ
+value indices k r = cell (slice_index_or indices k None) r
 
 -- nothing is wrong with any values
-abbrev pub no_fault : Places → Record → Option FaultKind
-no_fault places r = None
+abbrev pub no_fault : ColumnIndices → Record → Option FaultKind
+no_fault indices r = None
 
 -- a record's key, if the table has one: the text of its key column, or the texts of both joined
-abbrev pub key_by : Key → Places → Record → Option (List ℕ)
-key_by (keys.Column k) places = λ r. Some (value places k r)
-key_by (keys.Columns j k) places = λ r. Some (value places j r ++ value places k r)
-key_by _ places = λ r. None
+abbrev pub key_by : Key → ColumnIndices → Record → Option (List ℕ)
+key_by (keys.Column k) indices = λ r. Some (value indices k r)
+key_by (keys.Columns j k) indices = λ r. Some (value indices j r ++ value indices k r)
+key_by _ indices = λ r. None
 
 -- what is wrong with a record's key: an earlier record has it, or the text that all share differs from the first record's
-abbrev pub key_fault : Key → Places → Judge
-key_fault (keys.Shared k) places [] r = None
-key_fault (keys.Shared k) places (first ∷ rest) r = fault_if (not (bytes_eq (value places k first) (value places k r))) kinds.ZonesDiffer
-key_fault key places before r = fault_if (is_among (key_by key places r) (keys_of (key_by key places) before)) kinds.IdTwice
+abbrev pub key_fault : Key → ColumnIndices → Judge
+key_fault (keys.Shared k) indices [] r = None
+key_fault (keys.Shared k) indices (first ∷ rest) r = fault_if (not (bytes_eq (value indices k first) (value indices k r))) kinds.ZonesDiffer
+key_fault key indices before r = fault_if (is_among (key_by key indices r) (keys_of (key_by key indices) before)) kinds.IdTwice
 
 -- the keys of the records, or the text that they all share
-abbrev pub texts_kept : Key → Places → List Record → List (List ℕ)
-texts_kept (keys.Shared k) places [] = []
-texts_kept (keys.Shared k) places (first ∷ rest) = value places k first ∷ []
-texts_kept key places records = keys_of (key_by key places) records
+abbrev pub texts_kept : Key → ColumnIndices → List Record → List (List ℕ)
+texts_kept (keys.Shared k) indices [] = []
+texts_kept (keys.Shared k) indices (first ∷ rest) = value indices k first ∷ []
+texts_kept key indices records = keys_of (key_by key indices) records
 
 -- the set holds them, in this order
-abbrev pub AreKept : Key → Places → List Record → List (String Global) → Type 0
-AreKept key places records keys = map string_bytes keys ≡ texts_kept key places records
+abbrev pub AreKept : Key → ColumnIndices → List Record → List (String Global) → Type 0
+AreKept key indices records keys = map string_bytes keys ≡ texts_kept key indices records
 
 -- ---- agency.txt: the time zone, which all records share
 
 -- the row has the time zone of the record
-pub record SpellsAgency (places : Places) (r : Record) (row : AgencyRow) : Type 0 where
-  pub zone : string_bytes row.zone ≡ value places 0 r
+pub record SpellsAgency (indices : ColumnIndices) (r : Record) (row : AgencyRow) : Type 0 where
+  pub zone : string_bytes row.zone ≡ value indices 0 r
 
 -- ---- stops.txt: id, location_type, parent_station
 
@@ -78,17 +78,17 @@ location_of (Some n) = if n == 1 then locations.Station else
     (if n == 4 then locations.BoardingArea else locations.Stop)))
 
 -- the row has the record's id, the kind of place, and the parent_station, blank if there is none
-pub record SpellsStop (places : Places) (r : Record) (row : StopRow) : Type 0 where
-  pub id : string_bytes row.id ≡ value places 0 r
-  pub location : row.location ≡ location_of (number_of (value places 1 r))
-  pub parent : string_bytes row.parent ≡ value places 2 r
+pub record SpellsStop (indices : ColumnIndices) (r : Record) (row : StopRow) : Type 0 where
+  pub id : string_bytes row.id ≡ value indices 0 r
+  pub location : row.location ≡ location_of (number_of (value indices 1 r))
+  pub parent : string_bytes row.parent ≡ value indices 2 r
 
 -- ---- trips.txt: service_id, trip_id
 
 -- the row has the record's ids of the service and of the trip
-pub record SpellsTrip (places : Places) (r : Record) (row : TripRow) : Type 0 where
-  pub service : string_bytes row.service ≡ value places 0 r
-  pub id : string_bytes row.id ≡ value places 1 r
+pub record SpellsTrip (indices : ColumnIndices) (r : Record) (row : TripRow) : Type 0 where
+  pub service : string_bytes row.service ≡ value indices 0 r
+  pub id : string_bytes row.id ≡ value indices 1 r
 
 -- ---- stop_times.txt: trip_id, arrival_time, departure_time, stop_id, stop_sequence, pickup_type, drop_off_type
 
@@ -103,9 +103,9 @@ time_fault [] = None
 time_fault (b ∷ rest) = fault_unless (time_of (b ∷ rest)) kinds.BadTime
 
 -- what is wrong with a record: its arrival_time, then its departure_time, then its stop_sequence
-abbrev pub stop_time_fault : Places → Record → Option FaultKind
-stop_time_fault places r =
-    or_fault (time_fault (value places 1 r)) (or_fault (time_fault (value places 2 r)) (fault_unless (number_of (value places 4 r)) kinds.BadNumber))
+abbrev pub stop_time_fault : ColumnIndices → Record → Option FaultKind
+stop_time_fault indices r =
+    or_fault (time_fault (value indices 1 r)) (or_fault (time_fault (value indices 2 r)) (fault_unless (number_of (value indices 4 r)) kinds.BadNumber))
 
 -- passengers may board, or alight, unless the type is 1
 abbrev pub is_available : Option ℕ → Bool
@@ -122,28 +122,28 @@ IsStopId stops None text = text ≡ []
 IsStopId stops (Some k) text = (text ≢ []) × StandsAt stops k text
 
 -- the row has the values of the record; its trip and its stop are indices of the ids
-pub record SpellsStopTime (trips stops : List (List ℕ)) (places : Places) (r : Record) (row : StopTimeRow) : Type 0 where
-  pub trip : StandsAt trips row.trip (value places 0 r)
-  pub arrival : row.arrival ≡ given_time (value places 1 r)
-  pub departure : row.departure ≡ given_time (value places 2 r)
-  pub stop : IsStopId stops row.stop (value places 3 r)
-  pub sequence : number_of (value places 4 r) ≡ Some row.sequence
-  pub board : row.board ≡ is_available (number_of (value places 5 r))
-  pub alight : row.alight ≡ is_available (number_of (value places 6 r))
+pub record SpellsStopTime (trips stops : List (List ℕ)) (indices : ColumnIndices) (r : Record) (row : StopTimeRow) : Type 0 where
+  pub trip : StandsAt trips row.trip (value indices 0 r)
+  pub arrival : row.arrival ≡ given_time (value indices 1 r)
+  pub departure : row.departure ≡ given_time (value indices 2 r)
+  pub stop : IsStopId stops row.stop (value indices 3 r)
+  pub sequence : number_of (value indices 4 r) ≡ Some row.sequence
+  pub board : row.board ≡ is_available (number_of (value indices 5 r))
+  pub alight : row.alight ≡ is_available (number_of (value indices 6 r))
 
 -- the trip_ids of records, and those of their stop_ids that aren't blank
-abbrev pub trip_ids : Places → List Record → List (List ℕ)
-trip_ids places records = map (value places 0) records
+abbrev pub trip_ids : ColumnIndices → List Record → List (List ℕ)
+trip_ids indices records = map (value indices 0) records
 
-abbrev pub stop_ids : Places → List Record → List (List ℕ)
-stop_ids places records = filter is_given (map (value places 3) records)
+abbrev pub stop_ids : ColumnIndices → List Record → List (List ℕ)
+stop_ids indices records = filter is_given (map (value indices 3) records)
 
 -- the records spell the rows, and the ids are those that the records name: each once, in the order in which they are
 -- first seen
-pub record AreStopTimes (places : Places) (records : List Record) (t : StopTimes) : Type 0 where
-  pub trips : map string_bytes t.trips.keys ≡ first_seen (trip_ids places records)
-  pub stops : map string_bytes t.stops.keys ≡ first_seen (stop_ids places records)
-  pub rows : AllZip (SpellsStopTime (map string_bytes t.trips.keys) (map string_bytes t.stops.keys) places) records t.rows.items
+pub record AreStopTimes (indices : ColumnIndices) (records : List Record) (t : StopTimes) : Type 0 where
+  pub trips : map string_bytes t.trips.keys ≡ first_seen (trip_ids indices records)
+  pub stops : map string_bytes t.stops.keys ≡ first_seen (stop_ids indices records)
+  pub rows : AllZip (SpellsStopTime (map string_bytes t.trips.keys) (map string_bytes t.stops.keys) indices) records t.rows.items
 
 -- ---- calendar.txt: service_id, monday to sunday, start_date, end_date
 
@@ -159,25 +159,25 @@ all_some (None ∷ rest) = None
 all_some (Some x ∷ rest) = option_map (λ xs. x ∷ xs) (all_some rest)
 
 -- whether a service runs on the weekday of the k-th column
-abbrev pub weekday : Places → Record → ℕ → Option Bool
-weekday places r k = flag_of (number_of (value places k r))
+abbrev pub weekday : ColumnIndices → Record → ℕ → Option Bool
+weekday indices r k = flag_of (number_of (value indices k r))
 
 -- whether a service runs on each weekday, Monday first; none if one of the seven columns is neither 0 nor 1
-abbrev pub weekdays_of : Places → Record → Option (List Bool)
-weekdays_of places r = all_some (map (weekday places r) (1 ∷ 2 ∷ 3 ∷ 4 ∷ 5 ∷ 6 ∷ 7 ∷ []))
+abbrev pub weekdays_of : ColumnIndices → Record → Option (List Bool)
+weekdays_of indices r = all_some (map (weekday indices r) (1 ∷ 2 ∷ 3 ∷ 4 ∷ 5 ∷ 6 ∷ 7 ∷ []))
 
 -- what is wrong with a record: its weekdays, then its start_date, then its end_date
-abbrev pub calendar_fault : Places → Record → Option FaultKind
-calendar_fault places r =
-    or_fault (fault_unless (weekdays_of places r) kinds.BadNumber)
-    (or_fault (fault_unless (day_of (value places 8 r)) kinds.BadDate) (fault_unless (day_of (value places 9 r)) kinds.BadDate))
+abbrev pub calendar_fault : ColumnIndices → Record → Option FaultKind
+calendar_fault indices r =
+    or_fault (fault_unless (weekdays_of indices r) kinds.BadNumber)
+    (or_fault (fault_unless (day_of (value indices 8 r)) kinds.BadDate) (fault_unless (day_of (value indices 9 r)) kinds.BadDate))
 
 -- the row has the id of the service, the weekdays on which it runs, and its first and its last date
-pub record SpellsCalendar (places : Places) (r : Record) (row : CalendarRow) : Type 0 where
-  pub service : string_bytes row.service ≡ value places 0 r
-  pub weekdays : weekdays_of places r ≡ Some row.weekdays
-  pub start : day_of (value places 8 r) ≡ Some row.start
-  pub end : day_of (value places 9 r) ≡ Some row.end
+pub record SpellsCalendar (indices : ColumnIndices) (r : Record) (row : CalendarRow) : Type 0 where
+  pub service : string_bytes row.service ≡ value indices 0 r
+  pub weekdays : weekdays_of indices r ≡ Some row.weekdays
+  pub start : day_of (value indices 8 r) ≡ Some row.start
+  pub end : day_of (value indices 9 r) ≡ Some row.end
 
 -- ---- calendar_dates.txt: service_id, date, exception_type
 
@@ -187,15 +187,15 @@ exception_of None = None
 exception_of (Some n) = if n == 1 then Some exceptions.Added else (if n == 2 then Some exceptions.Removed else None)
 
 -- what is wrong with a record: its date, then its exception_type
-abbrev pub calendar_date_fault : Places → Record → Option FaultKind
-calendar_date_fault places r =
-    or_fault (fault_unless (day_of (value places 1 r)) kinds.BadDate) (fault_unless (exception_of (number_of (value places 2 r))) kinds.BadNumber)
+abbrev pub calendar_date_fault : ColumnIndices → Record → Option FaultKind
+calendar_date_fault indices r =
+    or_fault (fault_unless (day_of (value indices 1 r)) kinds.BadDate) (fault_unless (exception_of (number_of (value indices 2 r))) kinds.BadNumber)
 
 -- the row has the id of the service, the date, and whether the date is added or removed
-pub record SpellsCalendarDate (places : Places) (r : Record) (row : CalendarDateRow) : Type 0 where
-  pub service : string_bytes row.service ≡ value places 0 r
-  pub day : day_of (value places 1 r) ≡ Some row.day
-  pub exception : exception_of (number_of (value places 2 r)) ≡ Some row.exception
+pub record SpellsCalendarDate (indices : ColumnIndices) (r : Record) (row : CalendarDateRow) : Type 0 where
+  pub service : string_bytes row.service ≡ value indices 0 r
+  pub day : day_of (value indices 1 r) ≡ Some row.day
+  pub exception : exception_of (number_of (value indices 2 r)) ≡ Some row.exception
 
 -- ---- transfers.txt: from_stop_id, to_stop_id, transfer_type, min_transfer_time, and the routes and trips
 
@@ -215,17 +215,17 @@ abbrev pub typed_transfer : List ℕ → TransferKind
 typed_transfer text = if is_blank text then transfers.Recommended else transfer_by (number_of text)
 
 -- the kind of transfer of a record: skipped if it names a route or a trip
-abbrev pub transfer_of : Places → Record → TransferKind
-transfer_of places r =
-    if is_blank (value places 4 r) && is_blank (value places 5 r) && is_blank (value places 6 r) && is_blank (value places 7 r)
-    then typed_transfer (value places 2 r) else transfers.Skipped
+abbrev pub transfer_of : ColumnIndices → Record → TransferKind
+transfer_of indices r =
+    if is_blank (value indices 4 r) && is_blank (value indices 5 r) && is_blank (value indices 6 r) && is_blank (value indices 7 r)
+    then typed_transfer (value indices 2 r) else transfers.Skipped
 
 -- the row has the ids of both ends, the kind of transfer, and the min_transfer_time, if it is a number
-pub record SpellsTransfer (places : Places) (r : Record) (row : TransferRow) : Type 0 where
-  pub from : string_bytes row.from ≡ value places 0 r
-  pub to : string_bytes row.to ≡ value places 1 r
-  pub kind : row.kind ≡ transfer_of places r
-  pub seconds : row.seconds ≡ number_of (value places 3 r)
+pub record SpellsTransfer (indices : ColumnIndices) (r : Record) (row : TransferRow) : Type 0 where
+  pub from : string_bytes row.from ≡ value indices 0 r
+  pub to : string_bytes row.to ≡ value indices 1 r
+  pub kind : row.kind ≡ transfer_of indices r
+  pub seconds : row.seconds ≡ number_of (value indices 3 r)
 
 -- ---- frequencies.txt: trip_id, start_time, end_time, headway_secs
 
@@ -235,22 +235,22 @@ headway_fault None = Some kinds.BadNumber
 headway_fault (Some n) = fault_if (n == 0) kinds.BadHeadway
 
 -- what is wrong with a record: its start_time, then its end_time, then its headway_secs
-abbrev pub frequency_row_fault : Places → Record → Option FaultKind
-frequency_row_fault places r =
-    or_fault (fault_unless (time_of (value places 1 r)) kinds.BadTime)
-    (or_fault (fault_unless (time_of (value places 2 r)) kinds.BadTime) (headway_fault (number_of (value places 3 r))))
+abbrev pub frequency_row_fault : ColumnIndices → Record → Option FaultKind
+frequency_row_fault indices r =
+    or_fault (fault_unless (time_of (value indices 1 r)) kinds.BadTime)
+    (or_fault (fault_unless (time_of (value indices 2 r)) kinds.BadTime) (headway_fault (number_of (value indices 3 r))))
 
 -- the row has the id of the trip, the start and the end in seconds, and the seconds from one start to the next
-pub record SpellsFrequency (places : Places) (r : Record) (row : FrequencyRow) : Type 0 where
-  pub trip : string_bytes row.trip ≡ value places 0 r
-  pub start : time_of (value places 1 r) ≡ Some row.start
-  pub end : time_of (value places 2 r) ≡ Some row.end
-  pub headway : number_of (value places 3 r) ≡ Some row.headway
+pub record SpellsFrequency (indices : ColumnIndices) (r : Record) (row : FrequencyRow) : Type 0 where
+  pub trip : string_bytes row.trip ≡ value indices 0 r
+  pub start : time_of (value indices 1 r) ≡ Some row.start
+  pub end : time_of (value indices 2 r) ≡ Some row.end
+  pub headway : number_of (value indices 3 r) ≡ Some row.headway
 
 -- ---- any table
 
 -- what is wrong with the values of a record of this table, if anything
-abbrev pub values_of : Table → Places → Record → Option FaultKind
+abbrev pub values_of : Table → ColumnIndices → Record → Option FaultKind
 values_of tables.StopTimes = stop_time_fault
 values_of tables.Calendar = calendar_fault
 values_of tables.CalendarDates = calendar_date_fault

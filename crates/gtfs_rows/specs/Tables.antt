@@ -1,6 +1,6 @@
 -- The eight files of a feed, each with its columns, and the rows that their bytes hold.
 use Rattle.std.specs.Prelude.{◌≡◌, ◌<◌, ◌≤◌, ◌⊎◌, List, [], ◌∷◌, ℕ, Bool, true, false, codes, length, count_by}
-use Rattle.gtfs_rows.specs.Cells.{Places}
+use Rattle.gtfs_rows.specs.Cells.{ColumnIndices}
 use Rattle.gtfs_rows.specs.Faults.{HoldsFile, HoldsRows, IsFaultOf, Judge, Shape, or_fault}
 use Rattle.gtfs_rows.specs.Rows.{AreStopTimes, SpellsAgency, SpellsCalendar, SpellsCalendarDate, SpellsFrequency}
 use Rattle.gtfs_rows.specs.Rows.{SpellsStop, SpellsTransfer, SpellsTrip, key_fault, values_of}
@@ -57,8 +57,8 @@ key_of tables.CalendarDates = keys.Columns 0 1
 key_of _ = keys.Nothing
 
 -- what is wrong with a record: its values are judged before its key
-abbrev pub judge_of : Table → Places → Judge
-judge_of table places before r = or_fault (values_of table places r) (key_fault (key_of table) places before r)
+abbrev pub judge_of : Table → ColumnIndices → Judge
+judge_of table indices before r = or_fault (values_of table indices r) (key_fault (key_of table) indices before r)
 
 -- how each file is read
 abbrev pub shape_of : Table → Shape

@@ -3,7 +3,7 @@
 ghost use Rattle.std.specs.Prelude.{◌≡◌, ◌≤◌, length, map, IfErr, IfOk, IsUtf8, None, Some, true, false};
 ghost use Rattle.std.specs.String.{string_bytes};
 ghost use Rattle.csv.specs.Records.{AllText, fields_of};
-ghost use Rattle.gtfs_rows.specs.Cells.{cell as cell_of, column as column_of, has_required as are_there, places_of};
+ghost use Rattle.gtfs_rows.specs.Cells.{cell as cell_of, column as column_of, has_required as are_there, indices_of};
 ghost use Rattle.gtfs_rows.specs.Cells.{trim_front, trim_spaces};
 ghost use Rattle.gtfs_rows.specs.Faults.{fault_unless};
 ghost use Rattle.gtfs_rows.specs.Rows.{value};
@@ -15,7 +15,7 @@ use csv::ByteRecord;
 use std::alloc::{AllocError, Global};
 
 /// The index of a column in the header, if the header has it.
-pub type Place = Option<usize>;
+pub type ColumnIndex = Option<usize>;
 
 // Returns the text without the spaces at both ends.
 fn trim(text: &[u8]) -> &[u8]
@@ -41,51 +41,51 @@ fn trim_start(text: &[u8]) -> &[u8]
 }
 
 /// Returns a record's value in the column of an index, without spaces around it; blank if the column is absent.
-pub fn cell<'a>(fields: &'a ByteRecord, place: Place) -> &'a [u8]
-    ensures { result.now ≡ cell_of place (fields_of fields.entry.now) }
+pub fn cell<'a>(fields: &'a ByteRecord, index: ColumnIndex) -> &'a [u8]
+    ensures { result.now ≡ cell_of index (fields_of fields.entry.now) }
 {
-    let Some(place) = place else {
+    let Some(index) = index else {
         return &[];
     };
-    match fields.get(place) {
+    match fields.get(index) {
         Some(field) => trim(field),
         None => &[],
     }
 }
 
 /// Returns the index of the first column with this name, if the header has one.
-pub fn column(header: &ByteRecord, name: &[u8]) -> Place
+pub fn column(header: &ByteRecord, name: &[u8]) -> ColumnIndex
     ensures { result ≡ column_of name.now (fields_of header.now) }
 {
-    for place in 0..header.len() {
-        if name == cell(header, Some(place)) {
-            return Some(place);
+    for index in 0..header.len() {
+        if name == cell(header, Some(index)) {
+            return Some(index);
         }
     }
     None
 }
 
 // Returns the index of each named column in the header.
-pub(crate) fn places(
+pub(crate) fn indices(
     alloc: Global,
     header: &ByteRecord,
     names: &[&str],
-) -> Result<Vec<Place>, AllocError>
-    ensures { IfOk result (λ v. v.items ≡ places_of (map (λ name. name.now) names.now) (fields_of header.now)) }
+) -> Result<Vec<ColumnIndex>, AllocError>
+    ensures { IfOk result (λ v. v.items ≡ indices_of (map (λ name. name.now) names.now) (fields_of header.now)) }
 {
-    let mut places = Vec::with_capacity(alloc, names.len())?;
+    let mut indices = Vec::with_capacity(alloc, names.len())?;
     for name in names {
-        places.push(column(header, name.as_bytes()))?;
+        indices.push(column(header, name.as_bytes()))?;
     }
-    Ok(places)
+    Ok(indices)
 }
 
 // Returns whether all required columns, which come first, are there.
-pub(crate) fn has_required(places: &[Place], required: usize) -> bool
-    requires { required ≤ length places.now }
-    ensures { result ≡ are_there required places.now }
+pub(crate) fn has_required(indices: &[ColumnIndex], required: usize) -> bool
+    requires { required ≤ length indices.now }
+    ensures { result ≡ are_there required indices.now }
 {
-    places[..required].iter().all(|place| place.is_some())
+    indices[..required].iter().all(|index| index.is_some())
 }
 
 // Returns whether the bytes are UTF-8.
@@ -112,28 +112,28 @@ fn text_of(alloc: Global, bytes: &[u8]) -> Result<String, AllocError>
 /// The fields of a record, and the index in the header of each of the table's columns.
 #[derive(Clone, Copy)]
 pub struct Cells<'a> {
-    pub(crate) places: &'a [Place],
+    pub(crate) indices: &'a [ColumnIndex],
     pub(crate) fields: &'a ByteRecord,
 }
 
 impl<'a> Cells<'a> {
     // Returns the record's value in the table's column of this index; blank if the column is absent.
     pub(crate) fn get(&self, column: usize) -> &'a [u8]
-        ensures { result.now ≡ value self.entry.now.places.now column (fields_of self.entry.now.fields.now) }
+        ensures { result.now ≡ value self.entry.now.indices.now column (fields_of self.entry.now.fields.now) }
     {
-        let place = if column < self.places.len() {
-            self.places[column]
+        let index = if column < self.indices.len() {
+            self.indices[column]
         } else {
             None
         };
-        cell(self.fields, place)
+        cell(self.fields, index)
     }
 
     // Returns the same value as a string.
     pub(crate) fn text(&self, alloc: Global, column: usize) -> Result<String, FaultKind>
         requires { AllText (fields_of self.now.fields.now) }
         ensures ok { IfOk result (λ s. string_bytes s
-            ≡ value self.now.places.now column (fields_of self.now.fields.now)) }
+            ≡ value self.now.indices.now column (fields_of self.now.fields.now)) }
         ensures err { IfErr result (λ kind. kind ≡ FaultKind.OutOfMemory) }
     {
         text_of(alloc, self.get(column)).map_err(|_| FaultKind::OutOfMemory)
@@ -141,10 +141,10 @@ impl<'a> Cells<'a> {
 
     // Returns the time in a column, in seconds after the start of the service day. Blank is `BadTime` too.
     pub(crate) fn time(&self, column: usize) -> Result<u32, FaultKind>
-        ensures ok { IfOk result (λ t. time_of (value self.now.places.now column (fields_of self.now.fields.now))
+        ensures ok { IfOk result (λ t. time_of (value self.now.indices.now column (fields_of self.now.fields.now))
             ≡ Some t) }
         ensures err { IfErr result (λ kind. fault_unless
-            (time_of (value self.now.places.now column (fields_of self.now.fields.now))) FaultKind.BadTime
+            (time_of (value self.now.indices.now column (fields_of self.now.fields.now))) FaultKind.BadTime
             ≡ Some kind) }
     {
         Time::parse(self.get(column)).map_err(|_| FaultKind::BadTime)

@@ -31,7 +31,7 @@ fn typed(text: &[u8]) -> TransferKind
 
 // Returns the kind of transfer of a record: `Skipped` if it names a route or a trip.
 fn transfer_kind(cells: &Cells) -> TransferKind
-    ensures { result ≡ transfer_of cells.now.places.now (fields_of cells.now.fields.now) }
+    ensures { result ≡ transfer_of cells.now.indices.now (fields_of cells.now.fields.now) }
 {
     let of_stops = cells.get(4).is_empty()
         && cells.get(5).is_empty()

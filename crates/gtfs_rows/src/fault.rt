@@ -2,7 +2,7 @@
 //! a fault was found.
 
 ghost use Rattle.std.specs.Prelude.{◌≡◌};
-ghost use Rattle.gtfs_rows.specs.Told.{fault_told, file_name as name_of_file};
+ghost use Rattle.gtfs_rows.specs.FaultNumber.{numbered_fault, file_name as name_of_file};
 
 use reasoning::variant_name;
 use std::error::Error;
@@ -77,14 +77,14 @@ pub struct TableFault {
 impl FaultKind {
     /// Returns the number of the kind, from 1 to 18 in the order of the enum.
     pub fn number(self) -> u8
-        ensures { result ≡ (fault_told self).0 }
+        ensures { result ≡ (numbered_fault self).0 }
     {
         self as u8
     }
 
     /// Returns the name of the kind, such as `MissingFile`.
     pub fn name(self) -> &'static str
-        ensures { result.now ≡ (fault_told self).1 }
+        ensures { result.now ≡ (numbered_fault self).1 }
     {
         variant_name!(
             self, FaultKind:

@@ -38,7 +38,7 @@ pub(crate) fn add_key(keys: &mut Ids, key: String) -> Result<(), FaultKind>
 
 // Returns the index of an id, which is added at the end if it isn't there yet. The likely index is tried first.
 // Memory may run out.
-pub(crate) fn place_of(
+pub(crate) fn index_of(
     alloc: Global,
     ids: &mut Ids,
     likely: Option<u32>,
@@ -46,33 +46,33 @@ pub(crate) fn place_of(
 ) -> Result<u32, FaultKind>
     requires { IsUtf8 id.now }
     ensures more { OnOk result (map string_bytes ids.new.keys ≡ seen_also (map string_bytes ids.old.keys) id.now) }
-    ensures ok { IfOk result (λ place. StandsAt (map string_bytes ids.new.keys) place id.now) }
+    ensures ok { IfOk result (λ index. StandsAt (map string_bytes ids.new.keys) index id.now) }
     ensures err { IfErr result (λ kind. kind ≡ FaultKind.OutOfMemory) }
     ensures hash { OnOk result (hasher_of ids.new ≡ hasher_of ids.old) }
 {
-    if let Some(place) = id_at(ids, likely, id) {
-        return Ok(place);
+    if let Some(index) = id_at(ids, likely, id) {
+        return Ok(index);
     }
     // the whole file was found to be UTF-8, so a cell isn't checked again
     let text = unsafe { str::from_utf8_unchecked(id) };
-    if let Some(place) = find_id(ids, text) {
-        return as_place(place);
+    if let Some(index) = find_id(ids, text) {
+        return as_index(index);
     }
     let Ok(owned) = String::from_str(alloc, text) else {
         return Err(FaultKind::OutOfMemory);
     };
-    let place = add_id(ids, owned)?;
-    as_place(place)
+    let index = add_id(ids, owned)?;
+    as_index(index)
 }
 
 // Returns the given index if the id is there.
-fn id_at(ids: &Ids, place: Option<u32>, id: &[u8]) -> Option<u32>
-    ensures { IfSome result (λ place. StandsAt (map string_bytes ids.now.keys) place id.now) }
+fn id_at(ids: &Ids, index: Option<u32>, id: &[u8]) -> Option<u32>
+    ensures { IfSome result (λ index. StandsAt (map string_bytes ids.now.keys) index id.now) }
 {
-    let place = place?;
-    let there = ids.get_index(place as usize)?;
+    let index = index?;
+    let there = ids.get_index(index as usize)?;
     if id == there.as_bytes() {
-        Some(place)
+        Some(index)
     } else {
         None
     }
@@ -80,30 +80,30 @@ fn id_at(ids: &Ids, place: Option<u32>, id: &[u8]) -> Option<u32>
 
 // Returns the index of an id, if the set has it.
 fn find_id(ids: &Ids, id: &str) -> Option<usize>
-    ensures { IfSome result (λ place. StandsAt (map string_bytes ids.now.keys) place id.now) }
+    ensures { IfSome result (λ index. StandsAt (map string_bytes ids.now.keys) index id.now) }
 {
-    let (place, _) = ids.get_full(id)?;
-    Some(place)
+    let (index, _) = ids.get_full(id)?;
+    Some(index)
 }
 
 // Returns the index of an id, which is added at the end if it isn't there yet. Memory may run out.
 fn add_id(ids: &mut Ids, id: String) -> Result<usize, FaultKind>
     ensures more { OnOk result (map string_bytes ids.new.keys
         ≡ seen_also (map string_bytes ids.old.keys) (string_bytes id)) }
-    ensures ok { IfOk result (λ place. StandsAt (map string_bytes ids.new.keys) place (string_bytes id)) }
+    ensures ok { IfOk result (λ index. StandsAt (map string_bytes ids.new.keys) index (string_bytes id)) }
     ensures err { IfErr result (λ kind. kind ≡ FaultKind.OutOfMemory) }
     ensures hash { OnOk result (hasher_of ids.new ≡ hasher_of ids.old) }
 {
-    let Ok((place, _)) = ids.insert_full(id) else {
+    let Ok((index, _)) = ids.insert_full(id) else {
         return Err(FaultKind::OutOfMemory);
     };
-    Ok(place)
+    Ok(index)
 }
 
 // Returns an index as rows keep it: `OutOfMemory` if it has more than 32 bits.
-fn as_place(place: usize) -> Result<u32, FaultKind>
-    ensures ok { IfOk result (λ n. n ≡ place) }
+fn as_index(index: usize) -> Result<u32, FaultKind>
+    ensures ok { IfOk result (λ n. n ≡ index) }
     ensures err { IfErr result (λ kind. kind ≡ FaultKind.OutOfMemory) }
 {
-    u32::try_from(place).map_err(|_| FaultKind::OutOfMemory)
+    u32::try_from(index).map_err(|_| FaultKind::OutOfMemory)
 }

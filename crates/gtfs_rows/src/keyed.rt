@@ -5,7 +5,7 @@ ghost use Rattle.std.specs.List.{AllZip};
 ghost use Rattle.csv.specs.Records.{AllText, fields_of};
 ghost use Rattle.indexmap.specs.IndexSet.{hasher_of};
 ghost use Rattle.gtfs_rows.specs.Source.{Record};
-ghost use Rattle.gtfs_rows.specs.Cells.{Places};
+ghost use Rattle.gtfs_rows.specs.Cells.{ColumnIndices};
 ghost use Rattle.gtfs_rows.specs.Faults.{HoldsRows, IsFaultOf};
 ghost use Rattle.gtfs_rows.specs.Rows.{AreKept, key_fault, values_of};
 ghost use Rattle.gtfs_rows.specs.Tables.{key_of, shape_of};
@@ -27,7 +27,7 @@ pub trait Row: Sized + Drop {
     // The table to which the row belongs.
     ghost TABLE: { File };
     // The row has the values that the record spells.
-    ghost spells: { Places → Record → Self → Type 0 };
+    ghost spells: { ColumnIndices → Record → Self → Type 0 };
 
     // The table to which the row belongs.
     const TABLE: Table;
@@ -35,22 +35,22 @@ pub trait Row: Sized + Drop {
     // Returns the row of a record, or what is wrong with the record's values.
     fn read(alloc: Global, cells: &Cells) -> Result<Self, FaultKind>
         requires { AllText (fields_of cells.now.fields.now) }
-        ensures ok { IfOk result (λ row. (values_of TABLE cells.now.places.now (fields_of cells.now.fields.now)
-            ≡ None) × spells cells.now.places.now (fields_of cells.now.fields.now) row) }
+        ensures ok { IfOk result (λ row. (values_of TABLE cells.now.indices.now (fields_of cells.now.fields.now)
+            ≡ None) × spells cells.now.indices.now (fields_of cells.now.fields.now) row) }
         ensures err { IfErr result (λ kind. kind ≢ FaultKind.OutOfMemory
-            → values_of TABLE cells.now.places.now (fields_of cells.now.fields.now) ≡ Some kind) };
+            → values_of TABLE cells.now.indices.now (fields_of cells.now.fields.now) ≡ Some kind) };
 }
 
 // Keeps a record's key, or the text that all records share. Fails if an earlier record has the key, or if the
 // shared text isn't the same as the first record's.
 fn keep(alloc: Global, kept: &mut Ids, key: Key, cells: &Cells) -> Result<(), FaultKind>
     requires { AllText (fields_of cells.now.fields.now) }
-    ensures ok { (before : List Record) → AreKept key cells.now.places.now before kept.old.keys → OnOk result
-        ((key_fault key cells.now.places.now before (fields_of cells.now.fields.now) ≡ None)
-        × AreKept key cells.now.places.now (before ++ fields_of cells.now.fields.now ∷ []) kept.new.keys) }
-    ensures err { (before : List Record) → AreKept key cells.now.places.now before kept.old.keys
+    ensures ok { (before : List Record) → AreKept key cells.now.indices.now before kept.old.keys → OnOk result
+        ((key_fault key cells.now.indices.now before (fields_of cells.now.fields.now) ≡ None)
+        × AreKept key cells.now.indices.now (before ++ fields_of cells.now.fields.now ∷ []) kept.new.keys) }
+    ensures err { (before : List Record) → AreKept key cells.now.indices.now before kept.old.keys
         → IfErr result (λ kind. kind ≢ FaultKind.OutOfMemory
-        → key_fault key cells.now.places.now before (fields_of cells.now.fields.now) ≡ Some kind) }
+        → key_fault key cells.now.indices.now before (fields_of cells.now.fields.now) ≡ Some kind) }
     ensures hash { OnOk result (hasher_of kept.new ≡ hasher_of kept.old) }
 {
     match key {
@@ -74,14 +74,14 @@ fn keep(alloc: Global, kept: &mut Ids, key: Key, cells: &Cells) -> Result<(), Fa
 // Keeps the first record's text in a column: `ZonesDiffer` if a later record has another text there.
 fn share(alloc: Global, kept: &mut Ids, column: usize, cells: &Cells) -> Result<(), FaultKind>
     requires { AllText (fields_of cells.now.fields.now) }
-    ensures ok { (before : List Record) → AreKept (keys.Shared column) cells.now.places.now before kept.old.keys
+    ensures ok { (before : List Record) → AreKept (keys.Shared column) cells.now.indices.now before kept.old.keys
         → OnOk result
-        ((key_fault (keys.Shared column) cells.now.places.now before (fields_of cells.now.fields.now) ≡ None)
-        × AreKept (keys.Shared column) cells.now.places.now (before ++ fields_of cells.now.fields.now
+        ((key_fault (keys.Shared column) cells.now.indices.now before (fields_of cells.now.fields.now) ≡ None)
+        × AreKept (keys.Shared column) cells.now.indices.now (before ++ fields_of cells.now.fields.now
         ∷ []) kept.new.keys) }
-    ensures err { (before : List Record) → AreKept (keys.Shared column) cells.now.places.now before kept.old.keys
+    ensures err { (before : List Record) → AreKept (keys.Shared column) cells.now.indices.now before kept.old.keys
         → IfErr result (λ kind. kind ≢ FaultKind.OutOfMemory
-        → key_fault (keys.Shared column) cells.now.places.now before (fields_of cells.now.fields.now) ≡ Some kind) }
+        → key_fault (keys.Shared column) cells.now.indices.now before (fields_of cells.now.fields.now) ≡ Some kind) }
     ensures hash { OnOk result (hasher_of kept.new ≡ hasher_of kept.old) }
 {
     let Some(shared) = kept.get_index(0) else {
@@ -97,29 +97,29 @@ fn share(alloc: Global, kept: &mut Ids, column: usize, cells: &Cells) -> Result<
 
 // Rows with their keys, or with the text that they share.
 #[derive(Drop)]
-pub(crate) struct Keyed<R> {
+pub(crate) struct KeyedRows<R> {
     pub(crate) rows: Vec<R>,
     pub(crate) kept: Ids,
 }
 
-impl<R: Row> Keyed<R> {
-    pub(crate) fn new(alloc: Global, hash: IdHash) -> Keyed<R>
+impl<R: Row> KeyedRows<R> {
+    pub(crate) fn new(alloc: Global, hash: IdHash) -> KeyedRows<R>
         ensures rows { result.rows.items ≡ [] }
         ensures kept { result.kept.keys ≡ [] }
         ensures hash { hasher_of result.kept ≡ hash }
     {
-        Keyed {
+        KeyedRows {
             rows: Vec::new(alloc),
             kept: IndexSet::with_hasher(alloc, hash),
         }
     }
 }
 
-impl<R: Row> TableRows for Keyed<R> {
+impl<R: Row> TableRows for KeyedRows<R> {
     ghost TABLE = { R.TABLE };
 
-    ghost holds = { λ places records t. AllZip (R.spells places) records t.rows.items
-        × AreKept (key_of R.TABLE) places records t.kept.keys };
+    ghost holds = { λ indices records t. AllZip (R.spells indices) records t.rows.items
+        × AreKept (key_of R.TABLE) indices records t.kept.keys };
 
     ghost hashes = { λ t. hasher_of t.kept ∷ [] };
 
@@ -143,7 +143,7 @@ pub(crate) fn every_row<R: Row>(
     ensures err { IfErr result (λ fault. fault.kind ≢ FaultKind.OutOfMemory
         → IsFaultOf (shape_of R.TABLE) bytes.now fault.row fault.kind) }
 {
-    let keyed: Keyed<R> = Keyed::new(alloc, hash);
+    let keyed: KeyedRows<R> = KeyedRows::new(alloc, hash);
     match read_table(keyed, alloc, bytes) {
         Ok(keyed) => Ok(keyed.rows),
         Err(fault) => Err(fault),

@@ -1,7 +1,7 @@
 //! Laws of the rows, each a function without code whose contract is the law.
 
 ghost use Rattle.std.specs.Prelude.{◌≡◌, ℕ, List, Some};
-ghost use Rattle.gtfs_rows.specs.Cells.{Places};
+ghost use Rattle.gtfs_rows.specs.Cells.{ColumnIndices};
 ghost use Rattle.gtfs_rows.specs.Source.{Record};
 ghost use Rattle.gtfs_rows.specs.Faults.{IsFaultOf, Shape};
 ghost use Rattle.gtfs_rows.specs.Tables.{HoldsAgencies, HoldsCalendar, HoldsCalendarDates, HoldsFrequencies};
@@ -58,8 +58,8 @@ pub fn held_without_fault()
 
 /// Two records of calendar_dates.txt with the same key have the same service_id and the same date.
 pub fn service_day_keys()
-    ensures { (places : Places) (r s : Record) (d e : Date) → day_of (value places 1 r) ≡ Some d
-        → day_of (value places 1 s) ≡ Some e → key_by (key_of files.CalendarDates) places r
-        ≡ key_by (key_of files.CalendarDates) places s
-        → (value places 0 r ≡ value places 0 s) × (d ≡ e) }
+    ensures { (indices : ColumnIndices) (r s : Record) (d e : Date) → day_of (value indices 1 r) ≡ Some d
+        → day_of (value indices 1 s) ≡ Some e → key_by (key_of files.CalendarDates) indices r
+        ≡ key_by (key_of files.CalendarDates) indices s
+        → (value indices 0 r ≡ value indices 0 s) × (d ≡ e) }
 {}

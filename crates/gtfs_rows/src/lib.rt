@@ -28,7 +28,7 @@ pub use cells::{cell, column};
 pub use columns::Key;
 pub use fault::{FaultKind, Table, TableFault};
 pub use id_hash::IdHash;
-pub use limited::{Limited, LimitedRow, rows_up_to};
+pub use limited::{LimitedRow, RowsWithinLimit, rows_up_to};
 pub use position::Position;
 pub use read::{
     MAX_STOPS, MAX_TRIPS, read_agency, read_calendar, read_calendar_dates, read_frequencies,

@@ -27,7 +27,7 @@ pub trait LimitedRow: Row {
 
 /// The rows of a file, within the limit of its table.
 #[derive(Drop)]
-pub struct Limited<R> {
+pub struct RowsWithinLimit<R> {
     pub rows: Vec<R>,
 }
 
@@ -58,7 +58,7 @@ pub fn rows_up_to<R: LimitedRow>(
     }
 }
 
-impl<R: LimitedRow> TableFile for Limited<R> {
+impl<R: LimitedRow> TableFile for RowsWithinLimit<R> {
     ghost TABLE = { R.TABLE };
 
     ghost holds = { λ bytes kept. HoldsWithin (HoldsRows (shape_of R.TABLE) R.spells) R.count R.LIMIT bytes
@@ -70,9 +70,9 @@ impl<R: LimitedRow> TableFile for Limited<R> {
 
     const TABLE: Table = R::TABLE;
 
-    fn read(alloc: Global, hash: IdHash, bytes: &[u8]) -> Result<Limited<R>, TableFault> {
+    fn read(alloc: Global, hash: IdHash, bytes: &[u8]) -> Result<RowsWithinLimit<R>, TableFault> {
         match rows_up_to(R::LIMIT, alloc, hash, bytes) {
-            Ok(rows) => Ok(Limited { rows }),
+            Ok(rows) => Ok(RowsWithinLimit { rows }),
             Err(fault) => Err(fault),
         }
     }

@@ -3,14 +3,14 @@
 ghost use Rattle.std.specs.Prelude.{◌≡◌, ◌≢◌, ◌+◌, ◌++◌, ◌∷◌, [], ℕ, List, Some, None, IfOk, IfErr, OnOk};
 ghost use Rattle.csv.specs.Records.{AllText, fields_of};
 ghost use Rattle.gtfs_rows.specs.Source.{AllRecordsText, IsReading, Record, last_of, left_of};
-ghost use Rattle.gtfs_rows.specs.Cells.{Places};
+ghost use Rattle.gtfs_rows.specs.Cells.{ColumnIndices};
 ghost use Rattle.gtfs_rows.specs.Faults.{HoldsFile, HoldsUnder, IsFaultOf, IsFaultUnder, IsFaultless, IsFirstFault};
 ghost use Rattle.gtfs_rows.specs.Faults.{length_first};
 ghost use Rattle.gtfs_rows.specs.Tables.{judge_of, shape_of};
 ghost use Rattle.gtfs_rows.specs.declared.fault.Table.{Table as File};
 ghost use Rattle.gtfs_rows.specs.declared.id_hash.IdHash.{IdHash as Hash};
 
-use crate::cells::{Cells, Place, has_required, is_text, places};
+use crate::cells::{Cells, ColumnIndex, has_required, indices, is_text};
 use crate::fault::{FaultKind, Table, TableFault};
 use crate::records::Records;
 use std::alloc::Global;
@@ -20,7 +20,7 @@ pub(crate) trait TableRows: Sized + Drop {
     // Which table it is.
     ghost TABLE: { File };
     // The rows are those of the records.
-    ghost holds: { Places → List Record → Self → Type 0 };
+    ghost holds: { ColumnIndices → List Record → Self → Type 0 };
     // The hashes by which the table's ids are looked up.
     ghost hashes: { Self → List Hash };
 
@@ -30,12 +30,12 @@ pub(crate) trait TableRows: Sized + Drop {
     // Adds one record, or returns what is wrong with it.
     fn add(&mut self, alloc: Global, cells: &Cells) -> Result<(), FaultKind>
         requires { AllText (fields_of cells.now.fields.now) }
-        ensures ok { (before : List Record) → holds cells.now.places.now before self.old → OnOk result
-            ((judge_of TABLE cells.now.places.now before (fields_of cells.now.fields.now) ≡ None)
-            × holds cells.now.places.now (before ++ fields_of cells.now.fields.now ∷ []) self.new) }
-        ensures err { (before : List Record) → holds cells.now.places.now before self.old
+        ensures ok { (before : List Record) → holds cells.now.indices.now before self.old → OnOk result
+            ((judge_of TABLE cells.now.indices.now before (fields_of cells.now.fields.now) ≡ None)
+            × holds cells.now.indices.now (before ++ fields_of cells.now.fields.now ∷ []) self.new) }
+        ensures err { (before : List Record) → holds cells.now.indices.now before self.old
             → IfErr result (λ kind. kind ≢ FaultKind.OutOfMemory
-            → judge_of TABLE cells.now.places.now before (fields_of cells.now.fields.now) ≡ Some kind) }
+            → judge_of TABLE cells.now.indices.now before (fields_of cells.now.fields.now) ≡ Some kind) }
         ensures hashes { OnOk result (hashes self.new ≡ hashes self.old) };
 }
 
@@ -58,12 +58,12 @@ fn add_record<T: TableRows>(
     width: usize,
 ) -> Result<(), FaultKind>
     requires { AllText (fields_of cells.now.fields.now) }
-    ensures ok { (before : List Record) → T.holds cells.now.places.now before rows.old → OnOk result
-        ((length_first width (judge_of T.TABLE cells.now.places.now) before (fields_of cells.now.fields.now) ≡ None)
-        × T.holds cells.now.places.now (before ++ fields_of cells.now.fields.now ∷ []) rows.new) }
-    ensures err { (before : List Record) → T.holds cells.now.places.now before rows.old
+    ensures ok { (before : List Record) → T.holds cells.now.indices.now before rows.old → OnOk result
+        ((length_first width (judge_of T.TABLE cells.now.indices.now) before (fields_of cells.now.fields.now) ≡ None)
+        × T.holds cells.now.indices.now (before ++ fields_of cells.now.fields.now ∷ []) rows.new) }
+    ensures err { (before : List Record) → T.holds cells.now.indices.now before rows.old
         → IfErr result (λ kind. kind ≢ FaultKind.OutOfMemory
-        → length_first width (judge_of T.TABLE cells.now.places.now) before (fields_of cells.now.fields.now)
+        → length_first width (judge_of T.TABLE cells.now.indices.now) before (fields_of cells.now.fields.now)
         ≡ Some kind) }
     ensures hashes { OnOk result (T.hashes rows.new ≡ T.hashes rows.old) }
 {
@@ -78,17 +78,17 @@ fn add_records<T: TableRows>(
     mut rows: T,
     alloc: Global,
     records: &mut Records<'_>,
-    places: &[Place],
+    indices: &[ColumnIndex],
     width: usize,
 ) -> Result<T, TableFault>
     requires reading { IsReading records.old }
     requires text { AllRecordsText (left_of records.old) }
-    requires starts { T.holds places.now [] rows }
-    ensures ok { IfOk result (λ t. IsFaultless (length_first width (judge_of T.TABLE places.now))
-        (left_of records.old) × T.holds places.now (left_of records.old) t) }
+    requires starts { T.holds indices.now [] rows }
+    ensures ok { IfOk result (λ t. IsFaultless (length_first width (judge_of T.TABLE indices.now))
+        (left_of records.old) × T.holds indices.now (left_of records.old) t) }
     ensures file { IfErr result (λ fault. fault.file ≡ T.TABLE) }
     ensures err { IfErr result (λ fault. fault.kind ≢ FaultKind.OutOfMemory
-        → (k : ℕ) × (fault.row ≡ k + 1) × IsFirstFault (length_first width (judge_of T.TABLE places.now))
+        → (k : ℕ) × (fault.row ≡ k + 1) × IsFirstFault (length_first width (judge_of T.TABLE indices.now))
         (left_of records.old) k fault.kind) }
     ensures hashes { IfOk result (λ t. T.hashes t ≡ T.hashes rows) }
 {
@@ -99,7 +99,7 @@ fn add_records<T: TableRows>(
             Ok(true) => {}
         }
         let cells = Cells {
-            places,
+            indices,
             fields: records.last(),
         };
         if let Err(kind) = add_record(&mut rows, alloc, &cells, width) {
@@ -116,7 +116,7 @@ pub(crate) fn read_table<T: TableRows>(
     alloc: Global,
     bytes: &[u8],
 ) -> Result<T, TableFault>
-    requires { (places : Places) → T.holds places [] rows }
+    requires { (indices : ColumnIndices) → T.holds indices [] rows }
     ensures ok { IfOk result (λ t. HoldsFile (shape_of T.TABLE) T.holds bytes.now t) }
     ensures file { IfErr result (λ fault. fault.file ≡ T.TABLE) }
     ensures err { IfErr result (λ fault. fault.kind ≢ FaultKind.OutOfMemory
@@ -142,7 +142,7 @@ fn read_under<T: TableRows>(
     records: &mut Records<'_>,
 ) -> Result<T, TableFault>
     requires reading { IsReading records.old }
-    requires starts { (places : Places) → T.holds places [] rows }
+    requires starts { (indices : ColumnIndices) → T.holds indices [] rows }
     requires text { AllRecordsText (left_of records.old) }
     ensures ok { IfOk result (λ t. HoldsUnder (shape_of T.TABLE) T.holds (last_of records.old) (left_of records.old)
         t) }
@@ -153,11 +153,11 @@ fn read_under<T: TableRows>(
 {
     let header = records.last();
     let width = header.len();
-    let Ok(places) = places(alloc, header, T::TABLE.columns()) else {
+    let Ok(indices) = indices(alloc, header, T::TABLE.columns()) else {
         return Err(T::TABLE.out_of_memory());
     };
-    if !has_required(&places, T::TABLE.required()) {
+    if !has_required(&indices, T::TABLE.required()) {
         return Err(T::TABLE.fault(0, FaultKind::MissingColumn));
     }
-    add_records(rows, alloc, records, &places, width)
+    add_records(rows, alloc, records, &indices, width)
 }

@@ -17,10 +17,10 @@ use std::alloc::Global;
 
 // Returns the date in a column: `BadDate` if it isn't one.
 fn day_in(cells: &Cells, column: usize) -> Result<Day, FaultKind>
-    ensures ok { IfOk result (λ d. day_of (value cells.now.places.now column (fields_of cells.now.fields.now))
+    ensures ok { IfOk result (λ d. day_of (value cells.now.indices.now column (fields_of cells.now.fields.now))
         ≡ Some d) }
     ensures err { IfErr result (λ kind. fault_unless
-        (day_of (value cells.now.places.now column (fields_of cells.now.fields.now))) FaultKind.BadDate
+        (day_of (value cells.now.indices.now column (fields_of cells.now.fields.now))) FaultKind.BadDate
         ≡ Some kind) }
 {
     Day::parse(cells.get(column)).map_err(|_| FaultKind::BadDate)
@@ -28,7 +28,7 @@ fn day_in(cells: &Cells, column: usize) -> Result<Day, FaultKind>
 
 // Returns whether a service runs on the weekday of a column; none if the value is neither 0 nor 1.
 fn weekday(cells: &Cells, column: usize) -> Option<bool>
-    ensures { result ≡ weekday_of cells.now.places.now (fields_of cells.now.fields.now) column }
+    ensures { result ≡ weekday_of cells.now.indices.now (fields_of cells.now.fields.now) column }
 {
     match number(cells.get(column))? {
         0 => Some(false),
@@ -39,7 +39,7 @@ fn weekday(cells: &Cells, column: usize) -> Option<bool>
 
 // Returns on which weekdays a service runs, Monday first; none if a value is neither 0 nor 1.
 fn weekdays(cells: &Cells) -> Option<[bool; 7]>
-    ensures { result ≡ weekdays_of cells.now.places.now (fields_of cells.now.fields.now) }
+    ensures { result ≡ weekdays_of cells.now.indices.now (fields_of cells.now.fields.now) }
 {
     Some([
         weekday(cells, 1)?,

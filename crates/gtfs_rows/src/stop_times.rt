@@ -17,7 +17,7 @@ ghost use Rattle.gtfs_rows.specs.declared.fault.Table.TheVariants as files;
 use crate::cells::Cells;
 use crate::fault::{FaultKind, Table, TableFault};
 use crate::id_hash::IdHash;
-use crate::ids::{Ids, place_of};
+use crate::ids::{Ids, index_of};
 use crate::reader::{TableRows, add_row, read_table};
 use crate::rows::StopTimeRow;
 use crate::table_file::TableFile;
@@ -36,12 +36,12 @@ pub struct StopTimes {
 
 // Returns the time in a column, in seconds after the start of the service day; none if it is blank.
 fn time_in(cells: &Cells, column: usize) -> Result<Option<u32>, FaultKind>
-    ensures fine { IfOk result (λ t. time_fault (value cells.now.places.now column (fields_of cells.now.fields.now))
+    ensures fine { IfOk result (λ t. time_fault (value cells.now.indices.now column (fields_of cells.now.fields.now))
         ≡ None) }
     ensures ok { IfOk result (λ t. t ≡ given_time
-        (value cells.now.places.now column (fields_of cells.now.fields.now))) }
+        (value cells.now.indices.now column (fields_of cells.now.fields.now))) }
     ensures err { IfErr result (λ kind. time_fault
-        (value cells.now.places.now column (fields_of cells.now.fields.now)) ≡ Some kind) }
+        (value cells.now.indices.now column (fields_of cells.now.fields.now)) ≡ Some kind) }
 {
     let text = cells.get(column);
     if text.is_empty() {
@@ -55,10 +55,10 @@ fn time_in(cells: &Cells, column: usize) -> Result<Option<u32>, FaultKind>
 
 // Returns the number in a column: `BadNumber` if it isn't one.
 fn number_in(cells: &Cells, column: usize) -> Result<u32, FaultKind>
-    ensures ok { IfOk result (λ n. number_of (value cells.now.places.now column (fields_of cells.now.fields.now))
+    ensures ok { IfOk result (λ n. number_of (value cells.now.indices.now column (fields_of cells.now.fields.now))
         ≡ Some n) }
     ensures err { IfErr result (λ kind. fault_unless
-        (number_of (value cells.now.places.now column (fields_of cells.now.fields.now))) FaultKind.BadNumber
+        (number_of (value cells.now.indices.now column (fields_of cells.now.fields.now))) FaultKind.BadNumber
         ≡ Some kind) }
 {
     number(cells.get(column)).ok_or(FaultKind::BadNumber)
@@ -76,7 +76,7 @@ fn available(text: &[u8]) -> bool
 
 // Returns the index of a stop_id, which is added if it isn't there yet; none if it is blank. The likely index is
 // tried first. Memory may run out.
-fn stop_place(
+fn stop_index(
     alloc: Global,
     stops: &mut Ids,
     likely: Option<u32>,
@@ -84,15 +84,15 @@ fn stop_place(
 ) -> Result<Option<u32>, FaultKind>
     requires { IsUtf8 id.now }
     ensures more { OnOk result (map string_bytes stops.new.keys ≡ given_also (map string_bytes stops.old.keys) id.now) }
-    ensures ok { IfOk result (λ place. IsStopId (map string_bytes stops.new.keys) place id.now) }
+    ensures ok { IfOk result (λ index. IsStopId (map string_bytes stops.new.keys) index id.now) }
     ensures err { IfErr result (λ kind. kind ≡ FaultKind.OutOfMemory) }
     ensures hash { OnOk result (hasher_of stops.new ≡ hasher_of stops.old) }
 {
     if id.is_empty() {
         return Ok(None);
     }
-    let place = place_of(alloc, stops, likely, id)?;
-    Ok(Some(place))
+    let index = index_of(alloc, stops, likely, id)?;
+    Ok(Some(index))
 }
 
 // Adds the row of one record and returns the index of its stop_id, or returns what is wrong with the record. The
@@ -104,11 +104,11 @@ fn add_stop_time(
     cells: &Cells,
 ) -> Result<Option<u32>, FaultKind>
     requires { AllText (fields_of cells.now.fields.now) }
-    ensures ok { (before : List Record) → AreStopTimes cells.now.places.now before times.old → OnOk result
-        ((stop_time_fault cells.now.places.now (fields_of cells.now.fields.now) ≡ None)
-        × AreStopTimes cells.now.places.now (before ++ fields_of cells.now.fields.now ∷ []) times.new) }
+    ensures ok { (before : List Record) → AreStopTimes cells.now.indices.now before times.old → OnOk result
+        ((stop_time_fault cells.now.indices.now (fields_of cells.now.fields.now) ≡ None)
+        × AreStopTimes cells.now.indices.now (before ++ fields_of cells.now.fields.now ∷ []) times.new) }
     ensures err { IfErr result (λ kind. kind ≢ FaultKind.OutOfMemory
-        → stop_time_fault cells.now.places.now (fields_of cells.now.fields.now) ≡ Some kind) }
+        → stop_time_fault cells.now.indices.now (fields_of cells.now.fields.now) ≡ Some kind) }
     ensures trips { OnOk result (hasher_of times.new.trips ≡ hasher_of times.old.trips) }
     ensures stops { OnOk result (hasher_of times.new.stops ≡ hasher_of times.old.stops) }
 {
@@ -116,8 +116,8 @@ fn add_stop_time(
     let departure = time_in(cells, 2)?;
     let sequence = number_in(cells, 4)?;
     let before = times.rows.last().map(|row| row.trip);
-    let trip = place_of(alloc, &mut times.trips, before, cells.get(0))?;
-    let stop = stop_place(alloc, &mut times.stops, likely, cells.get(3))?;
+    let trip = index_of(alloc, &mut times.trips, before, cells.get(0))?;
+    let stop = stop_index(alloc, &mut times.stops, likely, cells.get(3))?;
     let row = StopTimeRow {
         trip,
         arrival,
@@ -143,15 +143,15 @@ struct StopTimesRead {
 }
 
 // Returns the index that followed this one last, if any did.
-fn follower(followers: &[u32], place: u32) -> Option<u32> {
-    followers.get(place as usize).copied()
+fn follower(followers: &[u32], index: u32) -> Option<u32> {
+    followers.get(index as usize).copied()
 }
 
 // Notes which index followed this one. Each index but the newest has an entry, so a missing one is added at the end.
-fn note_follower(followers: &mut Vec<u32>, place: u32, next: u32) -> Result<(), FaultKind>
+fn note_follower(followers: &mut Vec<u32>, index: u32, next: u32) -> Result<(), FaultKind>
     ensures { IfErr result (λ kind. kind ≡ FaultKind.OutOfMemory) }
 {
-    let at = place as usize;
+    let at = index as usize;
     if at < followers.len() {
         followers[at] = next;
         return Ok(());
@@ -162,7 +162,7 @@ fn note_follower(followers: &mut Vec<u32>, place: u32, next: u32) -> Result<(), 
 impl TableRows for StopTimesRead {
     ghost TABLE = { files.StopTimes };
 
-    ghost holds = { λ places records read. AreStopTimes places records read.times };
+    ghost holds = { λ indices records read. AreStopTimes indices records read.times };
 
     ghost hashes = { λ read. hasher_of read.times.trips ∷ hasher_of read.times.stops ∷ [] };
 

@@ -17,9 +17,9 @@ use Rattle.gtfs_tables.specs.Names.{stop_named, trip_named}
 use Rattle.gtfs_tables.specs.Order.{IsInOrder, turns_by, turns_in}
 use Rattle.gtfs_tables.specs.Rows.{frequency_fault, is_flex_id, is_repeated, linked_fault, parent_fault, transfer_fault}
 use Rattle.gtfs_tables.specs.declared.joining.Links.{Links}
-use Rattle.gtfs_tables.specs.declared.names.Named.{Named}
+use Rattle.gtfs_tables.specs.declared.names.StopIdTarget.{StopIdTarget}
 use Rattle.gtfs_tables.specs.declared.order.RowOrder.{RowOrder}
-use Rattle.gtfs_tables.specs.declared.order.Turn.{Turn}
+use Rattle.gtfs_tables.specs.declared.order.SortKey.{SortKey}
 use Rattle.gtfs_tables.specs.declared.tables.Tables.{Tables}
 use Rattle.gtfs_tables.specs.declared.tables.Transfer.{Transfer}
 use Rattle.gtfs_tables.specs.declared.tables.Trip.{Trip}
@@ -35,7 +35,7 @@ pub of_none : {X : Type 0} (a b c : Option X) → a ≡ None → b ≡ None → 
 of_none a b c e f g = rw (e, f, g) refl
 
 -- the trips with what is the same of each
-pub same_trips : (turns : List Turn) (rows : List StopTimeRow) (f g : ℕ → Bool) (from : ℕ) (trips : List TripRow)
+pub same_trips : (turns : List SortKey) (rows : List StopTimeRow) (f g : ℕ → Bool) (from : ℕ) (trips : List TripRow)
     → ((t : ℕ) → t < from + length trips → f t ≡ g t)
     → feed_trips turns rows f from trips ≡ feed_trips turns rows g from trips
 same_trips turns rows f g from [] same = refl
@@ -56,51 +56,51 @@ same_trips turns rows f g from (trip ∷ trips) same =
     ∙ ap (λ rest. feed_trip turns rows g from trip ∷ rest) rest
 
 -- what was judged or made of lists that are those of the tables
-pub order_told : (placed : List ℕ → Option ℕ) (t : Tables) (rows : List StopTimeRow) (ts : List (Option ℕ)) (order : RowOrder) → rows
+pub order_as_given : (placed : List ℕ → Option ℕ) (t : Tables) (rows : List StopTimeRow) (ts : List (Option ℕ)) (order : RowOrder) → rows
     ≡ t.stop_times.rows.items → ts ≡ trips_by placed t
     → IsInOrder ts rows (turns_in ts order rows)
     → IsInOrder (trips_by placed t) t.stop_times.rows.items (turns_in (trips_by placed t) order t.stop_times.rows.items)
-order_told placed t rows ts order e f is =
+order_as_given placed t rows ts order e f is =
     subst (λ (x : List StopTimeRow). IsInOrder (trips_by placed t) x (turns_in (trips_by placed t) order x)) e
     (subst (λ (x : List (Option ℕ)). IsInOrder x rows (turns_in x order rows)) f is)
 
-pub stops_told : (named : List ℕ → Option Named) (given stops : List StopRow) (r : Option TableFault) → given ≡ stops
+pub stops_as_given : (named : List ℕ → Option StopIdTarget) (given stops : List StopRow) (r : Option TableFault) → given ≡ stops
     → first_fault_of kinds.Stops (parent_fault named) given ≡ r → first_fault_of kinds.Stops (parent_fault named) stops ≡ r
-stops_told named given stops r e h = subst (λ (x : List StopRow). first_fault_of kinds.Stops (parent_fault named) x ≡ r) e h
+stops_as_given named given stops r e h = subst (λ (x : List StopRow). first_fault_of kinds.Stops (parent_fault named) x ≡ r) e h
 
-pub times_told : (named : List ℕ → Option Named) (placed : List ℕ → Option ℕ) (t : Tables) (ts : List (Option ℕ)) (r : Option TableFault) → ts
+pub times_as_given : (named : List ℕ → Option StopIdTarget) (placed : List ℕ → Option ℕ) (t : Tables) (ts : List (Option ℕ)) (r : Option TableFault) → ts
     ≡ trips_by placed t
     → first_fault_of kinds.StopTimes (λ row. linked_fault ts (stops_by named t) (is_flex_id t.stop_times.rows.items row.trip) row) t.stop_times.rows.items ≡ r
     → first_fault_of kinds.StopTimes (stop_time_fault named placed t) t.stop_times.rows.items ≡ r
-times_told named placed t ts r e h = subst (λ (x : List (Option ℕ)). first_fault_of kinds.StopTimes
+times_as_given named placed t ts r e h = subst (λ (x : List (Option ℕ)). first_fault_of kinds.StopTimes
     (λ row. linked_fault x (stops_by named t) (is_flex_id t.stop_times.rows.items row.trip) row) t.stop_times.rows.items ≡ r) e h
 
-pub rows_told : (ts trips : List (Option ℕ)) (ss stops : List (Option Named)) (order : RowOrder) (rows made : List StopTimeRow)
+pub rows_as_given : (ts trips : List (Option ℕ)) (ss stops : List (Option StopIdTarget)) (order : RowOrder) (rows made : List StopTimeRow)
     → ts ≡ trips → ss ≡ stops → made ≡ linked_by ts ss order rows → made ≡ linked_by trips stops order rows
-rows_told ts trips ss stops order rows made e s h = subst (λ (x : List (Option Named)). made ≡ linked_by trips x order rows) s
+rows_as_given ts trips ss stops order rows made e s h = subst (λ (x : List (Option StopIdTarget)). made ≡ linked_by trips x order rows) s
     (subst (λ (x : List (Option ℕ)). made ≡ linked_by x ss order rows) e h)
 
 -- the linked rows' turns are those of the rows
-pub turns_told : (trips : List (Option ℕ)) (stops : List (Option Named)) (order : RowOrder) (rows made : List StopTimeRow)
+pub keys_as_given : (trips : List (Option ℕ)) (stops : List (Option StopIdTarget)) (order : RowOrder) (rows made : List StopTimeRow)
     → made ≡ linked_by trips stops order rows → turns_by order made ≡ turns_in trips order rows
-turns_told trips stops order rows made h = turns_kept trips stops (λ row. is_flex_id rows row.trip) order rows made h
+keys_as_given trips stops order rows made h = turns_kept trips stops (λ row. is_flex_id rows row.trip) order rows made h
 
 -- the marks of flex trips, told of lists that are those of the tables
-pub flex_told : (rows : List StopTimeRow) (ts trips : List (Option ℕ)) (given flex : List Bool) → ts ≡ trips → given ≡ flex
+pub flex_as_given : (rows : List StopTimeRow) (ts trips : List (Option ℕ)) (given flex : List Bool) → ts ≡ trips → given ≡ flex
     → ((id : ℕ) → id < length trips → slice_index_or flex id false ≡ is_flex_id rows id)
     → (id : ℕ) → id < length ts → slice_index_or given id false ≡ is_flex_id rows id
-flex_told rows ts trips given flex e f marked id lt =
+flex_as_given rows ts trips given flex e f marked id lt =
     let within : id < length trips = subst (λ (x : List (Option ℕ)). id < length x) e lt in
     ap (λ (x : List Bool). slice_index_or x id false) f ∙ marked id within
 
-pub frequencies_told : (placed : List ℕ → Option ℕ) (given rows : List FrequencyRow) (r : Option TableFault) → given ≡ rows
+pub frequencies_as_given : (placed : List ℕ → Option ℕ) (given rows : List FrequencyRow) (r : Option TableFault) → given ≡ rows
     → first_fault_of kinds.Frequencies (frequency_fault placed) given ≡ r → first_fault_of kinds.Frequencies (frequency_fault placed) rows ≡ r
-frequencies_told placed given rows r e h = subst (λ (x : List FrequencyRow). first_fault_of kinds.Frequencies (frequency_fault placed) x ≡ r) e h
+frequencies_as_given placed given rows r e h = subst (λ (x : List FrequencyRow). first_fault_of kinds.Frequencies (frequency_fault placed) x ≡ r) e h
 
 -- functions that agree are one: what holds of the ones holds of the others
-both_told : (P : (List ℕ → Option Named) → (List ℕ → Option ℕ) → Type 0) (f g : List ℕ → Option Named) (h k : List ℕ → Option ℕ)
+both_as_given : (P : (List ℕ → Option StopIdTarget) → (List ℕ → Option ℕ) → Type 0) (f g : List ℕ → Option StopIdTarget) (h k : List ℕ → Option ℕ)
     → ((id : List ℕ) → f id ≡ g id) → ((id : List ℕ) → h id ≡ k id) → P f h → P g k
-both_told P f g h k e d held = subst (λ (x : List ℕ → Option ℕ). P g x) d_path (subst (λ (x : List ℕ → Option Named). P x h) e_path held)
+both_as_given P f g h k e d held = subst (λ (x : List ℕ → Option ℕ). P g x) d_path (subst (λ (x : List ℕ → Option StopIdTarget). P x h) e_path held)
   where
     e_path : f ≡ g
     e_path = λ i id. e id i
@@ -109,14 +109,14 @@ both_told P f g h k e d held = subst (λ (x : List ℕ → Option ℕ). P g x) d
     d_path = λ i id. d id i
 
 -- what a call gives of the ones is given of the others
-pub links_told : (f g : List ℕ → Option Named) (h k : List ℕ → Option ℕ) (t : Tables) (r : Result Links TableFault) → ((id : List ℕ) → f id ≡ g id)
+pub links_as_given : (f g : List ℕ → Option StopIdTarget) (h k : List ℕ → Option ℕ) (t : Tables) (r : Result Links TableFault) → ((id : List ℕ) → f id ≡ g id)
     → ((id : List ℕ) → h id ≡ k id) → IfOk r (IsLinked f h t) → IfOk r (IsLinked g k t)
-links_told f g h k t r = both_told (λ x y. IfOk r (IsLinked x y t)) f g h k
+links_as_given f g h k t r = both_as_given (λ x y. IfOk r (IsLinked x y t)) f g h k
 
-pub fault_told : (f g : List ℕ → Option Named) (h k : List ℕ → Option ℕ) (t : Tables) (r : Result Links TableFault) → ((id : List ℕ) → f id ≡ g id)
+pub fault_as_given : (f g : List ℕ → Option StopIdTarget) (h k : List ℕ → Option ℕ) (t : Tables) (r : Result Links TableFault) → ((id : List ℕ) → f id ≡ g id)
     → ((id : List ℕ) → h id ≡ k id)
     → IfErr r (λ fault. fault.kind ≢ OutOfMemory → IsNamingFault f h t fault) → IfErr r (λ fault. fault.kind ≢ OutOfMemory → IsNamingFault g k t fault)
-fault_told f g h k t r = both_told (λ x y. IfErr r (λ fault. fault.kind ≢ OutOfMemory → IsNamingFault x y t fault)) f g h k
+fault_as_given f g h k t r = both_as_given (λ x y. IfErr r (λ fault. fault.kind ≢ OutOfMemory → IsNamingFault x y t fault)) f g h k
 
 pub of_err : {X E : Type 0} (r : Result X E) (fault : E) (Q : E → Type 0) → r ≡ Err fault → IfErr r Q → Q fault
 of_err {X = X} {E = E} r fault Q e h = subst (λ (x : Result X E). IfErr x Q) e h
@@ -125,17 +125,18 @@ pub of_ok : {X E : Type 0} (r : Result X E) (kept : X) (Q : X → Type 0) → r 
 of_ok {X = X} {E = E} r kept Q e h = subst (λ (x : Result X E). IfOk x Q) e h
 
 -- what is told of trips, by turns and rows that are others'
-pub trips_told : (strict : Bool) (given turns : List Turn) (listed rows : List StopTimeRow) (n : ℕ) (r : Option TableFault) → given ≡ turns → listed ≡ rows
+pub trips_as_given : (strict : Bool) (given turns : List SortKey) (listed rows : List StopTimeRow) (n : ℕ) (r : Option TableFault) → given ≡ turns → listed
+    ≡ rows
     → first_below (trip_fault strict given listed) n ≡ r → first_below (trip_fault strict turns rows) n ≡ r
-trips_told strict given turns listed rows n r e f h =
-    subst (λ (x : List Turn). first_below (trip_fault strict x rows) n ≡ r) e
+trips_as_given strict given turns listed rows n r e f h =
+    subst (λ (x : List SortKey). first_below (trip_fault strict x rows) n ≡ r) e
     (subst (λ (x : List StopTimeRow). first_below (trip_fault strict given x) n ≡ r) f h)
 
-pub trips_made : (given turns : List Turn) (listed rows : List StopTimeRow) (marked repeats : List Bool) (trips : List TripRow) (made : List Trip)
+pub trips_made : (given turns : List SortKey) (listed rows : List StopTimeRow) (marked repeats : List Bool) (trips : List TripRow) (made : List Trip)
     → given ≡ turns → listed ≡ rows → marked ≡ repeats → made ≡ feed_trips given listed (λ t. slice_index_or marked t false) 0 trips
     → made ≡ feed_trips turns rows (λ t. slice_index_or repeats t false) 0 trips
 trips_made given turns listed rows marked repeats trips made e d m h =
-    subst (λ (x : List Turn). made ≡ feed_trips x rows (λ t. slice_index_or repeats t false) 0 trips) e
+    subst (λ (x : List SortKey). made ≡ feed_trips x rows (λ t. slice_index_or repeats t false) 0 trips) e
     (subst (λ (x : List StopTimeRow). made ≡ feed_trips given x (λ t. slice_index_or repeats t false) 0 trips) d
     (subst (λ (x : List Bool). made ≡ feed_trips given listed (λ t. slice_index_or x t false) 0 trips) m h))
 
@@ -147,7 +148,7 @@ module _ (strict : Bool) (t : Tables) (links : Links) (linked : IsLinked (stop_n
 
   pub rows_are : linked_by links.names.trips.items links.names.stops.items links.order t.stop_times.rows.items
       ≡ rows_by (stop_named t.stops.items) (trip_named t.trips.items) t (turns_in (trips_by (trip_named t.trips.items) t) links.order t.stop_times.rows.items)
-  rows_are = rows_told links.names.trips.items (trips_by (trip_named t.trips.items) t) links.names.stops.items (stops_by (stop_named t.stops.items) t)
+  rows_are = rows_as_given links.names.trips.items (trips_by (trip_named t.trips.items) t) links.names.stops.items (stops_by (stop_named t.stops.items) t)
       links.order t.stop_times.rows.items (linked_by links.names.trips.items links.names.stops.items links.order t.stop_times.rows.items)
       linked.trips linked.stops refl
 
@@ -157,7 +158,7 @@ module _ (strict : Bool) (t : Tables) (links : Links) (linked : IsLinked (stop_n
       → first_below (trip_fault strict (turns_in (trips_by (trip_named t.trips.items) t) links.order t.stop_times.rows.items)
       (rows_by (stop_named t.stops.items) (trip_named t.trips.items) t (turns_in (trips_by (trip_named t.trips.items) t) links.order t.stop_times.rows.items)))
       (length t.trips.items) ≡ r
-  judged r h = trips_told strict (turns_in links.names.trips.items links.order t.stop_times.rows.items)
+  judged r h = trips_as_given strict (turns_in links.names.trips.items links.order t.stop_times.rows.items)
       (turns_in (trips_by (trip_named t.trips.items) t) links.order t.stop_times.rows.items)
       (linked_by links.names.trips.items links.names.stops.items links.order t.stop_times.rows.items)
       (rows_by (stop_named t.stops.items) (trip_named t.trips.items) t (turns_in (trips_by (trip_named t.trips.items) t) links.order t.stop_times.rows.items))

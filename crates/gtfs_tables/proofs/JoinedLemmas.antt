@@ -22,18 +22,18 @@ use Rattle.gtfs_rows.specs.declared.rows.StopRow.{StopRow}
 use Rattle.gtfs_rows.specs.declared.rows.StopTimeRow.{StopTimeRow}
 use Rattle.gtfs_rows.specs.declared.rows.TripRow.{TripRow}
 use Rattle.gtfs_tables.specs.Feeds.{feed_stop, feed_trip, feed_trips, first_fault, link_by, naming_fault}
-use Rattle.gtfs_tables.specs.Feeds.{rows_by, told_of, stops_by, trip_fault, trips_by}
+use Rattle.gtfs_tables.specs.Feeds.{rows_by, fault_of_row, stops_by, trip_fault, trips_by}
 use Rattle.gtfs_tables.specs.First.{first_below, first_fault_of}
 use Rattle.gtfs_tables.specs.Joined.{AreRunnable, HasTimedEnds, IsRunnableTrip, NameStopsBelow, NamesBelow}
 use Rattle.gtfs_tables.specs.Names.{named_as, named_at, stop_named, stop_with, trip_named}
 use Rattle.gtfs_tables.specs.Order.{first_turn, of_trip, row_of}
 use Rattle.gtfs_tables.specs.Rows.{IsTransferOf, is_flex_id, is_kept, is_repeated, named_by, stop_number, stop_of, transfer_fault}
 use Rattle.gtfs_tables.specs.Times.{first_wrong, is_flex, wrong_given, wrong_times}
-use Rattle.gtfs_tables.specs.declared.names.Named.{Named}
-use Rattle.gtfs_tables.specs.declared.names.Named.TheVariants as names
-use Rattle.gtfs_tables.specs.declared.order.Turn.{Turn}
-use Rattle.gtfs_tables.specs.declared.tables.Place.{Place}
-use Rattle.gtfs_tables.specs.declared.tables.Place.TheVariants as places
+use Rattle.gtfs_tables.specs.declared.names.StopIdTarget.{StopIdTarget}
+use Rattle.gtfs_tables.specs.declared.names.StopIdTarget.TheVariants as names
+use Rattle.gtfs_tables.specs.declared.order.SortKey.{SortKey}
+use Rattle.gtfs_tables.specs.declared.tables.TransferEnd.{TransferEnd}
+use Rattle.gtfs_tables.specs.declared.tables.TransferEnd.TheVariants as indices
 use Rattle.gtfs_tables.specs.declared.tables.Stop.{Stop}
 use Rattle.gtfs_tables.specs.declared.tables.Tables.{Tables}
 use Rattle.gtfs_tables.specs.declared.tables.Transfer.{Transfer}
@@ -72,14 +72,14 @@ fewer_before stops k row e s =
     let fewer = fewer_kept stops k row e s in
     omega (arith, length-filter is_stop (take k stops), length-filter is_stop stops)
 
-stop_as : (location : Location) (number place s : ℕ) → named_as location number place ≡ names.Stop s → (location ≡ locations.Stop) × (number ≡ s)
-stop_as locations.Stop number place s e = (refl, cc)
-stop_as locations.Station number place s e = absurd cc
-stop_as locations.Entrance number place s e = absurd cc
-stop_as locations.Node number place s e = absurd cc
-stop_as locations.BoardingArea number place s e = absurd cc
+stop_as : (location : Location) (number index s : ℕ) → named_as location number index ≡ names.Stop s → (location ≡ locations.Stop) × (number ≡ s)
+stop_as locations.Stop number index s e = (refl, cc)
+stop_as locations.Station number index s e = absurd cc
+stop_as locations.Entrance number index s e = absurd cc
+stop_as locations.Node number index s e = absurd cc
+stop_as locations.BoardingArea number index s e = absurd cc
 
-stop_here : (b : Bool) (x y : Named) → (if b then Some x else None) ≡ Some y → x ≡ y
+stop_here : (b : Bool) (x y : StopIdTarget) → (if b then Some x else None) ≡ Some y → x ≡ y
 stop_here true x y e = cc
 stop_here false x y e = absurd cc
 
@@ -103,15 +103,16 @@ named_below stops id s e =
 
 -- ---- transfers
 
-stop_place : (place : Place) (s : ℕ) → place ≡ places.Stop s → named_by place ≡ names.Stop s
-stop_place place s e = rw e refl
+stop_index : (index : TransferEnd) (s : ℕ) → index ≡ indices.Stop s → named_by index ≡ names.Stop s
+stop_index index s e = rw e refl
 
-place_below : (stops : List StopRow) (id : List ℕ) (place : Place) → stop_named stops id ≡ Some (named_by place) → NamesBelow (count_by is_stop stops) place
-place_below stops id (places.Stop s) e = named_below stops id s e
-place_below stops id (places.Station p) e = tt
+index_below : (stops : List StopRow) (id : List ℕ) (index : TransferEnd) → stop_named stops id ≡ Some (named_by index) → NamesBelow
+    (count_by is_stop stops) index
+index_below stops id (indices.Stop s) e = named_below stops id s e
+index_below stops id (indices.Station p) e = tt
 
 -- the feed has as many stops as stops.txt has rows that stand for one
-stops_counted : (t : Tables) (stops : List Stop) (named : List ℕ → Option Named)
+stops_counted : (t : Tables) (stops : List Stop) (named : List ℕ → Option StopIdTarget)
     → stops ≡ map (feed_stop named) (filter is_stop t.stops.items) → length stops ≡ count_by is_stop t.stops.items
 stops_counted t stops named e = ap length e ∙ length-map (filter is_stop t.stops.items) (feed_stop named) ∙ length-filter is_stop t.stops.items
 
@@ -130,8 +131,8 @@ joined_names t stops transfers stops_are zipped k d lt =
     let count = stops_counted t stops (stop_named t.stops.items) stops_are in
     let row = zip_at (IsTransferOf (stop_named t.stops.items)) (filter is_kept t.transfers.items) transfers k d zipped lt in
     rw count (
-      place_below t.stops.items (string_bytes row.0.from) (slice_index_or transfers k d).from row.1.from,
-      place_below t.stops.items (string_bytes row.0.to) (slice_index_or transfers k d).to row.1.to,
+      index_below t.stops.items (string_bytes row.0.from) (slice_index_or transfers k d).from row.1.from,
+      index_below t.stops.items (string_bytes row.0.to) (slice_index_or transfers k d).to row.1.to,
     )
 
 -- ---- where the rows of a trip stand
@@ -148,16 +149,16 @@ kept_more p q (x ∷ xs) h =
       | inr t ↦ elim (cases_Bool (q x)) [ inl u ↦ rw (t, u) (omega arith) | inr u ↦ rw (t, u) rest ]
     ]
 
-turn_rises : (turns : List Turn) (t : ℕ) → first_turn turns t ≤ first_turn turns (t + 1)
+turn_rises : (turns : List SortKey) (t : ℕ) → first_turn turns t ≤ first_turn turns (t + 1)
 turn_rises turns t =
-    let more = kept_more (λ (turn : Turn). nat_lt turn.trip t) (λ (turn : Turn). nat_lt turn.trip (t + 1)) turns
+    let more = kept_more (λ (turn : SortKey). nat_lt turn.trip t) (λ (turn : SortKey). nat_lt turn.trip (t + 1)) turns
     (λ turn e. test_more turn.trip t (t + 1) (omega arith) e) in
-    omega (arith, length-filter (λ (turn : Turn). nat_lt turn.trip t) turns, length-filter (λ (turn : Turn). nat_lt turn.trip (t + 1)) turns)
+    omega (arith, length-filter (λ (turn : SortKey). nat_lt turn.trip t) turns, length-filter (λ (turn : SortKey). nat_lt turn.trip (t + 1)) turns)
 
-turn_within : (turns : List Turn) (t : ℕ) → first_turn turns t ≤ length turns
+turn_within : (turns : List SortKey) (t : ℕ) → first_turn turns t ≤ length turns
 turn_within turns t = count_by-le-length (λ turn. nat_lt turn.trip t) turns
 
-trip_at : (turns : List Turn) (rows : List StopTimeRow) (repeats : ℕ → Bool) (from k : ℕ) (trips : List TripRow) (d : Trip) → k < length trips
+trip_at : (turns : List SortKey) (rows : List StopTimeRow) (repeats : ℕ → Bool) (from k : ℕ) (trips : List TripRow) (d : Trip) → k < length trips
     → (row : TripRow) × (get_or (feed_trips turns rows repeats from trips) k d ≡ feed_trip turns rows repeats (from + k) row)
 trip_at turns rows repeats from k [] d lt = absurd (omega (arith, lt))
 trip_at turns rows repeats from zero (row ∷ trips) d lt = (row, let e : from + zero ≡ from = omega arith in rw e refl)
@@ -165,7 +166,7 @@ trip_at turns rows repeats from (suc k) (row ∷ trips) d lt =
     let rest = trip_at turns rows repeats (from + 1) k trips d (omega (arith, lt)) in
     (rest.0, let e : from + suc k ≡ from + 1 + k = omega arith in rw e rest.1)
 
-trips_counted : (turns : List Turn) (rows : List StopTimeRow) (repeats : ℕ → Bool) (from : ℕ) (trips : List TripRow)
+trips_counted : (turns : List SortKey) (rows : List StopTimeRow) (repeats : ℕ → Bool) (from : ℕ) (trips : List TripRow)
     → length (feed_trips turns rows repeats from trips) ≡ length trips
 trips_counted turns rows repeats from [] = refl
 trips_counted turns rows repeats from (row ∷ trips) = ap (λ n. suc n) (trips_counted turns rows repeats (from + 1) trips)
@@ -207,13 +208,13 @@ none_any p xs k d e lt = elim (cases_Bool (p (get_or xs k d))) [
   | inr f ↦ f
 ]
 
-numbered : (o : Option Named) (s : ℕ) → stop_number o ≡ Some s → o ≡ Some (names.Stop s)
+numbered : (o : Option StopIdTarget) (s : ℕ) → stop_number o ≡ Some s → o ≡ Some (names.Stop s)
 numbered (Some (names.Stop n)) s e = cc
 numbered (Some (names.Station p)) s e = absurd cc
 numbered (Some names.Elsewhere) s e = absurd cc
 numbered None s e = absurd cc
 
-placed_at : {Y : Type 0} (f : ℕ → Option Y) (place : Option ℕ) (y : Y) → option_and_then f place ≡ Some y → (k : ℕ) × (f k ≡ Some y)
+placed_at : {Y : Type 0} (f : ℕ → Option Y) (index : Option ℕ) (y : Y) → option_and_then f index ≡ Some y → (k : ℕ) × (f k ≡ Some y)
 placed_at f None y e = absurd cc
 placed_at f (Some k) y e = (k, e)
 
@@ -222,8 +223,8 @@ linked_below : {K : Type 0} (stops : List StopRow) (bytes : K → List ℕ) (key
     → stop_number (stop_of (map (λ id. stop_named stops (bytes id)) keys) row) ≡ Some s → s < count_by is_stop stops
 linked_below stops bytes keys row s e =
     let named = numbered (stop_of (map (λ id. stop_named stops (bytes id)) keys) row) s e in
-    let place = placed_at (named_at (map (λ id. stop_named stops (bytes id)) keys)) row.stop (names.Stop s) named in
-    let id = mapped_some (λ id. stop_named stops (bytes id)) keys place.0 (names.Stop s) place.1 in
+    let index = placed_at (named_at (map (λ id. stop_named stops (bytes id)) keys)) row.stop (names.Stop s) named in
+    let id = mapped_some (λ id. stop_named stops (bytes id)) keys index.0 (names.Stop s) index.1 in
     named_below stops (bytes id.0) s id.1
 
 unless : (b : Bool) (x : Option ℕ) (s : ℕ) → (if b then None else x) ≡ Some s → x ≡ Some s
@@ -235,10 +236,10 @@ stop_below n None e h = absurd (false≢true (sym e))
 stop_below n (Some s) e h = h s refl
 
 -- a row of the feed has one of the stops, if any
-row_below : (t : Tables) (turns : List Turn) (k s : ℕ) (d : StopTimeRow) → k < length turns
+row_below : (t : Tables) (turns : List SortKey) (k s : ℕ) (d : StopTimeRow) → k < length turns
     → (get_or (rows_by (stop_named t.stops.items) (trip_named t.trips.items) t turns) k d).stop ≡ Some s → s < count_by is_stop t.stops.items
 row_below t turns k s d lt e =
-    let turn = mapped_at (λ (turn : Turn). link_by (stop_named t.stops.items) (trip_named t.trips.items) t
+    let turn = mapped_at (λ (turn : SortKey). link_by (stop_named t.stops.items) (trip_named t.trips.items) t
     (row_of t.stop_times.rows.items turn.number)) turns k d lt in
     let raw = row_of t.stop_times.rows.items turn.0.number in
     let here = sym (ap (λ (row : StopTimeRow). row.stop) turn.1) ∙ e in
@@ -249,7 +250,7 @@ row_below t turns k s d lt e =
 
 -- ---- the trips of a joined feed
 
-fault_none : (strict : Bool) (t : Tables) (turns : List Turn) (k : ℕ)
+fault_none : (strict : Bool) (t : Tables) (turns : List SortKey) (k : ℕ)
     → first_fault (stop_named t.stops.items) (trip_named t.trips.items) strict t turns ≡ None → k < length t.trips.items
     → first_wrong strict (of_trip turns k (rows_by (stop_named t.stops.items) (trip_named t.trips.items) t turns)) ≡ None
 fault_none strict t turns k e lt =
@@ -259,11 +260,11 @@ fault_none strict t turns k e lt =
     (first_fault_of tables.Transfers (transfer_fault (stop_named t.stops.items)) t.transfers.items)) e in
     let trips = option_or_parts (first_below (trip_fault strict turns rows) (length t.trips.items))
     (first_fault_of tables.Transfers (transfer_fault (stop_named t.stops.items)) t.transfers.items) behind.1 in
-    unmapped (told_of (of_trip turns k turns)) (first_wrong strict (of_trip turns k rows))
+    unmapped (fault_of_row (of_trip turns k turns)) (first_wrong strict (of_trip turns k rows))
     (first_below-none (trip_fault strict turns rows) (length t.trips.items) k lt trips.0)
 
 -- the trip at a place, as it is made, is runnable
-made_runnable : (strict : Bool) (t : Tables) (turns : List Turn) (k : ℕ) (row : TripRow)
+made_runnable : (strict : Bool) (t : Tables) (turns : List SortKey) (k : ℕ) (row : TripRow)
     → first_fault (stop_named t.stops.items) (trip_named t.trips.items) strict t turns ≡ None → k < length t.trips.items
     → IsRunnableTrip (count_by is_stop t.stops.items) (rows_by (stop_named t.stops.items) (trip_named t.trips.items) t turns)
     (feed_trip turns (rows_by (stop_named t.stops.items) (trip_named t.trips.items) t turns)
@@ -272,7 +273,7 @@ made_runnable strict t turns k row faultless lt =
     let rows = rows_by (stop_named t.stops.items) (trip_named t.trips.items) t turns in
     let up = turn_rises turns k in
     let len : length rows ≡ length turns = length-map turns
-    (λ (turn : Turn). link_by (stop_named t.stops.items) (trip_named t.trips.items) t
+    (λ (turn : SortKey). link_by (stop_named t.stops.items) (trip_named t.trips.items) t
     (row_of t.stop_times.rows.items turn.number)) in
     let inside : first_turn turns (k + 1) ≤ length rows = let w = turn_within turns (k + 1) in omega arith in
     let count : length (of_trip turns k rows) ≡ first_turn turns (k + 1) - first_turn turns k =
@@ -295,7 +296,7 @@ made_runnable strict t turns k row faultless lt =
           (λ s e. row_below t turns (first_turn turns k + i) s d (omega arith) (sym (ap (λ (row : StopTimeRow). row.stop) at) ∙ e));
     }
 
-pub joined_trips : (strict : Bool) (t : Tables) (turns : List Turn) (stops : List Stop) (times : List StopTimeRow) (trips : List Trip)
+pub joined_trips : (strict : Bool) (t : Tables) (turns : List SortKey) (stops : List Stop) (times : List StopTimeRow) (trips : List Trip)
     → first_fault (stop_named t.stops.items) (trip_named t.trips.items) strict t turns ≡ None
     → stops ≡ map (feed_stop (stop_named t.stops.items)) (filter is_stop t.stops.items)
     → times ≡ rows_by (stop_named t.stops.items) (trip_named t.trips.items) t turns
@@ -308,7 +309,7 @@ joined_trips strict t turns stops times trips faultless stops_are times_are trip
     let count = stops_counted t stops (stop_named t.stops.items) stops_are in
     let many : length trips ≡ length t.trips.items = ap length trips_are ∙ trips_counted turns rows repeats 0 t.trips.items in
     let made = trip_at turns rows repeats 0 k t.trips.items d (omega arith) in
-    let place : 0 + k ≡ k = omega arith in
+    let index : 0 + k ≡ k = omega arith in
     let is : get_or trips k d ≡ feed_trip turns rows repeats k made.0 =
-    ap (λ (all : List Trip). get_or all k d) trips_are ∙ made.1 ∙ ap (λ n. feed_trip turns rows repeats n made.0) place in
+    ap (λ (all : List Trip). get_or all k d) trips_are ∙ made.1 ∙ ap (λ n. feed_trip turns rows repeats n made.0) index in
     rw (is, times_are, count) (made_runnable strict t turns k made.0 faultless (omega arith))

@@ -10,18 +10,18 @@ use Rattle.gtfs_tables.specs.Names.{stop_named, trip_named}
 use Rattle.gtfs_tables.specs.Feeds.{IsFirstFault, IsJoined, first_fault, trips_by}
 use Rattle.gtfs_tables.specs.Rows.{IsTransferOf, is_kept, named_by}
 use Rattle.gtfs_tables.specs.Outcome.{IsSameFeed}
-use Rattle.gtfs_tables.specs.declared.names.Named.{Named}
-use Rattle.gtfs_tables.specs.declared.names.Named.TheVariants as names
-use Rattle.gtfs_tables.specs.declared.order.Turn.{Turn}
+use Rattle.gtfs_tables.specs.declared.names.StopIdTarget.{StopIdTarget}
+use Rattle.gtfs_tables.specs.declared.names.StopIdTarget.TheVariants as names
+use Rattle.gtfs_tables.specs.declared.order.SortKey.{SortKey}
 use Rattle.gtfs_tables.specs.declared.tables.Feed.{Feed}
-use Rattle.gtfs_tables.specs.declared.tables.Place.{Place}
-use Rattle.gtfs_tables.specs.declared.tables.Place.TheVariants as places
+use Rattle.gtfs_tables.specs.declared.tables.TransferEnd.{TransferEnd}
+use Rattle.gtfs_tables.specs.declared.tables.TransferEnd.TheVariants as indices
 use Rattle.gtfs_tables.specs.declared.tables.Tables.{Tables}
 use Rattle.gtfs_tables.specs.declared.tables.Transfer.{Transfer}
 use Rattle.gtfs_tables.proofs.OneOrder.{one_order}
 
 -- the tables' first fault by the turns of the one and of the other
-found : Bool → Tables → List Turn → Option TableFault
+found : Bool → Tables → List SortKey → Option TableFault
 found strict t turns = first_fault (stop_named t.stops.items) (trip_named t.trips.items) strict t turns
 
 pub one_fault : (strict : Bool) (t : Tables) (x y : TableFault) → IsFirstFault strict t x → IsFirstFault strict t y → x ≡ y
@@ -41,20 +41,20 @@ no_fault strict t feed x a b =
     none-some x (sym none ∙ ap (found strict t) turns ∙ first)
 
 -- what stands at an end is known by its name
-abbrev place_of : Option Named → Place
-place_of None = places.Stop 0
-place_of (Some (names.Stop number)) = places.Stop number
-place_of (Some (names.Station place)) = places.Station place
-place_of (Some names.Elsewhere) = places.Stop 0
+abbrev index_of : Option StopIdTarget → TransferEnd
+index_of None = indices.Stop 0
+index_of (Some (names.Stop number)) = indices.Stop number
+index_of (Some (names.Station index)) = indices.Station index
+index_of (Some names.Elsewhere) = indices.Stop 0
 
-place_back : (p : Place) → place_of (Some (named_by p)) ≡ p
-place_back (places.Stop number) = refl
-place_back (places.Station place) = refl
+index_back : (p : TransferEnd) → index_of (Some (named_by p)) ≡ p
+index_back (indices.Stop number) = refl
+index_back (indices.Station index) = refl
 
-one_end : (o : Option Named) (p q : Place) → o ≡ Some (named_by p) → o ≡ Some (named_by q) → p ≡ q
-one_end o p q a b = sym (place_back p) ∙ ap place_of (sym a ∙ b) ∙ place_back q
+one_end : (o : Option StopIdTarget) (p q : TransferEnd) → o ≡ Some (named_by p) → o ≡ Some (named_by q) → p ≡ q
+one_end o p q a b = sym (index_back p) ∙ ap index_of (sym a ∙ b) ∙ index_back q
 
-one_transfer : (named : List ℕ → Option Named) (row : TransferRow) (a b : Transfer) → IsTransferOf named row a → IsTransferOf named row b → a ≡ b
+one_transfer : (named : List ℕ → Option StopIdTarget) (row : TransferRow) (a b : Transfer) → IsTransferOf named row a → IsTransferOf named row b → a ≡ b
 one_transfer named row a b x y =
     let from : a.from ≡ b.from = one_end (named (string_bytes row.from)) a.from b.from x.from y.from in
     let to : a.to ≡ b.to = one_end (named (string_bytes row.to)) a.to b.to x.to y.to in
@@ -62,7 +62,7 @@ one_transfer named row a b x y =
     let seconds : a.seconds ≡ b.seconds = x.seconds ∙ sym y.seconds in
     λ i. record { from = from i; to = to i; kind = kind i; seconds = seconds i }
 
-one_list : (named : List ℕ → Option Named) (rows : List TransferRow) (xs ys : List Transfer)
+one_list : (named : List ℕ → Option StopIdTarget) (rows : List TransferRow) (xs ys : List Transfer)
     → AllZip (IsTransferOf named) rows xs → AllZip (IsTransferOf named) rows ys → xs ≡ ys
 one_list named [] [] [] a b = refl
 one_list named [] [] (y ∷ ys) a b = absurd b

@@ -9,28 +9,28 @@ use Rattle.std.proofs.lemmas.List.Sums.{length-filter}
 use Rattle.std.proofs.lemmas.List.Sorted.{IsNonDecreasingBy-from_all_adjacent}
 use Rattle.std.proofs.lemmas.List.{get_or_default, length-take-le, take_more}
 use Rattle.gtfs_rows.specs.declared.rows.StopTimeRow.{StopTimeRow}
-use Rattle.gtfs_tables.specs.Order.{comes_before, first_turn, turn_of, turns_from}
-use Rattle.gtfs_tables.specs.declared.order.Turn.{Turn}
+use Rattle.gtfs_tables.specs.Order.{comes_before, first_turn, sort_key_of, turns_from}
+use Rattle.gtfs_tables.specs.declared.order.SortKey.{SortKey}
 
-turns-push : (trips : List (Option ℕ)) (k place : ℕ) (rows : List StopTimeRow) (row : StopTimeRow) → place ≡ k + length rows
-    → turns_from trips k (rows ++ row ∷ []) ≡ turns_from trips k rows ++ turn_of trips place row ∷ []
-turns-push trips k place [] row e = let same : place ≡ k = omega (arith, e) in rw same refl
-turns-push trips k place (first ∷ rows) row e = ap (λ rest. turn_of trips k first ∷ rest) (turns-push trips (k + 1) place rows row (omega (arith, e)))
+turns-push : (trips : List (Option ℕ)) (k index : ℕ) (rows : List StopTimeRow) (row : StopTimeRow) → index ≡ k + length rows
+    → turns_from trips k (rows ++ row ∷ []) ≡ turns_from trips k rows ++ sort_key_of trips index row ∷ []
+turns-push trips k index [] row e = let same : index ≡ k = omega (arith, e) in rw same refl
+turns-push trips k index (first ∷ rows) row e = ap (λ rest. sort_key_of trips k first ∷ rest) (turns-push trips (k + 1) index rows row (omega (arith, e)))
 
 pub turns-more : (trips : List (Option ℕ)) (rows : List StopTimeRow) (i : ℕ) (row : StopTimeRow) → i < length rows → row ≡ get_or rows i row
-    → turns_from trips 1 (take (i + 1) rows) ≡ turns_from trips 1 (take i rows) ++ turn_of trips (i + 1) row ∷ []
+    → turns_from trips 1 (take (i + 1) rows) ≡ turns_from trips 1 (take i rows) ++ sort_key_of trips (i + 1) row ∷ []
 turns-more trips rows i row lt e =
     let len : length (take i rows) ≡ i = length-take-le i rows (omega arith) in
     let front : take (i + 1) rows ≡ take i rows ++ row ∷ [] = take_more rows i row lt ∙ ap (λ x. take i rows ++ x ∷ []) (sym e) in
     rw front (turns-push trips 1 (i + 1) (take i rows) row (omega (arith, len)))
 
-pub turns-pushed : (trips : List (Option ℕ)) (rows : List StopTimeRow) (i : ℕ) (d : StopTimeRow) (turns : List Turn) → i < length rows
-    → turns ≡ turns_from trips 1 (take i rows) → turns ++ turn_of trips (i + 1) (get_or rows i d) ∷ [] ≡ turns_from trips 1 (take (i + 1) rows)
+pub turns-pushed : (trips : List (Option ℕ)) (rows : List StopTimeRow) (i : ℕ) (d : StopTimeRow) (turns : List SortKey) → i < length rows
+    → turns ≡ turns_from trips 1 (take i rows) → turns ++ sort_key_of trips (i + 1) (get_or rows i d) ∷ [] ≡ turns_from trips 1 (take (i + 1) rows)
 turns-pushed trips rows i d turns lt e =
     rw e (sym (turns-more trips rows i (get_or rows i d) lt (get_or_default rows i d (get_or rows i d) lt)))
 
 -- the trips rise along the turns
-trip_rises : (a b : Turn) → comes_before b a ≡ false → a.trip ≤ b.trip
+trip_rises : (a b : SortKey) → comes_before b a ≡ false → a.trip ≤ b.trip
 trip_rises a b e = by (cases_order b.trip a.trip)
   where
     by : (b.trip ≡ a.trip) ⊎ ((b.trip < a.trip) ⊎ (a.trip < b.trip)) → a.trip ≤ b.trip
@@ -41,7 +41,7 @@ trip_rises a b e = by (cases_order b.trip a.trip)
         absurd (false≢true (sym e ∙ rw (differs, below) refl))
     by (inr (inr more)) = omega arith
 
-pub trips_rise : (turns : List Turn) → IsSortedBy comes_before turns → IsNonDecreasingBy (λ turn. turn.trip) turns
+pub trips_rise : (turns : List SortKey) → IsSortedBy comes_before turns → IsNonDecreasingBy (λ turn. turn.trip) turns
 trips_rise turns sorted = IsNonDecreasingBy-from_all_adjacent (λ turn. turn.trip) turns
     (λ k d lt. trip_rises (get_or turns k d) (get_or turns (k + 1) d) (sorted k d (omega arith) lt))
 
@@ -64,8 +64,8 @@ count_front : {X : Type 0} (p : X → Bool) (xs : List X) (n : ℕ) → n ≤ le
 count_front p xs n le under over = sym (length-filter p xs) ∙ filter_front p xs n le under over
 
 -- the place up to which the trips are below t, and from which they aren't
-pub first_turn-is : (turns : List Turn) (t at : ℕ) → IsSortedBy comes_before turns → at ≤ length turns → AllWithin (λ turn. turn.trip < t) turns 0 at
-    → ((d : Turn) → at < length turns → t ≤ (get_or turns at d).trip) → at ≡ first_turn turns t
+pub first_turn-is : (turns : List SortKey) (t at : ℕ) → IsSortedBy comes_before turns → at ≤ length turns → AllWithin (λ turn. turn.trip < t) turns 0 at
+    → ((d : SortKey) → at < length turns → t ≤ (get_or turns at d).trip) → at ≡ first_turn turns t
 first_turn-is turns t at sorted le below here =
     sym (count_front (λ turn. ltb turn.trip t) turns at le
     (λ k d lt. lt-ltb (get_or turns k d).trip t (below k d (omega arith) lt))

@@ -16,12 +16,12 @@ use Rattle.gtfs_rows.specs.declared.rows.StopTimeRow.{StopTimeRow}
 use Rattle.gtfs_rows.specs.declared.rows.TransferRow.{TransferRow}
 use Rattle.gtfs_tables.specs.Order.{no_row, numbers_from, row_of}
 use Rattle.gtfs_tables.specs.Rows.{IsTransferOf, ends_fault, is_flex_id, is_kept, is_place, is_repeated, linked_fault, linked_row, transfer_fault}
-use Rattle.gtfs_tables.specs.declared.names.Named.{Named}
-use Rattle.gtfs_tables.specs.declared.order.Turn.{Turn}
+use Rattle.gtfs_tables.specs.declared.names.StopIdTarget.{StopIdTarget}
+use Rattle.gtfs_tables.specs.declared.order.SortKey.{SortKey}
 use Rattle.gtfs_tables.specs.declared.tables.Transfer.{Transfer}
 
 -- a row that isn't skipped is judged by its ends
-pub transfer_judged : (named : List ℕ → Option Named) (row : TransferRow) (from to : Option Named) → is_kept row ≡ true
+pub transfer_judged : (named : List ℕ → Option StopIdTarget) (row : TransferRow) (from to : Option StopIdTarget) → is_kept row ≡ true
     → named (string_bytes row.from) ≡ from → named (string_bytes row.to) ≡ to → transfer_fault named row ≡ ends_fault from to
 transfer_judged named row from to kept e f = rw (kept, e, f) refl
 
@@ -49,27 +49,27 @@ marked_more named rows i u n row old lt e names len before t within = by (cases_
         set_else ∙ here ∙ sym (more ∙ rw differs (or-false (is_repeated named (take i rows) t)))
 
 -- what is told of a row by its mark is told of what the mark stands for: where no mark was made its trip isn't known
-by_mark : {X : Type 0} (told : Bool → X) (trips : List (Option ℕ)) (rows : List StopTimeRow) (flex : List Bool) (id : ℕ)
+by_mark : {X : Type 0} (shown : Bool → X) (trips : List (Option ℕ)) (rows : List StopTimeRow) (flex : List Bool) (id : ℕ)
     → ((id : ℕ) → id < length trips → get_or flex id false ≡ is_flex_id rows id)
-    → (get_or trips id None ≡ None → told (get_or flex id false) ≡ told (is_flex_id rows id))
-    → told (get_or flex id false) ≡ told (is_flex_id rows id)
-by_mark told trips rows flex id same unknown = elim (cases_lt id (length trips)) [
-  | inl lt ↦ ap told (same id lt)
+    → (get_or trips id None ≡ None → shown (get_or flex id false) ≡ shown (is_flex_id rows id))
+    → shown (get_or flex id false) ≡ shown (is_flex_id rows id)
+by_mark shown trips rows flex id same unknown = elim (cases_lt id (length trips)) [
+  | inl lt ↦ ap shown (same id lt)
   | inr le ↦ unknown (get_or_past trips id None le)
 ]
 
 -- a trip that isn't known is a fault, and gives no stop, flex or not
-pub fault_same : (trips : List (Option ℕ)) (stops : List (Option Named)) (rows : List StopTimeRow) (flex : List Bool) (row : StopTimeRow)
+pub fault_same : (trips : List (Option ℕ)) (stops : List (Option StopIdTarget)) (rows : List StopTimeRow) (flex : List Bool) (row : StopTimeRow)
     → ((id : ℕ) → id < length trips → get_or flex id false ≡ is_flex_id rows id)
     → linked_fault trips stops (get_or flex row.trip false) row ≡ linked_fault trips stops (is_flex_id rows row.trip) row
 fault_same trips stops rows flex row same = by_mark (λ mark. linked_fault trips stops mark row) trips rows flex row.trip same (λ none. rw none refl)
 
-pub row_same : (trips : List (Option ℕ)) (stops : List (Option Named)) (rows : List StopTimeRow) (flex : List Bool) (row : StopTimeRow)
+pub row_same : (trips : List (Option ℕ)) (stops : List (Option StopIdTarget)) (rows : List StopTimeRow) (flex : List Bool) (row : StopTimeRow)
     → ((id : ℕ) → id < length trips → get_or flex id false ≡ is_flex_id rows id)
     → linked_row trips stops (get_or flex row.trip false) row ≡ linked_row trips stops (is_flex_id rows row.trip) row
 row_same trips stops rows flex row same = by_mark (λ mark. linked_row trips stops mark row) trips rows flex row.trip same (λ none. rw none refl)
 
-pub kept_more : (named : List ℕ → Option Named) (rows : List TransferRow) (i : ℕ) (row : TransferRow) (kept : List Transfer) (found : Transfer)
+pub kept_more : (named : List ℕ → Option StopIdTarget) (rows : List TransferRow) (i : ℕ) (row : TransferRow) (kept : List Transfer) (found : Transfer)
     → i < length rows → row ≡ get_or rows i row
     → true ≡ is_kept row → IsTransferOf named row found → AllZip (IsTransferOf named) (filter is_kept (take i rows)) kept
     → AllZip (IsTransferOf named) (filter is_kept (take (i + 1) rows)) (kept ++ found ∷ [])
@@ -78,7 +78,7 @@ kept_more named rows i row kept found lt e counted is before =
     ∙ rw (sym e, sym counted) refl in
     rw more (all_zip-push (IsTransferOf named) (filter is_kept (take i rows)) kept row found before is)
 
-pub kept_same : (named : List ℕ → Option Named) (rows : List TransferRow) (i : ℕ) (row : TransferRow) (kept : List Transfer) → i < length rows → row
+pub kept_same : (named : List ℕ → Option StopIdTarget) (rows : List TransferRow) (i : ℕ) (row : TransferRow) (kept : List Transfer) → i < length rows → row
     ≡ get_or rows i row
     → false ≡ is_kept row → AllZip (IsTransferOf named) (filter is_kept (take i rows)) kept
     → AllZip (IsTransferOf named) (filter is_kept (take (i + 1) rows)) kept
@@ -93,7 +93,7 @@ pub mapped_more : {A B : Type 0} (f : A → B) (xs : List A) (i : ℕ) (d : A) (
     → ys ++ y ∷ [] ≡ map f (take (i + 1) xs)
 mapped_more f xs i d ys y lt e here = rw (e, here) (sym (map_more f xs i d lt))
 
-abbrev pub no_turn : Turn
+abbrev pub no_turn : SortKey
 no_turn = record { trip = 0; sequence = 0; number = 0 }
 
 -- where the turns are those of the records as they are filed, what is made of each turn's row is what is made of each row
@@ -102,7 +102,7 @@ read_behind before rows row =
     let behind : length before + 1 - 1 ≡ length before = omega arith in
     ap (λ (k : ℕ). get_or (before ++ row ∷ rows) k no_row) behind ∙ get_or_at before row rows no_row (length before) refl
 
-filed : {A : Type 0} (f : StopTimeRow → A) (before rows : List StopTimeRow) (turns : List Turn)
+filed : {A : Type 0} (f : StopTimeRow → A) (before rows : List StopTimeRow) (turns : List SortKey)
     → map (λ turn. turn.number) turns ≡ numbers_from (length before + 1) (length rows) → map (λ turn. f (row_of (before ++ rows) turn.number)) turns
     ≡ map f rows
 filed f before [] [] e = refl
@@ -120,11 +120,12 @@ filed f before (row ∷ rows) (turn ∷ turns) e =
     subst (λ (all : List StopTimeRow). map (λ turn. f (row_of all turn.number)) turns ≡ map f rows) again others in
     ap (λ x. x ∷ map (λ turn. f (row_of (before ++ row ∷ rows) turn.number)) turns) here ∙ ap (λ xs. f row ∷ xs) same
 
-pub filed_rows : {A : Type 0} (f : StopTimeRow → A) (rows : List StopTimeRow) (turns : List Turn) → length turns ≡ length rows
+pub filed_rows : {A : Type 0} (f : StopTimeRow → A) (rows : List StopTimeRow) (turns : List SortKey) → length turns ≡ length rows
     → map (λ turn. turn.number) turns ≡ numbers_from 1 (length turns) → map (λ turn. f (row_of rows turn.number)) turns ≡ map f rows
 filed_rows f rows turns len e = filed f [] rows turns (e ∙ ap (numbers_from 1) len)
 
-pub kept_next : (named : List ℕ → Option Named) (rows : List TransferRow) (i : ℕ) (row : TransferRow) (kept new : List Transfer) (found : Option Transfer)
+pub kept_next : (named : List ℕ → Option StopIdTarget) (rows : List TransferRow) (i : ℕ) (row : TransferRow) (kept new : List Transfer)
+    (found : Option Transfer)
     → i < length rows → row ≡ get_or rows i row
     → is_some found ≡ is_kept row → IfSome found (IsTransferOf named row) → new ≡ kept ++ option_to_list found
     → AllZip (IsTransferOf named) (filter is_kept (take i rows)) kept

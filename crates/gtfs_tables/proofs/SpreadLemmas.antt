@@ -82,7 +82,7 @@ given_more : (rows : List StopTimeRow) (old new : List (ℕ × ℕ)) (at next : 
 given_more rows old new at next s before i a d less e f = by (cases_order i at)
   where
     by : (i ≡ at) ⊎ ((i < at) ⊎ (at < i)) → slice_index_or new i (0, 0) ≡ (a, d)
-    by (inl same) = let place : i ≡ length old = same ∙ sym s.len in rw place (s.here a d (rw same at e) (rw same at f))
+    by (inl same) = let index : i ≡ length old = same ∙ sym s.len in rw index (s.here a d (rw same at e) (rw same at f))
     by (inr (inl below)) = s.kept i (omega (arith, s.len)) ∙ before.given i a d below e f
     by (inr (inr above)) = absurd (let none : arrival_at rows i ≡ None = s.between i (omega arith) less in cc)
 
@@ -99,13 +99,13 @@ blank_more rows old new at next s before p q a b i g low high less = by (cases_o
         let to : q ≡ next = gap_to rows old new at next p q a b i s g above low high less in
         let departs_here : departure_at rows at ≡ Some a = rw from at g.from in
         let arrives_there : arrival_at rows next ≡ Some b = rw to at g.to in
-        let place : length old + (i - at) ≡ i = omega (arith, s.len) in
+        let index : length old + (i - at) ≡ i = omega (arith, s.len) in
         let made : slice_index_or new (length old + (i - at)) (0, 0) ≡ (
           part_of a b (next - at) (i - at),
           part_of a b (next - at) (i - at),
         ) = s.parts a b departs_here arrives_there (i - at) (omega arith)
         (omega arith) in
-        rw (from, to) (rw place at made)
+        rw (from, to) (rw index at made)
 
 pub spread_more : (rows : List StopTimeRow) (old new : List (ℕ × ℕ)) (at next : ℕ) → IsStep rows old new at next
     → IsSpreadBefore rows old at → IsSpreadBefore rows new next

@@ -8,7 +8,7 @@ use Rattle.reasoning.proofs.FirstLemmas.{option_or-none, option_or-some, option_
 use Rattle.gtfs_rows.specs.declared.fault.FaultKind.{FaultKind}
 use Rattle.gtfs_rows.specs.declared.fault.FaultKind.TheVariants as kinds
 use Rattle.gtfs_rows.specs.declared.rows.StopTimeRow.{StopTimeRow}
-use Rattle.gtfs_tables.specs.First.{first_below, first_place, place_if}
+use Rattle.gtfs_tables.specs.First.{first_below, first_index, index_if}
 use Rattle.gtfs_tables.specs.Spread.{IsGap, IsSpread, arrival_at, departure_at}
 use Rattle.gtfs_tables.specs.Times.{arrives_spread, departed_before, departs_spread, end_without_time, given_before}
 use Rattle.gtfs_tables.specs.Times.{given_from, goes_back, has_no_duration, is_short, is_twice, wrong_at, wrong_given}
@@ -18,46 +18,46 @@ pub departed-next : (rows : List StopTimeRow) (k : ℕ) → departed_before rows
 departed-next rows k = let e : k + 1 ≡ suc k = omega arith in rw e refl
 
 -- a place that passes, with none before it, or none below n
-pub record IsFirstPlace (p : ℕ → Bool) (n q : ℕ) : Type 0 where
-  pub found : first_place p n ≡ Some q
+pub record IsFirstIndex (p : ℕ → Bool) (n q : ℕ) : Type 0 where
+  pub found : first_index p n ≡ Some q
   pub within : q < n
   pub passes : p q ≡ true
   pub before : (m : ℕ) → m < q → p m ≡ false
 
 pub record IsNowhere (p : ℕ → Bool) (n : ℕ) : Type 0 where
-  pub none : first_place p n ≡ None
+  pub none : first_index p n ≡ None
   pub fails : (m : ℕ) → m < n → p m ≡ false
 
-place_if-true : (p : ℕ → Bool) (k : ℕ) → p k ≡ true → place_if p k ≡ Some k
-place_if-true p k e = rw e refl
+index_if-true : (p : ℕ → Bool) (k : ℕ) → p k ≡ true → index_if p k ≡ Some k
+index_if-true p k e = rw e refl
 
-place_if-false : (p : ℕ → Bool) (k : ℕ) → p k ≡ false → place_if p k ≡ None
-place_if-false p k e = rw e refl
+index_if-false : (p : ℕ → Bool) (k : ℕ) → p k ≡ false → index_if p k ≡ None
+index_if-false p k e = rw e refl
 
-pub first_place_cases : (p : ℕ → Bool) (n : ℕ) → IsNowhere p n ⊎ ((q : ℕ) × IsFirstPlace p n q)
+pub first_index_cases : (p : ℕ → Bool) (n : ℕ) → IsNowhere p n ⊎ ((q : ℕ) × IsFirstIndex p n q)
 unfolding first_below
-first_place_cases p zero = inl (record { none = refl; fails = λ m lt. absurd (omega arith) })
-first_place_cases p (suc n) =
-    elim (first_place_cases p n) [
+first_index_cases p zero = inl (record { none = refl; fails = λ m lt. absurd (omega arith) })
+first_index_cases p (suc n) =
+    elim (first_index_cases p n) [
       | inl w ↦ elim (cases_Bool (p n)) [
         | inl t ↦ inr (
           n,
           record {
-            found = option_or-none (first_place p n) (place_if p n) w.none ∙ place_if-true p n t;
+            found = option_or-none (first_index p n) (index_if p n) w.none ∙ index_if-true p n t;
             within = omega arith;
             passes = t;
             before = w.fails;
           },
         )
         | inr f ↦ inl (record {
-          none = option_or-none (first_place p n) (place_if p n) w.none ∙ place_if-false p n f;
+          none = option_or-none (first_index p n) (index_if p n) w.none ∙ index_if-false p n f;
           fails = λ m lt. elim (cases_eq m n) [ inl same ↦ rw same f | inr other ↦ w.fails m (omega arith) ];
         })
       ]
       | inr w ↦ inr (
         w.0,
         record {
-          found = option_or-some (first_place p n) (place_if p n) w.0 w.1.found;
+          found = option_or-some (first_index p n) (index_if p n) w.0 w.1.found;
           within =
               let lt = w.1.within in omega arith;
           passes = w.1.passes;
@@ -108,10 +108,10 @@ pub record IsAfter (rows : List StopTimeRow) (k q : ℕ) : Type 0 where
   pub blank : (m : ℕ) → k ≤ m → m < q → arrival_at rows m ≡ None
 
 pub after_is : (rows : List StopTimeRow) (k : ℕ) → IsSome (arrival_at rows (length rows - 1)) → k < length rows → IsAfter rows k (given_from rows k)
-after_is rows k last lt = by (first_place_cases (λ j. nat_le k j && is_some (arrival_at rows j)) (length rows))
+after_is rows k last lt = by (first_index_cases (λ j. nat_le k j && is_some (arrival_at rows j)) (length rows))
   where
     by : IsNowhere (λ j. nat_le k j && is_some (arrival_at rows j)) (length rows)
-        ⊎ ((q : ℕ) × IsFirstPlace (λ j. nat_le k j && is_some (arrival_at rows j)) (length rows) q)
+        ⊎ ((q : ℕ) × IsFirstIndex (λ j. nat_le k j && is_some (arrival_at rows j)) (length rows) q)
         → IsAfter rows k (given_from rows k)
     by (inl w) =
         let fails : (nat_le k (length rows - 1) && is_some (arrival_at rows (length rows - 1))) ≡ false = w.fails (length rows - 1) (omega arith) in
@@ -170,7 +170,7 @@ spread_at rows times k s first last lt = by (cases_Bool (is_some (arrival_at row
         rw (none, gone, a.1, b.1) (s.spread.blank (given_before rows k) (given_from rows k) a.0 b.0 k gap low.below above lt)
 
 -- a place that isn't found has no row at fault
-nowhere_at : (kind : FaultKind) (place : Option ℕ) → wrong_at kind place ≡ None → place ≡ None
+nowhere_at : (kind : FaultKind) (index : Option ℕ) → wrong_at kind index ≡ None → index ≡ None
 nowhere_at kind None e = refl
 nowhere_at kind (Some k) e = absurd cc
 
@@ -181,11 +181,11 @@ ends_by (Some a) (Some b) last e = (refl, refl)
 
 pub ends_timed : (rows : List StopTimeRow) → wrong_given rows ≡ None → IsSome (arrival_at rows 0) × IsSome (arrival_at rows (length rows - 1))
 ends_timed rows e =
-    let behind = option_or_parts (wrong_at kinds.SequenceTwice (first_place (is_twice rows) (length rows)))
+    let behind = option_or_parts (wrong_at kinds.SequenceTwice (first_index (is_twice rows) (length rows)))
     (option_or (wrong_at kinds.EndWithoutTime (end_without_time rows))
-    (wrong_at kinds.TimeGoesBack (first_place (goes_back rows) (length rows)))) e in
+    (wrong_at kinds.TimeGoesBack (first_index (goes_back rows) (length rows)))) e in
     let ends = option_or_parts (wrong_at kinds.EndWithoutTime (end_without_time rows))
-    (wrong_at kinds.TimeGoesBack (first_place (goes_back rows) (length rows))) behind.1 in
+    (wrong_at kinds.TimeGoesBack (first_index (goes_back rows) (length rows))) behind.1 in
     ends_by (arrival_at rows 0) (arrival_at rows (length rows - 1)) (length rows - 1) (nowhere_at kinds.EndWithoutTime (end_without_time rows) ends.0)
 
 agree : {X : Type 0} (f g : ℕ → Option X) (n : ℕ) → ((k : ℕ) → k < n → f k ≡ g k) → first_below f n ≡ first_below g n
@@ -198,7 +198,7 @@ agree f g (suc n) h =
 
 -- the rows without duration are those of the spread times
 pub hop_same : (rows : List StopTimeRow) (times : List (ℕ × ℕ)) → IsSpread rows times → wrong_given rows ≡ None
-    → first_place (is_short times) (length times) ≡ first_place (has_no_duration rows) (length rows)
+    → first_index (is_short times) (length times) ≡ first_index (has_no_duration rows) (length rows)
 hop_same rows times s fine =
     let ends = ends_timed rows fine in
     let same : (k : ℕ) → k < length rows → is_short times k ≡ has_no_duration rows k = λ k lt.
@@ -207,4 +207,4 @@ hop_same rows times s fine =
     spread_at rows times (k - 1) s ends.0 ends.1 (omega arith) in
     ap (λ a. nat_lt 0 k && nat_le a.0 (slice_index_or times (k - 1) (0, 0)).1) here ∙ ap (λ b. nat_lt 0 k && nat_le (arrives_spread rows k) b.1) before in
     let len : length times ≡ length rows = s.same_length in
-    rw len (agree (place_if (is_short times)) (place_if (has_no_duration rows)) (length rows) (λ k lt. ap (λ b. if b then Some k else None) (same k lt)))
+    rw len (agree (index_if (is_short times)) (index_if (has_no_duration rows)) (length rows) (λ k lt. ap (λ b. if b then Some k else None) (same k lt)))

@@ -7,12 +7,12 @@ use Rattle.std.proofs.Math.ListN.{get_or-map as map_reads}
 use Rattle.std.proofs.lemmas.List.{get_or-drop, get_or-take}
 use Rattle.std.proofs.lemmas.Bool.{cases_eq}
 use Rattle.gtfs_rows.specs.declared.rows.StopTimeRow.{StopTimeRow}
-use Rattle.gtfs_tables.specs.Order.{comes_before, filed_turns, no_row, numbers_from, row_of, turn_of, turns_by, turns_from, turns_in}
+use Rattle.gtfs_tables.specs.Order.{comes_before, filed_turns, no_row, numbers_from, row_of, sort_key_of, turns_by, turns_from, turns_in}
 use Rattle.gtfs_tables.specs.Rows.{linked_row}
-use Rattle.gtfs_tables.specs.declared.names.Named.{Named}
+use Rattle.gtfs_tables.specs.declared.names.StopIdTarget.{StopIdTarget}
 use Rattle.gtfs_tables.specs.declared.order.RowOrder.{RowOrder}
 use Rattle.gtfs_tables.specs.declared.order.RowOrder.TheVariants as orders
-use Rattle.gtfs_tables.specs.declared.order.Turn.{Turn}
+use Rattle.gtfs_tables.specs.declared.order.SortKey.{SortKey}
 use Rattle.gtfs_tables.proofs.RowLemmas.{filed_rows, no_turn}
 
 pub length-turns : (trips : List (Option ℕ)) (number : ℕ) (rows : List StopTimeRow) → length (turns_from trips number rows) ≡ length rows
@@ -29,15 +29,15 @@ numbers-turns trips number [] = refl
 numbers-turns trips number (row ∷ rows) = ap (λ ns. number ∷ ns) (numbers-turns trips (number + 1) rows)
 
 -- the turn at a place
-pub turn-at : (trips : List (Option ℕ)) (number : ℕ) (rows : List StopTimeRow) (k : ℕ) (d : Turn) (e : StopTimeRow) → k < length rows
-    → get_or (turns_from trips number rows) k d ≡ turn_of trips (number + k) (get_or rows k e)
+pub turn-at : (trips : List (Option ℕ)) (number : ℕ) (rows : List StopTimeRow) (k : ℕ) (d : SortKey) (e : StopTimeRow) → k < length rows
+    → get_or (turns_from trips number rows) k d ≡ sort_key_of trips (number + k) (get_or rows k e)
 turn-at trips number [] k d e lt = absurd (omega (arith, lt))
-turn-at trips number (row ∷ rows) zero d e lt = let same : number ≡ number + 0 = omega arith in ap (λ n. turn_of trips n row) same
+turn-at trips number (row ∷ rows) zero d e lt = let same : number ≡ number + 0 = omega arith in ap (λ n. sort_key_of trips n row) same
 turn-at trips number (row ∷ rows) (suc k) d e lt =
     let next : number + 1 + k ≡ number + suc k = omega arith in
-    turn-at trips (number + 1) rows k d e (omega (arith, lt)) ∙ ap (λ n. turn_of trips n (get_or rows k e)) next
+    turn-at trips (number + 1) rows k d e (omega (arith, lt)) ∙ ap (λ n. sort_key_of trips n (get_or rows k e)) next
 
-pub filed-trip : (number : ℕ) (rows : List StopTimeRow) (k : ℕ) (d : Turn) (e : StopTimeRow) → k < length rows
+pub filed-trip : (number : ℕ) (rows : List StopTimeRow) (k : ℕ) (d : SortKey) (e : StopTimeRow) → k < length rows
     → (get_or (filed_turns number rows) k d).trip ≡ (get_or rows k e).trip
 filed-trip number [] k d e lt = absurd (omega (arith, lt))
 filed-trip number (row ∷ rows) zero d e lt = refl
@@ -52,10 +52,10 @@ filed-number number (row ∷ rows) (suc k) lt =
     filed-number (number + 1) rows k (omega (arith, lt)) ∙ next
 
 -- rows that were linked where they stand have the turns that they had
-filed-linked : (trips : List (Option ℕ)) (stops : List (Option Named)) (flex : StopTimeRow → Bool) (number : ℕ) (rows : List StopTimeRow)
+filed-linked : (trips : List (Option ℕ)) (stops : List (Option StopIdTarget)) (flex : StopTimeRow → Bool) (number : ℕ) (rows : List StopTimeRow)
     → filed_turns number (map (λ row. linked_row trips stops (flex row) row) rows) ≡ turns_from trips number rows
 filed-linked trips stops flex number [] = refl
-filed-linked trips stops flex number (row ∷ rows) = ap (λ rest. turn_of trips number row ∷ rest) (filed-linked trips stops flex (number + 1) rows)
+filed-linked trips stops flex number (row ∷ rows) = ap (λ rest. sort_key_of trips number row ∷ rest) (filed-linked trips stops flex (number + 1) rows)
 
 -- what is made of each turn's row is what is made of each row, where they go as they are filed
 pub made_as_filed : {A : Type 0} (f : StopTimeRow → A) (trips : List (Option ℕ)) (rows : List StopTimeRow)
@@ -65,7 +65,7 @@ made_as_filed f trips rows =
     filed_rows f rows (turns_from trips 1 rows) len (numbers-turns trips 1 rows ∙ ap (numbers_from 1) (sym len))
 
 -- once they are linked, an order gives rows the turns that it gave before
-pub turns_kept : (trips : List (Option ℕ)) (stops : List (Option Named)) (flex : StopTimeRow → Bool) (order : RowOrder) (rows made : List StopTimeRow)
+pub turns_kept : (trips : List (Option ℕ)) (stops : List (Option StopIdTarget)) (flex : StopTimeRow → Bool) (order : RowOrder) (rows made : List StopTimeRow)
     → made ≡ map (λ turn. linked_row trips stops (flex (row_of rows turn.number)) (row_of rows turn.number)) (turns_in trips order rows)
     → turns_by order made ≡ turns_in trips order rows
 turns_kept trips stops flex orders.Filed rows made e =
@@ -73,25 +73,27 @@ turns_kept trips stops flex orders.Filed rows made e =
 turns_kept trips stops flex (orders.ByTurns turns) rows made e = refl
 
 -- the rows up to a place stand in order, and the last of them has a turn
-pub record AreRising (trips : List (Option ℕ)) (rows : List StopTimeRow) (at : ℕ) (last : Turn) : Type 0 where
-  pub ends : (d : Turn) → get_or (turns_from trips 1 rows) (at - 1) d ≡ last
-  pub rising : (k : ℕ) (d : Turn) → k + 1 < at → comes_before (get_or (turns_from trips 1 rows) (k + 1) d) (get_or (turns_from trips 1 rows) k d) ≡ false
+pub record AreRising (trips : List (Option ℕ)) (rows : List StopTimeRow) (at : ℕ) (last : SortKey) : Type 0 where
+  pub ends : (d : SortKey) → get_or (turns_from trips 1 rows) (at - 1) d ≡ last
+  pub rising : (k : ℕ) (d : SortKey) → k + 1 < at → comes_before (get_or (turns_from trips 1 rows) (k + 1) d) (get_or (turns_from trips 1 rows) k d) ≡ false
 
-turn_here : (trips : List (Option ℕ)) (rows : List StopTimeRow) (at : ℕ) (turn d : Turn) → at < length rows
-    → turn ≡ turn_of trips (at + 1) (get_or rows at no_row) → get_or (turns_from trips 1 rows) at d ≡ turn
+turn_here : (trips : List (Option ℕ)) (rows : List StopTimeRow) (at : ℕ) (turn d : SortKey) → at < length rows
+    → turn ≡ sort_key_of trips (at + 1) (get_or rows at no_row) → get_or (turns_from trips 1 rows) at d ≡ turn
 turn_here trips rows at turn d lt is =
     let number : 1 + at ≡ at + 1 = omega arith in
-    turn-at trips 1 rows at d no_row lt ∙ ap (λ n. turn_of trips n (get_or rows at no_row)) number ∙ sym is
+    turn-at trips 1 rows at d no_row lt ∙ ap (λ n. sort_key_of trips n (get_or rows at no_row)) number ∙ sym is
 
-pub rising_one : (trips : List (Option ℕ)) (rows : List StopTimeRow) (turn : Turn) → 0 < length rows → turn ≡ turn_of trips (0 + 1) (get_or rows 0 no_row)
+pub rising_one : (trips : List (Option ℕ)) (rows : List StopTimeRow) (turn : SortKey) → 0 < length rows → turn ≡ sort_key_of trips (0 + 1)
+    (get_or rows 0 no_row)
     → AreRising trips rows 1 turn
 rising_one trips rows turn lt is = record {
   ends = λ d. turn_here trips rows 0 turn d lt is;
   rising = λ k d less. absurd (omega (arith, less));
 }
 
-pub rising_more : (trips : List (Option ℕ)) (rows : List StopTimeRow) (at : ℕ) (last turn : Turn) → 0 < at → at < length rows
-    → turn ≡ turn_of trips (at + 1) (get_or rows at no_row) → comes_before turn last ≡ false → AreRising trips rows at last → AreRising trips rows (at + 1) turn
+pub rising_more : (trips : List (Option ℕ)) (rows : List StopTimeRow) (at : ℕ) (last turn : SortKey) → 0 < at → at < length rows
+    → turn ≡ sort_key_of trips (at + 1) (get_or rows at no_row) → comes_before turn last ≡ false → AreRising trips rows at last → AreRising trips rows
+    (at + 1) turn
 rising_more trips rows at last turn some lt is up was = record {
   ends = λ d.
       let back : at ≡ at + 1 - 1 = omega arith in
@@ -107,16 +109,16 @@ rising_more trips rows at last turn some lt is up was = record {
   ];
 }
 
-pub rising_all : (trips : List (Option ℕ)) (rows : List StopTimeRow) (at : ℕ) (last : Turn) → length rows ≡ at → AreRising trips rows at last
+pub rising_all : (trips : List (Option ℕ)) (rows : List StopTimeRow) (at : ℕ) (last : SortKey) → length rows ≡ at → AreRising trips rows at last
     → IsSortedBy comes_before (turns_from trips 1 rows)
 rising_all trips rows at last end was k d low less =
     let len : length (turns_from trips 1 rows) ≡ length rows = length-turns trips 1 rows in
     was.rising k d (omega (arith, less, len, end))
 
 -- the number of one of some turns is its number among all
-pub number_in : (turns : List Turn) (first end at : ℕ) → first ≤ end → at < end - first
+pub number_in : (turns : List SortKey) (first end at : ℕ) → first ≤ end → at < end - first
     → get_or (map (λ turn. turn.number) (slice_range turns first end)) at 0 ≡ get_or (map (λ turn. turn.number) turns) (first + at) 0
 number_in turns first end at rising lt =
-    map_reads (λ (turn : Turn). turn.number) (take (end - first) (drop first turns)) at no_turn
-    ∙ ap (λ (turn : Turn). turn.number) (get_or-take (end - first) (drop first turns) at no_turn lt ∙ get_or-drop first turns at no_turn)
-    ∙ sym (map_reads (λ (turn : Turn). turn.number) turns (first + at) no_turn)
+    map_reads (λ (turn : SortKey). turn.number) (take (end - first) (drop first turns)) at no_turn
+    ∙ ap (λ (turn : SortKey). turn.number) (get_or-take (end - first) (drop first turns) at no_turn lt ∙ get_or-drop first turns at no_turn)
+    ∙ sym (map_reads (λ (turn : SortKey). turn.number) turns (first + at) no_turn)

@@ -19,9 +19,9 @@ use Rattle.gtfs_tables.specs.Rows.{IsTransferOf, frequency_fault, frequency_of, 
 use Rattle.gtfs_tables.specs.Rows.{linked_fault, linked_row, parent_fault, station_of, transfer_fault}
 use Rattle.gtfs_tables.specs.Times.{first_wrong, is_flex}
 use Rattle.gtfs_tables.specs.declared.joining.Links.{Links}
-use Rattle.gtfs_tables.specs.declared.names.Named.{Named}
+use Rattle.gtfs_tables.specs.declared.names.StopIdTarget.{StopIdTarget}
 use Rattle.gtfs_tables.specs.declared.order.RowOrder.{RowOrder}
-use Rattle.gtfs_tables.specs.declared.order.Turn.{Turn}
+use Rattle.gtfs_tables.specs.declared.order.SortKey.{SortKey}
 use Rattle.gtfs_tables.specs.declared.tables.Feed.{Feed}
 use Rattle.gtfs_tables.specs.declared.tables.Stop.{Stop}
 use Rattle.gtfs_tables.specs.declared.tables.Tables.{Tables}
@@ -33,44 +33,44 @@ use Rattle.gtfs_tables.specs.declared.tables.Trip.{Trip}
 abbrev pub trips_by : (List ℕ → Option ℕ) → Tables → List (Option ℕ)
 trips_by placed t = map (λ id. placed (string_bytes id)) t.stop_times.trips.keys
 
-abbrev pub stops_by : (List ℕ → Option Named) → Tables → List (Option Named)
+abbrev pub stops_by : (List ℕ → Option StopIdTarget) → Tables → List (Option StopIdTarget)
 stops_by named t = map (λ id. named (string_bytes id)) t.stop_times.stops.keys
 
 -- the rows of stop_times.txt in order, each id replaced by what it names
-abbrev pub link_by : (List ℕ → Option Named) → (List ℕ → Option ℕ) → Tables → StopTimeRow → StopTimeRow
+abbrev pub link_by : (List ℕ → Option StopIdTarget) → (List ℕ → Option ℕ) → Tables → StopTimeRow → StopTimeRow
 link_by named placed t row = linked_row (trips_by placed t) (stops_by named t) (is_flex_id t.stop_times.rows.items row.trip) row
 
-abbrev pub rows_by : (List ℕ → Option Named) → (List ℕ → Option ℕ) → Tables → List Turn → List StopTimeRow
+abbrev pub rows_by : (List ℕ → Option StopIdTarget) → (List ℕ → Option ℕ) → Tables → List SortKey → List StopTimeRow
 rows_by named placed t turns = map (λ turn. link_by named placed t (row_of t.stop_times.rows.items turn.number)) turns
 
 -- the same rows, given lists of what the ids name and an order
-abbrev pub linked_by : List (Option ℕ) → List (Option Named) → RowOrder → List StopTimeRow → List StopTimeRow
+abbrev pub linked_by : List (Option ℕ) → List (Option StopIdTarget) → RowOrder → List StopTimeRow → List StopTimeRow
 linked_by trips stops order rows =
     map (λ turn. linked_row trips stops (is_flex_id rows (row_of rows turn.number).trip) (row_of rows turn.number)) (turns_in trips order rows)
 
 -- ---- the faults, in the order in which they are judged
 
 -- what is wrong with the ids of a row of stop_times.txt
-abbrev pub stop_time_fault : (List ℕ → Option Named) → (List ℕ → Option ℕ) → Tables → StopTimeRow → Option FaultKind
+abbrev pub stop_time_fault : (List ℕ → Option StopIdTarget) → (List ℕ → Option ℕ) → Tables → StopTimeRow → Option FaultKind
 stop_time_fault named placed t row = linked_fault (trips_by placed t) (stops_by named t) (is_flex_id t.stop_times.rows.items row.trip) row
 
 -- the first fault of an id: of the parents of stops, then of stop times, then of frequencies
-abbrev pub naming_fault : (List ℕ → Option Named) → (List ℕ → Option ℕ) → Tables → Option TableFault
+abbrev pub naming_fault : (List ℕ → Option StopIdTarget) → (List ℕ → Option ℕ) → Tables → Option TableFault
 naming_fault named placed t =
     option_or (first_fault_of tables.Stops (parent_fault named) t.stops.items)
     (option_or (first_fault_of tables.StopTimes (stop_time_fault named placed t) t.stop_times.rows.items)
     (first_fault_of tables.Frequencies (frequency_fault placed) t.frequencies.items))
 
 -- the fault of a trip's row, with the number of its record
-abbrev pub told_of : List Turn → ℕ × FaultKind → TableFault
-told_of turns wrong = record { file = tables.StopTimes; row = slice_index_or (map (λ turn. turn.number) turns) wrong.0 0; kind = wrong.1 }
+abbrev pub fault_of_row : List SortKey → ℕ × FaultKind → TableFault
+fault_of_row turns wrong = record { file = tables.StopTimes; row = slice_index_or (map (λ turn. turn.number) turns) wrong.0 0; kind = wrong.1 }
 
 -- the first fault in the rows of the trip of an index
-abbrev pub trip_fault : Bool → List Turn → List StopTimeRow → ℕ → Option TableFault
-trip_fault strict turns rows t = option_map (told_of (of_trip turns t turns)) (first_wrong strict (of_trip turns t rows))
+abbrev pub trip_fault : Bool → List SortKey → List StopTimeRow → ℕ → Option TableFault
+trip_fault strict turns rows t = option_map (fault_of_row (of_trip turns t turns)) (first_wrong strict (of_trip turns t rows))
 
 -- the first fault: of an id, then of the times of trips, then of transfers
-abbrev pub first_fault : (List ℕ → Option Named) → (List ℕ → Option ℕ) → Bool → Tables → List Turn → Option TableFault
+abbrev pub first_fault : (List ℕ → Option StopIdTarget) → (List ℕ → Option ℕ) → Bool → Tables → List SortKey → Option TableFault
 first_fault named placed strict t turns =
     option_or (naming_fault named placed t)
     (option_or (first_below (trip_fault strict turns (rows_by named placed t turns)) (length t.trips.items))
@@ -79,11 +79,11 @@ first_fault named placed strict t turns =
 -- ---- the feed
 
 -- a stop, with its station if it has one
-abbrev pub feed_stop : (List ℕ → Option Named) → StopRow → Stop
+abbrev pub feed_stop : (List ℕ → Option StopIdTarget) → StopRow → Stop
 feed_stop named row = record { id = row.id; station = station_of named row }
 
 -- the trip of an index, and the trips from an index on
-abbrev pub feed_trip : List Turn → List StopTimeRow → (ℕ → Bool) → ℕ → TripRow → Trip
+abbrev pub feed_trip : List SortKey → List StopTimeRow → (ℕ → Bool) → ℕ → TripRow → Trip
 feed_trip turns rows repeats t row = record {
   id = row.id;
   service = row.service;
@@ -93,13 +93,13 @@ feed_trip turns rows repeats t row = record {
   flex = is_flex (of_trip turns t rows);
 }
 
-abbrev pub feed_trips : List Turn → List StopTimeRow → (ℕ → Bool) → ℕ → List TripRow → List Trip
+abbrev pub feed_trips : List SortKey → List StopTimeRow → (ℕ → Bool) → ℕ → List TripRow → List Trip
 feed_trips turns rows repeats t [] = []
 feed_trips turns rows repeats t (row ∷ rest) = feed_trip turns rows repeats t row ∷ feed_trips turns rows repeats (t + 1) rest
 
 -- the feed of tables whose ids name these: its stops, trips, rows in order, frequencies and transfers, how many transfers were skipped,
 -- and the two calendars unchanged
-pub record IsFeed (named : List ℕ → Option Named) (placed : List ℕ → Option ℕ) (t : Tables) (turns : List Turn) (feed : Feed) : Type 0 where
+pub record IsFeed (named : List ℕ → Option StopIdTarget) (placed : List ℕ → Option ℕ) (t : Tables) (turns : List SortKey) (feed : Feed) : Type 0 where
   pub stops : feed.stops.items ≡ map (feed_stop named) (filter is_stop t.stops.items)
   pub trips : feed.trips.items ≡ feed_trips turns (rows_by named placed t turns) (is_repeated placed t.frequencies.items) 0 t.trips.items
   pub stop_times : feed.stop_times.items ≡ rows_by named placed t turns
@@ -111,21 +111,21 @@ pub record IsFeed (named : List ℕ → Option Named) (placed : List ℕ → Opt
 
 -- the tables have no fault, and are joined to this feed; an id stands for the first row that has it
 pub record IsJoined (strict : Bool) (t : Tables) (feed : Feed) : Type 0 where
-  pub turns : List Turn
+  pub turns : List SortKey
   pub in_order : IsInOrder (trips_by (trip_named t.trips.items) t) t.stop_times.rows.items turns
   pub faultless : first_fault (stop_named t.stops.items) (trip_named t.trips.items) strict t turns ≡ None
   pub feed_is : IsFeed (stop_named t.stops.items) (trip_named t.trips.items) t turns feed
 
 -- the tables' first fault
 pub record IsFirstFault (strict : Bool) (t : Tables) (fault : TableFault) : Type 0 where
-  pub turns : List Turn
+  pub turns : List SortKey
   pub in_order : IsInOrder (trips_by (trip_named t.trips.items) t) t.stop_times.rows.items turns
   pub first : first_fault (stop_named t.stops.items) (trip_named t.trips.items) strict t turns ≡ Some fault
 
 -- ---- the tables once their ids are replaced
 
 -- the ids are looked up without a fault, except that a fault of the transfers is kept until the trips are judged
-pub record IsLinked (named : List ℕ → Option Named) (placed : List ℕ → Option ℕ) (t : Tables) (links : Links) : Type 0 where
+pub record IsLinked (named : List ℕ → Option StopIdTarget) (placed : List ℕ → Option ℕ) (t : Tables) (links : Links) : Type 0 where
   pub in_order : IsInOrder (trips_by placed t) t.stop_times.rows.items (turns_in (trips_by placed t) links.order t.stop_times.rows.items)
   pub fine : naming_fault named placed t ≡ None
   pub stations : links.stations.items ≡ map (station_of named) t.stops.items
@@ -140,7 +140,7 @@ pub record IsLinked (named : List ℕ → Option Named) (placed : List ℕ → O
       → first_fault_of tables.Transfers (transfer_fault named) t.transfers.items ≡ Some fault)
 
 -- the first fault of an id
-pub record IsNamingFault (named : List ℕ → Option Named) (placed : List ℕ → Option ℕ) (t : Tables) (fault : TableFault) : Type 0 where
-  pub turns : List Turn
+pub record IsNamingFault (named : List ℕ → Option StopIdTarget) (placed : List ℕ → Option ℕ) (t : Tables) (fault : TableFault) : Type 0 where
+  pub turns : List SortKey
   pub in_order : IsInOrder (trips_by placed t) t.stop_times.rows.items turns
   pub first : naming_fault named placed t ≡ Some fault

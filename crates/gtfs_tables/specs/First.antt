@@ -7,15 +7,15 @@ use Rattle.gtfs_rows.specs.declared.fault.Table.{Table}
 use Rattle.gtfs_rows.specs.declared.fault.TableFault.{TableFault}
 
 -- the least index below n that passes
-abbrev pub place_if : (ℕ → Bool) → ℕ → Option ℕ
-place_if p k = if p k then Some k else None
+abbrev pub index_if : (ℕ → Bool) → ℕ → Option ℕ
+index_if p k = if p k then Some k else None
 
-abbrev pub first_place : (ℕ → Bool) → ℕ → Option ℕ
-first_place p n = first_below (place_if p) n
+abbrev pub first_index : (ℕ → Bool) → ℕ → Option ℕ
+first_index p n = first_below (index_if p) n
 
 -- the fault of the row at an index; records are numbered from 1
 abbrev pub fault_at : Table → ℕ → FaultKind → TableFault
-fault_at table place kind = record { file = table; row = place + 1; kind = kind }
+fault_at table index kind = record { file = table; row = index + 1; kind = kind }
 
 -- the fault of the row at an index, given how rows are judged
 abbrev pub row_fault : {R : Type 0} → Table → (R → Option FaultKind) → List R → ℕ → Option TableFault

@@ -3,8 +3,8 @@ use Rattle.std.specs.Prelude.{◌≡◌, ◌-◌, ◌<◌, ◌≤◌, ◌&&◌, 
 use Rattle.std.specs.List.{slice_range}
 use Rattle.gtfs_rows.specs.declared.rows.StopTimeRow.{StopTimeRow}
 use Rattle.gtfs_tables.specs.Spread.{arrival_at}
-use Rattle.gtfs_tables.specs.declared.tables.Place.{Place}
-use Rattle.gtfs_tables.specs.declared.tables.Place.TheVariants as places
+use Rattle.gtfs_tables.specs.declared.tables.TransferEnd.{TransferEnd}
+use Rattle.gtfs_tables.specs.declared.tables.TransferEnd.TheVariants as ends
 use Rattle.gtfs_tables.specs.declared.tables.Transfer.{Transfer}
 use Rattle.gtfs_tables.specs.declared.tables.Trip.{Trip}
 
@@ -36,9 +36,9 @@ abbrev pub AreRunnable : ℕ → List StopTimeRow → List Trip → Type 0
 AreRunnable stops stop_times trips = All (IsRunnableTrip stops stop_times) trips
 
 -- if the place is a stop, its number is below this
-abbrev pub NamesBelow : ℕ → Place → Type 0
-NamesBelow stops (places.Stop stop) = stop < stops
-NamesBelow stops (places.Station station) = Unit {0}
+abbrev pub NamesBelow : ℕ → TransferEnd → Type 0
+NamesBelow stops (ends.Stop stop) = stop < stops
+NamesBelow stops (ends.Station station) = Unit {0}
 
 -- each stop that a transfer names has a number below this
 abbrev pub NameStopsBelow : ℕ → List Transfer → Type 0

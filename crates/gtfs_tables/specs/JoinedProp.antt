@@ -4,8 +4,8 @@ use Rattle.std.specs.Coded.{Unit-prop, le_prop}
 use Rattle.std.proofs.Props.{props}
 use Rattle.gtfs_rows.specs.declared.rows.StopTimeRow.{StopTimeRow}
 use Rattle.gtfs_tables.specs.Joined.{AreRunnable, NameStopsBelow, NamesBelow}
-use Rattle.gtfs_tables.specs.declared.tables.Place.{Place}
-use Rattle.gtfs_tables.specs.declared.tables.Place.TheVariants as places
+use Rattle.gtfs_tables.specs.declared.tables.TransferEnd.{TransferEnd}
+use Rattle.gtfs_tables.specs.declared.tables.TransferEnd.TheVariants as ends
 use Rattle.gtfs_tables.specs.declared.tables.Transfer.{Transfer}
 use Rattle.gtfs_tables.specs.declared.tables.Trip.{Trip}
 
@@ -13,12 +13,12 @@ stop_prop : (stops : ℕ) (stop : Option ℕ) → IsProp (IsSomeAnd stop (λ s. 
 stop_prop stops None = λ a b. absurd a
 stop_prop stops (Some s) = le_prop
 
-place_prop : (stops : ℕ) (place : Place) → IsProp (NamesBelow stops place)
-place_prop stops (places.Stop stop) = le_prop
-place_prop stops (places.Station station) = Unit-prop
+end_prop : (stops : ℕ) (end : TransferEnd) → IsProp (NamesBelow stops end)
+end_prop stops (ends.Stop stop) = le_prop
+end_prop stops (ends.Station station) = Unit-prop
 
 pub AreRunnable-prop : (stops : ℕ) (stop_times : List StopTimeRow) (trips : List Trip) → IsProp (AreRunnable stops stop_times trips)
 AreRunnable-prop stops stop_times trips = let stop = stop_prop stops in hlevel (props, stop)
 
 pub NameStopsBelow-prop : (stops : ℕ) (transfers : List Transfer) → IsProp (NameStopsBelow stops transfers)
-NameStopsBelow-prop stops transfers = let place = place_prop stops in hlevel (props, place)
+NameStopsBelow-prop stops transfers = let end = end_prop stops in hlevel (props, end)

@@ -11,25 +11,25 @@ use Rattle.gtfs_rows.specs.declared.rows.Location.TheVariants as locations
 use Rattle.gtfs_rows.specs.declared.rows.StopRow.{StopRow}
 use Rattle.gtfs_rows.specs.declared.rows.TripRow.{TripRow}
 use Rattle.gtfs_tables.specs.First.{first_below}
-use Rattle.gtfs_tables.specs.declared.names.Named.{Named}
-use Rattle.gtfs_tables.specs.declared.names.Named.TheVariants as names
+use Rattle.gtfs_tables.specs.declared.names.StopIdTarget.{StopIdTarget}
+use Rattle.gtfs_tables.specs.declared.names.StopIdTarget.TheVariants as names
 
 -- what a row of stops.txt stands for: a stop, by how many stops come before it, or a station, by its index
-abbrev pub named_as : Location → ℕ → ℕ → Named
-named_as locations.Stop number place = names.Stop number
-named_as locations.Station number place = names.Station place
-named_as locations.Entrance number place = names.Elsewhere
-named_as locations.Node number place = names.Elsewhere
-named_as locations.BoardingArea number place = names.Elsewhere
+abbrev pub named_as : Location → ℕ → ℕ → StopIdTarget
+named_as locations.Stop number index = names.Stop number
+named_as locations.Station number index = names.Station index
+named_as locations.Entrance number index = names.Elsewhere
+named_as locations.Node number index = names.Elsewhere
+named_as locations.BoardingArea number index = names.Elsewhere
 
 -- what the row at an index stands for, if it has the id
-abbrev pub stop_with : List StopRow → List ℕ → ℕ → Option Named
+abbrev pub stop_with : List StopRow → List ℕ → ℕ → Option StopIdTarget
 stop_with stops id k =
     option_and_then (λ row. if bytes_eq id (string_bytes row.id) then Some
     (named_as row.location (count_by is_stop (take k stops)) k) else None) (slice_get stops k)
 
 -- what an id of stops.txt names
-abbrev pub stop_named : List StopRow → List ℕ → Option Named
+abbrev pub stop_named : List StopRow → List ℕ → Option StopIdTarget
 stop_named stops id = first_below (stop_with stops id) (length stops)
 
 -- the index, if the row there has the id

@@ -6,7 +6,7 @@ use Rattle.std.specs.Option.{option_or}
 use Rattle.gtfs_rows.specs.declared.fault.FaultKind.{FaultKind}
 use Rattle.gtfs_rows.specs.declared.fault.FaultKind.TheVariants as kinds
 use Rattle.gtfs_rows.specs.declared.rows.StopTimeRow.{StopTimeRow}
-use Rattle.gtfs_tables.specs.First.{first_place}
+use Rattle.gtfs_tables.specs.First.{first_index}
 use Rattle.gtfs_tables.specs.Spread.{arrival_at, departure_at, part_of}
 
 -- some row has no stop
@@ -45,7 +45,7 @@ given_before rows zero = 0
 given_before rows (suc k) = if is_some (arrival_at rows k) then k else given_before rows k
 
 abbrev pub given_from : List StopTimeRow → ℕ → ℕ
-given_from rows k = unwrap_or (first_place (λ j. nat_le k j && is_some (arrival_at rows j)) (length rows)) (length rows)
+given_from rows k = unwrap_or (first_index (λ j. nat_le k j && is_some (arrival_at rows j)) (length rows)) (length rows)
 
 -- the time of a blank row k between the rows p and q, which have times
 abbrev pub time_between : List StopTimeRow → ℕ → ℕ → ℕ → ℕ
@@ -68,18 +68,18 @@ is_short times k = nat_lt 0 k && nat_le (slice_index_or times k (0, 0)).0 (slice
 
 -- an index, with what is wrong there
 abbrev pub wrong_at : FaultKind → Option ℕ → Option (ℕ × FaultKind)
-wrong_at kind place = option_map (λ k. (k, kind)) place
+wrong_at kind index = option_map (λ k. (k, kind)) index
 
 -- the first fault of the sequences and of the times as they are given
 abbrev pub wrong_given : List StopTimeRow → Option (ℕ × FaultKind)
 wrong_given rows =
-    option_or (wrong_at kinds.SequenceTwice (first_place (is_twice rows) (length rows)))
-    (option_or (wrong_at kinds.EndWithoutTime (end_without_time rows)) (wrong_at kinds.TimeGoesBack (first_place (goes_back rows) (length rows))))
+    option_or (wrong_at kinds.SequenceTwice (first_index (is_twice rows) (length rows)))
+    (option_or (wrong_at kinds.EndWithoutTime (end_without_time rows)) (wrong_at kinds.TimeGoesBack (first_index (goes_back rows) (length rows))))
 
 -- the first fault of rows, if there are at least two and all have stops
 abbrev pub wrong_times : Bool → List StopTimeRow → Option (ℕ × FaultKind)
 wrong_times strict rows =
-    option_or (wrong_given rows) (if strict then wrong_at kinds.HopWithoutDuration (first_place (has_no_duration rows) (length rows)) else None)
+    option_or (wrong_given rows) (if strict then wrong_at kinds.HopWithoutDuration (first_index (has_no_duration rows) (length rows)) else None)
 
 -- the first fault of a trip's rows; flex trips and trips with fewer than two rows aren't judged
 abbrev pub first_wrong : Bool → List StopTimeRow → Option (ℕ × FaultKind)

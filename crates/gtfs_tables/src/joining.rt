@@ -13,14 +13,14 @@ ghost use Rattle.gtfs_tables.specs.Rows.{is_flex_id, linked_fault, linked_row, s
 ghost use Rattle.std.specs.String.{string_bytes};
 ghost use Rattle.gtfs_tables.specs.Times.{first_wrong as wrong_first};
 ghost use Rattle.gtfs_tables.specs.Feeds.{IsFirstFault, IsJoined, IsLinked, IsNamingFault, feed_stop, feed_trips};
-ghost use Rattle.gtfs_tables.specs.Feeds.{linked_by, told_of, trip_fault};
-ghost use Rattle.gtfs_tables.specs.declared.names.Named.{Named as NamedBy};
+ghost use Rattle.gtfs_tables.specs.Feeds.{linked_by, fault_of_row, trip_fault};
+ghost use Rattle.gtfs_tables.specs.declared.names.StopIdTarget.{StopIdTarget as NamedBy};
 
 use crate::links::{
     RowNames, flex_at, flex_ids, judge_rows, linked_frequencies, linked_rows, out_of_memory,
     repeating, skipped_in, stations, transfers as linked_transfers,
 };
-use crate::names::{Named, named_each, stops_by_id, trips_by_id};
+use crate::names::{StopIdTarget, named_each, stops_by_id, trips_by_id};
 use crate::order::{RowOrder, number_at, order_of_rows, trip_at};
 use crate::tables::{Feed, Frequency, Stop, Tables, Transfer, Trip};
 use crate::times::{first_wrong, is_flex};
@@ -76,10 +76,10 @@ fn link(alloc: Global, tables: &Tables) -> Result<Links, TableFault>
     let Ok(names) = stops_by_id(alloc, hash, &tables.stops) else {
         return Err(out_of_memory());
     };
-    let Ok(places) = trips_by_id(alloc, hash, &tables.trips) else {
+    let Ok(indices) = trips_by_id(alloc, hash, &tables.trips) else {
         return Err(out_of_memory());
     };
-    link_by(alloc, tables, &names, &places)
+    link_by(alloc, tables, &names, &indices)
 }
 
 // Looks up the ids of the tables in maps of what they name, or returns the first fault of an id.
@@ -87,14 +87,14 @@ fn link(alloc: Global, tables: &Tables) -> Result<Links, TableFault>
 fn link_by(
     alloc: Global,
     tables: &Tables,
-    names: &IndexMap<&str, Named, IdHash>,
-    places: &IndexMap<&str, u32, IdHash>,
+    names: &IndexMap<&str, StopIdTarget, IdHash>,
+    indices: &IndexMap<&str, u32, IdHash>,
 ) -> Result<Links, TableFault>
-    ensures ok { IfOk result (IsLinked (held_at names.now) (held_at places.now) tables.now) }
+    ensures ok { IfOk result (IsLinked (held_at names.now) (held_at indices.now) tables.now) }
     ensures err { IfErr result (λ fault. fault.kind ≢ FaultKind.OutOfMemory
-        → IsNamingFault (held_at names.now) (held_at places.now) tables.now fault) }
+        → IsNamingFault (held_at names.now) (held_at indices.now) tables.now fault) }
 {
-    let Ok(trips) = named_each(alloc, &tables.stop_times.trips, places) else {
+    let Ok(trips) = named_each(alloc, &tables.stop_times.trips, indices) else {
         return Err(out_of_memory());
     };
     let Ok(order) = order_of_rows(alloc, &tables.stop_times.rows, &trips) else {
@@ -108,11 +108,11 @@ fn link_by(
         Ok(judged) => judged,
         Err(fault) => return Err(fault),
     };
-    let repeats = match repeating(alloc, &tables.frequencies, places, tables.trips.len()) {
+    let repeats = match repeating(alloc, &tables.frequencies, indices, tables.trips.len()) {
         Ok(repeats) => repeats,
         Err(fault) => return Err(fault),
     };
-    let Ok(frequencies) = linked_frequencies(alloc, &tables.frequencies, places) else {
+    let Ok(frequencies) = linked_frequencies(alloc, &tables.frequencies, indices) else {
         return Err(out_of_memory());
     };
     let transfers = linked_transfers(alloc, &tables.transfers, names);
@@ -131,9 +131,9 @@ fn link_by(
 fn judged_times(
     alloc: Global,
     stop_times: &StopTimes,
-    names: &IndexMap<&str, Named, IdHash>,
+    names: &IndexMap<&str, StopIdTarget, IdHash>,
     trips: &[Option<u32>],
-) -> Result<(Vec<Option<Named>>, Vec<bool>), TableFault>
+) -> Result<(Vec<Option<StopIdTarget>>, Vec<bool>), TableFault>
     ensures fine { IfOk result (λ judged. first_fault_of Table.StopTimes (λ row. linked_fault trips.now
         (map (λ id. held_at names.now (string_bytes id)) stop_times.now.stops.keys)
         (is_flex_id stop_times.now.rows.items row.trip) row) stop_times.now.rows.items ≡ None) }
@@ -195,7 +195,7 @@ fn feed_of(alloc: Global, tables: Tables, links: Links, strict: bool) -> Result<
 
 // The parts of a feed that are made from rows and links.
 #[derive(Drop)]
-struct Made {
+struct FeedParts {
     stops: Vec<Stop>,
     trips: Vec<Trip>,
     stop_times: Vec<StopTimeRow>,
@@ -212,7 +212,7 @@ fn made_of(
     rows: Vec<StopTimeRow>,
     links: Links,
     strict: bool,
-) -> Result<Made, TableFault>
+) -> Result<FeedParts, TableFault>
     requires flex { (id : ℕ) → id < length links.names.trips.items
         → slice_index_or links.names.flex.items id false ≡ is_flex_id rows.items id }
     requires rising { IsSortedBy comes_before (turns_in links.names.trips.items links.order rows.items) }
@@ -251,7 +251,7 @@ fn made_of(
         ..
     } = links;
     match transfers {
-        Ok(transfers) => Ok(Made {
+        Ok(transfers) => Ok(FeedParts {
             stops,
             trips,
             stop_times,
@@ -330,9 +330,9 @@ fn timed_trips(
         return Err(out_of_memory());
     };
     let mut first = 0;
-    let mut place = 0;
+    let mut index = 0;
     for row in trips {
-        let end = end_of_trip(rows, order, first, place);
+        let end = end_of_trip(rows, order, first, index);
         match judge_trip(alloc, rows, order, first, end, strict) {
             Ok(()) => {}
             Err(fault) => return Err(fault),
@@ -342,7 +342,7 @@ fn timed_trips(
             service: row.service,
             first,
             end,
-            repeats: flex_at(repeats, place),
+            repeats: flex_at(repeats, index),
             flex: is_flex(&rows[first..end]),
         };
         match timed.push(trip) {
@@ -350,7 +350,7 @@ fn timed_trips(
             Err(_) => return Err(out_of_memory()),
         }
         first = end;
-        place += 1;
+        index += 1;
     }
     Ok(timed)
 }
@@ -385,24 +385,30 @@ fn judge_trip(
 ) -> Result<(), TableFault>
     requires rising { first ≤ end }
     requires within { end ≤ length rows.now }
-    ensures ok { IfOk result (λ _. option_map (told_of (slice_range (turns_by order.now rows.now) first end))
+    ensures ok { IfOk result (λ _. option_map (fault_of_row (slice_range (turns_by order.now rows.now) first end))
         (wrong_first strict (slice_range rows.now first end)) ≡ None) }
     ensures err { IfErr result (λ fault. fault.kind ≢ FaultKind.OutOfMemory
-        → option_map (told_of (slice_range (turns_by order.now rows.now) first end))
+        → option_map (fault_of_row (slice_range (turns_by order.now rows.now) first end))
         (wrong_first strict (slice_range rows.now first end)) ≡ Some fault) }
 {
     match first_wrong(alloc, &rows[first..end], strict) {
         Ok(None) => Ok(()),
-        Ok(Some((at, kind))) => Err(told(order, first, end, at, kind)),
+        Ok(Some((at, kind))) => Err(fault_at_row(order, first, end, at, kind)),
         Err(_) => Err(out_of_memory()),
     }
 }
 
 // Returns the fault of one of a trip's rows, with the number of its record.
-fn told(order: &RowOrder, first: usize, end: usize, at: usize, kind: FaultKind) -> TableFault
+fn fault_at_row(
+    order: &RowOrder,
+    first: usize,
+    end: usize,
+    at: usize,
+    kind: FaultKind,
+) -> TableFault
     requires { first ≤ end }
     ensures { (rows : List LinkedRow) → end ≤ length rows
-        → result ≡ told_of (slice_range (turns_by order.now rows) first end) (at, kind) }
+        → result ≡ fault_of_row (slice_range (turns_by order.now rows) first end) (at, kind) }
 {
     let row = if at < end - first {
         number_at(order, first + at)
@@ -426,25 +432,25 @@ fn feed_stops(
         → IfOk result (λ stops. stops.items ≡ map (feed_stop named) (filter is_stop rows.items)) }
 {
     let mut stops = Vec::new(alloc);
-    let mut place = 0;
+    let mut index = 0;
     for row in rows {
         if row.location == Location::Stop {
             stops.push(Stop {
                 id: row.id,
-                station: station_at(stations, place),
+                station: station_at(stations, index),
             })?;
         }
-        place += 1;
+        index += 1;
     }
     Ok(stops)
 }
 
 // Returns the station at an index, if there is one.
-fn station_at(stations: &[Option<u32>], place: usize) -> Option<u32>
-    ensures { result ≡ slice_index_or stations.now place None }
+fn station_at(stations: &[Option<u32>], index: usize) -> Option<u32>
+    ensures { result ≡ slice_index_or stations.now index None }
 {
-    if place < stations.len() {
-        stations[place]
+    if index < stations.len() {
+        stations[index]
     } else {
         None
     }

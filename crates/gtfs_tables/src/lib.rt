@@ -16,11 +16,11 @@ mod times;
 
 pub use gtfs_rows::{
     AgencyRow, CalendarDateRow, CalendarRow, DateFault, Day, Exception, FaultKind, FrequencyRow,
-    IdHash, Limited, Location, MAX_STOPS, MAX_TRIPS, StopRow, StopTimeRow, StopTimes, Table,
-    TableFault, TableFile, Time, TimeFault, TransferKind, TransferRow, TripRow, read_agency,
+    IdHash, Location, MAX_STOPS, MAX_TRIPS, RowsWithinLimit, StopRow, StopTimeRow, StopTimes,
+    Table, TableFault, TableFile, Time, TimeFault, TransferKind, TransferRow, TripRow, read_agency,
     read_calendar, read_calendar_dates, read_frequencies, read_stop_times, read_stops,
     read_transfers, read_trips,
 };
 pub use joining::join;
 pub use spreading::spread;
-pub use tables::{Feed, Frequency, Place, Stop, Tables, Transfer, Trip};
+pub use tables::{Feed, Frequency, Stop, Tables, Transfer, TransferEnd, Trip};

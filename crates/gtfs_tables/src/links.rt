@@ -11,9 +11,9 @@ ghost use Rattle.gtfs_tables.specs.Rows.{is_flex_id, is_kept, is_repeated, linke
 ghost use Rattle.gtfs_tables.specs.Rows.{parent_fault, station_of, stop_fault, stop_number, stop_of};
 ghost use Rattle.gtfs_tables.specs.Rows.{transfer_fault};
 
-use crate::names::Named;
-use crate::order::{RowOrder, Turn};
-use crate::tables::{Frequency, Place, Transfer};
+use crate::names::StopIdTarget;
+use crate::order::{RowOrder, SortKey};
+use crate::tables::{Frequency, Transfer, TransferEnd};
 use gtfs_rows::{
     FaultKind, FrequencyRow, IdHash, Location, StopRow, StopTimeRow, Table, TableFault,
     TransferKind, TransferRow,
@@ -26,18 +26,18 @@ use std::alloc::{AllocError, Global};
 #[derive(Drop)]
 pub(crate) struct RowNames {
     pub(crate) trips: Vec<Option<u32>>,
-    pub(crate) stops: Vec<Option<Named>>,
+    pub(crate) stops: Vec<Option<StopIdTarget>>,
     pub(crate) flex: Vec<bool>,
 }
 
 // Returns the fault of the row at an index; records are numbered from 1.
-pub(crate) fn fault_at(table: Table, place: usize, kind: FaultKind) -> TableFault
-    requires { place < usize.MAX }
-    ensures { result ≡ fault_of table place kind }
+pub(crate) fn fault_at(table: Table, index: usize, kind: FaultKind) -> TableFault
+    requires { index < usize.MAX }
+    ensures { result ≡ fault_of table index kind }
 {
     TableFault {
         file: table,
-        row: place as u64 + 1,
+        row: index as u64 + 1,
         kind,
     }
 }
@@ -54,24 +54,24 @@ pub(crate) fn out_of_memory() -> TableFault
 }
 
 // Returns the index in trips.txt of the trip that the trip_id of an index names, if it names one.
-pub(crate) fn place_at(trips: &[Option<u32>], place: u32) -> Option<u32>
-    ensures { result ≡ named_at trips.now place }
+pub(crate) fn index_at(trips: &[Option<u32>], index: u32) -> Option<u32>
+    ensures { result ≡ named_at trips.now index }
 {
-    let place = place as usize;
-    if place < trips.len() {
-        trips[place]
+    let index = index as usize;
+    if index < trips.len() {
+        trips[index]
     } else {
         None
     }
 }
 
 // Returns what the stop_id of a row names, if it names anything.
-fn stop_at(stops: &[Option<Named>], row: &StopTimeRow) -> Option<Named>
+fn stop_at(stops: &[Option<StopIdTarget>], row: &StopTimeRow) -> Option<StopIdTarget>
     ensures { result ≡ stop_of stops.now row.now }
 {
-    let place = row.stop? as usize;
-    if place < stops.len() {
-        stops[place]
+    let index = row.stop? as usize;
+    if index < stops.len() {
+        stops[index]
     } else {
         None
     }
@@ -81,7 +81,7 @@ fn stop_at(stops: &[Option<Named>], row: &StopTimeRow) -> Option<Named>
 pub(crate) fn stations(
     alloc: Global,
     stops: &[StopRow],
-    names: &IndexMap<&str, Named, IdHash>,
+    names: &IndexMap<&str, StopIdTarget, IdHash>,
 ) -> Result<Vec<Option<u32>>, TableFault>
     ensures fine { IfOk result (λ found. first_fault_of Table.Stops (parent_fault (held_at names.now)) stops.now
         ≡ None) }
@@ -92,14 +92,14 @@ pub(crate) fn stations(
     let Ok(mut found) = Vec::with_capacity(alloc, stops.len()) else {
         return Err(out_of_memory());
     };
-    for (place, row) in stops.iter().enumerate() {
+    for (index, row) in stops.iter().enumerate() {
         match station(row, names) {
             Ok(parent) => {
                 if found.push(parent).is_err() {
                     return Err(out_of_memory());
                 }
             }
-            Err(kind) => return Err(fault_at(Table::Stops, place, kind)),
+            Err(kind) => return Err(fault_at(Table::Stops, index, kind)),
         }
     }
     Ok(found)
@@ -107,16 +107,19 @@ pub(crate) fn stations(
 
 // Returns the index in stops.txt of the station that a stop names as its parent: `UnknownId` if the parent isn't a
 // station. Parents of other places aren't looked up.
-fn station(row: &StopRow, names: &IndexMap<&str, Named, IdHash>) -> Result<Option<u32>, FaultKind>
-    ensures fine { IfOk result (λ place. parent_fault (held_at names.now) row.now ≡ None) }
-    ensures ok { IfOk result (λ place. place ≡ station_of (held_at names.now) row.now) }
+fn station(
+    row: &StopRow,
+    names: &IndexMap<&str, StopIdTarget, IdHash>,
+) -> Result<Option<u32>, FaultKind>
+    ensures fine { IfOk result (λ index. parent_fault (held_at names.now) row.now ≡ None) }
+    ensures ok { IfOk result (λ index. index ≡ station_of (held_at names.now) row.now) }
     ensures err { IfErr result (λ kind. parent_fault (held_at names.now) row.now ≡ Some kind) }
 {
     if row.location != Location::Stop || row.parent.is_empty() {
         return Ok(None);
     }
     match names.get(row.parent.as_str()) {
-        Some(Named::Station(place)) => Ok(Some(*place)),
+        Some(StopIdTarget::Station(index)) => Ok(Some(*index)),
         _ => Err(FaultKind::UnknownId),
     }
 }
@@ -150,7 +153,7 @@ pub(crate) fn flex_at(flex: &[bool], id: usize) -> bool
 pub(crate) fn judge_rows(
     rows: &[StopTimeRow],
     trips: &[Option<u32>],
-    stops: &[Option<Named>],
+    stops: &[Option<StopIdTarget>],
     flex: &[bool],
 ) -> Result<(), TableFault>
     requires { (id : ℕ) → id < length trips.now → slice_index_or flex.now id false ≡ is_flex_id rows.now id }
@@ -159,9 +162,9 @@ pub(crate) fn judge_rows(
     ensures err { IfErr result (λ fault. first_fault_of Table.StopTimes
         (λ row. linked_fault trips.now stops.now (is_flex_id rows.now row.trip) row) rows.now ≡ Some fault) }
 {
-    for (place, row) in rows.iter().enumerate() {
+    for (index, row) in rows.iter().enumerate() {
         if let Some(kind) = wrong_link(row, trips, stops, flex_at(flex, row.trip as usize)) {
-            return Err(fault_at(Table::StopTimes, place, kind));
+            return Err(fault_at(Table::StopTimes, index, kind));
         }
     }
     Ok(())
@@ -171,12 +174,12 @@ pub(crate) fn judge_rows(
 fn wrong_link(
     row: &StopTimeRow,
     trips: &[Option<u32>],
-    stops: &[Option<Named>],
+    stops: &[Option<StopIdTarget>],
     flex: bool,
 ) -> Option<FaultKind>
     ensures { result ≡ linked_fault trips.now stops.now flex row.now }
 {
-    if place_at(trips, row.trip).is_none() {
+    if index_at(trips, row.trip).is_none() {
         return Some(FaultKind::UnknownId);
     }
     if flex {
@@ -184,8 +187,8 @@ fn wrong_link(
     }
     match stop_at(stops, row) {
         None => Some(FaultKind::UnknownId),
-        Some(Named::Stop(_)) => None,
-        Some(Named::Station(_)) | Some(Named::Elsewhere) => Some(FaultKind::NotAStop),
+        Some(StopIdTarget::Stop(_)) => None,
+        Some(StopIdTarget::Station(_)) | Some(StopIdTarget::Elsewhere) => Some(FaultKind::NotAStop),
     }
 }
 
@@ -193,14 +196,14 @@ fn wrong_link(
 fn linked(
     row: &StopTimeRow,
     trips: &[Option<u32>],
-    stops: &[Option<Named>],
+    stops: &[Option<StopIdTarget>],
     flex: bool,
 ) -> StopTimeRow
     ensures { result ≡ linked_row trips.now stops.now flex row.now }
 {
-    let trip = place_at(trips, row.trip);
+    let trip = index_at(trips, row.trip);
     let stop = match stop_at(stops, row) {
-        Some(Named::Stop(number)) if !flex && trip.is_some() => Some(number),
+        Some(StopIdTarget::Stop(number)) if !flex && trip.is_some() => Some(number),
         _ => None,
     };
     StopTimeRow {
@@ -260,7 +263,7 @@ fn linked_marked(row: &StopTimeRow, names: &RowNames) -> StopTimeRow
 fn linked_by_turns(
     alloc: Global,
     rows: &[StopTimeRow],
-    turns: &[Turn],
+    turns: &[SortKey],
     names: &RowNames,
 ) -> Result<Vec<StopTimeRow>, AllocError>
     requires { (id : ℕ) → id < length names.now.trips.items
@@ -280,9 +283,9 @@ fn linked_by_turns(
 fn row_numbered(rows: &[StopTimeRow], number: u64) -> StopTimeRow
     ensures { result ≡ row_of rows.now number }
 {
-    let place = number.saturating_sub(1) as usize;
-    if place < rows.len() {
-        rows[place]
+    let index = number.saturating_sub(1) as usize;
+    if index < rows.len() {
+        rows[index]
     } else {
         StopTimeRow {
             trip: 0,
@@ -300,36 +303,36 @@ fn row_numbered(rows: &[StopTimeRow], number: u64) -> StopTimeRow
 pub(crate) fn repeating(
     alloc: Global,
     frequencies: &[FrequencyRow],
-    places: &IndexMap<&str, u32, IdHash>,
+    indices: &IndexMap<&str, u32, IdHash>,
     trips: usize,
 ) -> Result<Vec<bool>, TableFault>
-    ensures fine { IfOk result (λ repeats. first_fault_of Table.Frequencies (frequency_fault (held_at places.now))
+    ensures fine { IfOk result (λ repeats. first_fault_of Table.Frequencies (frequency_fault (held_at indices.now))
         frequencies.now ≡ None) }
     ensures ok { IfOk result (λ repeats. (t : ℕ) → t < trips
-        → slice_index_or repeats.items t false ≡ is_repeated (held_at places.now) frequencies.now t) }
+        → slice_index_or repeats.items t false ≡ is_repeated (held_at indices.now) frequencies.now t) }
     ensures len { IfOk result (λ repeats. length repeats.items ≡ trips) }
     ensures err { IfErr result (λ fault. fault.kind ≢ FaultKind.OutOfMemory
-        → first_fault_of Table.Frequencies (frequency_fault (held_at places.now)) frequencies.now ≡ Some fault) }
+        → first_fault_of Table.Frequencies (frequency_fault (held_at indices.now)) frequencies.now ≡ Some fault) }
 {
     let Ok(mut repeats) = vec![in alloc; false; trips] else {
         return Err(out_of_memory());
     };
     for (at, row) in frequencies.iter().enumerate() {
-        let Some(place) = places.get(row.trip.as_str()) else {
+        let Some(index) = indices.get(row.trip.as_str()) else {
             return Err(fault_at(Table::Frequencies, at, FaultKind::UnknownId));
         };
-        mark(&mut repeats, *place as usize);
+        mark(&mut repeats, *index as usize);
     }
     Ok(repeats)
 }
 
 // Returns a row of frequencies.txt with the index of its trip, 0 if the trip is unknown.
-fn frequency(row: &FrequencyRow, places: &IndexMap<&str, u32, IdHash>) -> Frequency
-    ensures { result ≡ frequency_of (held_at places.now) row.now }
+fn frequency(row: &FrequencyRow, indices: &IndexMap<&str, u32, IdHash>) -> Frequency
+    ensures { result ≡ frequency_of (held_at indices.now) row.now }
 {
-    let place = places.get(row.trip.as_str()).copied();
+    let index = indices.get(row.trip.as_str()).copied();
     Frequency {
-        trip: place.unwrap_or(0),
+        trip: index.unwrap_or(0),
         start: row.start,
         end: row.end,
         headway: row.headway,
@@ -340,23 +343,23 @@ fn frequency(row: &FrequencyRow, places: &IndexMap<&str, u32, IdHash>) -> Freque
 pub(crate) fn linked_frequencies(
     alloc: Global,
     rows: &[FrequencyRow],
-    places: &IndexMap<&str, u32, IdHash>,
+    indices: &IndexMap<&str, u32, IdHash>,
 ) -> Result<Vec<Frequency>, AllocError>
-    ensures { IfOk result (λ linked. linked.items ≡ map (frequency_of (held_at places.now)) rows.now) }
+    ensures { IfOk result (λ linked. linked.items ≡ map (frequency_of (held_at indices.now)) rows.now) }
 {
     let mut linked = Vec::with_capacity(alloc, rows.len())?;
     for row in rows {
-        linked.push(frequency(row, places))?;
+        linked.push(frequency(row, indices))?;
     }
     Ok(linked)
 }
 
 // Marks an index, unless it is past the end.
-fn mark(marks: &mut Vec<bool>, place: usize)
-    ensures { marks.new.items ≡ slice_set marks.old.items place true }
+fn mark(marks: &mut Vec<bool>, index: usize)
+    ensures { marks.new.items ≡ slice_set marks.old.items index true }
 {
-    if place < marks.len() {
-        marks[place] = true;
+    if index < marks.len() {
+        marks[index] = true;
     }
 }
 
@@ -364,7 +367,7 @@ fn mark(marks: &mut Vec<bool>, place: usize)
 pub(crate) fn transfers(
     alloc: Global,
     rows: &[TransferRow],
-    names: &IndexMap<&str, Named, IdHash>,
+    names: &IndexMap<&str, StopIdTarget, IdHash>,
 ) -> Result<Vec<Transfer>, TableFault>
     ensures fine { IfOk result (λ kept. first_fault_of Table.Transfers (transfer_fault (held_at names.now)) rows.now
         ≡ None) }
@@ -373,10 +376,10 @@ pub(crate) fn transfers(
         → first_fault_of Table.Transfers (transfer_fault (held_at names.now)) rows.now ≡ Some fault) }
 {
     let mut kept = Vec::new(alloc);
-    for (place, row) in rows.iter().enumerate() {
+    for (index, row) in rows.iter().enumerate() {
         let found = match transfer(row, names) {
             Ok(found) => found,
-            Err(kind) => return Err(fault_at(Table::Transfers, place, kind)),
+            Err(kind) => return Err(fault_at(Table::Transfers, index, kind)),
         };
         if let Some(found) = found {
             if kept.push(found).is_err() {
@@ -391,7 +394,7 @@ pub(crate) fn transfers(
 // skipped.
 fn transfer(
     row: &TransferRow,
-    names: &IndexMap<&str, Named, IdHash>,
+    names: &IndexMap<&str, StopIdTarget, IdHash>,
 ) -> Result<Option<Transfer>, FaultKind>
     ensures fine { IfOk result (λ found. transfer_fault (held_at names.now) row.now ≡ None) }
     ensures kept { IfOk result (λ found. is_some found ≡ is_kept row.now) }
@@ -423,10 +426,13 @@ fn is_counted(row: &TransferRow) -> bool
 
 // Returns both ends of a transfer: first `UnknownId` if either is unknown, then `NotAStop` if either is neither a
 // stop nor a station.
-fn ends(from: Option<Named>, to: Option<Named>) -> Result<(Place, Place), FaultKind>
-    ensures fine { IfOk result (λ places. ends_fault from to ≡ None) }
-    ensures from { IfOk result (λ places. from ≡ Some (named_by places.0)) }
-    ensures to { IfOk result (λ places. to ≡ Some (named_by places.1)) }
+fn ends(
+    from: Option<StopIdTarget>,
+    to: Option<StopIdTarget>,
+) -> Result<(TransferEnd, TransferEnd), FaultKind>
+    ensures fine { IfOk result (λ indices. ends_fault from to ≡ None) }
+    ensures from { IfOk result (λ indices. from ≡ Some (named_by indices.0)) }
+    ensures to { IfOk result (λ indices. to ≡ Some (named_by indices.1)) }
     ensures err { IfErr result (λ kind. ends_fault from to ≡ Some kind) }
 {
     let Some(from) = from else {
@@ -442,14 +448,14 @@ fn ends(from: Option<Named>, to: Option<Named>) -> Result<(Place, Place), FaultK
 }
 
 // Returns a stop or a station as an end of a transfer; none for another place.
-fn end_of(named: Named) -> Option<Place>
-    ensures some { IfSome result (λ place. (named ≡ named_by place) × (end_fault (Some named) ≡ None)) }
+fn end_of(named: StopIdTarget) -> Option<TransferEnd>
+    ensures some { IfSome result (λ index. (named ≡ named_by index) × (end_fault (Some named) ≡ None)) }
     ensures none { result ≡ None → end_fault (Some named) ≡ Some FaultKind.NotAStop }
 {
     match named {
-        Named::Stop(number) => Some(Place::Stop(number)),
-        Named::Station(place) => Some(Place::Station(place)),
-        Named::Elsewhere => None,
+        StopIdTarget::Stop(number) => Some(TransferEnd::Stop(number)),
+        StopIdTarget::Station(index) => Some(TransferEnd::Station(index)),
+        StopIdTarget::Elsewhere => None,
     }
 }
 

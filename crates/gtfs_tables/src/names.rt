@@ -12,7 +12,7 @@ use std::alloc::{AllocError, Global};
 
 /// What an id of `stops.txt` names.
 #[derive(Clone, Copy, Debug, PartialEq, Eq)]
-pub enum Named {
+pub enum StopIdTarget {
     /// A stop, by its number.
     Stop(u32),
     /// A station, by the index of its row.
@@ -25,14 +25,14 @@ pub enum Named {
 type ById<'a, T> = Result<IndexMap<&'a str, T, IdHash>, AllocError>;
 
 // Returns what each id of stops.txt names.
-pub(crate) fn stops_by_id(alloc: Global, hash: IdHash, stops: &[StopRow]) -> ById<'_, Named>
+pub(crate) fn stops_by_id(alloc: Global, hash: IdHash, stops: &[StopRow]) -> ById<'_, StopIdTarget>
     requires { length stops.now ≤ u32.MAX }
     ensures { IfOk result (λ names. (id : List ℕ) → held_at names id ≡ stop_named stops.now id) }
 {
     let mut names = IndexMap::with_capacity_and_hasher(alloc, stops.len(), hash)?;
     let mut number = 0;
-    for (place, row) in stops.iter().enumerate() {
-        let name = named_as(row.location, number, place as u32);
+    for (index, row) in stops.iter().enumerate() {
+        let name = named_as(row.location, number, index as u32);
         if row.location == Location::Stop {
             number += 1;
         }
@@ -41,28 +41,28 @@ pub(crate) fn stops_by_id(alloc: Global, hash: IdHash, stops: &[StopRow]) -> ByI
     Ok(names)
 }
 
-// Returns what a row of stops.txt stands for, given how many stops (`number`) and how many rows (`place`) come
+// Returns what a row of stops.txt stands for, given how many stops (`number`) and how many rows (`index`) come
 // before it.
-fn named_as(location: Location, number: u32, place: u32) -> Named
-    ensures { result ≡ name_of location number place }
+fn named_as(location: Location, number: u32, index: u32) -> StopIdTarget
+    ensures { result ≡ name_of location number index }
 {
     match location {
-        Location::Stop => Named::Stop(number),
-        Location::Station => Named::Station(place),
-        Location::Entrance | Location::Node | Location::BoardingArea => Named::Elsewhere,
+        Location::Stop => StopIdTarget::Stop(number),
+        Location::Station => StopIdTarget::Station(index),
+        Location::Entrance | Location::Node | Location::BoardingArea => StopIdTarget::Elsewhere,
     }
 }
 
 // Returns the index of the row of each id of trips.txt.
 pub(crate) fn trips_by_id(alloc: Global, hash: IdHash, trips: &[TripRow]) -> ById<'_, u32>
     requires { length trips.now ≤ u32.MAX }
-    ensures { IfOk result (λ places. (id : List ℕ) → held_at places id ≡ trip_named trips.now id) }
+    ensures { IfOk result (λ indices. (id : List ℕ) → held_at indices id ≡ trip_named trips.now id) }
 {
-    let mut places = IndexMap::with_capacity_and_hasher(alloc, trips.len(), hash)?;
-    for (place, row) in trips.iter().enumerate() {
-        add_first(&mut places, row.id.as_str(), place as u32)?;
+    let mut indices = IndexMap::with_capacity_and_hasher(alloc, trips.len(), hash)?;
+    for (index, row) in trips.iter().enumerate() {
+        add_first(&mut indices, row.id.as_str(), index as u32)?;
     }
-    Ok(places)
+    Ok(indices)
 }
 
 // Keeps what an id names, unless an earlier row has the id.

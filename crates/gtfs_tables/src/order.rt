@@ -2,15 +2,15 @@
 
 ghost use Rattle.std.specs.Prelude.{◌≡◌, ◌<◌, ◌+◌, List, length, map, IfOk, IsSortedBy, slice_index_or, true};
 ghost use Rattle.gtfs_rows.specs.declared.rows.StopTimeRow.{StopTimeRow as FiledRow};
-ghost use Rattle.gtfs_tables.specs.Order.{IsInOrder, comes_before, turn_of, turns_by, turns_from, turns_in};
+ghost use Rattle.gtfs_tables.specs.Order.{IsInOrder, comes_before, sort_key_of, turns_by, turns_from, turns_in};
 
-use crate::links::place_at;
+use crate::links::index_at;
 use gtfs_rows::StopTimeRow;
 use std::alloc::{AllocError, Global};
 
 /// The sort key of a row: the index of its trip, its stop_sequence, and the number of its record.
 #[derive(Clone, Copy, Debug, PartialEq, Eq, PartialOrd, Ord)]
-pub struct Turn {
+pub struct SortKey {
     pub trip: u32,
     pub sequence: u32,
     pub number: u64,
@@ -20,7 +20,7 @@ pub struct Turn {
 #[derive(Drop)]
 pub enum RowOrder {
     Filed,
-    ByTurns(Vec<Turn>),
+    ByTurns(Vec<SortKey>),
 }
 
 // Returns the order of the rows. A list of turns is made only if the rows aren't already in order.
@@ -34,35 +34,35 @@ pub(crate) fn order_of_rows(
     if are_in_order(rows, trips) {
         return Ok(RowOrder::Filed);
     }
-    let mut turns = turns_of(alloc, rows, trips)?;
+    let mut turns = sort_keys_of(alloc, rows, trips)?;
     turns.sort()?;
     Ok(RowOrder::ByTurns(turns))
 }
 
 // Returns the turns of the rows, in the order of the file.
-fn turns_of(
+fn sort_keys_of(
     alloc: Global,
     rows: &[StopTimeRow],
     trips: &[Option<u32>],
-) -> Result<Vec<Turn>, AllocError>
+) -> Result<Vec<SortKey>, AllocError>
     ensures { IfOk result (λ turns. turns.items ≡ turns_from trips.now 1 rows.now) }
 {
     let mut turns = Vec::with_capacity(alloc, rows.len())?;
-    for (place, row) in rows.iter().enumerate() {
-        turns.push(turn_of(trips, row, place))?;
+    for (index, row) in rows.iter().enumerate() {
+        turns.push(sort_key_of(trips, row, index))?;
     }
     Ok(turns)
 }
 
 // Returns the turn of the row at an index in the file.
-fn turn_of(trips: &[Option<u32>], row: &StopTimeRow, place: usize) -> Turn
-    requires { place < usize.MAX }
-    ensures { result ≡ turn_of trips.now (place + 1) row.now }
+fn sort_key_of(trips: &[Option<u32>], row: &StopTimeRow, index: usize) -> SortKey
+    requires { index < usize.MAX }
+    ensures { result ≡ sort_key_of trips.now (index + 1) row.now }
 {
-    Turn {
-        trip: place_at(trips, row.trip).unwrap_or(0),
+    SortKey {
+        trip: index_at(trips, row.trip).unwrap_or(0),
         sequence: row.sequence,
-        number: place as u64 + 1,
+        number: index as u64 + 1,
     }
 }
 
@@ -73,9 +73,9 @@ fn are_in_order(rows: &[StopTimeRow], trips: &[Option<u32>]) -> bool
     if rows.is_empty() {
         return true;
     }
-    let mut last = turn_of(trips, &rows[0], 0);
+    let mut last = sort_key_of(trips, &rows[0], 0);
     for at in 1..rows.len() {
-        let turn = turn_of(trips, &rows[at], at);
+        let turn = sort_key_of(trips, &rows[at], at);
         if turn < last {
             return false;
         }
@@ -88,7 +88,7 @@ fn are_in_order(rows: &[StopTimeRow], trips: &[Option<u32>]) -> bool
 pub(crate) fn trip_at(rows: &[StopTimeRow], order: &RowOrder, at: usize) -> u32
     requires within { at < length rows.now }
     requires len { length rows.now ≡ length (turns_by order.now rows.now) }
-    ensures { (d : Turn) → result ≡ (slice_index_or (turns_by order.now rows.now) at d).trip }
+    ensures { (d : SortKey) → result ≡ (slice_index_or (turns_by order.now rows.now) at d).trip }
 {
     match order {
         RowOrder::Filed => rows[at].trip,

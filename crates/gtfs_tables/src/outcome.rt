@@ -6,13 +6,13 @@ ghost use Rattle.gtfs_rows.specs.declared.rows.StopTimeRow.{StopTimeRow};
 ghost use Rattle.gtfs_tables.specs.Feeds.{IsFirstFault, IsJoined};
 ghost use Rattle.gtfs_tables.specs.Order.{IsInOrder};
 ghost use Rattle.gtfs_tables.specs.Outcome.{IsSameFeed};
-ghost use Rattle.gtfs_tables.specs.declared.order.Turn.{Turn};
+ghost use Rattle.gtfs_tables.specs.declared.order.SortKey.{SortKey};
 ghost use Rattle.gtfs_tables.specs.declared.tables.Feed.{Feed};
 ghost use Rattle.gtfs_tables.specs.declared.tables.Tables.{Tables};
 
 /// The rows of stop times have only one order.
 pub fn one_order()
-    ensures { (trips : List (Option ℕ)) (rows : List StopTimeRow) (a b : List Turn) → IsInOrder trips rows a
+    ensures { (trips : List (Option ℕ)) (rows : List StopTimeRow) (a b : List SortKey) → IsInOrder trips rows a
         → IsInOrder trips rows b → a ≡ b }
 {}
 

@@ -47,7 +47,7 @@ pub struct Trip {
 
 /// An end of a transfer.
 #[derive(Clone, Copy, Debug, PartialEq, Eq)]
-pub enum Place {
+pub enum TransferEnd {
     /// A stop, by its number.
     Stop(u32),
     /// A station, by the index of its row in `stops.txt`.
@@ -57,8 +57,8 @@ pub enum Place {
 /// A transfer between two ends; a station stands for all its stops.
 #[derive(Clone, Copy, Debug)]
 pub struct Transfer {
-    pub from: Place,
-    pub to: Place,
+    pub from: TransferEnd,
+    pub to: TransferEnd,
     pub kind: TransferKind,
     /// The min_transfer_time in seconds, if it is a number.
     pub seconds: Option<u32>,

@@ -2,7 +2,7 @@
 //! go back, a hop without duration.
 
 ghost use Rattle.std.specs.Prelude.{◌≡◌, ◌<◌, ◌≤◌, ◌-◌, ◌+◌, ℕ, length, IfOk, None, Some, nat_lt, slice_index_or};
-ghost use Rattle.gtfs_tables.specs.First.{first_place};
+ghost use Rattle.gtfs_tables.specs.First.{first_index};
 ghost use Rattle.gtfs_tables.specs.Spread.{arrival_at, departure_at};
 ghost use Rattle.gtfs_tables.specs.Times.{departed_before, end_without_time as end_untimed};
 ghost use Rattle.gtfs_tables.specs.Times.{first_wrong as wrong_first, goes_back, has_no_duration, is_back as back};
@@ -65,7 +65,7 @@ fn wrong_spread(
     requires some { 0 < length rows.now }
     requires fine { given_wrong rows.now ≡ None }
     ensures { IfOk result (λ wrong. wrong ≡ wrong_at FaultKind.HopWithoutDuration
-        (first_place (has_no_duration rows.now) (length rows.now))) }
+        (first_index (has_no_duration rows.now) (length rows.now))) }
 {
     let times = spread(alloc, rows)?;
     match no_duration(&times) {
@@ -77,7 +77,7 @@ fn wrong_spread(
 // Returns the first row with the sequence of the row before.
 #[tactic(auto, using(crate::proofs::FirstLemmas::searches))]
 fn sequence_twice(rows: &[StopTimeRow]) -> Option<usize>
-    ensures { result ≡ first_place (is_twice rows.now) (length rows.now) }
+    ensures { result ≡ first_index (is_twice rows.now) (length rows.now) }
 {
     for at in 0..rows.len() {
         if is_repeated(rows, at) {
@@ -113,7 +113,7 @@ fn end_without_time(rows: &[StopTimeRow]) -> Option<usize>
 // Returns the first row whose arrival is after its departure, or before the last departure given in earlier rows.
 #[tactic(auto, using(crate::proofs::FirstLemmas::searches))]
 fn time_back(rows: &[StopTimeRow]) -> Option<usize>
-    ensures { result ≡ first_place (goes_back rows.now) (length rows.now) }
+    ensures { result ≡ first_index (goes_back rows.now) (length rows.now) }
 {
     let mut left = 0;
     for at in 0..rows.len() {
@@ -140,7 +140,7 @@ fn is_back(left: u32, arrives: Option<u32>, departs: Option<u32>) -> bool
 // Returns the first row that doesn't arrive after the departure before it.
 #[tactic(auto, using(crate::proofs::FirstLemmas::searches))]
 fn no_duration(times: &[(u32, u32)]) -> Option<usize>
-    ensures { result ≡ first_place (is_short times.now) (length times.now) }
+    ensures { result ≡ first_index (is_short times.now) (length times.now) }
 {
     for at in 0..times.len() {
         if is_hop(times, at) {

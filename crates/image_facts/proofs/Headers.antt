@@ -2,7 +2,7 @@
 use Rattle.std.proofs.Common.{◌≡◌, ◌≤◌, List, ℕ, ap, length, subst, sym}
 use Rattle.image_layout.specs.Fields.{layout_of}
 use Rattle.image_layout.specs.Image.{ImageValue, Spells}
-use Rattle.image_layout.specs.Places.{IsWhole, header_of}
+use Rattle.image_layout.specs.Offsets.{IsWhole, header_of}
 use Rattle.image_layout.specs.Spelling.{image_in, text}
 use Rattle.image_layout.proofs.Back.{image_is_whole}
 

@@ -11,7 +11,7 @@ use Rattle.timetable.specs.TimetableValue.{TimetableValue}
 use Rattle.timetable.specs.NamesValue.{NamesValue, TripNameValue}
 use Rattle.timetable.specs.Legal.{At, IsLegal}
 use Rattle.image_layout.specs.declared.layout.TheConstants.{LAYOUT}
-use Rattle.image_layout.specs.Places.{IsWhole}
+use Rattle.image_layout.specs.Offsets.{IsWhole}
 use Rattle.image_layout.specs.Spelling.{connection_words, footpath_words, footpath_count_below, foot_index, name_list}
 use Rattle.image_layout.specs.Spelling.{byte_count_before, name_index, text, text_words, repeats_in, image_in}
 use Rattle.image_layout.specs.Shown.{footpaths_of, timetable_of}
@@ -20,7 +20,7 @@ use Rattle.image_layout.proofs.Feet.{IsFootIndex}
 use Rattle.image_layout.proofs.Whole.{length-footpaths_of}
 use Rattle.image_layout.proofs.Found.{footpath_is}
 use Rattle.image_layout.proofs.Spelled.{pieces_long, from_repeats, from_days, from_names, from_footpaths}
-use Rattle.image_layout.proofs.Spelled.{from_foot_index, NeverFalls, place_below, place_above, none_below_zero}
+use Rattle.image_layout.proofs.Spelled.{from_foot_index, NeverFalls, offset_below, offset_above, none_below_zero}
 use Rattle.image_layout.proofs.Spelled.{all_below, below_rises, foot_index_back, footpath_back, connections_back}
 
 never_falls : (p : TimetableValue) → IsLegal p → NeverFalls p.footpaths
@@ -120,8 +120,8 @@ unfolding image_in
 footpath_there layout p n can k f at =
     let falls = never_falls p can.legal in
     let lt : f.to < p.stops = (can.legal.ends_in_range k f at).1 in
-    let low = place_above p.footpaths k f.to f falls at (omega arith) in
-    let high = place_below p.footpaths k (f.to + 1) f falls at (omega arith) in
+    let low = offset_above p.footpaths k f.to f falls at (omega arith) in
+    let high = offset_below p.footpaths k (f.to + 1) f falls at (omega arith) in
     let first = foot_index_back layout p n f.to (omega arith) in
     let next = foot_index_back layout p n (f.to + 1) (omega arith) in
     footpath_is (image_in layout p n) f.to k (image_is_whole layout p n can) (image_has_index layout p n can) lt

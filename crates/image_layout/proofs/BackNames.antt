@@ -16,7 +16,7 @@ use Rattle.std.proofs.lemmas.List.FromFn.{fill_by_all, length-map-range_with_len
 use Rattle.timetable.specs.TimetableValue.{TimetableValue}
 use Rattle.timetable.specs.NamesValue.{NamesValue, TripNameValue}
 use Rattle.image_layout.specs.declared.layout.TheConstants.{FIRST_LAYOUT, LAYOUT}
-use Rattle.image_layout.specs.Places.{is_layout, header_of, name_index_place, day_place, repeat_place, text_place}
+use Rattle.image_layout.specs.Offsets.{is_layout, header_of, name_index_offset, day_offset, repeat_offset, text_offset}
 use Rattle.image_layout.specs.Fields.{name_index_of, day_of, repeat_of}
 use Rattle.image_layout.specs.Text.{bytes_of, padded_text_of}
 use Rattle.image_layout.specs.Spelling.{connection_words, footpath_words, footpath_count_below, foot_index, name_list}
@@ -87,10 +87,10 @@ name_there (x ∷ xs) rest (suc i) name e =
 
 -- where the sections behind the footpaths stand
 record AreBehind (layout : ℕ) (p : TimetableValue) (n : NamesValue) : Type 0 where
-  index : drop (name_index_place (header_of (image_in layout p n))) (image_in layout p n) ≡ from_names layout n
-  days : drop (day_place (header_of (image_in layout p n))) (image_in layout p n) ≡ from_days layout n
-  repeats : drop (repeat_place (header_of (image_in layout p n))) (image_in layout p n) ≡ from_repeats layout n
-  text : drop (text_place (header_of (image_in layout p n))) (image_in layout p n) ≡ text_words (text n)
+  index : drop (name_index_offset (header_of (image_in layout p n))) (image_in layout p n) ≡ from_names layout n
+  days : drop (day_offset (header_of (image_in layout p n))) (image_in layout p n) ≡ from_days layout n
+  repeats : drop (repeat_offset (header_of (image_in layout p n))) (image_in layout p n) ≡ from_repeats layout n
+  text : drop (text_offset (header_of (image_in layout p n))) (image_in layout p n) ≡ text_words (text n)
 
 behind : (layout : ℕ) (p : TimetableValue) (n : NamesValue) → HasImage p n → AreBehind layout p n
 unfolding image_in
@@ -122,10 +122,10 @@ behind layout p n can =
     (length-map n.trips (λ (t : TripNameValue). t.day)) at4 in
     let at6 : drop place6 w ≡ text_words (text n) = skip w (repeats_in layout n) (text_words (text n)) place5 (length (repeats_in layout n)) refl at5 in
     let many = length-name_list p n can in
-    let e3 : name_index_place (header_of w) ≡ place3 = omega arith in
-    let e4 : day_place (header_of w) ≡ place4 = omega (arith, many) in
-    let e5 : repeat_place (header_of w) ≡ place5 = omega (arith, many, can.names.trip_names) in
-    let e6 : text_place (header_of w) ≡ place6 = omega (arith, e5, length-repeats_in layout n p.trips can.names.trip_names) in
+    let e3 : name_index_offset (header_of w) ≡ place3 = omega arith in
+    let e4 : day_offset (header_of w) ≡ place4 = omega (arith, many) in
+    let e5 : repeat_offset (header_of w) ≡ place5 = omega (arith, many, can.names.trip_names) in
+    let e6 : text_offset (header_of w) ≡ place6 = omega (arith, e5, length-repeats_in layout n p.trips can.names.trip_names) in
     record {
       index = ap (λ (k : ℕ). drop k w) e3 ∙ at3;
       days = ap (λ (k : ℕ). drop k w) e4 ∙ at4;
@@ -138,7 +138,7 @@ pub name_index_back : (layout : ℕ) (p : TimetableValue) (n : NamesValue) → H
 name_index_back layout p n can i le =
     let size = length-map-range_with_len (byte_count_before (name_list n)) 0 (length (name_list n) + 1) in
     word_in (image_in layout p n) (name_index n) (from_days layout n)
-    (name_index_place (header_of (image_in layout p n))) i (behind layout p n can).index (omega (arith, size))
+    (name_index_offset (header_of (image_in layout p n))) i (behind layout p n can).index (omega (arith, size))
     ∙ get_or-map-range_with_len (byte_count_before (name_list n)) 0 (length (name_list n) + 1) i i 0 (omega arith) (omega arith)
 
 pub name_back : (layout : ℕ) (p : TimetableValue) (n : NamesValue) → HasImage p n → (i : ℕ) (name : List ℕ)
@@ -156,7 +156,7 @@ day_back : (layout : ℕ) (p : TimetableValue) (n : NamesValue) → HasImage p n
 day_back layout p n can i lt d =
     let size = length-map n.trips (λ (t : TripNameValue). t.day) in
     word_in (image_in layout p n) (map (λ (t : TripNameValue). t.day) n.trips) (from_repeats layout n)
-    (day_place (header_of (image_in layout p n))) i (behind layout p n can).days (omega (arith, size))
+    (day_offset (header_of (image_in layout p n))) i (behind layout p n can).days (omega (arith, size))
     ∙ get_or-map (λ (t : TripNameValue). t.day) n.trips i d 0 lt
 
 -- what is read and isn't the layout that is written is the first one
@@ -173,14 +173,14 @@ repeat_back : (layout : ℕ) (p : TimetableValue) (n : NamesValue) → is_layout
 unfolding image_in
 repeat_back layout p n known first can i lt d =
     let w = image_in layout p n in
-    let word = slice_index w (repeat_place (header_of w) + i) in
+    let word = slice_index w (repeat_offset (header_of w) + i) in
     elim (cases_Bool (eqb layout LAYOUT)) [
       | inl has ↦
           let repeats = map (λ (t : TripNameValue). t.repeat) n.trips in
           let section : repeats_in layout n ≡ repeats = ap (λ (b : Bool). cond {A = List ℕ} b repeats []) has in
           let size = length-map n.trips (λ (t : TripNameValue). t.repeat) in
           ap (λ (b : Bool). cond {A = ℕ} b word 0) has
-          ∙ word_in w (repeats_in layout n) (text_words (text n)) (repeat_place (header_of w)) i
+          ∙ word_in w (repeats_in layout n) (text_words (text n)) (repeat_offset (header_of w)) i
           (behind layout p n can).repeats (omega (arith, size, ap length section))
           ∙ ap (λ (x : List ℕ). get_or x i 0) section
           ∙ get_or-map (λ (t : TripNameValue). t.repeat) n.trips i d 0 lt
@@ -237,9 +237,9 @@ names_back layout p n known first can =
     let trips : map (trip_name_of w) (range_with_len 0 p.trips) ≡ n.trips =
     sym (fill_by_all (trip_name_of w) n.trips p.trips d can.names.trip_names (λ k lt.
     let within : k < length n.trips = omega (arith, can.names.trip_names) in
-    let place : p.stops + k ≡ length n.stops + k = omega (arith, can.names.stop_names) in
+    let position : p.stops + k ≡ length n.stops + k = omega (arith, can.names.stop_names) in
     let name : name_of w (p.stops + k) ≡ (get_or n.trips k d).name =
-    ap (λ (j : ℕ). name_of w j) place ∙ name_back layout p n can (length n.stops + k) (get_or n.trips k d).name
+    ap (λ (j : ℕ). name_of w j) position ∙ name_back layout p n can (length n.stops + k) (get_or n.trips k d).name
     (trip_named n k d within) in
     let day : day_of w k ≡ (get_or n.trips k d).day = day_back layout p n can k within d in
     let repeat : repeat_of w k ≡ (get_or n.trips k d).repeat = repeat_back layout p n known first can k within d in
@@ -295,8 +295,8 @@ well_formed_back layout p n known can fits =
             let two = name_index_back layout p n can (i + 1) (omega (arith, count)) in
             omega (arith, one, two, before_rises (name_list n) i));
         end =
-            (let place : p.stops + p.trips ≡ length (name_list n) = omega (arith, count) in
-            ap (λ (j : ℕ). name_index_of w j) place
+            (let position : p.stops + p.trips ≡ length (name_list n) = omega (arith, count) in
+            ap (λ (j : ℕ). name_index_of w j) position
             ∙ name_index_back layout p n can (length (name_list n)) (omega arith)
             ∙ ap (λ (x : List (List ℕ)). length (concat x))
             (take_all (length (name_list n)) (name_list n) (omega arith)));

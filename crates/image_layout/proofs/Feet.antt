@@ -9,7 +9,7 @@ use Rattle.std.proofs.lemmas.List.Concat.{flat_map-append}
 use Rattle.std.proofs.lemmas.List.FromFn.{fill_by_all}
 use Rattle.std.proofs.lemmas.List.Sums.{sum_by-append, sum_by-cons}
 use Rattle.timetable.specs.declared.network.Footpath.{Footpath}
-use Rattle.image_layout.specs.Places.{header_of, foot_index_place, footpath_place, IsWhole}
+use Rattle.image_layout.specs.Offsets.{header_of, foot_index_offset, footpath_offset, IsWhole}
 use Rattle.image_layout.specs.Fields.{foot_index_of}
 use Rattle.image_layout.specs.Spelling.{footpath_count_below, footpath_words}
 use Rattle.image_layout.specs.Shown.{footpath_of, footpaths_into, footpaths_of}
@@ -78,16 +78,16 @@ count_from w s (suc n) a rises le ge =
 -- the index that the shown footpaths have is the section of words
 pub foot_index_again : (w : List ℕ) → IsWhole w → IsFootIndex w
     → map (footpath_count_below (footpaths_of w)) (range_with_len 0 ((header_of w).stops + 1))
-    ≡ take ((header_of w).stops + 1) (drop (foot_index_place (header_of w)) w)
+    ≡ take ((header_of w).stops + 1) (drop (foot_index_offset (header_of w)) w)
 unfolding footpaths_of
 foot_index_again w whole index =
     let stops = (header_of w).stops in
-    let place = foot_index_place (header_of w) in
-    let section : List ℕ = take (stops + 1) (drop place w) in
-    let long : length section ≡ stops + 1 = omega (arith, length-take (stops + 1) (drop place w), length-drop place w, whole.all_there) in
+    let position = foot_index_offset (header_of w) in
+    let section : List ℕ = take (stops + 1) (drop position w) in
+    let long : length section ≡ stops + 1 = omega (arith, length-take (stops + 1) (drop position w), length-drop position w, whole.all_there) in
     sym (fill_by_all (footpath_count_below (footpaths_of w)) section (stops + 1) 0 long (λ s lt.
     let counted = count_from w s stops 0 (λ t below. index.rises t (omega arith)) (omega arith) (omega arith) in
-    let word : get_or section s 0 ≡ foot_index_of w s = get_or-take (stops + 1) (drop place w) s 0 lt ∙ get_or-drop place w s 0 in
+    let word : get_or section s 0 ≡ foot_index_of w s = get_or-take (stops + 1) (drop position w) s 0 lt ∙ get_or-drop position w s 0 in
     word ∙ omega (arith, counted, index.start)))
 
 -- the words of a footpath
@@ -104,23 +104,23 @@ index_rises w (suc n) a rises =
 
 -- the footpaths into one stop spell their words
 feet_into : (w : List ℕ) (s n k : ℕ) → IsWhole w → k + n ≤ (header_of w).footpaths
-    → flat_map footpath_words (map (footpath_of w s) (range_with_len k n)) ≡ take (2 * n) (drop (footpath_place (header_of w) + 2 * k) w)
+    → flat_map footpath_words (map (footpath_of w s) (range_with_len k n)) ≡ take (2 * n) (drop (footpath_offset (header_of w) + 2 * k) w)
 feet_into w s n k whole within =
-    pieces_are footpath_words (footpath_of w s) 2 w n k (footpath_place (header_of w) + 2 * k) (λ i lt.
-    let place : footpath_place (header_of w) + 2 * (k + i) ≡ (footpath_place (header_of w) + 2 * k) + 2 * i = omega arith in
-    let room : footpath_place (header_of w) + 2 * (k + i) + 1 < length w = omega (arith, whole.all_there) in
-    sym (take_two w (footpath_place (header_of w) + 2 * (k + i)) room) ∙ ap (λ (x : ℕ). take 2 (drop x w)) place)
+    pieces_are footpath_words (footpath_of w s) 2 w n k (footpath_offset (header_of w) + 2 * k) (λ i lt.
+    let position : footpath_offset (header_of w) + 2 * (k + i) ≡ (footpath_offset (header_of w) + 2 * k) + 2 * i = omega arith in
+    let room : footpath_offset (header_of w) + 2 * (k + i) + 1 < length w = omega (arith, whole.all_there) in
+    sym (take_two w (footpath_offset (header_of w) + 2 * (k + i)) room) ∙ ap (λ (x : ℕ). take 2 (drop x w)) position)
 
 -- the footpaths into the stops from a on spell their words
 feet_from : (w : List ℕ) (n a m : ℕ) → IsWhole w → ((t : ℕ) → t < a + n → foot_index_of w t ≤ foot_index_of w (t + 1))
     → foot_index_of w a + m ≡ foot_index_of w (a + n) → foot_index_of w (a + n) ≤ (header_of w).footpaths
-    → flat_map footpath_words (flat_map (footpaths_into w) (range_with_len a n)) ≡ take (2 * m) (drop (footpath_place (header_of w) + 2 * foot_index_of w a) w)
+    → flat_map footpath_words (flat_map (footpaths_into w) (range_with_len a n)) ≡ take (2 * m) (drop (footpath_offset (header_of w) + 2 * foot_index_of w a) w)
 feet_from w zero a m whole rises long within =
     let e : foot_index_of w (a + 0) ≡ foot_index_of w a = ap (λ (x : ℕ). foot_index_of w x) (add-zero a) in
     let none : 2 * m ≡ 0 = omega (arith, e) in
     rw none refl
 feet_from w (suc n) a m whole rises long within =
-    let place = footpath_place (header_of w) in
+    let position = footpath_offset (header_of w) in
     let first = foot_index_of w a in
     let next = foot_index_of w (a + 1) in
     let b : ℕ = next - first in
@@ -130,26 +130,27 @@ feet_from w (suc n) a m whole rises long within =
     let far : next ≤ foot_index_of w ((a + 1) + n) = index_rises w n (a + 1) (λ t lt. rises t (omega arith)) in
     let block = feet_into w a b first whole (omega (arith, e)) in
     let rest = feet_from w n (a + 1) (m - b) whole (λ t lt. rises t (omega arith)) (omega (arith, e)) (omega (arith, e)) in
-    let q : place + 2 * next ≡ (place + 2 * first) + 2 * b = omega arith in
+    let q : position + 2 * next ≡ (position + 2 * first) + 2 * b = omega arith in
     let many : 2 * m ≡ 2 * b + 2 * (m - b) = omega (arith, e) in
-    let whole_is : take (2 * m) (drop (place + 2 * first) w) ≡ take (2 * b) (drop (place + 2 * first) w) ++ take (2 * (m - b)) (drop (place + 2 * next) w) =
-    ap (λ (x : ℕ). take x (drop (place + 2 * first) w)) many ∙ take-add (2 * b) (2 * (m - b)) (drop (place + 2 * first) w)
-    ∙ ap (λ (x : List ℕ). take (2 * b) (drop (place + 2 * first) w)
-    ++ take (2 * (m - b)) x) (drop-drop (2 * b) (place + 2 * first) w ∙ ap (λ (x : ℕ). drop x w) (sym q)) in
+    let whole_is : take (2 * m) (drop (position + 2 * first) w) ≡ take (2 * b) (drop (position + 2 * first) w) ++ take (2 * (m - b))
+    (drop (position + 2 * next) w) =
+    ap (λ (x : ℕ). take x (drop (position + 2 * first) w)) many ∙ take-add (2 * b) (2 * (m - b)) (drop (position + 2 * first) w)
+    ∙ ap (λ (x : List ℕ). take (2 * b) (drop (position + 2 * first) w)
+    ++ take (2 * (m - b)) x) (drop-drop (2 * b) (position + 2 * first) w ∙ ap (λ (x : ℕ). drop x w) (sym q)) in
     flat_map-append footpath_words (footpaths_into w a) (flat_map (footpaths_into w) (range_with_len (a + 1) n))
     ∙ ap (λ (x : List ℕ). x ++ flat_map footpath_words (flat_map (footpaths_into w) (range_with_len (a + 1) n))) block
-    ∙ ap (λ (x : List ℕ). take (2 * b) (drop (place + 2 * first) w) ++ x) rest
+    ∙ ap (λ (x : List ℕ). take (2 * b) (drop (position + 2 * first) w) ++ x) rest
     ∙ sym whole_is
 
 -- the footpaths that words show spell the words of their section
 pub footpaths_again : (w : List ℕ) → IsWhole w → IsFootIndex w
     → flat_map footpath_words (footpaths_of w)
-    ≡ take (2 * (header_of w).footpaths) (drop (footpath_place (header_of w)) w)
+    ≡ take (2 * (header_of w).footpaths) (drop (footpath_offset (header_of w)) w)
 unfolding footpaths_of
 footpaths_again w whole index =
     let stops = (header_of w).stops in
     let z : 0 + stops ≡ stops = omega arith in
     let last : foot_index_of w (0 + stops) ≡ (header_of w).footpaths = ap (λ (x : ℕ). foot_index_of w x) z ∙ index.end in
-    let p : footpath_place (header_of w) + 2 * foot_index_of w 0 ≡ footpath_place (header_of w) = omega (arith, index.start) in
+    let p : footpath_offset (header_of w) + 2 * foot_index_of w 0 ≡ footpath_offset (header_of w) = omega (arith, index.start) in
     feet_from w stops 0 (header_of w).footpaths whole (λ t lt. index.rises t (omega arith)) (omega (arith, index.start, last)) (omega (arith, last))
     ∙ ap (λ (x : ℕ). take (2 * (header_of w).footpaths) (drop x w)) p

@@ -8,7 +8,7 @@ use Rattle.std.proofs.lemmas.List.{get_or_append_left, get_or-append_right}
 use Rattle.std.proofs.lemmas.List.FromFn.{length-map-range_with_len, get_or-map-range_with_len}
 use Rattle.timetable.specs.declared.network.Footpath.{Footpath}
 use Rattle.timetable.specs.declared.network.Connection.{Connection}
-use Rattle.image_layout.specs.Places.{header_of, IsWhole}
+use Rattle.image_layout.specs.Offsets.{header_of, IsWhole}
 use Rattle.image_layout.specs.Fields.{foot_index_of}
 use Rattle.image_layout.specs.Shown.{connection_of, connections_of, footpath_of, footpaths_into, footpaths_of}
 use Rattle.image_layout.proofs.Feet.{IsFootIndex, index_rises}

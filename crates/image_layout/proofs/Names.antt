@@ -9,7 +9,7 @@ use Rattle.std.proofs.lemmas.List.{take_all, drop-drop, length-take, length-take
 use Rattle.std.proofs.lemmas.List.FromFn.{fill_by_all, length-map-range_with_len, get_or-map-range_with_len, take-map-range_with_len}
 use Rattle.timetable.specs.NamesValue.{TripNameValue}
 use Rattle.image_layout.specs.declared.layout.TheConstants.{FIRST_LAYOUT, LAYOUT}
-use Rattle.image_layout.specs.Places.{header_of, name_index_place, day_place, repeat_place, repeat_words, IsWhole}
+use Rattle.image_layout.specs.Offsets.{header_of, name_index_offset, day_offset, repeat_offset, repeat_words, IsWhole}
 use Rattle.image_layout.specs.Fields.{layout_of, name_index_of, day_of, repeat_of}
 use Rattle.image_layout.specs.Text.{padded_text_of}
 use Rattle.image_layout.specs.Spelling.{name_list, byte_count_before, name_index, text, repeats_in}
@@ -57,33 +57,34 @@ names_are w =
     ∙ map-join (name_of w) stops trips 0
 
 -- the days that words show are the words of their section
-pub days_again : (w : List ℕ) → IsWhole w → map (λ (t : TripNameValue). t.day) (names_of w).trips ≡ take (header_of w).trips (drop (day_place (header_of w)) w)
+pub days_again : (w : List ℕ) → IsWhole w → map (λ (t : TripNameValue). t.day) (names_of w).trips ≡ take (header_of w).trips (drop (day_offset (header_of w)) w)
 days_again w whole =
     let trips = (header_of w).trips in
-    let place = day_place (header_of w) in
-    let long : length (take trips (drop place w)) ≡ trips = omega (arith, length-take trips (drop place w), length-drop place w, whole.all_there) in
+    let position = day_offset (header_of w) in
+    let long : length (take trips (drop position w)) ≡ trips = omega (arith, length-take trips (drop position w), length-drop position w, whole.all_there) in
     map-map (λ (t : TripNameValue). t.day) (trip_name_of w) (range_with_len 0 trips)
-    ∙ sym (fill_by_all (day_of w) (take trips (drop place w)) trips 0 long (λ t lt. get_or-take trips (drop place w) t 0 lt ∙ get_or-drop place w t 0))
+    ∙ sym (fill_by_all (day_of w) (take trips (drop position w)) trips 0 long (λ t lt. get_or-take trips (drop position w) t 0 lt ∙ get_or-drop position w t 0))
 
 -- and so are the repeats, where there are any
-pub repeats_again : (w : List ℕ) → IsWhole w → repeats_in (layout_of w) (names_of w) ≡ take (repeat_words (header_of w)) (drop (repeat_place (header_of w)) w)
+pub repeats_again : (w : List ℕ) → IsWhole w → repeats_in (layout_of w) (names_of w) ≡ take (repeat_words (header_of w)) (drop (repeat_offset (header_of w)) w)
 repeats_again w whole =
     let trips = (header_of w).trips in
-    let place = repeat_place (header_of w) in
+    let position = repeat_offset (header_of w) in
     let shown = map (λ (t : TripNameValue). t.repeat) (names_of w).trips in
     elim (cases_Bool (eqb (layout_of w) LAYOUT)) [
       | inl has ↦
           let many : repeat_words (header_of w) ≡ trips = ap (λ (b : Bool). cond {A = ℕ} b trips 0) has in
-          let long : length (take trips (drop place w)) ≡ trips = omega (arith, many, length-take trips (drop place w), length-drop place w, whole.all_there) in
-          let word : (t : ℕ) → repeat_of w t ≡ get_or w (place + t) 0 = λ t. ap (λ (b : Bool). cond {A = ℕ} b (get_or w (place + t) 0) 0) has in
+          let long : length (take trips (drop position w)) ≡ trips = omega
+          (arith, many, length-take trips (drop position w), length-drop position w, whole.all_there) in
+          let word : (t : ℕ) → repeat_of w t ≡ get_or w (position + t) 0 = λ t. ap (λ (b : Bool). cond {A = ℕ} b (get_or w (position + t) 0) 0) has in
           ap (λ (b : Bool). cond {A = List ℕ} b shown []) has
           ∙ map-map (λ (t : TripNameValue). t.repeat) (trip_name_of w) (range_with_len 0 trips)
-          ∙ sym (fill_by_all (repeat_of w) (take trips (drop place w)) trips 0 long
-          (λ t lt. get_or-take trips (drop place w) t 0 lt ∙ get_or-drop place w t 0 ∙ sym (word t)))
-          ∙ ap (λ (k : ℕ). take k (drop place w)) (sym many)
+          ∙ sym (fill_by_all (repeat_of w) (take trips (drop position w)) trips 0 long
+          (λ t lt. get_or-take trips (drop position w) t 0 lt ∙ get_or-drop position w t 0 ∙ sym (word t)))
+          ∙ ap (λ (k : ℕ). take k (drop position w)) (sym many)
       | inr lacks ↦
           let none : repeat_words (header_of w) ≡ 0 = ap (λ (b : Bool). cond {A = ℕ} b trips 0) lacks in
-          ap (λ (b : Bool). cond {A = List ℕ} b shown []) lacks ∙ ap (λ (k : ℕ). take k (drop place w)) (sym none)
+          ap (λ (b : Bool). cond {A = List ℕ} b shown []) lacks ∙ ap (λ (k : ℕ). take k (drop position w)) (sym none)
     ]
 
 -- words of the first layout show no repeats
@@ -92,7 +93,7 @@ first_again w is_first k d lt =
     let trips = (header_of w).trips in
     let within : k < trips = omega (arith, lt, length-map-range_with_len (trip_name_of w) 0 trips) in
     ap (λ (t : TripNameValue). t.repeat) (get_or-map-range_with_len (trip_name_of w) 0 trips k k d within (omega arith))
-    ∙ ap (λ (layout : ℕ). cond {A = ℕ} (eqb layout LAYOUT) (get_or w (repeat_place (header_of w) + k) 0) 0) is_first
+    ∙ ap (λ (layout : ℕ). cond {A = ℕ} (eqb layout LAYOUT) (get_or w (repeat_offset (header_of w) + k) 0) 0) is_first
 
 pub at_rises : (at : ℕ → ℕ) (n a : ℕ) → ((i : ℕ) → i < a + n → at i ≤ at (i + 1)) → at a ≤ at (a + n)
 at_rises at zero a rises = let e : at (a + 0) ≡ at a = ap at (add-zero a) in omega (arith, e)
@@ -133,16 +134,16 @@ front_is w i index le =
 
 -- the index of the names that words show is the section of words
 pub name_index_again : (w : List ℕ) → IsWhole w → IsNameIndex w → (header_of w).name_bytes ≤ length (padded_text_of w)
-    → name_index (names_of w) ≡ take (name_count w + 1) (drop (name_index_place (header_of w)) w)
+    → name_index (names_of w) ≡ take (name_count w + 1) (drop (name_index_offset (header_of w)) w)
 name_index_again w whole index long =
     let count = name_count w in
-    let place = name_index_place (header_of w) in
-    let section : List ℕ = take (count + 1) (drop place w) in
-    let size : length section ≡ count + 1 = omega (arith, length-take (count + 1) (drop place w), length-drop place w, whole.all_there) in
+    let position = name_index_offset (header_of w) in
+    let section : List ℕ = take (count + 1) (drop position w) in
+    let size : length section ≡ count + 1 = omega (arith, length-take (count + 1) (drop position w), length-drop position w, whole.all_there) in
     let many : length (name_list (names_of w)) ≡ count = ap length (names_are w) ∙ length-map-range_with_len (name_of w) 0 count in
     ap (λ (n : ℕ). map (byte_count_before (name_list (names_of w))) (range_with_len 0 (n + 1))) many
     ∙ sym (fill_by_all (byte_count_before (name_list (names_of w))) section (count + 1) 0 size (λ i lt.
-    let word : get_or section i 0 ≡ name_index_of w i = get_or-take (count + 1) (drop place w) i 0 lt ∙ get_or-drop place w i 0 in
+    let word : get_or section i 0 ≡ name_index_of w i = get_or-take (count + 1) (drop position w) i 0 lt ∙ get_or-drop position w i 0 in
     let last : name_index_of w i ≤ name_index_of w (i + (count - i)) = at_rises (name_index_of w) (count - i) i (λ k below. index.rises k (omega arith)) in
     let end : name_index_of w (i + (count - i)) ≡ (header_of w).name_bytes =
     (let k : i + (count - i) ≡ count = omega arith in ap (λ (x : ℕ). name_index_of w x) k ∙ index.end) in

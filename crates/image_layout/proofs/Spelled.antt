@@ -13,7 +13,7 @@ use Rattle.timetable.specs.declared.network.Footpath.{Footpath}
 use Rattle.timetable.specs.TimetableValue.{TimetableValue}
 use Rattle.timetable.specs.NamesValue.{NamesValue, TripNameValue}
 use Rattle.timetable.specs.Legal.{At}
-use Rattle.image_layout.specs.Places.{header_of, footpath_place}
+use Rattle.image_layout.specs.Offsets.{header_of, footpath_offset}
 use Rattle.image_layout.specs.Fields.{from_of, to_of, dep_of, arr_of, trip_of, flags_of, foot_index_of, foot_from_of, foot_secs_of}
 use Rattle.image_layout.specs.Spelling.{flags, connection_words, footpath_words, footpath_count_below, foot_index}
 use Rattle.image_layout.specs.Spelling.{name_index, text_words, text, repeats_in, image_in}
@@ -82,10 +82,10 @@ connection_word : (layout : ℕ) (p : TimetableValue) (n : NamesValue) (i r : �
     → r < 6 → get_or (image_in layout p n) (9 + 6 * i + r) 0 ≡ get_or (connection_words c) r 0
 unfolding image_in
 connection_word layout p n i r c e lt =
-    let place : (9 + 6 * i) + r ≡ 9 + (6 * i + r) = omega arith in
+    let position : (9 + 6 * i) + r ≡ 9 + (6 * i + r) = omega arith in
     let size : length (flat_map connection_words p.connections) ≡ 6 * length p.connections = pieces_long connection_words 6 (λ x. refl) p.connections in
     let within : i < length p.connections = slice_get_within p.connections i c e in
-    ap (λ (j : ℕ). get_or (image_in layout p n) j 0) place
+    ap (λ (j : ℕ). get_or (image_in layout p n) j 0) position
     ∙ word_in (image_in layout p n) (flat_map connection_words p.connections) (from_foot_index layout p n) 9 (6 * i + r) refl (omega (arith, size))
     ∙ piece_word connection_words 6 (λ x. refl) p.connections i r c e lt
 
@@ -155,24 +155,24 @@ first_least (y ∷ ys) g f (suc k) h at =
     omega arith
 
 -- a footpath that leads below s has one of the first places, and one that doesn't has none of them
-pub place_below : (fs : List Footpath) (k s : ℕ) (f : Footpath) → NeverFalls fs → At fs k f → f.to < s → k < footpath_count_below fs s
-place_below [] k s f h at lt = absurd cc
-place_below (g ∷ gs) zero s f h at lt =
+pub offset_below : (fs : List Footpath) (k s : ℕ) (f : Footpath) → NeverFalls fs → At fs k f → f.to < s → k < footpath_count_below fs s
+offset_below [] k s f h at lt = absurd cc
+offset_below (g ∷ gs) zero s f h at lt =
     let one = one-yes s g (omega (arith, ap (λ (x : Footpath). x.to) (same_Some g f at))) in
     omega (arith, counted g gs s, one)
-place_below (g ∷ gs) (suc k) s f h at lt =
+offset_below (g ∷ gs) (suc k) s f h at lt =
     let least = first_least gs g f (suc k) h at in
     let one = one-yes s g (omega arith) in
-    let rest = place_below gs k s f (behind g gs h) at lt in
+    let rest = offset_below gs k s f (behind g gs h) at lt in
     omega (arith, counted g gs s, one, rest)
 
-pub place_above : (fs : List Footpath) (k s : ℕ) (f : Footpath) → NeverFalls fs → At fs k f → s ≤ f.to → footpath_count_below fs s ≤ k
-place_above [] k s f h at le = absurd cc
-place_above (g ∷ gs) zero s f h at le =
+pub offset_above : (fs : List Footpath) (k s : ℕ) (f : Footpath) → NeverFalls fs → At fs k f → s ≤ f.to → footpath_count_below fs s ≤ k
+offset_above [] k s f h at le = absurd cc
+offset_above (g ∷ gs) zero s f h at le =
     let none = none_before_first gs g s h (omega (arith, ap (λ (x : Footpath). x.to) (same_Some g f at))) in
     omega (arith, none)
-place_above (g ∷ gs) (suc k) s f h at le =
-    let rest = place_above gs k s f (behind g gs h) at le in
+offset_above (g ∷ gs) (suc k) s f h at le =
+    let rest = offset_above gs k s f (behind g gs h) at le in
     elim (cases_lt g.to s) [
       | inl lt ↦ omega (arith, counted g gs s, one-yes s g lt, rest)
       | inr ge ↦ omega (arith, counted g gs s, one-no s g ge, rest)
@@ -211,7 +211,7 @@ below_rises (f ∷ fs) s =
 
 -- word r of the footpath at place k
 footpath_word : (layout : ℕ) (p : TimetableValue) (n : NamesValue) (k r : ℕ) (f : Footpath) → At p.footpaths k f → r < 2
-    → get_or (image_in layout p n) (footpath_place (header_of (image_in layout p n)) + (2 * k + r)) 0
+    → get_or (image_in layout p n) (footpath_offset (header_of (image_in layout p n)) + (2 * k + r)) 0
     ≡ get_or (footpath_words f) r 0
 unfolding image_in
 footpath_word layout p n k r f e lt =
@@ -223,10 +223,11 @@ footpath_word layout p n k r f e lt =
     let at_feet : drop ((9 + 6 * length p.connections) + (p.stops + 1)) (image_in layout p n)
     ≡ from_footpaths layout p n = skip (image_in layout p n) (foot_index p) (from_footpaths layout p n)
     (9 + 6 * length p.connections) (p.stops + 1) long at_index in
-    let place : footpath_place (header_of (image_in layout p n)) + (2 * k + r) ≡ ((9 + 6 * length p.connections) + (p.stops + 1)) + (2 * k + r) = omega arith in
+    let position : footpath_offset (header_of (image_in layout p n)) + (2 * k + r) ≡ ((9 + 6 * length p.connections) + (p.stops + 1)) + (2 * k + r)
+    = omega arith in
     let many : length (flat_map footpath_words p.footpaths) ≡ 2 * length p.footpaths = pieces_long footpath_words 2 (λ x. refl) p.footpaths in
     let within : k < length p.footpaths = slice_get_within p.footpaths k f e in
-    ap (λ (j : ℕ). get_or (image_in layout p n) j 0) place
+    ap (λ (j : ℕ). get_or (image_in layout p n) j 0) position
     ∙ word_in (image_in layout p n) (flat_map footpath_words p.footpaths) (from_names layout n)
     ((9 + 6 * length p.connections) + (p.stops + 1)) (2 * k + r) at_feet (omega (arith, many))
     ∙ piece_word footpath_words 2 (λ x. refl) p.footpaths k r f e lt
@@ -234,8 +235,8 @@ footpath_word layout p n k r f e lt =
 pub footpath_back : (layout : ℕ) (p : TimetableValue) (n : NamesValue) (k : ℕ) (f : Footpath) → At p.footpaths k f
     → footpath_of (image_in layout p n) f.to k ≡ f
 footpath_back layout p n k f e =
-    let z : footpath_place (header_of (image_in layout p n)) + 2 * k ≡ footpath_place (header_of (image_in layout p n)) + (2 * k + 0) = omega arith in
-    let y : footpath_place (header_of (image_in layout p n)) + 2 * k + 1 ≡ footpath_place (header_of (image_in layout p n)) + (2 * k + 1) = omega arith in
+    let z : footpath_offset (header_of (image_in layout p n)) + 2 * k ≡ footpath_offset (header_of (image_in layout p n)) + (2 * k + 0) = omega arith in
+    let y : footpath_offset (header_of (image_in layout p n)) + 2 * k + 1 ≡ footpath_offset (header_of (image_in layout p n)) + (2 * k + 1) = omega arith in
     let from : foot_from_of (image_in layout p n) k ≡ f.from =
     ap (λ (j : ℕ). get_or (image_in layout p n) j 0) z ∙ footpath_word layout p n k 0 f e (omega arith) in
     let secs : foot_secs_of (image_in layout p n) k ≡ f.secs =

@@ -12,8 +12,8 @@ use Rattle.std.proofs.lemmas.Nat.{from_le_bytes-to_le_bytes_4}
 use Rattle.std.proofs.lemmas.List.{drop-drop, take-append-drop, nil_from_length, get_or-drop, length-append, length-drop, length-take-le}
 use Rattle.std.proofs.lemmas.List.FromFn.{length-map-range_with_len, get_or-map-range_with_len}
 use Rattle.timetable.specs.declared.network.Footpath.{Footpath}
-use Rattle.image_layout.specs.Places.{is_layout, header_of, foot_index_place, footpath_place, name_index_place}
-use Rattle.image_layout.specs.Places.{day_place, repeat_place, repeat_words, text_place, IsWhole}
+use Rattle.image_layout.specs.Offsets.{is_layout, header_of, foot_index_offset, footpath_offset, name_index_offset}
+use Rattle.image_layout.specs.Offsets.{day_offset, repeat_offset, repeat_words, text_offset, IsWhole}
 use Rattle.image_layout.specs.Fields.{layout_of, flags_of}
 use Rattle.image_layout.specs.Text.{bytes_of, padded_text_of}
 use Rattle.image_layout.specs.declared.layout.TheConstants.{MAGIC}
@@ -95,8 +95,8 @@ length-bytes_of (x ∷ xs) = let h : length (bytes_of xs) ≡ 4 * length xs = le
 -- the names' bytes are there
 pub text_is_long : (w text : List ℕ) → IsWhole w → text ≡ padded_text_of w → (header_of w).name_bytes ≤ length text
 text_is_long w text whole e =
-    let h = length-drop (text_place (header_of w)) w in
-    omega (arith, ap length e, length-bytes_of (drop (text_place (header_of w)) w), h, whole.all_there)
+    let h = length-drop (text_offset (header_of w)) w in
+    omega (arith, ap length e, length-bytes_of (drop (text_offset (header_of w)) w), h, whole.all_there)
 
 length-footpath_words : (fs : List Footpath) → length (flat_map footpath_words fs) ≡ 2 * length fs
 length-footpath_words [] = refl
@@ -113,10 +113,10 @@ length-connections_of w = length-map-range_with_len (connection_of w) 0 (header_
 pub length-footpaths_of : (w : List ℕ) → IsWhole w → IsFootIndex w → length (footpaths_of w) ≡ (header_of w).footpaths
 length-footpaths_of w whole feet =
     let f = (header_of w).footpaths in
-    let place = footpath_place (header_of w) in
+    let position = footpath_offset (header_of w) in
     let words = length-footpath_words (footpaths_of w) in
     let same = ap length (footpaths_again w whole feet) in
-    let size = length-take-le (2 * f) (drop place w) (omega (arith, length-drop place w, whole.all_there)) in
+    let size = length-take-le (2 * f) (drop position w) (omega (arith, length-drop position w, whole.all_there)) in
     omega (arith, words, same, size)
 
 low_again : (a b : ℕ) → a < 2 ^ 32 → b < 2 ^ 32 → cast_unsigned w64 (cast_signed w64 (a + 4294967296 * b)) % 4294967296 ≡ a
@@ -158,20 +158,20 @@ unfolding image_in
 image_again w form =
     let h = header_of w in
     let long : h.name_bytes ≤ length (padded_text_of w) = text_is_long w (padded_text_of w) form.whole refl in
-    let last : text_words (text (names_of w)) ≡ drop (text_place h) w =
-    ap text_words (text_again w form.names) ∙ text_words_again (drop (text_place h) w) h.name_bytes
-    (λ i. rw get_or-drop (form.fits (text_place h + i))) (omega (
+    let last : text_words (text (names_of w)) ≡ drop (text_offset h) w =
+    ap text_words (text_again w form.names) ∙ text_words_again (drop (text_offset h) w) h.name_bytes
+    (λ i. rw get_or-drop (form.fits (text_offset h + i))) (omega (
       arith,
-      length-drop (text_place h) w,
+      length-drop (text_offset h) w,
       form.whole.all_there,
     )) form.spare in
     join w 0 9 9 (header (layout_of w) (timetable_of w) (names_of w)) _ (omega arith) (header_again w form long)
-    (join w 9 (6 * h.connections) (foot_index_place h) _ _ (omega arith) (connections_again w form.whole form.flags)
-    (join w (foot_index_place h) (h.stops + 1) (footpath_place h) _ _ (omega arith) (foot_index_again w form.whole form.feet)
-    (join w (footpath_place h) (2 * h.footpaths) (name_index_place h) _ _ (omega arith) (footpaths_again w form.whole form.feet)
-    (join w (name_index_place h) (name_count w + 1) (day_place h) _ _ (omega arith) (name_index_again w form.whole form.names long)
-    (join w (day_place h) h.trips (repeat_place h) _ _ (omega arith) (days_again w form.whole)
-    (join w (repeat_place h) (repeat_words h) (text_place h) _ _ (omega arith) (repeats_again w form.whole) last))))))
+    (join w 9 (6 * h.connections) (foot_index_offset h) _ _ (omega arith) (connections_again w form.whole form.flags)
+    (join w (foot_index_offset h) (h.stops + 1) (footpath_offset h) _ _ (omega arith) (foot_index_again w form.whole form.feet)
+    (join w (footpath_offset h) (2 * h.footpaths) (name_index_offset h) _ _ (omega arith) (footpaths_again w form.whole form.feet)
+    (join w (name_index_offset h) (name_count w + 1) (day_offset h) _ _ (omega arith) (name_index_again w form.whole form.names long)
+    (join w (day_offset h) h.trips (repeat_offset h) _ _ (omega arith) (days_again w form.whole)
+    (join w (repeat_offset h) (repeat_words h) (text_offset h) _ _ (omega arith) (repeats_again w form.whole) last))))))
 
 -- what a shown connection is at its place
 pub connection_is : (w : List ℕ) (i : ℕ) → i < (header_of w).connections → slice_get (connections_of w) i ≡ Some (connection_of w i)

@@ -8,7 +8,7 @@ use Rattle.timetable.specs.TimetableValue.{TimetableValue}
 use Rattle.timetable.specs.NamesValue.{NamesValue, TripNameValue}
 use Rattle.timetable.specs.Legal.{At, IsLegal}
 use Rattle.timetable.specs.Limits.{IsWithinLimits}
-use Rattle.image_layout.specs.Places.{is_layout}
+use Rattle.image_layout.specs.Offsets.{is_layout}
 use Rattle.image_layout.specs.Fields.{layout_of}
 use Rattle.image_layout.specs.Spelling.{name_list, text, image_in}
 

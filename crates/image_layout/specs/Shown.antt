@@ -6,7 +6,7 @@ use Rattle.timetable.specs.declared.network.Connection.{Connection}
 use Rattle.timetable.specs.declared.network.Footpath.{Footpath}
 use Rattle.timetable.specs.TimetableValue.{TimetableValue}
 use Rattle.timetable.specs.NamesValue.{NamesValue, TripNameValue}
-use Rattle.image_layout.specs.Places.{header_of}
+use Rattle.image_layout.specs.Offsets.{header_of}
 use Rattle.image_layout.specs.Fields.{from_of, to_of, dep_of, arr_of, trip_of, flags_of, foot_index_of, foot_from_of}
 use Rattle.image_layout.specs.Fields.{foot_secs_of, name_index_of, day_of, repeat_of}
 use Rattle.image_layout.specs.Text.{padded_text_of}

@@ -3,7 +3,7 @@
 ghost use Rattle.std.specs.Prelude.{◌≡◌, ℕ, ◌<◌, ◌^◌, List, All};
 ghost use Rattle.timetable.specs.TimetableValue.{TimetableValue};
 ghost use Rattle.timetable.specs.NamesValue.{NamesValue};
-ghost use Rattle.image_layout.specs.Places.{IsWhole};
+ghost use Rattle.image_layout.specs.Offsets.{IsWhole};
 ghost use Rattle.image_layout.specs.Text.{bytes_of};
 ghost use Rattle.image_layout.specs.declared.layout.TheConstants.{FIRST_LAYOUT};
 ghost use Rattle.image_layout.specs.Fields.{layout_of};

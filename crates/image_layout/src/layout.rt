@@ -1,7 +1,7 @@
 //! What every image begins with.
 
 ghost use Rattle.std.specs.Prelude.{◌≡◌};
-ghost use Rattle.image_layout.specs.Places.{is_layout};
+ghost use Rattle.image_layout.specs.Offsets.{is_layout};
 
 /// The first word of an image: the bytes `CSAP`.
 pub const MAGIC: u32 = 0x5041_5343;

@@ -4,7 +4,7 @@ use Rattle.std.specs.Prelude.{slice_index}
 use Rattle.std.specs.List.{list_all}
 use Rattle.std.specs.Str.{is_utf8}
 use Rattle.std.proofs.lemmas.Bool.{or_parts, ltb-false, eqb-true, not-false}
-use Rattle.image_layout.specs.Places.{is_layout, header_of, word_count, IsWhole}
+use Rattle.image_layout.specs.Offsets.{is_layout, header_of, word_count, IsWhole}
 use Rattle.image_layout.specs.Fields.{trip_of, foot_index_of, name_index_of}
 use Rattle.image_layout.specs.Text.{padded_text_of}
 use Rattle.image_layout.specs.Shown.{name_count, name_of}
@@ -12,7 +12,7 @@ use Rattle.image_layout.proofs.Feet.{IsFootIndex}
 use Rattle.image_layout.proofs.Whole.{IsWellFormed}
 use Rattle.image_verifier.specs.declared.fault.ImageFault.TheVariants.{BadMagic, BadLayout, BadLength, FootRange, BadNames}
 use Rattle.timetable.specs.First.{or_else, first_below}
-use Rattle.image_verifier.specs.ConnectionFaults.{own_fault, place_fault, is_break, connection_fault, connections_fault, last_of_trip}
+use Rattle.image_verifier.specs.ConnectionFaults.{own_fault, order_fault_of, is_break, connection_fault, connections_fault, last_of_trip}
 use Rattle.image_verifier.specs.FootFaults.{foot_fault, foot_end_fault, footpaths_fault}
 use Rattle.image_verifier.specs.ClosureFaults.{into_fault, closure_fault}
 use Rattle.image_verifier.specs.NameFaults.{is_bad_name_range, name_fault, names_end_fault, names_fault}
@@ -114,9 +114,9 @@ IsNamesEnd-from w e =
     record { start = eqb-true _ _ (not-false _ inner.1); end = eqb-true _ _ (not-false _ inner.0); spare = not-false _ outer.1 }
 
 pub own-none : (w : List ℕ) (i : ℕ) → connection_fault w i ≡ None
-    → (own_fault w i ≡ None) × (place_fault w i (is_break w i (last_of_trip w (trip_of w i) i)) ≡ None)
+    → (own_fault w i ≡ None) × (order_fault_of w i (is_break w i (last_of_trip w (trip_of w i) i)) ≡ None)
 unfolding connection_fault
-own-none w i e = or_else_parts (own_fault w i) (place_fault w i (is_break w i (last_of_trip w (trip_of w i) i))) e
+own-none w i e = or_else_parts (own_fault w i) (order_fault_of w i (is_break w i (last_of_trip w (trip_of w i) i))) e
 
 pub IsWellFormed-from : (w : List ℕ) → ((i : ℕ) → get_or w i 0 < 2 ^ 32) → IsWhole w → AreFaultless w → IsWellFormed w
 IsWellFormed-from w fits whole good =

@@ -7,7 +7,7 @@ use Rattle.std.proofs.Math.ListN.{set}
 use Rattle.std.specs.Prelude.{replicate}
 use Rattle.std.proofs.lemmas.List.{ext_get_or, get_or-set_same, get_or-set_other, get_or-replicate, length-set, length-replicate}
 use Rattle.reasoning.proofs.OptionLemmas.{option_cases, some-none}
-use Rattle.image_layout.specs.Places.{header_of}
+use Rattle.image_layout.specs.Offsets.{header_of}
 use Rattle.image_layout.specs.Fields.{foot_index_of, foot_from_of, foot_secs_of}
 use Rattle.image_verifier.specs.declared.closure.TheConstants.{NEVER}
 use Rattle.image_verifier.specs.declared.fault.ImageFault.{ImageFault}
@@ -57,25 +57,25 @@ pub record IsRising (at : ℕ → ℕ) (low high n : ℕ) : Type 0 where
   pub below : (k : ℕ) → low ≤ k → k < high → at k < n
 
 -- f by places gives what g gives by numbers, and g gives nothing at other numbers
-pub record IsByPlace {X : Type 0} (at : ℕ → ℕ) (f g : ℕ → Option X) (low high n : ℕ) : Type 0 where
+pub record IsByIndex {X : Type 0} (at : ℕ → ℕ) (f g : ℕ → Option X) (low high n : ℕ) : Type 0 where
   pub same : (k : ℕ) → low ≤ k → k < high → f k ≡ g (at k)
   pub none_else : (a : ℕ) → a < n → ((k : ℕ) → low ≤ k → k < high → at k ≢ a) → g a ≡ None
 
 -- where f gives nothing from low up to before i, g gives nothing at a number that has no place from i on
-none_by_number : {X : Type 0} (at : ℕ → ℕ) (f g : ℕ → Option X) (low high n i a : ℕ) → IsByPlace at f g low high n
+none_by_number : {X : Type 0} (at : ℕ → ℕ) (f g : ℕ → Option X) (low high n i a : ℕ) → IsByIndex at f g low high n
     → a < n → i ≤ high → first_between f low i ≡ None → ((k : ℕ) → i ≤ k → k < high → at k ≢ a) → g a ≡ None
 none_by_number at f g low high n i a by lt le none later =
     elim (cases_Bool (any_between (λ k. eqb (at k) a) low high)) [
       | inl a_place ↦
-          let place = any_between-some (λ k. eqb (at k) a) low high a_place in
-          let here : at place.0 ≡ a = eqb-true _ _ place.3 in
-          let early : place.0 < i = early_place place.0 place.2 here in
-          ap g (sym here) ∙ sym (by.same place.0 place.1 place.2) ∙ first_between-none f low i place.0 place.1 early none
+          let position = any_between-some (λ k. eqb (at k) a) low high a_place in
+          let here : at position.0 ≡ a = eqb-true _ _ position.3 in
+          let early : position.0 < i = early_index position.0 position.2 here in
+          ap g (sym here) ∙ sym (by.same position.0 position.1 position.2) ∙ first_between-none f low i position.0 position.1 early none
       | inr no_place ↦ by.none_else a lt (λ k kl kh. eqb-false _ _ (any_between-none (λ j. eqb (at j) a) low high k kl kh no_place))
     ]
   where
-    early_place : (k : ℕ) → k < high → at k ≡ a → k < i
-    early_place k kh here =
+    early_index : (k : ℕ) → k < high → at k ≡ a → k < i
+    early_index k kh here =
         elim (cases_order k i) [
           | inl same ↦ absurd (later k (omega (arith, same)) kh here)
           | inr (inl below) ↦ below
@@ -83,9 +83,9 @@ none_by_number at f g low high n i a by lt le none later =
         ]
 
 -- to search by rising numbers, place by place, is to search by all numbers
-pub first_by_place : {X : Type 0} (at : ℕ → ℕ) (f g : ℕ → Option X) (low high n : ℕ) → IsRising at low high n
-    → IsByPlace at f g low high n → first_below g n ≡ first_between f low high
-first_by_place at f g low high n rising by =
+pub first_by_index : {X : Type 0} (at : ℕ → ℕ) (f g : ℕ → Option X) (low high n : ℕ) → IsRising at low high n
+    → IsByIndex at f g low high n → first_below g n ≡ first_between f low high
+first_by_index at f g low high n rising by =
     elim (option_cases (first_between f low high)) [
       | inl none ↦ first_below-all g n (λ a lt. none_by_number at f g low high n high a by lt (omega arith) none (λ k hl hh. absurd (omega arith))) ∙ sym none
       | inr some ↦
@@ -149,13 +149,13 @@ unfolding secs_between
 secs_between-none w a c none = first_between-all _ (foot_index_of w c) (foot_index_of w (c + 1)) (λ k low high. secs_elsewhere w a k (none k low high))
 
 -- a place of the footpath from stop a into stop c
-pub record IsPlaceOf (w : List ℕ) (a c time k : ℕ) : Type 0 where
+pub record IsIndexOf (w : List ℕ) (a c time k : ℕ) : Type 0 where
   pub low : foot_index_of w c ≤ k
   pub high : k < foot_index_of w (c + 1)
   pub from : foot_from_of w k ≡ a
   pub secs : foot_secs_of w k ≡ time
 
-pub secs_between-some : (w : List ℕ) (a c secs : ℕ) → secs_between w a c ≡ Some secs → (k : ℕ) × IsPlaceOf w a c secs k
+pub secs_between-some : (w : List ℕ) (a c secs : ℕ) → secs_between w a c ≡ Some secs → (k : ℕ) × IsIndexOf w a c secs k
 unfolding secs_between
 secs_between-some w a c secs e =
     let h = first_between-some (λ k. cond (eqb (foot_from_of w k) a) (Some (foot_secs_of w k)) None) (foot_index_of w c) (foot_index_of w (c + 1)) secs e in
@@ -353,10 +353,10 @@ abbrev pub way_at : List ℕ → ℕ → ℕ → Option ImageFault
 way_at w c j = way_fault w (foot_from_of w j) c
 
 -- a fault by way of stop b begins where a footpath into b begins
-pub way_by_place : (w : List ℕ) (b c : ℕ) → HasFootRange w b → way_fault w b c ≡ first_between (open_at w b c) (foot_index_of w b) (foot_index_of w (b + 1))
+pub way_by_index : (w : List ℕ) (b c : ℕ) → HasFootRange w b → way_fault w b c ≡ first_between (open_at w b c) (foot_index_of w b) (foot_index_of w (b + 1))
 unfolding way_fault
-way_by_place w b c range =
-    first_by_place (foot_from_of w) (open_at w b c) (λ a. open_fault w a b c) (foot_index_of w b)
+way_by_index w b c range =
+    first_by_index (foot_from_of w) (open_at w b c) (λ a. open_fault w a b c) (foot_index_of w b)
     (foot_index_of w (b + 1)) (header_of w).stops (IsRising-from w b range)
     (record { same = λ k low high. refl; none_else = λ a lt none. open_fault-no_first w a b c (secs_between-none w a b none) })
 
@@ -365,10 +365,10 @@ unfolding way_fault
 no_way w b c none = first_below-all (λ a. open_fault w a b c) (header_of w).stops (λ a lt. open_fault-no_second w a b c none)
 
 -- a fault to stop c goes by way of where a footpath into c begins
-pub into_by_place : (w : List ℕ) (c : ℕ) → HasFootRange w c → into_fault w c ≡ first_between (way_at w c) (foot_index_of w c) (foot_index_of w (c + 1))
+pub into_by_index : (w : List ℕ) (c : ℕ) → HasFootRange w c → into_fault w c ≡ first_between (way_at w c) (foot_index_of w c) (foot_index_of w (c + 1))
 unfolding into_fault
-into_by_place w c range =
-    first_by_place (foot_from_of w) (way_at w c) (λ b. way_fault w b c) (foot_index_of w c) (foot_index_of w (c + 1))
+into_by_index w c range =
+    first_by_index (foot_from_of w) (way_at w c) (λ b. way_fault w b c) (foot_index_of w c) (foot_index_of w (c + 1))
     (header_of w).stops (IsRising-from w c range)
     (record { same = λ k low high. refl; none_else = λ b lt none. no_way w b c (secs_between-none w b c none) })
 

@@ -7,7 +7,7 @@ use Rattle.reasoning.proofs.OptionLemmas.{option_cases}
 use Rattle.timetable.specs.declared.network.Connection.{Connection}
 use Rattle.timetable.specs.declared.network.Footpath.{Footpath}
 use Rattle.timetable.specs.Legal.{At, HasFootpath, IsJustBefore}
-use Rattle.image_layout.specs.Places.{header_of}
+use Rattle.image_layout.specs.Offsets.{header_of}
 use Rattle.image_layout.specs.Fields.{dep_of, trip_of, foot_index_of, foot_from_of, foot_secs_of}
 use Rattle.image_layout.specs.Shown.{connection_of, connections_of, footpath_of, footpaths_of, timetable_of, names_of}
 use Rattle.image_layout.specs.Image.{HasImage}
@@ -18,7 +18,7 @@ use Rattle.image_verifier.specs.declared.fault.ImageFault.TheVariants.{StopRange
 use Rattle.image_verifier.specs.declared.fault.ImageFault.TheVariants.{HopWithoutDuration, BadFlags, Unsorted}
 use Rattle.image_verifier.specs.declared.fault.ImageFault.TheVariants.{TripBroken, FootRange, FootUnsorted, NoLoop}
 use Rattle.timetable.specs.First.{any_between}
-use Rattle.image_verifier.specs.ConnectionFaults.{own_fault, place_fault, is_break, connection_fault, last_of_trip}
+use Rattle.image_verifier.specs.ConnectionFaults.{own_fault, order_fault_of, is_break, connection_fault, last_of_trip}
 use Rattle.image_verifier.specs.FootFaults.{is_bad_footpath, is_bad_index, is_fall, is_from, foot_fault, HasFootRange}
 use Rattle.image_verifier.specs.ClosureFaults.{secs_between, open_fault, way_fault, into_fault}
 use Rattle.timetable.proofs.FirstLemmas.{or_else-none, passes, first_below-all, any_between-all, any_between-found, last_below-some}
@@ -86,7 +86,7 @@ pub connection_faultless : (w : List ℕ) → IsWellFormed w → HasImage (timet
     → i < (header_of w).connections → connection_fault w i ≡ None
 unfolding connection_fault
 connection_faultless w form can i lt =
-    or_else-none (own_fault w i) (place_fault w i (is_break w i (last_of_trip w (trip_of w i) i))) (own-faultless w i (sound_from_legal w form can i lt))
+    or_else-none (own_fault w i) (order_fault_of w i (is_break w i (last_of_trip w (trip_of w i) i))) (own-faultless w i (sound_from_legal w form can i lt))
     ∙ passes _ (Unsorted i) _ (sorted_from_legal w can i lt)
     (passes _ (TripBroken i) None (unbroken_from_legal w can i lt (last_of_trip w (trip_of w i) i) refl) refl)
 
@@ -103,9 +103,9 @@ index_far w form s t le within =
     omega (arith, at, h)
 
 -- a listed footpath from a to c has a place among those into c
-place_of : (w : List ℕ) → IsWellFormed w → (a c secs : ℕ) → (has : HasFootpath (footpaths_of w) a c secs)
+index_of : (w : List ℕ) → IsWellFormed w → (a c secs : ℕ) → (has : HasFootpath (footpaths_of w) a c secs)
     → IsStopOf w has.0 c × (foot_from_of w has.0 ≡ a) × (foot_secs_of w has.0 ≡ secs)
-place_of w form a c secs has =
+index_of w form a c secs has =
     let s = footpath_shown w has.0 (record { from = a; to = c; secs = secs }) form.whole form.feet has.1 in
     let to : s.0 ≡ c = sym (ap (λ (x : Footpath). x.to) s.2) in
     (subst (λ (x : ℕ). IsStopOf w has.0 x) to s.1, sym (ap (λ (x : Footpath). x.from) s.2), sym (ap (λ (x : Footpath). x.secs) s.2))
@@ -130,9 +130,9 @@ foot_faultless w form can s lt =
     ∙ walk_at w form s k lt (omega arith) high) in
     lt-leb _ _ (after.1 refl)) in
     let loop = can.legal.loops s lt in
-    let place = place_of w form s s loop.0 loop.1 in
+    let position = index_of w form s s loop.0 loop.1 in
     let found : any_between (is_from w s) start end ≡ true =
-    any_between-found (is_from w s) start end loop.1.0 place.0.start place.0.end (eq-eqb _ _ place.1) in
+    any_between-found (is_from w s) start end loop.1.0 position.0.start position.0.end (eq-eqb _ _ position.1) in
     passes _ (FootRange s) _ (or_from _ _ index each)
     (passes _ (FootUnsorted s) _ rising
     (passes _ (NoLoop s) None (ap not found) refl))
@@ -148,10 +148,10 @@ open_faultless w form can ranges a b c b_lt c_lt =
         | inl none ↦ open_fault-no_second w a b c none
         | inr second ↦
             let direct = can.legal.closed a b c first.0 second.0 (has_footpath a b first.0 b_lt first.1) (has_footpath b c second.0 c_lt second.1) in
-            let place = place_of w form a c direct.0 direct.1 in
+            let position = index_of w form a c direct.0 direct.1 in
             let there : secs_between w a c ≡ Some (foot_secs_of w direct.1.0) =
-            secs_between-at w a c direct.1.0 (ranges c c_lt) place.0.start place.0.end place.1 in
-            open_fault-closed w a b c first.0 second.0 (foot_secs_of w direct.1.0) first.1 second.1 there (omega (arith, place.2, direct.2))
+            secs_between-at w a c direct.1.0 (ranges c c_lt) position.0.start position.0.end position.1 in
+            open_fault-closed w a b c first.0 second.0 (foot_secs_of w direct.1.0) first.1 second.1 there (omega (arith, position.2, direct.2))
       ]
     ]
   where

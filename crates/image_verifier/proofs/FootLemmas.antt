@@ -1,7 +1,7 @@
 -- What the footpaths into a stop keep where they have no fault.
 use Rattle.std.proofs.Common.{◌≡◌, ℕ, ◌+◌, ◌-◌, ◌<◌, ◌≤◌, true, false, not, ◌||◌, List, None, ap, arith}
 use Rattle.std.proofs.lemmas.Bool.{or_parts, leb-false, ltb-false, not-false}
-use Rattle.image_layout.specs.Places.{header_of}
+use Rattle.image_layout.specs.Offsets.{header_of}
 use Rattle.image_layout.specs.Fields.{foot_index_of, foot_from_of}
 use Rattle.image_verifier.specs.declared.fault.ImageFault.TheVariants.{FootRange, FootUnsorted, NoLoop}
 use Rattle.timetable.specs.First.{first_below, any_between}

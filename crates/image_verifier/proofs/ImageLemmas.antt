@@ -15,7 +15,7 @@ use Rattle.timetable.specs.declared.network.Footpath.{Footpath}
 use Rattle.timetable.specs.declared.limits.TheConstants.{MAX_STOPS, MAX_TRIPS, MAX_CONNECTIONS, MAX_FOOTPATHS, MAX_WALK_SECS, MAX_NAME_BYTES, TIME_END}
 use Rattle.timetable.specs.NamesValue.{TripNameValue}
 use Rattle.image_layout.specs.declared.layout.TheConstants.{LAYOUT}
-use Rattle.image_layout.specs.Places.{header_of, day_place, repeat_place}
+use Rattle.image_layout.specs.Offsets.{header_of, day_offset, repeat_offset}
 use Rattle.image_layout.specs.Fields.{layout_of, repeat_of}
 use Rattle.image_layout.specs.Text.{padded_text_of}
 use Rattle.image_layout.specs.Shown.{name_count, name_of, trip_name_of, timetable_of, names_of}
@@ -70,7 +70,7 @@ Fits-at a b p q = record { fits = omega arith }
 repeat_fits : (w : List ℕ) (i : ℕ) → ((k : ℕ) → slice_index w k < 2 ^ 32) → repeat_of w i < 2 ^ 32
 repeat_fits w i fits =
     elim (cases_Bool (eqb (layout_of w) LAYOUT)) [
-      | inl has ↦ rw has (fits (repeat_place (header_of w) + i))
+      | inl has ↦ rw has (fits (repeat_offset (header_of w) + i))
       | inr lacks ↦ rw lacks (omega arith)
     ]
 
@@ -105,7 +105,7 @@ HasImage-from w form good =
         );
         days = λ i t e. (let s = shown_in (trip_name_of w) trips i t e in
             subst (λ (x : TripNameValue). x.day < 2 ^ 32) (sym s.1)
-            (form.fits (day_place (header_of w) + i)));
+            (form.fits (day_offset (header_of w) + i)));
         repeats = λ i t e. (let s = shown_in (trip_name_of w) trips i t e in
             subst (λ (x : TripNameValue). x.repeat < 2 ^ 32) (sym s.1)
             (repeat_fits w i form.fits));

@@ -6,7 +6,7 @@ use Rattle.timetable.specs.NamesValue.{NamesValue}
 use Rattle.timetable.specs.Legal.{At}
 use Rattle.timetable.specs.Journeys.{connection_at}
 use Rattle.timetable.proofs.LegalLemmas.{connection_at-is}
-use Rattle.image_layout.specs.Places.{IsWhole, header_of}
+use Rattle.image_layout.specs.Offsets.{IsWhole, header_of}
 use Rattle.image_layout.specs.Fields.{layout_of, dep_of}
 use Rattle.image_layout.specs.Shown.{connection_of, connections_of}
 use Rattle.image_layout.specs.Image.{IsImage}

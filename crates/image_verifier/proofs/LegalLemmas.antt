@@ -4,7 +4,7 @@ use Rattle.std.proofs.lemmas.Bool.{cases_order, or_parts, leb-false, ltb-false, 
 use Rattle.timetable.specs.declared.network.Connection.{Connection}
 use Rattle.timetable.specs.declared.network.Footpath.{Footpath}
 use Rattle.timetable.specs.Legal.{At, HasFootpath, IsJustBefore, IsOrderedBefore, IsLegal}
-use Rattle.image_layout.specs.Places.{header_of, IsWhole}
+use Rattle.image_layout.specs.Offsets.{header_of, IsWhole}
 use Rattle.image_layout.specs.Fields.{from_of, to_of, dep_of, arr_of, trip_of, foot_index_of, foot_from_of, foot_secs_of}
 use Rattle.image_layout.specs.Shown.{connection_of, connections_of, footpath_of, footpaths_of, timetable_of}
 use Rattle.image_layout.proofs.Feet.{IsFootIndex, index_rises}

@@ -8,7 +8,7 @@ use Rattle.std.proofs.lemmas.Option.{slice_get-get_or}
 use Rattle.std.proofs.lemmas.List.FromFn.{length-map-range_with_len, get_or-map-range_with_len}
 use Rattle.timetable.specs.Legal.{At}
 use Rattle.timetable.specs.NamesValue.{TripNameValue}
-use Rattle.image_layout.specs.Places.{header_of}
+use Rattle.image_layout.specs.Offsets.{header_of}
 use Rattle.image_layout.specs.Fields.{name_index_of, layout_of}
 use Rattle.image_layout.specs.Text.{padded_text_of}
 use Rattle.image_layout.specs.Spelling.{name_list}
@@ -69,9 +69,9 @@ within_names image w words i is same lt =
     subst (λ (x : List ℕ). i < name_count x) (sym same) (subst (λ (v : ImageValue). i < v.timetable.stops + v.timetable.trips) (sym is) lt)
 
 -- a name of the image is that of the words
-pub name_told : (image : ImageValue) (w words : List ℕ) (i : ℕ) (name : List ℕ) → shown w ≡ image → words ≡ w
+pub name_as_read : (image : ImageValue) (w words : List ℕ) (i : ℕ) (name : List ℕ) → shown w ≡ image → words ≡ w
     → At (name_list image.names) i name → name_of words i ≡ name
-name_told image w words i name is same at =
+name_as_read image w words i name is same at =
     ap (λ (x : List ℕ). name_of x i) same ∙ sym (name_shown w i name (subst (λ (v : ImageValue). At (name_list v.names) i name) (sym is) at)).1
 
 -- a trip of the image is one of the words'
@@ -81,9 +81,9 @@ within_trips image w words t is same lt =
     (subst (λ (v : ImageValue). t < v.timetable.trips) (sym is) lt)
 
 -- what is told of a trip's name in the words is told of the image's
-pub trip_told : (tell : TripNameValue → ℕ) (image : ImageValue) (w words : List ℕ) (t told : ℕ) → shown w ≡ image → words ≡ w
-    → t < image.timetable.trips → told ≡ tell (trip_name_of words t) → option_map tell (slice_get image.names.trips t) ≡ Some told
-trip_told tell image w words t told is same lt e =
+pub trip_as_read : (tell : TripNameValue → ℕ) (image : ImageValue) (w words : List ℕ) (t fact : ℕ) → shown w ≡ image → words ≡ w
+    → t < image.timetable.trips → fact ≡ tell (trip_name_of words t) → option_map tell (slice_get image.names.trips t) ≡ Some fact
+trip_as_read tell image w words t fact is same lt e =
     ap (λ (v : ImageValue). option_map tell (slice_get v.names.trips t)) (sym is)
     ∙ ap (λ o. option_map tell o) (trip_name_is w t (within_trips image w w t is refl lt))
     ∙ ap Some (ap (λ (x : List ℕ). tell (trip_name_of x t)) (sym same) ∙ sym e)

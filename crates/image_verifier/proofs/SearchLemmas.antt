@@ -37,38 +37,39 @@ half_of left next (suc rest) some half has =
     (rest, omega (arith, double, half, has), omega arith)
 
 -- one more read, and half is left
-spare_less : (number low high low2 high2 place : ℕ) (before now : List ℕ) (h : IsHalving number low high before now)
+spare_less : (number low high low2 high2 position : ℕ) (before now : List ℕ) (h : IsHalving number low high before now)
     → low < high → high2 - low2 ≤ (high - low) / 2 → (digits : ℕ) → HasDigits number digits
-    → (rest : ℕ) × HasDigits (high2 - low2) rest × (length (h.read ++ place ∷ []) + rest ≤ digits)
-spare_less number low high low2 high2 place before now h some half digits has =
+    → (rest : ℕ) × HasDigits (high2 - low2) rest × (length (h.read ++ position ∷ []) + rest ≤ digits)
+spare_less number low high low2 high2 position before now h some half digits has =
     let s = h.spare digits has in
     let fewer = half_of (high - low) (high2 - low2) s.0 (omega (arith, some)) half s.1 in
-    let long : length (h.read ++ place ∷ []) ≡ length h.read + 1 = length-append h.read (place ∷ []) in
+    let long : length (h.read ++ position ∷ []) ≡ length h.read + 1 = length-append h.read (position ∷ []) in
     (fewer.0, fewer.1, omega (arith, s.2, fewer.2, long))
 
-note_more : (place : ℕ) (before now read : List ℕ) → now ≡ before ++ read → now ++ place ∷ [] ≡ before ++ (read ++ place ∷ [])
-note_more place before now read noted = ap (λ (xs : List ℕ). xs ++ place ∷ []) noted ∙ append_assoc before read (place ∷ [])
+note_more : (position : ℕ) (before now read : List ℕ) → now ≡ before ++ read → now ++ position ∷ [] ≡ before ++ (read ++ position ∷ [])
+note_more position before now read noted = ap (λ (xs : List ℕ). xs ++ position ∷ []) noted ∙ append_assoc before read (position ∷ [])
 
 -- the search goes on above the place that was read
-pub goes_on_above : (number low high place : ℕ) (before now : List ℕ) → IsHalving number low high before now
-    → low < high → high - (place + 1) ≤ (high - low) / 2 → IsHalving number (place + 1) high before (now ++ place ∷ [])
-goes_on_above number low high place before now h some half = record {
-  read = h.read ++ place ∷ [];
-  noted = note_more place before now h.read h.noted;
-  spare = spare_less number low high (place + 1) high place before now h some half;
-  has_high = λ lt. Contains-append_left h.read (place ∷ []) high (h.has_high lt);
-  has_low = λ lt. let back : place ≡ (place + 1) - 1 = omega arith in subst (λ (x : ℕ). Contains (h.read ++ place ∷ []) x) back (Contains-push h.read place);
+pub goes_on_above : (number low high position : ℕ) (before now : List ℕ) → IsHalving number low high before now
+    → low < high → high - (position + 1) ≤ (high - low) / 2 → IsHalving number (position + 1) high before (now ++ position ∷ [])
+goes_on_above number low high position before now h some half = record {
+  read = h.read ++ position ∷ [];
+  noted = note_more position before now h.read h.noted;
+  spare = spare_less number low high (position + 1) high position before now h some half;
+  has_high = λ lt. Contains-append_left h.read (position ∷ []) high (h.has_high lt);
+  has_low = λ lt. let back : position ≡ (position + 1) - 1 = omega arith in subst (λ (x : ℕ). Contains (h.read ++ position ∷ []) x) back
+      (Contains-push h.read position);
 }
 
 -- .. or below it
-pub goes_on_below : (number low high place : ℕ) (before now : List ℕ) → IsHalving number low high before now
-    → low < high → place - low ≤ (high - low) / 2 → IsHalving number low place before (now ++ place ∷ [])
-goes_on_below number low high place before now h some half = record {
-  read = h.read ++ place ∷ [];
-  noted = note_more place before now h.read h.noted;
-  spare = spare_less number low high low place place before now h some half;
-  has_high = λ lt. Contains-push h.read place;
-  has_low = λ lt. Contains-append_left h.read (place ∷ []) (low - 1) (h.has_low lt);
+pub goes_on_below : (number low high position : ℕ) (before now : List ℕ) → IsHalving number low high before now
+    → low < high → position - low ≤ (high - low) / 2 → IsHalving number low position before (now ++ position ∷ [])
+goes_on_below number low high position before now h some half = record {
+  read = h.read ++ position ∷ [];
+  noted = note_more position before now h.read h.noted;
+  spare = spare_less number low high low position position before now h some half;
+  has_high = λ lt. Contains-push h.read position;
+  has_low = λ lt. Contains-append_left h.read (position ∷ []) (low - 1) (h.has_low lt);
 }
 
 -- where nothing is left, the search is over

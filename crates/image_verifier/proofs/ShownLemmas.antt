@@ -4,7 +4,7 @@ use Rattle.std.proofs.lemmas.Bool.{cases_order}
 use Rattle.std.proofs.lemmas.Option.{slice_get-get_or}
 use Rattle.timetable.specs.declared.network.Footpath.{Footpath}
 use Rattle.timetable.specs.Legal.{At}
-use Rattle.image_layout.specs.Places.{header_of}
+use Rattle.image_layout.specs.Offsets.{header_of}
 use Rattle.image_layout.specs.Fields.{foot_index_of}
 use Rattle.image_layout.specs.Shown.{footpaths_of}
 use Rattle.image_layout.proofs.Whole.{length-footpaths_of}
@@ -39,15 +39,15 @@ pub walks_count : (w : List ℕ) → IsAccepted w → length (footpaths_of w) �
 walks_count w accepted = length-footpaths_of w accepted.whole (IsFootIndex-from w (AreFaultless-from w accepted.faultless))
 
 -- footpaths stand at the places of the index
-pub foot_index_within : (w : List ℕ) (stop place : ℕ) → IsAccepted w → stop < (header_of w).stops
-    → place < foot_index_of w (stop + 1) → place < (header_of w).footpaths
-foot_index_within w stop place accepted lt at = omega (arith, walks_within w stop accepted lt, walks_count w accepted)
+pub foot_index_within : (w : List ℕ) (stop position : ℕ) → IsAccepted w → stop < (header_of w).stops
+    → position < foot_index_of w (stop + 1) → position < (header_of w).footpaths
+foot_index_within w stop position accepted lt at = omega (arith, walks_within w stop accepted lt, walks_count w accepted)
 
 -- the place of a footpath that leads into a stop is among those into it
-pub is_among : (w : List ℕ) (stop place : ℕ) → IsAccepted w → stop < (header_of w).stops
-    → place < length (footpaths_of w) → ((f : Footpath) → At (footpaths_of w) place f → f.to ≡ stop)
-    → (foot_index_of w stop ≤ place) × (place < foot_index_of w (stop + 1))
-is_among w stop place accepted lt within into =
+pub is_among : (w : List ℕ) (stop position : ℕ) → IsAccepted w → stop < (header_of w).stops
+    → position < length (footpaths_of w) → ((f : Footpath) → At (footpaths_of w) position f → f.to ≡ stop)
+    → (foot_index_of w stop ≤ position) × (position < foot_index_of w (stop + 1))
+is_among w stop position accepted lt within into =
     let no_path : Footpath = record { from = 0; to = 0; secs = 0 } in
-    let at = slice_get-get_or (footpaths_of w) place no_path within in
-    (walks_exact w stop accepted lt place (get_or (footpaths_of w) place no_path) at).0 (into (get_or (footpaths_of w) place no_path) at)
+    let at = slice_get-get_or (footpaths_of w) position no_path within in
+    (walks_exact w stop accepted lt position (get_or (footpaths_of w) position no_path) at).0 (into (get_or (footpaths_of w) position no_path) at)

@@ -1,6 +1,6 @@
 -- Footpaths end to end that are shorter than the direct one.
 use Rattle.std.specs.Prelude.{◌≡◌, ℕ, ◌+◌, ◌<◌, Bool, true, false, ◌==◌, nat_lt, List, length, slice_index, Option, Some, None, if◌then◌else◌}
-use Rattle.image_layout.specs.Places.{header_of}
+use Rattle.image_layout.specs.Offsets.{header_of}
 use Rattle.image_layout.specs.Fields.{foot_index_of, foot_from_of, foot_secs_of}
 use Rattle.image_verifier.specs.declared.closure.TheConstants.{NEVER}
 use Rattle.image_verifier.specs.declared.fault.ImageFault.{ImageFault}

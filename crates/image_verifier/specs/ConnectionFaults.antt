@@ -2,7 +2,7 @@
 use Rattle.std.specs.Prelude.{◌≡◌, ◌<◌, length, slice_index_or, ℕ, ◌-◌, Bool, false, not, ◌||◌, ◌&&◌, ◌==◌, nat_lt}
 use Rattle.std.specs.Prelude.{nat_le, List, Option, Some, None, if◌then◌else◌}
 use Rattle.timetable.specs.declared.limits.TheConstants.{TIME_END}
-use Rattle.image_layout.specs.Places.{header_of}
+use Rattle.image_layout.specs.Offsets.{header_of}
 use Rattle.image_layout.specs.Fields.{from_of, to_of, dep_of, arr_of, trip_of, flags_of}
 use Rattle.image_verifier.specs.declared.connections.TripEnd.{TripEnd}
 use Rattle.image_verifier.specs.declared.fault.ImageFault.{ImageFault}
@@ -29,15 +29,15 @@ own_fault w i =
     else None))))
 
 -- the fault of connection i in its place: it departs before the connection before it, or breaks its trip, as `broken` says
-abbrev pub place_fault : List ℕ → ℕ → Bool → Option ImageFault
-place_fault w i broken =
+abbrev pub order_fault_of : List ℕ → ℕ → Bool → Option ImageFault
+order_fault_of w i broken =
     if nat_lt 0 i && nat_lt (dep_of w i) (dep_of w (i - 1)) then Some (Unsorted i)
     else (if broken then Some (TripBroken i)
     else None)
 
 -- the fault of connection i
 unfoldable pub connection_fault : List ℕ → ℕ → Option ImageFault
-connection_fault w i = or_else (own_fault w i) (place_fault w i (is_break w i (last_of_trip w (trip_of w i) i)))
+connection_fault w i = or_else (own_fault w i) (order_fault_of w i (is_break w i (last_of_trip w (trip_of w i) i)))
 
 -- the first fault of the connections, one by one
 abbrev pub connections_fault : List ℕ → Option ImageFault

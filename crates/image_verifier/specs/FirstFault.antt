@@ -1,7 +1,7 @@
 -- The first fault of words, in the order in which the steps are taken.
 use Rattle.std.specs.Prelude.{◌≡◌, ◌⊎◌, ℕ, Bool, not, ◌||◌, ◌==◌, nat_lt, List, length, slice_index, Option, Some, None, if◌then◌else◌}
 use Rattle.image_layout.specs.declared.header.Header.{Header}
-use Rattle.image_layout.specs.Places.{is_layout, header_of, word_count}
+use Rattle.image_layout.specs.Offsets.{is_layout, header_of, word_count}
 use Rattle.image_verifier.specs.declared.fault.ImageFault.{ImageFault}
 use Rattle.image_verifier.specs.declared.fault.ImageFault.TheVariants.{BadMagic, BadLayout, BadLength, OutOfMemory}
 use Rattle.timetable.specs.declared.limits.TheConstants.{MAX_STOPS, MAX_TRIPS, MAX_CONNECTIONS, MAX_FOOTPATHS, MAX_NAME_BYTES}

@@ -1,7 +1,7 @@
 -- What can be wrong with the footpaths, in the order in which it is looked for.
 use Rattle.std.specs.Prelude.{ℕ, ◌+◌, ◌-◌, ◌<◌, ◌≤◌, Bool, not, ◌||◌, ◌&&◌, ◌==◌, nat_lt, nat_le, List, Option, Some, None, if◌then◌else◌}
 use Rattle.timetable.specs.declared.limits.TheConstants.{MAX_WALK_SECS}
-use Rattle.image_layout.specs.Places.{header_of}
+use Rattle.image_layout.specs.Offsets.{header_of}
 use Rattle.image_layout.specs.Fields.{foot_index_of, foot_from_of, foot_secs_of}
 use Rattle.image_verifier.specs.declared.fault.ImageFault.{ImageFault}
 use Rattle.image_verifier.specs.declared.fault.ImageFault.TheVariants.{FootRange, FootUnsorted, NoLoop}

@@ -6,7 +6,7 @@
 //! the table has a word for each stop.
 
 ghost use Rattle.std.specs.Prelude.{◌≡◌, ◌<◌, ◌+◌, replicate, IfNone};
-ghost use Rattle.image_layout.specs.Places.{IsWhole, header_of};
+ghost use Rattle.image_layout.specs.Offsets.{IsWhole, header_of};
 ghost use Rattle.image_layout.specs.Fields.{foot_from_of, foot_index_of};
 ghost use Rattle.image_verifier.specs.declared.closure.TheConstants.{NEVER};
 ghost use Rattle.image_verifier.specs.FootFaults.{HasFootRanges, IsInto};

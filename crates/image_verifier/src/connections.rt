@@ -1,8 +1,8 @@
 //! Judges the connections, one by one.
 
 ghost use Rattle.std.specs.Prelude.{◌≡◌, ◌<◌, replicate};
-ghost use Rattle.image_layout.specs.Places.{IsWhole, header_of};
-ghost use Rattle.image_verifier.specs.ConnectionFaults.{own_fault, place_fault, breaks_at, connection_fault};
+ghost use Rattle.image_layout.specs.Offsets.{IsWhole, header_of};
+ghost use Rattle.image_verifier.specs.ConnectionFaults.{own_fault, order_fault_of, breaks_at, connection_fault};
 ghost use Rattle.image_verifier.specs.ConnectionFaults.{connections_fault, AreTripEnds};
 
 use crate::fault::ImageFault;
@@ -59,10 +59,10 @@ fn is_break(words: &[u32], i: usize, end: TripEnd) -> bool
 
 // The fault of connection `i` in its place: it departs before the connection before it, or breaks its
 // trip, as `broken` says.
-fn place_fault(words: &[u32], i: usize, broken: bool) -> Option<ImageFault>
+fn order_fault_of(words: &[u32], i: usize, broken: bool) -> Option<ImageFault>
     requires whole { IsWhole words.now }
     requires within { i < (header_of words.now).connections }
-    ensures { result ≡ place_fault words.now i broken }
+    ensures { result ≡ order_fault_of words.now i broken }
 {
     if i > 0 && dep_at(words, i) < dep_at(words, i - 1) {
         Some(ImageFault::Unsorted(i))
@@ -82,7 +82,7 @@ fn connection_fault(words: &[u32], i: usize, ends: &[TripEnd]) -> Option<ImageFa
 {
     match own_fault(words, i) {
         Some(fault) => Some(fault),
-        None => place_fault(
+        None => order_fault_of(
             words,
             i,
             is_break(words, i, ends[trip_at(words, i) as usize]),

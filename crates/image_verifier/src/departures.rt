@@ -40,14 +40,14 @@ impl<'a> Departures<'a> {
         self.image.len()
     }
 
-    /// The departure of the connection at index `place`, in seconds after the base. The read is noted.
-    pub fn read(&mut self, place: usize) -> u32
-        requires { place < length (image_of self.old).timetable.connections }
-        ensures departure { result ≡ (connection_at (image_of self.old).timetable place).dep }
-        ensures noted { reads_of self.new ≡ reads_of self.old ++ place ∷ [] }
+    /// The departure of the connection at index `position`, in seconds after the base. The read is noted.
+    pub fn read(&mut self, position: usize) -> u32
+        requires { position < length (image_of self.old).timetable.connections }
+        ensures departure { result ≡ (connection_at (image_of self.old).timetable position).dep }
+        ensures noted { reads_of self.new ≡ reads_of self.old ++ position ∷ [] }
         ensures same { image_of self.new ≡ image_of self.old }
     {
-        self.reads.note(&place);
-        dep_at(self.image.words(), place)
+        self.reads.note(&position);
+        dep_at(self.image.words(), position)
     }
 }

@@ -1,7 +1,7 @@
 //! The lengths of an image's names, and the stop that has a name.
 
 ghost use Rattle.std.specs.Prelude.{◌≡◌, ◌≢◌, ◌<◌, ◌↔◌, ℕ, length, IsTrue, IfSome, IfNone};
-ghost use Rattle.image_layout.specs.Places.{header_of};
+ghost use Rattle.image_layout.specs.Offsets.{header_of};
 ghost use Rattle.image_layout.specs.Shown.{name_count, name_of};
 ghost use Rattle.image_verifier.specs.Accepted.{IsAccepted};
 

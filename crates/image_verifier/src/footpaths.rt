@@ -1,7 +1,7 @@
 //! Judges the footpaths, stop by stop.
 
 ghost use Rattle.std.specs.Prelude.{◌≡◌, ◌<◌, ◌≤◌, ◌+◌};
-ghost use Rattle.image_layout.specs.Places.{IsWhole, header_of};
+ghost use Rattle.image_layout.specs.Offsets.{IsWhole, header_of};
 ghost use Rattle.image_layout.specs.Fields.{foot_from_of, foot_index_of, foot_secs_of};
 ghost use Rattle.timetable.specs.First.{any_between};
 ghost use Rattle.image_verifier.specs.FootFaults.{is_bad_footpath, is_fall, is_from, is_bad_index, foot_fault};
@@ -11,30 +11,30 @@ use crate::fault::ImageFault;
 use image_layout::{Header, foot_from_at, foot_index_at, foot_secs_at};
 use timetable::limits::MAX_WALK_SECS;
 
-fn is_bad_footpath(words: &[u32], place: usize) -> bool
+fn is_bad_footpath(words: &[u32], position: usize) -> bool
     requires whole { IsWhole words.now }
-    requires within { place < (header_of words.now).footpaths }
-    ensures { result ≡ is_bad_footpath words.now place }
+    requires within { position < (header_of words.now).footpaths }
+    ensures { result ≡ is_bad_footpath words.now position }
 {
-    foot_from_at(words, place) >= Header::of(words).stops
-        || foot_secs_at(words, place) > MAX_WALK_SECS
+    foot_from_at(words, position) >= Header::of(words).stops
+        || foot_secs_at(words, position) > MAX_WALK_SECS
 }
 
-fn is_fall(words: &[u32], place: usize) -> bool
+fn is_fall(words: &[u32], position: usize) -> bool
     requires whole { IsWhole words.now }
-    requires within { place < (header_of words.now).footpaths }
-    requires after { 0 < place }
-    ensures { result ≡ is_fall words.now place }
+    requires within { position < (header_of words.now).footpaths }
+    requires after { 0 < position }
+    ensures { result ≡ is_fall words.now position }
 {
-    foot_from_at(words, place) <= foot_from_at(words, place - 1)
+    foot_from_at(words, position) <= foot_from_at(words, position - 1)
 }
 
-fn is_from(words: &[u32], stop: usize, place: usize) -> bool
+fn is_from(words: &[u32], stop: usize, position: usize) -> bool
     requires whole { IsWhole words.now }
-    requires within { place < (header_of words.now).footpaths }
-    ensures { result ≡ is_from words.now stop place }
+    requires within { position < (header_of words.now).footpaths }
+    ensures { result ≡ is_from words.now stop position }
 {
-    foot_from_at(words, place) as usize == stop
+    foot_from_at(words, position) as usize == stop
 }
 
 #[tactic(auto, using(timetable::proofs::FirstLemmas::searches))]

@@ -1,7 +1,7 @@
 //! Judges words, step by step.
 
 ghost use Rattle.std.specs.Prelude.{◌≡◌, MatchResult, replicate, IfNone, ℕ, ◌<◌, ◌^◌, slice_index};
-ghost use Rattle.image_layout.specs.Places.{IsWhole, header_of};
+ghost use Rattle.image_layout.specs.Offsets.{IsWhole, header_of};
 ghost use Rattle.image_layout.specs.Text.{padded_text_of};
 ghost use Rattle.image_verifier.specs.Accepted.{IsAccepted};
 ghost use Rattle.image_verifier.specs.declared.closure.TheConstants.{NEVER};
@@ -88,7 +88,7 @@ pub fn judge(alloc: Global, words: &[u32]) -> Result<(), ImageFault>
     let header = Header::of(words);
     let mut ends = vec![in alloc; TripEnd::none(); header.trips as usize]?;
     let mut secs = vec![in alloc; NEVER; header.stops as usize]?;
-    let text = Words::to_bytes(alloc, &words[header.text_place()..])?;
+    let text = Words::to_bytes(alloc, &words[header.text_offset()..])?;
     match section_fault(words, &mut ends, &mut secs, &text) {
         Some(fault) => Err(fault),
         None => Ok(()),

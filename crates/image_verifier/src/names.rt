@@ -3,7 +3,7 @@
 ghost use Rattle.std.specs.Prelude.{◌≡◌, ◌<◌, ◌≤◌, ◌+◌, ◌==◌, drop, length};
 ghost use Rattle.std.specs.List.{list_all};
 ghost use Rattle.std.specs.Str.{is_utf8};
-ghost use Rattle.image_layout.specs.Places.{IsWhole, header_of};
+ghost use Rattle.image_layout.specs.Offsets.{IsWhole, header_of};
 ghost use Rattle.image_layout.specs.Text.{padded_text_of};
 ghost use Rattle.image_layout.specs.Shown.{name_count};
 ghost use Rattle.image_verifier.specs.NameFaults.{is_bad_name_range, name_fault, names_end_fault, names_fault};

@@ -1,7 +1,7 @@
 //! Copies an image's timetable and names, so that the image can be written again.
 
 ghost use Rattle.std.specs.Prelude.{◌≡◌, ◌<◌, ◌++◌, map, string_bytes, IfOk, OnOk};
-ghost use Rattle.image_layout.specs.Places.{header_of};
+ghost use Rattle.image_layout.specs.Offsets.{header_of};
 ghost use Rattle.image_layout.specs.Shown.{name_count, connections_of, footpath_of, footpaths_into, footpaths_of};
 ghost use Rattle.image_layout.specs.Shown.{name_of, names_of, timetable_of};
 ghost use Rattle.image_verifier.specs.Accepted.{IsAccepted};
@@ -38,11 +38,11 @@ fn unpack_walks_into(
 {
     let first = foot_index_at(words, stop) as usize;
     let end = foot_index_at(words, stop + 1) as usize;
-    for place in first..end {
+    for position in first..end {
         footpaths.push(Footpath {
-            from: foot_from_at(words, place),
+            from: foot_from_at(words, position),
             to: stop as u32,
-            secs: foot_secs_at(words, place),
+            secs: foot_secs_at(words, position),
         })?;
     }
     Ok(())

@@ -7,7 +7,7 @@ ghost use Rattle.timetable.specs.TimetableValue.{TimetableValue};
 ghost use Rattle.timetable.specs.Legal.{At};
 ghost use Rattle.timetable.specs.declared.network.Connection.{Connection};
 ghost use Rattle.timetable.specs.declared.network.Footpath.{Footpath};
-ghost use Rattle.image_layout.specs.Places.{IsWhole, header_of};
+ghost use Rattle.image_layout.specs.Offsets.{IsWhole, header_of};
 ghost use Rattle.image_layout.specs.Fields.{foot_index_of, layout_of};
 ghost use Rattle.image_layout.specs.Shown.{footpaths_of};
 ghost use Rattle.image_verifier.specs.Accepted.{IsAccepted};
@@ -73,20 +73,20 @@ pub fn verify(alloc: Global, words: Vec<u32>) -> Result<Verified, (Vec<u32>, Ima
     }
 }
 
-// The stop that the footpath at index `place` leads into, found by a binary search.
-fn stop_of(words: &[u32], place: usize) -> usize
+// The stop that the footpath at index `position` leads into, found by a binary search.
+fn stop_of(words: &[u32], position: usize) -> usize
     requires whole { IsWhole words.now }
-    requires start { foot_index_of words.now 0 ≤ place }
-    requires end { place < foot_index_of words.now (header_of words.now).stops }
+    requires start { foot_index_of words.now 0 ≤ position }
+    requires end { position < foot_index_of words.now (header_of words.now).stops }
     ensures stop { result < (header_of words.now).stops }
-    ensures start { foot_index_of words.now result ≤ place }
-    ensures end { place < foot_index_of words.now (result + 1) }
+    ensures start { foot_index_of words.now result ≤ position }
+    ensures end { position < foot_index_of words.now (result + 1) }
 {
     let mut low = 0;
     let mut high = Header::of(words).stops as usize;
     'halve: while high - low > 1 {
         let middle = low + (high - low) / 2;
-        if foot_index_at(words, middle) as usize <= place {
+        if foot_index_at(words, middle) as usize <= position {
             low = middle;
         } else {
             high = middle;
@@ -95,28 +95,28 @@ fn stop_of(words: &[u32], place: usize) -> usize
     low
 }
 
-// The footpath at index `place`, which is one of those into `stop`.
-fn footpath_of_stop(words: &[u32], stop: usize, place: usize) -> Footpath
+// The footpath at index `position`, which is one of those into `stop`.
+fn footpath_of_stop(words: &[u32], stop: usize, position: usize) -> Footpath
     requires accepted { IsAccepted words.now }
     requires stop { stop < (header_of words.now).stops }
-    requires start { foot_index_of words.now stop ≤ place }
-    requires end { place < foot_index_of words.now (stop + 1) }
-    ensures { slice_get (footpaths_of words.now) place ≡ Some result }
+    requires start { foot_index_of words.now stop ≤ position }
+    requires end { position < foot_index_of words.now (stop + 1) }
+    ensures { slice_get (footpaths_of words.now) position ≡ Some result }
 {
     Footpath {
-        from: foot_from_at(words, place),
+        from: foot_from_at(words, position),
         to: stop as u32,
-        secs: foot_secs_at(words, place),
+        secs: foot_secs_at(words, position),
     }
 }
 
-// The footpath at index `place`.
-fn footpath_at(words: &[u32], place: usize) -> Footpath
+// The footpath at index `position`.
+fn footpath_at(words: &[u32], position: usize) -> Footpath
     requires accepted { IsAccepted words.now }
-    requires within { place < (header_of words.now).footpaths }
-    ensures { slice_get (footpaths_of words.now) place ≡ Some result }
+    requires within { position < (header_of words.now).footpaths }
+    ensures { slice_get (footpaths_of words.now) position ≡ Some result }
 {
-    footpath_of_stop(words, stop_of(words, place), place)
+    footpath_of_stop(words, stop_of(words, position), position)
 }
 
 impl Verified {
@@ -198,24 +198,24 @@ impl Verified {
         Header::of(&self.words).footpaths as usize
     }
 
-    /// The footpath at index `place`, which is in the range that `walks_into` returns for `stop`. Its
+    /// The footpath at index `position`, which is in the range that `walks_into` returns for `stop`. Its
     /// two words are read, and nothing is searched.
-    pub fn footpath_into(&self, stop: usize, place: usize) -> Footpath
+    pub fn footpath_into(&self, stop: usize, position: usize) -> Footpath
         requires stop { stop < self.now.timetable.stops }
-        requires place { place < length self.now.timetable.footpaths }
-        requires into { (f : Footpath) → At self.now.timetable.footpaths place f → f.to ≡ stop }
-        ensures { slice_get self.now.timetable.footpaths place ≡ Some result }
+        requires position { position < length self.now.timetable.footpaths }
+        requires into { (f : Footpath) → At self.now.timetable.footpaths position f → f.to ≡ stop }
+        ensures { slice_get self.now.timetable.footpaths position ≡ Some result }
     {
-        footpath_of_stop(&self.words, stop, place)
+        footpath_of_stop(&self.words, stop, position)
     }
 
-    /// The footpath at index `place`. The stop that it leads into is searched for; `footpath_into` is
+    /// The footpath at index `position`. The stop that it leads into is searched for; `footpath_into` is
     /// faster if that is known.
-    pub fn footpath(&self, place: usize) -> Footpath
-        requires { place < length self.now.timetable.footpaths }
-        ensures { slice_get self.now.timetable.footpaths place ≡ Some result }
+    pub fn footpath(&self, position: usize) -> Footpath
+        requires { position < length self.now.timetable.footpaths }
+        ensures { slice_get self.now.timetable.footpaths position ≡ Some result }
     {
-        footpath_at(&self.words, place)
+        footpath_at(&self.words, position)
     }
 
     /// The lowest stop that has this name, if any has it.

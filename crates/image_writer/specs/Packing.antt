@@ -1,8 +1,8 @@
 -- A text while it is written: the bytes that fill words, and those that wait for more.
 use Rattle.std.specs.Prelude.{ℕ, List, [], ◌∷◌}
 use Rattle.std.specs.Int.{w32, from_le_bytes}
-use Rattle.image_writer.specs.declared.text.Waiting.{Waiting}
-use Rattle.image_writer.specs.declared.text.Waiting.TheVariants.{Empty, One, Two, Three}
+use Rattle.image_writer.specs.declared.text.PartialWord.{PartialWord}
+use Rattle.image_writer.specs.declared.text.PartialWord.TheVariants.{Empty, One, Two, Three}
 
 -- the words that the bytes fill
 abbrev pub full_words : List ℕ → List ℕ
@@ -20,7 +20,7 @@ rest_of (a ∷ b ∷ []) = a ∷ b ∷ []
 rest_of (a ∷ b ∷ c ∷ []) = a ∷ b ∷ c ∷ []
 rest_of (a ∷ b ∷ c ∷ d ∷ rest) = rest_of rest
 
-abbrev pub waiting_bytes : Waiting → List ℕ
+abbrev pub waiting_bytes : PartialWord → List ℕ
 waiting_bytes Empty = []
 waiting_bytes (One a) = a ∷ []
 waiting_bytes (Two a b) = a ∷ b ∷ []

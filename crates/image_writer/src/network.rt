@@ -46,25 +46,25 @@ pub fn write_foot_index(
     ensures { OnOk result (words.new.items ≡ words.old.items
         ++ map (footpath_count_below footpaths.now) (range_with_len 0 (stops + 1))) }
 {
-    let mut place = 0;
+    let mut index = 0;
     for stop in 0..stops + 1 {
-        place = first_into(footpaths, place, stop);
-        words.push(place as u32)?;
+        index = first_into(footpaths, index, stop);
+        words.push(index as u32)?;
     }
     Ok(())
 }
 
-/// The number of footpaths into stops below `stop`. It is at least `place`, from where counting goes on.
-fn first_into(footpaths: &[Footpath], place: usize, stop: u32) -> usize
+/// The number of footpaths into stops below `stop`. It is at least `index`, from where counting goes on.
+fn first_into(footpaths: &[Footpath], index: usize, stop: u32) -> usize
     requires ordered { AreInOrder footpaths.now }
-    requires known { place ≤ footpath_count_below footpaths.now stop }
+    requires known { index ≤ footpath_count_below footpaths.now stop }
     ensures { result ≡ footpath_count_below footpaths.now stop }
 {
-    let mut place = place;
-    while place < footpaths.len() && footpaths[place].to < stop {
-        place += 1;
+    let mut index = index;
+    while index < footpaths.len() && footpaths[index].to < stop {
+        index += 1;
     }
-    place
+    index
 }
 
 /// Adds two words for each footpath.

@@ -12,27 +12,27 @@ use timetable::Names;
 
 /// Bytes of the text that don't fill a word yet.
 #[derive(Clone, Copy)]
-enum Waiting {
+enum PartialWord {
     Empty,
     One(u8),
     Two(u8, u8),
     Three(u8, u8, u8),
 }
 
-impl Waiting {
+impl PartialWord {
     /// Takes one more byte and returns the bytes that wait then. The fourth fills a word, which is added.
-    fn push(self, words: &mut Vec<u32>, byte: u8) -> Result<Waiting, AllocError>
+    fn push(self, words: &mut Vec<u32>, byte: u8) -> Result<PartialWord, AllocError>
         ensures written { OnOk result (words.new.items ≡ words.old.items
             ++ full_words (waiting_bytes self ++ byte ∷ [])) }
         ensures rest { IfOk result (λ waiting. waiting_bytes waiting ≡ rest_of (waiting_bytes self ++ byte ∷ [])) }
     {
         match self {
-            Waiting::Empty => Ok(Waiting::One(byte)),
-            Waiting::One(a) => Ok(Waiting::Two(a, byte)),
-            Waiting::Two(a, b) => Ok(Waiting::Three(a, b, byte)),
-            Waiting::Three(a, b, c) => {
+            PartialWord::Empty => Ok(PartialWord::One(byte)),
+            PartialWord::One(a) => Ok(PartialWord::Two(a, byte)),
+            PartialWord::Two(a, b) => Ok(PartialWord::Three(a, b, byte)),
+            PartialWord::Three(a, b, c) => {
                 words.push(u32::from_le_bytes([a, b, c, byte]))?;
-                Ok(Waiting::Empty)
+                Ok(PartialWord::Empty)
             }
         }
     }
@@ -43,10 +43,10 @@ impl Waiting {
         ensures { OnOk result (words.new.items ≡ words.old.items ++ text_words (waiting_bytes self)) }
     {
         let last = match self {
-            Waiting::Empty => return Ok(()),
-            Waiting::One(a) => [a, 0, 0, 0],
-            Waiting::Two(a, b) => [a, b, 0, 0],
-            Waiting::Three(a, b, c) => [a, b, c, 0],
+            PartialWord::Empty => return Ok(()),
+            PartialWord::One(a) => [a, 0, 0, 0],
+            PartialWord::Two(a, b) => [a, b, 0, 0],
+            PartialWord::Three(a, b, c) => [a, b, c, 0],
         };
         words.push(u32::from_le_bytes(last))?;
         Ok(())
@@ -54,7 +54,11 @@ impl Waiting {
 }
 
 /// Adds the bytes of a name after those that wait, and returns the bytes that wait then.
-fn write_name(words: &mut Vec<u32>, waiting: Waiting, name: &[u8]) -> Result<Waiting, AllocError>
+fn write_name(
+    words: &mut Vec<u32>,
+    waiting: PartialWord,
+    name: &[u8],
+) -> Result<PartialWord, AllocError>
     ensures written { OnOk result (words.new.items ≡ words.old.items
         ++ full_words (waiting_bytes waiting ++ name.now)) }
     ensures rest { IfOk result (λ after. waiting_bytes after ≡ rest_of (waiting_bytes waiting ++ name.now)) }
@@ -71,7 +75,7 @@ pub fn write_text(words: &mut Vec<u32>, names: &Names) -> Result<(), AllocError>
     ensures written { OnOk result (words.new.items ≡ words.old.items ++ text_words (text names.now)) }
     ensures utf8 { OnOk result ((i : ℕ) (name : List ℕ) → At (name_list names.now) i name → IsUtf8 name) }
 {
-    let mut waiting = Waiting::Empty;
+    let mut waiting = PartialWord::Empty;
     for i in 0..name_count(names) {
         waiting = write_name(words, waiting, name_at(names, i))?;
     }

@@ -42,14 +42,15 @@ abbrev pub tagless : {V : Type 0} → Point V → Point V
 tagless p = record { departure = p.departure; value = p.value; tag = 0 }
 
 -- the first points of a list, each with a journey that attains it
-pub record AreTold {V : Type 0} (rules : Rules V) (t : TimetableValue) (q : Query) (points : List (Point V)) (n : ℕ) (told : List (Departure V)) : Type 0 where
-  pub first : map point_of told ≡ map tagless (take n points)
-  pub each : (departure : Departure V) → Contains told departure → Attains rules t q (point_of departure) departure.journey
+pub record HaveJourneys {V : Type 0} (rules : Rules V) (t : TimetableValue) (q : Query) (points : List (Point V)) (n : ℕ)
+    (departures : List (Departure V)) : Type 0 where
+  pub first : map point_of departures ≡ map tagless (take n points)
+  pub each : (departure : Departure V) → Contains departures departure → Attains rules t q (point_of departure) departure.journey
 
-pub none_told : {V : Type 0} (rules : Rules V) (t : TimetableValue) (q : Query) (points : List (Point V)) (told : List (Departure V))
-    → told ≡ [] → AreTold rules t q points 0 told
-none_told rules t q points told none =
-    subst (AreTold rules t q points 0) (sym none)
+pub no_journeys : {V : Type 0} (rules : Rules V) (t : TimetableValue) (q : Query) (points : List (Point V)) (departures : List (Departure V))
+    → departures ≡ [] → HaveJourneys rules t q points 0 departures
+no_journeys rules t q points departures none =
+    subst (HaveJourneys rules t q points 0) (sym none)
     (record { first = refl; each = λ departure h. let lt = h.1 in absurd (omega (arith, lt)) })
 
 -- a point read at a place
@@ -58,11 +59,11 @@ pub point_at : {V : Type 0} (points read : List (Point V)) (i : ℕ) (p : Point 
 point_at {V} points read i p same lt is =
     subst (λ (ps : List (Point V)). slice_get ps i ≡ Some p) same (slice_get-get_or read i p lt ∙ ap Some (sym is))
 
-pub one_more : {V : Type 0} (rules : Rules V) (t : TimetableValue) (q : Query) (points : List (Point V)) (n : ℕ) (told : List (Departure V)) (p : Point V)
+pub one_more : {V : Type 0} (rules : Rules V) (t : TimetableValue) (q : Query) (points : List (Point V)) (n : ℕ) (departures : List (Departure V)) (p : Point V)
     (j : JourneyValue)
-    → AreTold rules t q points n told → slice_get points n ≡ Some p → Attains rules t q p j
-    → AreTold rules t q points (n + 1) (told ++ record { time = p.departure; value = p.value; journey = j } ∷ [])
-one_more {V} rules t q points n told p j are at attains =
+    → HaveJourneys rules t q points n departures → slice_get points n ≡ Some p → Attains rules t q p j
+    → HaveJourneys rules t q points (n + 1) (departures ++ record { time = p.departure; value = p.value; journey = j } ∷ [])
+one_more {V} rules t q points n departures p j are at attains =
     let new : Departure V = record { time = p.departure; value = p.value; journey = j } in
     let next : n + 1 ≡ suc n = omega arith in
     let taken : take n points ++ p ∷ [] ≡ take (n + 1) points =
@@ -70,9 +71,9 @@ one_more {V} rules t q points n told p j are at attains =
     ∙ (sym (take-suc points n p (slice_get_within points n p at)) ∙ ap (λ (k : ℕ). take k points) (sym next)) in
     let here : Attains rules t q (point_of new) j = record { counts = attains.counts; plain = attains.plain; worth = attains.worth } in
     record {
-      first = map-append point_of told (new ∷ []) ∙ (ap (λ (ps : List (Point V)). ps ++ tagless p ∷ []) are.first
+      first = map-append point_of departures (new ∷ []) ∙ (ap (λ (ps : List (Point V)). ps ++ tagless p ∷ []) are.first
           ∙ (sym (map-append tagless (take n points) (p ∷ [])) ∙ ap (map tagless) taken));
-      each = λ departure h. elim (Contains-push_cases told new departure h) [
+      each = λ departure h. elim (Contains-push_cases departures new departure h) [
         | inl before ↦ are.each departure before
         | inr same ↦ subst (λ (d : Departure V). Attains rules t q (point_of d) d.journey) same here
       ];
@@ -119,8 +120,8 @@ still_answers {V} rules t q points is = record {
     without_tag departure v (p, has, time, value) = (tagless p, has_tagless points p has, time, value)
 
 -- all points told are the answer
-pub all_told : {V : Type 0} (rules : Rules V) (t : TimetableValue) (q : Query) (points : List (Point V)) (n : ℕ) (told : List (Departure V))
-    → AreTold rules t q points n told → length points ≤ n → IsAnswer rules t q points → IsAnswer rules t q (map point_of told)
-all_told rules t q points n told are past is =
+pub all_have_journeys : {V : Type 0} (rules : Rules V) (t : TimetableValue) (q : Query) (points : List (Point V)) (n : ℕ) (departures : List (Departure V))
+    → HaveJourneys rules t q points n departures → length points ≤ n → IsAnswer rules t q points → IsAnswer rules t q (map point_of departures)
+all_have_journeys rules t q points n departures are past is =
     let all = are.first ∙ ap (map tagless) (take_all n points past) in
     subst (IsAnswer rules t q) (sym all) (still_answers rules t q points is)

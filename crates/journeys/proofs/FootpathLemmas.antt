@@ -79,24 +79,24 @@ module _ (paths : List Footpath) (in_order : AreInOrder paths) (stop start end :
       ]
 
 -- among the footpaths into where a footpath leads, only the first that leaves its stop or a later one may be the same
-pub same_or_none : (t : TimetableValue) → IsLegal t → (f g : Footpath) (start end place : ℕ)
-    → ((k : ℕ) (h : Footpath) → At t.footpaths k h → (h.to ≡ f.to) ↔ ((start ≤ k) × (k < end))) → start ≤ place → place < end
-    → ((k : ℕ) (h : Footpath) → At t.footpaths k h → start ≤ k → k < place → h.from < f.from)
-    → ((k : ℕ) (h : Footpath) → At t.footpaths k h → place ≤ k → k < end → f.from ≤ h.from) → At t.footpaths place g → is_same g f ≡ has_footpath t f
-same_or_none t legal f g start end place exact low high before here at_g =
+pub same_or_none : (t : TimetableValue) → IsLegal t → (f g : Footpath) (start end index : ℕ)
+    → ((k : ℕ) (h : Footpath) → At t.footpaths k h → (h.to ≡ f.to) ↔ ((start ≤ k) × (k < end))) → start ≤ index → index < end
+    → ((k : ℕ) (h : Footpath) → At t.footpaths k h → start ≤ k → k < index → h.from < f.from)
+    → ((k : ℕ) (h : Footpath) → At t.footpaths k h → index ≤ k → k < end → f.from ≤ h.from) → At t.footpaths index g → is_same g f ≡ has_footpath t f
+same_or_none t legal f g start end index exact low high before here at_g =
     elim (cases_Bool (is_same g f)) [
-      | inl same ↦ same ∙ sym (has_footpath-at t place f (at_g ∙ ap Some (is_same-eq g f same)))
+      | inl same ↦ same ∙ sym (has_footpath-at t index f (at_g ∙ ap Some (is_same-eq g f same)))
       | inr other ↦ other ∙ sym (has_footpath-none t f (never other))
     ]
   where
     never : is_same g f ≡ false → (k : ℕ) → At t.footpaths k f → ⊥
     never other k at_f =
         let range = (exact k f at_f).0 refl in
-        elim (cases_order k place) [
+        elim (cases_order k index) [
           | inl same ↦ (let one : f ≡ g = same_Some f g (sym at_f ∙ ap (λ (x : ℕ). slice_get t.footpaths x) same ∙ at_g) in true≢false
               (sym (is_same-refl f) ∙ ap (λ (h : Footpath). is_same h f) one ∙ other))
           | inr (inl below) ↦ (let less = before k f at_f range.0 below in absurd (omega (arith, less)))
           | inr (inr above) ↦ (let less = leaves_later t.footpaths legal.in_order f.to start end
-              (λ j h at_h le lt. (exact j h at_h).1 (le, lt)) place k g f low above range.1 at_g at_f in let le = here place g at_g (omega arith) high in absurd
+              (λ j h at_h le lt. (exact j h at_h).1 (le, lt)) index k g f low above range.1 at_g at_f in let le = here index g at_g (omega arith) high in absurd
               (omega (arith, less, le)))
         ]

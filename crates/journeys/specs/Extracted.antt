@@ -13,7 +13,7 @@ use Rattle.profile_scan.specs.Continuations.{Aboard}
 use Rattle.profile_scan.specs.Steps.{boarded}
 use Rattle.profile_scan.specs.Nodes.{spelled, changed_at, boarded_after, walk_of}
 use Rattle.profile_scan.specs.declared.nodes.Node.{Node}
-use Rattle.journeys.specs.declared.extraction.Boarding.{Boarding}
+use Rattle.journeys.specs.declared.extraction.BoardingNode.{BoardingNode}
 use Rattle.journeys.specs.declared.extraction.Alighting.{Alighting}
 use Rattle.journeys.specs.declared.extraction.Alighting.TheVariants.{Ends, Changes}
 
@@ -36,7 +36,7 @@ or_none None = record { start = None; rides = [] }
 or_none (Some j) = j
 
 -- a node boards: it spells how one goes on from a stop, by what an earlier node spells
-abbrev pub IsBoarding : List Node → ℕ → Boarding → Type 0
+abbrev pub IsBoarding : List Node → ℕ → BoardingNode → Type 0
 IsBoarding nodes number b = (b.next < number) × ((spelled nodes number).onward ≡ boarded_after b.walk b.first (spelled nodes b.next).aboard)
 
 -- a node gets off, for good or to board again: it spells how one goes on in a trip, by what an earlier node spells

@@ -12,13 +12,13 @@ use crate::ends::{ends_fault, times_fault, times_inside};
 use crate::fault::JourneyFault;
 use crate::legs::legs_fault;
 use crate::walks::walks_fault;
-use crate::way::Way;
+use crate::way::JourneyParts;
 use image_verifier::Verified;
 use timetable::{Journey, Query, Times};
 
 // The first fault of legs and walks, and of where the journey begins and ends.
 #[tactic(auto, unfolding(crate::specs::Faults::path_fault))]
-fn path_fault(image: &Verified, query: &Query, way: &Way<'_>) -> Option<JourneyFault>
+fn path_fault(image: &Verified, query: &Query, way: &JourneyParts<'_>) -> Option<JourneyFault>
     ensures { result ≡ path_fault image.now.timetable query.now way.now.start way.now.rides.now }
 {
     if let Some(fault) = legs_fault(image, way.rides) {
@@ -33,7 +33,7 @@ fn path_fault(image: &Verified, query: &Query, way: &Way<'_>) -> Option<JourneyF
     ends_fault(image, query, way)
 }
 
-fn judge(image: &Verified, query: &Query, way: &Way<'_>) -> Result<Times, JourneyFault>
+fn judge(image: &Verified, query: &Query, way: &JourneyParts<'_>) -> Result<Times, JourneyFault>
     ensures { IsJudged image.now.timetable query.now (record {
       start = way.now.start;
       rides =
@@ -61,7 +61,7 @@ pub fn check(image: &Verified, query: &Query, journey: &Journey) -> Result<Times
     // The error is the first fault.
     ensures fault { IfErr result (λ e. first_fault image.now.timetable query.now journey.now ≡ Some e) }
 {
-    let way = Way {
+    let way = JourneyParts {
         start: journey.start,
         rides: &journey.rides,
     };

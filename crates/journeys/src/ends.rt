@@ -8,7 +8,7 @@ ghost use Rattle.journeys.specs.Faults.{early_fault, times_fault, begin_of, ends
 use crate::fault::JourneyFault;
 use crate::legs::{connection_at, leg_at};
 use crate::walks::walk_secs;
-use crate::way::Way;
+use crate::way::JourneyParts;
 use image_verifier::Verified;
 use timetable::{Footpath, Query, Ride, Times};
 
@@ -93,12 +93,12 @@ fn stop_after(image: &Verified, rides: &[Ride], i: usize) -> u32
 
 /// Returns `WrongEnds` if the journey doesn't begin at the source or doesn't end at the target.
 #[tactic(auto, unfolding(crate::specs::Faults::ends_fault))]
-pub fn ends_fault(image: &Verified, query: &Query, way: &Way<'_>) -> Option<JourneyFault>
+pub fn ends_fault(image: &Verified, query: &Query, way: &JourneyParts<'_>) -> Option<JourneyFault>
     requires legs { AreLegs image.now.timetable way.now.rides.now }
     requires some { 0 < length way.now.rides.now }
     ensures { result ≡ ends_fault image.now.timetable query.now way.now.start way.now.rides.now }
 {
-    let Way { start, rides } = *way;
+    let JourneyParts { start, rides } = *way;
     let first = connection_at(image, leg_at(rides, 0).first);
     if begin_of(start, first.from) != query.source
         || stop_after(image, rides, rides.len() - 1) != query.target
@@ -111,12 +111,16 @@ pub fn ends_fault(image: &Verified, query: &Query, way: &Way<'_>) -> Option<Jour
 /// Returns when a journey departs and when it is over. The error is `OutsideWindow` if it departs earlier or later
 /// than the query allows, or is over too late.
 #[tactic(auto, unfolding(crate::specs::Faults::window_fault))]
-pub fn times_inside(image: &Verified, query: &Query, way: &Way<'_>) -> Result<Times, JourneyFault>
+pub fn times_inside(
+    image: &Verified,
+    query: &Query,
+    way: &JourneyParts<'_>,
+) -> Result<Times, JourneyFault>
     requires legs { AreLegs image.now.timetable way.now.rides.now }
     requires some { 0 < length way.now.rides.now }
     ensures { IsTimed image.now.timetable query.now way.now.start way.now.rides.now result }
 {
-    let Way { start, rides } = *way;
+    let JourneyParts { start, rides } = *way;
     let dep = connection_at(image, leg_at(rides, 0).first).dep;
     let secs = start_secs(start);
     let arr = over_at(image, rides, rides.len() - 1);

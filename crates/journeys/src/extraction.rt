@@ -45,7 +45,7 @@ impl<C: Criterion> Spells for FoundBetween<C> {
 
 // A footpath to a connection that is boarded, and the node by which one goes on in its trip.
 #[derive(Clone, Copy)]
-struct Boarding {
+struct BoardingNode {
     walk: Footpath,
     first: u32,
     next: usize,
@@ -55,19 +55,19 @@ struct Boarding {
 #[derive(Clone, Copy)]
 enum Alighting {
     Ends { last: u32, walk: Option<Footpath> },
-    Changes { last: u32, boarding: Boarding },
+    Changes { last: u32, boarding: BoardingNode },
 }
 
 // The boarding that a node says, if it says one.
 #[tactic(auto, using(crate::proofs::SpellLemmas::nothing_said))]
-fn boards_at<F: Spells>(found: &F, number: usize) -> Option<Boarding>
+fn boards_at<F: Spells>(found: &F, number: usize) -> Option<BoardingNode>
     ensures { MatchOption result ((spelled (F.nodes found.now) number).onward
         ≡ None) (λ boarding. IsBoarding (F.nodes found.now) number boarding) }
 {
     match found.node_at(number) {
         Some(Node::Boards { walk, first, next }) => {
             if next < number {
-                Some(Boarding { walk, first, next })
+                Some(BoardingNode { walk, first, next })
             } else {
                 None
             }

@@ -44,9 +44,9 @@ pub fn has_footpath(image: &Verified, footpath: Footpath) -> bool
         return false;
     }
     let (start, end) = image.walks_into(footpath.to as usize);
-    let place = first_leaving(image, footpath.to, start, end, footpath.from);
-    if place == end {
+    let index = first_leaving(image, footpath.to, start, end, footpath.from);
+    if index == end {
         return false;
     }
-    image.footpath_into(footpath.to as usize, place) == footpath
+    image.footpath_into(footpath.to as usize, index) == footpath
 }

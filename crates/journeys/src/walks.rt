@@ -9,7 +9,7 @@ ghost use Rattle.journeys.specs.Faults.{is_broken, walk_after_fault, walks_fault
 use crate::fault::JourneyFault;
 use crate::footpaths::has_footpath;
 use crate::legs::connection_at;
-use crate::way::Way;
+use crate::way::JourneyParts;
 use image_verifier::Verified;
 use timetable::{Footpath, Ride};
 
@@ -107,12 +107,12 @@ fn walk_after_fault(image: &Verified, rides: &[Ride], i: usize) -> Option<Journe
 
 /// The first fault of the walks of a journey whose legs have none.
 #[tactic(auto, using(timetable::proofs::FirstLemmas::searches), unfolding(crate::specs::Faults::walks_fault))]
-pub fn walks_fault(image: &Verified, way: &Way<'_>) -> Option<JourneyFault>
+pub fn walks_fault(image: &Verified, way: &JourneyParts<'_>) -> Option<JourneyFault>
     requires legs { AreLegs image.now.timetable way.now.rides.now }
     requires some { 0 < length way.now.rides.now }
     ensures { result ≡ walks_fault image.now.timetable way.now.start way.now.rides.now }
 {
-    let Way { start, rides } = *way;
+    let JourneyParts { start, rides } = *way;
     let first = &rides[0];
     let stop = connection_at(image, first.leg.first).from;
     if let Some(fault) = start_fault(image, start, stop) {

@@ -4,7 +4,7 @@ use timetable::{Footpath, Ride};
 
 /// The start and the rides of a journey.
 #[derive(Clone, Copy)]
-pub struct Way<'a> {
+pub struct JourneyParts<'a> {
     pub start: Option<Footpath>,
     pub rides: &'a [Ride],
 }

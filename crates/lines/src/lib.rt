@@ -9,5 +9,5 @@ mod reader;
 mod text;
 
 pub use counted::{Counted, ReadFailed, WriteFailed};
-pub use reader::{Given, LONGEST_LINE, LineReader};
+pub use reader::{LONGEST_LINE, LineReader, NextLine};
 pub use text::{LINE_BYTES, Line};

@@ -1,17 +1,17 @@
 -- Orders that are asked for, one after the other.
 use Rattle.std.proofs.Common.{◌≡◌, ◌++◌, ◌∷◌, ℕ, List, [], Some, Ok, Err, Result, IfErr, IfOk, OnOk, ap, subst, sym, refl}
-use Rattle.orders.specs.Ordering.{OrderValue, version_told}
+use Rattle.orders.specs.Ordering.{OrderValue, version_alone}
 use Rattle.orders.specs.declared.fault.OrderFault.{OrderFault}
-use Rattle.orders.specs.declared.ordered.Outcome.{Outcome}
+use Rattle.orders.specs.declared.ordered.OrderOutcome.{OrderOutcome}
 use Rattle.load_orders.specs.Asking.{AreAsked, Does, HasAsked, Hears, IsFirst, IsNoted, IsTurnedAway, OrderRoute, RefusesVersion, WorkerOrdersValue}
 use Rattle.load_orders.specs.Asking.{IsPutAt, nothing_asked, once_tried, order_of, route_of, unasked}
 use Rattle.load_orders.specs.Queue.{EndValue, QueueId}
 use Rattle.load_orders.specs.Ways.{WayValue}
-use Rattle.load_orders.specs.declared.queue.Arrival.{Arrival}
-use Rattle.load_orders.specs.declared.queue.Side.{Side}
+use Rattle.load_orders.specs.declared.queue.OrderMessage.{OrderMessage}
+use Rattle.load_orders.specs.declared.queue.QueueView.{QueueView}
 use Rattle.load_orders.specs.declared.ways.LoadAnswer.{LoadAnswer}
 
-module _ {N : Type 0} (holds : List (Arrival N) → List Side → Type 0) (noted : N → ℕ) where
+module _ {N : Type 0} (holds : List (OrderMessage N) → List QueueView → Type 0) (noted : N → ℕ) where
   one_more : (orders : List OrderValue) (order : OrderValue) (a b c : WorkerOrdersValue N) → AreAsked holds noted orders a b
       → Does holds noted order.feed order.outcome b c → IsNoted order b c → AreAsked holds noted (orders ++ order ∷ []) a c
   one_more [] order a b c is does same = (
@@ -31,23 +31,23 @@ module _ {N : Type 0} (holds : List (Arrival N) → List Side → Type 0) (noted
       (is.0, subst (λ (orders : List OrderValue). AreAsked holds noted orders (nothing_asked (route_of c) is.0) c) (sym noted_so.1) here)
 
   -- what an order did shows whatever was asked for before
-  does_so : (feed : List ℕ) (outcome : Outcome) (names : List (List ℕ)) (end end_then : EndValue N) (asked asked_then : List OrderValue)
+  does_so : (feed : List ℕ) (outcome : OrderOutcome) (names : List (List ℕ)) (end end_then : EndValue N) (asked asked_then : List OrderValue)
       (heard heard_then : List (WayValue N))
       → Does holds noted feed outcome (unasked names end heard) (unasked names end_then heard_then)
       → Does holds noted feed outcome (record { names = names; end = end; asked = asked; heard = heard })
       (record { names = names; end = end_then; asked = asked_then; heard = heard_then })
-  does_so feed (Outcome.Put (Ok u)) names end end_then asked asked_then heard heard_then does = does
-  does_so feed (Outcome.Put (Err OrderFault.UnknownFeed)) names end end_then asked asked_then heard heard_then does = does
-  does_so feed (Outcome.Put (Err OrderFault.OrdersFull)) names end end_then asked asked_then heard heard_then does = does
-  does_so feed (Outcome.Put (Err (OrderFault.LoadRefused refusal))) names end end_then asked asked_then heard heard_then does = absurd does
-  does_so feed (Outcome.Put (Err OrderFault.OutOfMemory)) names end end_then asked asked_then heard heard_then does = absurd does
-  does_so feed (Outcome.Put (Err OrderFault.LoaderGone)) names end end_then asked asked_then heard heard_then does = does
-  does_so feed (Outcome.Waited (Ok version)) names end end_then asked asked_then heard heard_then does = does
-  does_so feed (Outcome.Waited (Err OrderFault.UnknownFeed)) names end end_then asked asked_then heard heard_then does = does
-  does_so feed (Outcome.Waited (Err OrderFault.OrdersFull)) names end end_then asked asked_then heard heard_then does = does
-  does_so feed (Outcome.Waited (Err (OrderFault.LoadRefused refusal))) names end end_then asked asked_then heard heard_then does = does
-  does_so feed (Outcome.Waited (Err OrderFault.OutOfMemory)) names end end_then asked asked_then heard heard_then does = does
-  does_so feed (Outcome.Waited (Err OrderFault.LoaderGone)) names end end_then asked asked_then heard heard_then does = does
+  does_so feed (OrderOutcome.Put (Ok u)) names end end_then asked asked_then heard heard_then does = does
+  does_so feed (OrderOutcome.Put (Err OrderFault.UnknownFeed)) names end end_then asked asked_then heard heard_then does = does
+  does_so feed (OrderOutcome.Put (Err OrderFault.OrdersFull)) names end end_then asked asked_then heard heard_then does = does
+  does_so feed (OrderOutcome.Put (Err (OrderFault.LoadRefused refusal))) names end end_then asked asked_then heard heard_then does = absurd does
+  does_so feed (OrderOutcome.Put (Err OrderFault.OutOfMemory)) names end end_then asked asked_then heard heard_then does = absurd does
+  does_so feed (OrderOutcome.Put (Err OrderFault.LoaderGone)) names end end_then asked asked_then heard heard_then does = does
+  does_so feed (OrderOutcome.Waited (Ok version)) names end end_then asked asked_then heard heard_then does = does
+  does_so feed (OrderOutcome.Waited (Err OrderFault.UnknownFeed)) names end end_then asked asked_then heard heard_then does = does
+  does_so feed (OrderOutcome.Waited (Err OrderFault.OrdersFull)) names end end_then asked asked_then heard heard_then does = does
+  does_so feed (OrderOutcome.Waited (Err (OrderFault.LoadRefused refusal))) names end end_then asked asked_then heard heard_then does = does
+  does_so feed (OrderOutcome.Waited (Err OrderFault.OutOfMemory)) names end end_then asked asked_then heard heard_then does = does
+  does_so feed (OrderOutcome.Waited (Err OrderFault.LoaderGone)) names end end_then asked asked_then heard heard_then does = does
 
   -- one order more, by what it did at the end of the queue and what was heard of it
   pub asked_more : (order : OrderValue) (names : List (List ℕ)) (end end_then : EndValue N) (asked asked_then : List OrderValue)
@@ -63,32 +63,32 @@ module _ {N : Type 0} (holds : List (Arrival N) → List Side → Type 0) (noted
       (does_so order.feed order.outcome names end end_then asked asked_then heard heard_then does) (ap To queue, grows)
 
   -- an order that was put, or for which there was no room
-  pub does_put : (feed : List ℕ) (place : ℕ) (outcome : Result (Unit {0}) OrderFault) (names : List (List ℕ)) (end end_then : EndValue N)
-      (heard : List (WayValue N)) → IsFirst names feed place → OnOk outcome (IsPutAt end (order_of place) end_then)
+  pub does_put : (feed : List ℕ) (index : ℕ) (outcome : Result (Unit {0}) OrderFault) (names : List (List ℕ)) (end end_then : EndValue N)
+      (heard : List (WayValue N)) → IsFirst names feed index → OnOk outcome (IsPutAt end (order_of index) end_then)
       → IfErr outcome (λ fault. IsTurnedAway holds end fault × (end_then ≡ once_tried end))
-      → Does holds noted feed (Outcome.Put outcome) (unasked names end heard) (unasked names end_then heard)
-  does_put feed place (Ok u) names end end_then heard first put refused = ((place, first, put), refl)
-  does_put feed place (Err OrderFault.UnknownFeed) names end end_then heard first put refused = absurd refused.0
-  does_put feed place (Err OrderFault.OrdersFull) names end end_then heard first put refused = (((place, first), refused.1, refl), refused.0)
-  does_put feed place (Err (OrderFault.LoadRefused refusal)) names end end_then heard first put refused = absurd refused.0
-  does_put feed place (Err OrderFault.OutOfMemory) names end end_then heard first put refused = absurd refused.0
-  does_put feed place (Err OrderFault.LoaderGone) names end end_then heard first put refused = ((place, first), refused.1, refl)
+      → Does holds noted feed (OrderOutcome.Put outcome) (unasked names end heard) (unasked names end_then heard)
+  does_put feed index (Ok u) names end end_then heard first put refused = ((index, first, put), refl)
+  does_put feed index (Err OrderFault.UnknownFeed) names end end_then heard first put refused = absurd refused.0
+  does_put feed index (Err OrderFault.OrdersFull) names end end_then heard first put refused = (((index, first), refused.1, refl), refused.0)
+  does_put feed index (Err (OrderFault.LoadRefused refusal)) names end end_then heard first put refused = absurd refused.0
+  does_put feed index (Err OrderFault.OutOfMemory) names end end_then heard first put refused = absurd refused.0
+  does_put feed index (Err OrderFault.LoaderGone) names end end_then heard first put refused = ((index, first), refused.1, refl)
 
   -- an order that was waited for
-  pub does_wait : (feed : List ℕ) (told : Result (ℕ × N) OrderFault) (names : List (List ℕ)) (end end_then : EndValue N)
-      (heard heard_then : List (WayValue N)) → IfOk told (λ r. noted r.1 ≡ r.0)
-      → IfOk told (λ r. Hears feed (Some (LoadAnswer.Published r.1)) (unasked names end heard) (unasked names end_then heard_then))
-      → IfErr told (λ fault. RefusesVersion holds feed fault (unasked names end heard) (unasked names end_then heard_then))
-      → Does holds noted feed (Outcome.Waited (version_told told)) (unasked names end heard) (unasked names end_then heard_then)
+  pub does_wait : (feed : List ℕ) (sent : Result (ℕ × N) OrderFault) (names : List (List ℕ)) (end end_then : EndValue N)
+      (heard heard_then : List (WayValue N)) → IfOk sent (λ r. noted r.1 ≡ r.0)
+      → IfOk sent (λ r. Hears feed (Some (LoadAnswer.Published r.1)) (unasked names end heard) (unasked names end_then heard_then))
+      → IfErr sent (λ fault. RefusesVersion holds feed fault (unasked names end heard) (unasked names end_then heard_then))
+      → Does holds noted feed (OrderOutcome.Waited (version_alone sent)) (unasked names end heard) (unasked names end_then heard_then)
   does_wait feed (Ok r) names end end_then heard heard_then version hears refused = (r.1, version, hears)
   does_wait feed (Err fault) names end end_then heard heard_then version hears refused = refused
 
   -- why none came shows whatever was asked for before
-  pub refused_so : (feed : List ℕ) (told : Result (ℕ × N) OrderFault) (names : List (List ℕ)) (end end_then : EndValue N)
+  pub refused_so : (feed : List ℕ) (sent : Result (ℕ × N) OrderFault) (names : List (List ℕ)) (end end_then : EndValue N)
       (asked asked_then : List OrderValue) (heard heard_then : List (WayValue N))
-      → IfErr told (λ fault. RefusesVersion holds feed fault (unasked names end heard) (unasked names end_then heard_then))
-      → IfErr told (λ fault. RefusesVersion holds feed fault (record { names = names; end = end; asked = asked; heard = heard })
+      → IfErr sent (λ fault. RefusesVersion holds feed fault (unasked names end heard) (unasked names end_then heard_then))
+      → IfErr sent (λ fault. RefusesVersion holds feed fault (record { names = names; end = end; asked = asked; heard = heard })
       (record { names = names; end = end_then; asked = asked_then; heard = heard_then }))
   refused_so feed (Ok r) names end end_then asked asked_then heard heard_then refused = refused
   refused_so feed (Err fault) names end end_then asked asked_then heard heard_then refused =
-      does_so feed (Outcome.Waited (Err fault)) names end end_then asked asked_then heard heard_then refused
+      does_so feed (OrderOutcome.Waited (Err fault)) names end end_then asked asked_then heard heard_then refused

@@ -7,25 +7,25 @@ use Rattle.std.proofs.lemmas.List.{length-map}
 use Rattle.load_orders.specs.Asking.{IsNoName}
 
 -- the text at a place
-text_at : (names : List (String Global)) (place : ℕ) (read : String Global) → place < length names
-    → read ≡ get_or names place read → slice_get (map string_bytes names) place ≡ Some (string_bytes read)
-text_at names place read small is =
-    slice_get-map string_bytes names place ∙ ap (λ o. option_map string_bytes o) (slice_get-get_or names place read small ∙ ap (λ x. Some x) (sym is))
+text_at : (names : List (String Global)) (index : ℕ) (read : String Global) → index < length names
+    → read ≡ get_or names index read → slice_get (map string_bytes names) index ≡ Some (string_bytes read)
+text_at names index read small is =
+    slice_get-map string_bytes names index ∙ ap (λ o. option_map string_bytes o) (slice_get-get_or names index read small ∙ ap (λ x. Some x) (sym is))
 
-pub named : (names : List (String Global)) (place : ℕ) (read : String Global) (name : List ℕ) (b : Bool) → place < length names → read ≡ get_or names place read
+pub named : (names : List (String Global)) (index : ℕ) (read : String Global) (name : List ℕ) (b : Bool) → index < length names → read ≡ get_or names index read
     → MatchBool b (string_bytes read ≡ name) (¬ (string_bytes read ≡ name))
-    → MatchBool b (slice_get (map string_bytes names) place
-    ≡ Some name) (¬ (slice_get (map string_bytes names) place ≡ Some name))
-named names place read name true small is same = text_at names place read small is ∙ ap (λ x. Some x) same
-named names place read name false small is other = λ there. let both : Some (string_bytes read) ≡ Some name =
-    sym (text_at names place read small is) ∙ there in
+    → MatchBool b (slice_get (map string_bytes names) index
+    ≡ Some name) (¬ (slice_get (map string_bytes names) index ≡ Some name))
+named names index read name true small is same = text_at names index read small is ∙ ap (λ x. Some x) same
+named names index read name false small is other = λ there. let both : Some (string_bytes read) ≡ Some name =
+    sym (text_at names index read small is) ∙ there in
     other (cc)
 
-within : (names : List (String Global)) (place : ℕ) (name : List ℕ) → slice_get (map string_bytes names) place ≡ Some name → place < length names
-within names place name there = let n = slice_get_within (map string_bytes names) place name there in let m = length-map names string_bytes in omega arith
+within : (names : List (String Global)) (index : ℕ) (name : List ℕ) → slice_get (map string_bytes names) index ≡ Some name → index < length names
+within names index name there = let n = slice_get_within (map string_bytes names) index name there in let m = length-map names string_bytes in omega arith
 
 -- a name that is at no place within
 pub no_name : (names : List (String Global)) (name : List ℕ)
     → ((j : ℕ) → j < length names → ¬ (slice_get (map string_bytes names) j ≡ Some name))
     → IsNoName (map string_bytes names) name
-no_name names name none place there = none place (within names place name there) there
+no_name names name none index there = none index (within names index name there) there

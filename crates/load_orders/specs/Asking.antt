@@ -2,12 +2,12 @@
 use Rattle.std.specs.Prelude.{◌≡◌, ◌+◌, ◌<◌, ◌⊎◌, ◌++◌, ◌∷◌, ℕ, List, [], slice_get, Option, Some, None, Ok, Err, ⊤}
 use Rattle.orders.specs.Ordering.{OrderValue}
 use Rattle.orders.specs.declared.fault.OrderFault.{OrderFault}
-use Rattle.orders.specs.declared.ordered.Outcome.{Outcome}
+use Rattle.orders.specs.declared.ordered.OrderOutcome.{OrderOutcome}
 use Rattle.load_orders.specs.Queue.{EndValue, Held, QueueId}
 use Rattle.load_orders.specs.Ways.{WayId, WayValue, heard_at}
-use Rattle.load_orders.specs.declared.queue.Arrival.{Arrival}
+use Rattle.load_orders.specs.declared.queue.OrderMessage.{OrderMessage}
 use Rattle.load_orders.specs.declared.queue.OrderMark.{OrderMark}
-use Rattle.load_orders.specs.declared.queue.Side.{Side}
+use Rattle.load_orders.specs.declared.queue.QueueView.{QueueView}
 use Rattle.load_orders.specs.declared.ways.LoadAnswer.{LoadAnswer}
 
 pub record WorkerOrdersValue (N : Type 0) : Type 0 where
@@ -34,26 +34,26 @@ abbrev pub unasked : {N : Type 0} → List (List ℕ) → EndValue N → List (W
 unasked names end heard = record { names = names; end = end; asked = []; heard = heard }
 
 -- the first feed of this name
-pub record IsFirst (names : List (List ℕ)) (name : List ℕ) (place : ℕ) : Type 0 where
-  pub there : slice_get names place ≡ Some name
-  pub first : (before : ℕ) → before < place → ¬ (slice_get names before ≡ Some name)
+pub record IsFirst (names : List (List ℕ)) (name : List ℕ) (index : ℕ) : Type 0 where
+  pub there : slice_get names index ≡ Some name
+  pub first : (before : ℕ) → before < index → ¬ (slice_get names before ≡ Some name)
 
 abbrev pub IsNoName : List (List ℕ) → List ℕ → Type 0
-IsNoName names name = (place : ℕ) → ¬ (slice_get names place ≡ Some name)
+IsNoName names name = (index : ℕ) → ¬ (slice_get names index ≡ Some name)
 
 -- the fault that is told where no notice came; none where one did
-abbrev pub fault_told : {N : Type 0} → Option (LoadAnswer N) → Option OrderFault
-fault_told (Some (LoadAnswer.Published notice)) = None
-fault_told (Some LoadAnswer.Unnoticed) = Some OrderFault.OutOfMemory
-fault_told (Some (LoadAnswer.Refused refusal)) = Some (OrderFault.LoadRefused refusal)
-fault_told None = Some OrderFault.LoaderGone
+abbrev pub fault_of_answer : {N : Type 0} → Option (LoadAnswer N) → Option OrderFault
+fault_of_answer (Some (LoadAnswer.Published notice)) = None
+fault_of_answer (Some LoadAnswer.Unnoticed) = Some OrderFault.OutOfMemory
+fault_of_answer (Some (LoadAnswer.Refused refusal)) = Some (OrderFault.LoadRefused refusal)
+fault_of_answer None = Some OrderFault.LoaderGone
 
 -- an order that nobody waits for, and one that carries a way back
 abbrev pub order_of : ℕ → OrderMark
-order_of place = record { feed = place; way = None }
+order_of index = record { feed = index; way = None }
 
 abbrev pub awaited_order : ℕ → WayId → OrderMark
-awaited_order place way = record { feed = place; way = Some way }
+awaited_order index way = record { feed = index; way = Some way }
 
 -- the end, once it has tried to put an order, and none was put
 abbrev pub once_tried : {N : Type 0} → EndValue N → EndValue N
@@ -65,31 +65,31 @@ IsPutAt before order after = (after.orders ≡ before.orders ++ order ∷ []) ×
 
 -- an order of the first feed of this name is put
 abbrev pub IsPut : {N : Type 0} → List ℕ → WorkerOrdersValue N → WorkerOrdersValue N → Type 0
-IsPut name before after = (place : ℕ) × IsFirst before.names name place × IsPutAt before.end (order_of place) after.end
+IsPut name before after = (index : ℕ) × IsFirst before.names name index × IsPutAt before.end (order_of index) after.end
 
 -- an order of the first feed of this name is put with a way back, and by the one hearing end of that way this answer is heard, or none
 abbrev pub Hears : {N : Type 0} → List ℕ → Option (LoadAnswer N) → WorkerOrdersValue N → WorkerOrdersValue N → Type 0
 Hears name answer before after =
-    (place : ℕ) × (way : WayId) × IsFirst before.names name place
-    × IsPutAt before.end (awaited_order place way) after.end × (after.heard ≡ before.heard ++ heard_at way answer ∷ [])
+    (index : ℕ) × (way : WayId) × IsFirst before.names name index
+    × IsPutAt before.end (awaited_order index way) after.end × (after.heard ≡ before.heard ++ heard_at way answer ∷ [])
 
 -- a feed of this name is there, and nothing was put, or tried to be
 abbrev pub IsNotPut : {N : Type 0} → List ℕ → WorkerOrdersValue N → WorkerOrdersValue N → Type 0
-IsNotPut name before after = ((place : ℕ) × IsFirst before.names name place) × (after.end ≡ before.end) × (after.heard ≡ before.heard)
+IsNotPut name before after = ((index : ℕ) × IsFirst before.names name index) × (after.end ≡ before.end) × (after.heard ≡ before.heard)
 
 -- one try to put an order of the feed put nothing
 abbrev pub IsTriedInVain : {N : Type 0} → List ℕ → WorkerOrdersValue N → WorkerOrdersValue N → Type 0
-IsTriedInVain name before after = ((place : ℕ) × IsFirst before.names name place) × (after.end ≡ once_tried before.end) × (after.heard ≡ before.heard)
+IsTriedInVain name before after = ((index : ℕ) × IsFirst before.names name index) × (after.end ≡ once_tried before.end) × (after.heard ≡ before.heard)
 
 -- the order is added to those that were asked for; the names and the queue stay the same
 abbrev pub IsNoted : {N : Type 0} → OrderValue → WorkerOrdersValue N → WorkerOrdersValue N → Type 0
 IsNoted order before after = (route_of after ≡ route_of before) × (after.asked ≡ before.asked ++ order ∷ [])
 
 -- over the rule of the queue: what it holds, and what its ends know
-module _ {N : Type 0} (holds : List (Arrival N) → List Side → Type 0) where
+module _ {N : Type 0} (holds : List (OrderMessage N) → List QueueView → Type 0) where
   -- why the queue takes no order: it held four at one moment since this try began; of a loader that is gone nothing is said
   abbrev pub IsTurnedAway : EndValue N → OrderFault → Type 0
-  IsTurnedAway end OrderFault.OrdersFull = Held holds 4 (Side.Putting end.orders (end.tries + 1))
+  IsTurnedAway end OrderFault.OrdersFull = Held holds 4 (QueueView.Putting end.orders (end.tries + 1))
   IsTurnedAway end OrderFault.LoaderGone = ⊤
   IsTurnedAway end _ = ⊥
 
@@ -117,12 +117,12 @@ module _ {N : Type 0} (holds : List (Arrival N) → List Side → Type 0) where
   module _ (noted : N → ℕ) where
     -- what an order of this feed did, by what it was answered: it was put, or refused; or it was waited for, and the version that came is that
     -- of the notice that was heard, by the order's own way back
-    abbrev pub Does : List ℕ → Outcome → WorkerOrdersValue N → WorkerOrdersValue N → Type 0
-    Does feed (Outcome.Put (Ok u)) before after = IsPut feed before after × (after.heard ≡ before.heard)
-    Does feed (Outcome.Put (Err fault)) before after = RefusesOrder feed fault before after
-    Does feed (Outcome.Waited (Ok version)) before after =
+    abbrev pub Does : List ℕ → OrderOutcome → WorkerOrdersValue N → WorkerOrdersValue N → Type 0
+    Does feed (OrderOutcome.Put (Ok u)) before after = IsPut feed before after × (after.heard ≡ before.heard)
+    Does feed (OrderOutcome.Put (Err fault)) before after = RefusesOrder feed fault before after
+    Does feed (OrderOutcome.Waited (Ok version)) before after =
         (notice : N) × (noted notice ≡ version) × Hears feed (Some (LoadAnswer.Published notice)) before after
-    Does feed (Outcome.Waited (Err fault)) before after = RefusesVersion feed fault before after
+    Does feed (OrderOutcome.Waited (Err fault)) before after = RefusesVersion feed fault before after
 
     -- each of these orders was asked for, one after the other
     abbrev pub AreAsked : List OrderValue → WorkerOrdersValue N → WorkerOrdersValue N → Type 0

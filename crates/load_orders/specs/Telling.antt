@@ -8,7 +8,7 @@ use Rattle.load_orders.specs.declared.ways.LoadAnswer.{LoadAnswer}
 -- an answer, and where it was told, if somebody may wait for it
 pub record AnsweredValue (N : Type 0) : Type 0 where
   pub answer : LoadAnswer N
-  pub told : Option (WayValue N)
+  pub sent : Option (WayValue N)
 
 -- the loader's end of a queue
 pub record LoaderOrdersValue (N : Type 0) : Type 0 where
@@ -23,11 +23,11 @@ abbrev pub AllAnswered : {N : Type 0} → LoaderOrdersValue N → Type 0
 AllAnswered end = length end.answered ≡ length end.taken
 
 -- the answer is told at this way back, once; or nobody waits there any more, and nothing is told
-abbrev pub IsToldAt : {N : Type 0} → WayId → LoadAnswer N → WayValue N → Type 0
-IsToldAt way answer told = (told ≡ record { way = way; answers = answer ∷ [] }) ⊎ (told ≡ record { way = way; answers = [] })
+abbrev pub IsSentAt : {N : Type 0} → WayId → LoadAnswer N → WayValue N → Type 0
+IsSentAt way answer sent = (sent ≡ record { way = way; answers = answer ∷ [] }) ⊎ (sent ≡ record { way = way; answers = [] })
 
 -- whoever waits is told this answer by the order's own way back
-abbrev pub IsToldBack : {N : Type 0} → Option WayId → LoadAnswer N → Option (WayValue N) → Type 0
-IsToldBack (Some way) answer (Some told) = IsToldAt way answer told
-IsToldBack None answer told = told ≡ None
-IsToldBack _ answer told = ⊥
+abbrev pub IsSentBack : {N : Type 0} → Option WayId → LoadAnswer N → Option (WayValue N) → Type 0
+IsSentBack (Some way) answer (Some sent) = IsSentAt way answer sent
+IsSentBack None answer sent = sent ≡ None
+IsSentBack _ answer sent = ⊥

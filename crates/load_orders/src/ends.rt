@@ -7,8 +7,8 @@ ghost use Rattle.load_orders.specs.Queue.{KeeperValue, mark_of, with_one_out, wi
 use crate::loader::{LoaderOrders, UsedLoader};
 use crate::notes::Notes;
 use crate::queue::{
-    AllBack, Arrival, ComesBack, GoesOut, Loads, MOST_WAITING, Moves, Order, OrderPass, OrderRule,
-    OrderSender, Tries, Waiting,
+    AllEndsBack, EachOrderOnce, EndComesBack, EndGoesOut, LoaderGoesOut, MOST_WAITING, Order,
+    OrderMessage, OrderMoves, OrderPass, OrderRule, OrderSender, Tries,
 };
 use crate::taking::UsedOrders;
 use crossbeam_channel::{TrySendError, bounded_with};
@@ -16,14 +16,14 @@ use orders::OrderFault;
 use std::alloc::{AllocError, Global};
 use std::marker::Model;
 use std::sync::Wait;
-use timetable::Kept;
+use timetable::GhostValue;
 
 /// The end that keeps the queue: others go out from it and come back, it closes the queue behind all orders, and the
 /// loader comes back to it. Contracts see which queue, what was put at the ends that came back, how many are out, and
 /// how often the queue was closed.
 #[derive(Drop)]
 pub struct OrderKeeper<N: Drop> {
-    sender: OrderSender<N, Waiting>,
+    sender: OrderSender<N, EachOrderOnce>,
     pass: OrderPass<N>,
 }
 
@@ -48,7 +48,7 @@ impl<N: Drop> Model for OrderKeeper<N> {
 
 /// An end of the queue at which orders are put. Contracts see which queue, and the orders that were put here, in order.
 #[derive(Drop)]
-pub struct OrderEnd<N: Drop, P: OrderRule<N> = Waiting> {
+pub struct OrderEnd<N: Drop, P: OrderRule<N> = EachOrderOnce> {
     pub(crate) sender: OrderSender<N, P>,
     pub(crate) pass: OrderPass<N>,
 }
@@ -85,7 +85,7 @@ pub fn order_queue<N: Drop>(alloc: Global) -> Result<(OrderKeeper<N>, LoaderOrde
     ensures unfinished { IfOk result (λ ends. ends.1.over ≡ false) }
 {
     let (sender, receiver, mut pass) = bounded_with(alloc, MOST_WAITING)?;
-    let taking = sender.another::<Loads>(&mut pass);
+    let taking = sender.another::<LoaderGoesOut>(&mut pass);
     let loader = LoaderOrders {
         receiver,
         pass: taking,
@@ -106,7 +106,7 @@ impl<N: Drop> OrderKeeper<N> {
         ensures refused { OnErr result (self.new ≡ self.old) }
     {
         let sender = self.sender.try_clone()?;
-        let pass = self.sender.another::<GoesOut>(&mut self.pass);
+        let pass = self.sender.another::<EndGoesOut>(&mut self.pass);
         Ok(OrderEnd { sender, pass })
     }
 
@@ -115,7 +115,8 @@ impl<N: Drop> OrderKeeper<N> {
         requires { used.end.queue ≡ self.old.queue }
         ensures { self.new ≡ with_orders self.old used.end.orders }
     {
-        self.sender.absorb::<ComesBack>(&mut self.pass, used.pass);
+        self.sender
+            .absorb::<EndComesBack>(&mut self.pass, used.pass);
     }
 
     /// Puts a closing behind all orders, once there is room: the loader that takes it takes no more. False if the
@@ -127,7 +128,7 @@ impl<N: Drop> OrderKeeper<N> {
             (self.new.closings ≡ self.old.closings) }
     {
         self.sender
-            .send_as::<Moves<Waiting>, R>(rt, &mut self.pass, Arrival::Closing)
+            .send_as::<OrderMoves<EachOrderOnce>, R>(rt, &mut self.pass, OrderMessage::Closing)
             .is_ok()
     }
 
@@ -148,12 +149,12 @@ impl<N: Drop> OrderKeeper<N> {
             closed,
         } = loader;
         drop(receiver);
-        let known = Kept::of(&taking);
-        sender.absorb::<ComesBack>(&mut pass, taking);
+        let known = GhostValue::of(&taking);
+        sender.absorb::<EndComesBack>(&mut pass, taking);
         if !closed {
             return None;
         }
-        sender.learn_as::<AllBack>(&mut pass);
+        sender.learn_as::<AllEndsBack>(&mut pass);
         Some(UsedLoader {
             known,
             answered,
@@ -174,7 +175,7 @@ impl<N: Drop, P: OrderRule<N>> OrderEnd<N, P> {
         drop(self.sender.another::<Tries>(&mut self.pass));
         match self
             .sender
-            .try_send_as::<Moves<P>, R>(rt, &mut self.pass, Arrival::Order { order })
+            .try_send_as::<OrderMoves<P>, R>(rt, &mut self.pass, OrderMessage::Order { order })
         {
             Ok(()) => Ok(()),
             Err(TrySendError::Full(_)) => Err(OrderFault::OrdersFull),

@@ -14,6 +14,6 @@ pub use ends::{OrderEnd, OrderKeeper, order_queue};
 pub use loader::{LoaderOrders, UsedLoader};
 pub use notes::Notes;
 pub use orders::{OrderFault, Orders};
-pub use queue::{Arrival, MOST_WAITING, Order, OrderRule, Side, Waiting};
+pub use queue::{EachOrderOnce, MOST_WAITING, Order, OrderMessage, OrderRule, QueueView};
 pub use taking::{UsedOrders, WorkerOrders};
 pub use ways::{LoadAnswer, WayBack};

@@ -2,39 +2,41 @@
 
 ghost use Rattle.std.specs.Prelude.{◌≡◌, ◌++◌, ◌∷◌, [], IfNone, MatchOption, Option, false, is_none, true};
 ghost use Rattle.load_orders.specs.Queue.{Held, mark_of};
-ghost use Rattle.load_orders.specs.Telling.{AllAnswered, IsToldBack};
+ghost use Rattle.load_orders.specs.Telling.{AllAnswered, IsSentBack};
 ghost use Rattle.load_orders.specs.Ways.{WayValue};
-ghost use Rattle.load_orders.specs.declared.queue.Side.{Side};
+ghost use Rattle.load_orders.specs.declared.queue.QueueView.{QueueView};
 
 use crate::notes::Notes;
-use crate::queue::{Arrival, Moves, Order, OrderPass, OrderReceiver, OrderRule, Waiting};
+use crate::queue::{
+    EachOrderOnce, Order, OrderMessage, OrderMoves, OrderPass, OrderReceiver, OrderRule,
+};
 use crate::ways::{LoadAnswer, UsedWay, WayBack};
 use std::marker::Model;
 use std::sync::Wait;
-use timetable::Kept;
+use timetable::GhostValue;
 
 /// What the loader answered to an order. Contracts see the answer, and where it was told.
 #[derive(Drop)]
-pub struct Answered<N: Drop> {
-    answer: Kept<LoadAnswer<N>>,
-    told: Option<UsedWay<N>>,
+pub struct OrderAnswer<N: Drop> {
+    answer: GhostValue<LoadAnswer<N>>,
+    sent: Option<UsedWay<N>>,
 }
 
-impl<N: Drop> Model for Answered<N> {
+impl<N: Drop> Model for OrderAnswer<N> {
     ghost use Rattle.load_orders.specs.Telling.{AnsweredValue};
 
     ghost Value = { AnsweredValue N };
 
-    ghost view = { λ a. record { answer = a.answer.value; told = a.told } };
+    ghost view = { λ a. record { answer = a.answer.value; sent = a.sent } };
 }
 
 /// The loader's end of the queue. Contracts see which queue; the orders that it took, and what it answered, in order;
 /// whether it last asked for an order and none came; and whether the queue was closed for it.
 #[derive(Drop)]
-pub struct LoaderOrders<N: Drop, P: OrderRule<N> = Waiting> {
+pub struct LoaderOrders<N: Drop, P: OrderRule<N> = EachOrderOnce> {
     pub(crate) receiver: OrderReceiver<N, P>,
     pub(crate) pass: OrderPass<N>,
-    pub(crate) answered: Notes<Answered<N>>,
+    pub(crate) answered: Notes<OrderAnswer<N>>,
     pub(crate) over: bool,
     pub(crate) closed: bool,
 }
@@ -61,8 +63,8 @@ impl<N: Drop, P: OrderRule<N>> Model for LoaderOrders<N, P> {
 /// The loader's end once it has come back, with what it took and answered. It takes no bytes.
 #[derive(Drop)]
 pub struct UsedLoader<N: Drop> {
-    pub(crate) known: Kept<OrderPass<N>>,
-    pub(crate) answered: Notes<Answered<N>>,
+    pub(crate) known: GhostValue<OrderPass<N>>,
+    pub(crate) answered: Notes<OrderAnswer<N>>,
     pub(crate) over: bool,
     pub(crate) closed: bool,
 }
@@ -96,7 +98,7 @@ impl<N: Drop, P: OrderRule<N>> LoaderOrders<N, P> {
         ensures answered { self.new.answered ≡ self.old.answered }
         ensures over { self.new.over ≡ is_none result }
         ensures none { IfNone result (self.new.closed ≡ false → Held P.Protocol.holds 0
-            (Side.Taking self.old.taken 0)) }
+            (QueueView.Taking self.old.taken 0)) }
         ensures closed { self.old.closed ≡ true → self.new.closed ≡ true }
     {
         let order = self.take(rt);
@@ -111,15 +113,18 @@ impl<N: Drop, P: OrderRule<N>> LoaderOrders<N, P> {
             ≡ self.old.taken ++ mark_of order ∷ []) }
         ensures answered { self.new.answered ≡ self.old.answered }
         ensures none { IfNone result (self.new.closed ≡ false → Held P.Protocol.holds 0
-            (Side.Taking self.old.taken 0)) }
+            (QueueView.Taking self.old.taken 0)) }
         ensures closed { self.old.closed ≡ true → self.new.closed ≡ true }
     {
         if self.closed {
             return None;
         }
-        match self.receiver.recv_as::<Moves<P>, R>(rt, &mut self.pass) {
-            Ok(Arrival::Order { order }) => Some(order),
-            Ok(Arrival::Closing) => {
+        match self
+            .receiver
+            .recv_as::<OrderMoves<P>, R>(rt, &mut self.pass)
+        {
+            Ok(OrderMessage::Order { order }) => Some(order),
+            Ok(OrderMessage::Closing) => {
                 self.closed = true;
                 None
             }
@@ -134,25 +139,25 @@ impl<N: Drop, P: OrderRule<N>> LoaderOrders<N, P> {
         ensures taken { self.new.taken ≡ self.old.taken }
         ensures over { self.new.over ≡ self.old.over }
         ensures closed { self.new.closed ≡ self.old.closed }
-        ensures told { (told : Option (WayValue N)) × IsToldBack order.way_back answer told
-            × (self.new.answered ≡ self.old.answered ++ record { answer = answer; told = told } ∷ []) }
+        ensures sent { (sent : Option (WayValue N)) × IsSentBack order.way_back answer sent
+            × (self.new.answered ≡ self.old.answered ++ record { answer = answer; sent = sent } ∷ []) }
     {
-        let kept = Kept::of(&answer);
-        let told = tell_back(rt, order.way_back, answer);
-        self.answered.note(&Answered { answer: kept, told });
+        let kept = GhostValue::of(&answer);
+        let sent = send_back(rt, order.way_back, answer);
+        self.answered.note(&OrderAnswer { answer: kept, sent });
     }
 }
 
 // Tells whoever waits by a way back, if there is one.
-fn tell_back<R: Wait, N: Drop>(
+fn send_back<R: Wait, N: Drop>(
     rt: &R,
     way_back: Option<WayBack<N>>,
     answer: LoadAnswer<N>,
 ) -> Option<UsedWay<N>>
-    ensures { IsToldBack way_back answer result }
+    ensures { IsSentBack way_back answer result }
 {
     match way_back {
-        Some(way) => Some(way.tell(rt, answer)),
+        Some(way) => Some(way.send(rt, answer)),
         None => None,
     }
 }

@@ -4,24 +4,24 @@ ghost use Rattle.std.specs.Prelude.{◌≡◌, ◌<◌, ℕ, length, map, slice_
 ghost use Rattle.load_orders.specs.Asking.{IsFirst, IsNoName};
 
 /// The first place of the name.
-pub(crate) fn place_of(names: &[String], name: &str) -> Option<usize>
+pub(crate) fn index_of(names: &[String], name: &str) -> Option<usize>
     ensures { MatchOption result (IsNoName (map string_bytes names.now) name.now)
         (IsFirst (map string_bytes names.now) name.now) }
 {
-    for place in 0..names.len() {
-        if is_named(names, place, name) {
-            return Some(place);
+    for index in 0..names.len() {
+        if is_named(names, index, name) {
+            return Some(index);
         }
     }
     None
 }
 
-fn is_named(names: &[String], place: usize, name: &str) -> bool
-    requires { place < length names.now }
-    ensures { MatchBool result (slice_get (map string_bytes names.now) place
-        ≡ Some name.now) (¬ (slice_get (map string_bytes names.now) place ≡ Some name.now)) }
+fn is_named(names: &[String], index: usize, name: &str) -> bool
+    requires { index < length names.now }
+    ensures { MatchBool result (slice_get (map string_bytes names.now) index
+        ≡ Some name.now) (¬ (slice_get (map string_bytes names.now) index ≡ Some name.now)) }
 {
-    is_text(&names[place], name)
+    is_text(&names[index], name)
 }
 
 fn is_text(known: &String, name: &str) -> bool

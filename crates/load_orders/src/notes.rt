@@ -4,12 +4,12 @@ ghost use Rattle.std.specs.Prelude.{◌≡◌, ◌++◌, ◌∷◌, [], List};
 
 use std::collections::LinkedList;
 use std::marker::Model;
-use timetable::Kept;
+use timetable::GhostValue;
 
 /// What was noted, in order. Only contracts see it: it takes no bytes and owns nothing, so it may go to any thread.
 #[derive(Drop)]
 pub struct Notes<T> {
-    items: Kept<LinkedList<T>>,
+    items: GhostValue<LinkedList<T>>,
 }
 
 impl<T> Model for Notes<T> {
@@ -24,7 +24,7 @@ impl<T> Notes<T> {
         ensures { result ≡ [] }
     {
         Notes {
-            items: Kept::at(&(), &()),
+            items: GhostValue::at(&(), &()),
         }
     }
 
@@ -32,13 +32,13 @@ impl<T> Notes<T> {
     pub fn note(&mut self, item: &T)
         ensures { self.new ≡ self.old ++ item.now ∷ [] }
     {
-        self.items = Kept::at(&self.items, item);
+        self.items = GhostValue::at(&self.items, item);
     }
 
     /// Adds all that `others` has, at the end.
     pub fn append(&mut self, others: Notes<T>)
         ensures { self.new ≡ self.old ++ others }
     {
-        self.items = Kept::at(&self.items, &others.items);
+        self.items = GhostValue::at(&self.items, &others.items);
     }
 }

@@ -36,7 +36,7 @@ impl Model for OrderMark {
 
 /// What waits in the queue.
 #[derive(Drop)]
-pub enum Arrival<N: Drop> {
+pub enum OrderMessage<N: Drop> {
     /// An order.
     Order { order: Order<N> },
     /// The loader that takes this takes no more.
@@ -60,7 +60,7 @@ pub struct KeeperView {
 }
 
 /// What an end of the queue knows. No value of it is made.
-pub enum Side {
+pub enum QueueView {
     /// The end that keeps the queue.
     Keeping {
         view: KeeperView,
@@ -82,7 +82,7 @@ pub enum Side {
 /// A rule of queues of orders, which stays true whenever an end puts an order, takes what comes first, or tries to put
 /// an order. Nothing here says that it is true of a new queue, nor that it stays so when an end is added. So only the
 /// queue itself can say that it was true of some orders at some moment.
-pub trait OrderRule<N: Drop>: Protocol<Arrival<N>, Side> {
+pub trait OrderRule<N: Drop>: Protocol<OrderMessage<N>, QueueView> {
     ghost use Rattle.load_orders.specs.Queue.{IsKept};
 
     ghost kept: { IsKept Self.holds };
@@ -90,9 +90,9 @@ pub trait OrderRule<N: Drop>: Protocol<Arrival<N>, Side> {
 
 /// The rule: at most four wait; each order that was put was taken once, or waits; no other order was taken or waits;
 /// and no order waits once the loader has taken a closing.
-pub struct Waiting;
+pub struct EachOrderOnce;
 
-impl<N: Drop> Protocol<Arrival<N>, Side> for Waiting {
+impl<N: Drop> Protocol<OrderMessage<N>, QueueView> for EachOrderOnce {
     ghost use Rattle.load_orders.specs.Queue.{new_queue, waiting};
 
     ghost holds = { waiting };
@@ -100,24 +100,24 @@ impl<N: Drop> Protocol<Arrival<N>, Side> for Waiting {
     ghost first = { new_queue };
 }
 
-impl<N: Drop> OrderRule<N> for Waiting {
+impl<N: Drop> OrderRule<N> for EachOrderOnce {
     ghost use Rattle.load_orders.specs.Rules.{four_at_most};
 
     ghost kept = { four_at_most };
 }
 
 /// An arrival joins the queue, or leaves it. No value of it is made.
-pub struct Moves<P> {
+pub struct OrderMoves<P> {
     rule: PhantomData<P>,
 }
 
-impl<N: Drop, P> Outcome<Arrival<N>, Side> for Moves<P> {
+impl<N: Drop, P> Outcome<OrderMessage<N>, QueueView> for OrderMoves<P> {
     ghost use Rattle.load_orders.specs.Queue.{IsOneMore};
 
     ghost then = { IsOneMore };
 }
 
-impl<N: Drop, P: OrderRule<N>> Lesson<Arrival<N>, Side> for Moves<P> {
+impl<N: Drop, P: OrderRule<N>> Lesson<OrderMessage<N>, QueueView> for OrderMoves<P> {
     ghost use Rattle.load_orders.specs.Queue.{IsHeldBeside};
 
     ghost fact = { IsHeldBeside P.Protocol.holds };
@@ -126,19 +126,19 @@ impl<N: Drop, P: OrderRule<N>> Lesson<Arrival<N>, Side> for Moves<P> {
 /// An end tries to put an order, and counts the try. The part that is split from it for this is let go.
 pub struct Tries;
 
-impl Split<Side> for Tries {
+impl Split<QueueView> for Tries {
     ghost use Rattle.load_orders.specs.Queue.{tried};
-    ghost use Rattle.load_orders.specs.declared.queue.Side.{Side};
+    ghost use Rattle.load_orders.specs.declared.queue.QueueView.{QueueView};
 
     ghost left = { tried };
 
-    ghost right = { λ view. Side.Rests };
+    ghost right = { λ view. QueueView.Rests };
 }
 
 /// An end goes out, at which no order was put yet.
-pub struct GoesOut;
+pub struct EndGoesOut;
 
-impl Split<Side> for GoesOut {
+impl Split<QueueView> for EndGoesOut {
     ghost use Rattle.load_orders.specs.Queue.{new_end, with_end_out};
 
     ghost left = { with_end_out };
@@ -147,9 +147,9 @@ impl Split<Side> for GoesOut {
 }
 
 /// The loader's end goes out, at which none was taken yet.
-pub struct Loads;
+pub struct LoaderGoesOut;
 
-impl Split<Side> for Loads {
+impl Split<QueueView> for LoaderGoesOut {
     ghost use Rattle.load_orders.specs.Queue.{new_loader, with_loader_out};
 
     ghost left = { with_loader_out };
@@ -158,31 +158,31 @@ impl Split<Side> for Loads {
 }
 
 /// An end comes back.
-pub struct ComesBack;
+pub struct EndComesBack;
 
-impl Join<Side> for ComesBack {
+impl Join<QueueView> for EndComesBack {
     ghost use Rattle.load_orders.specs.Queue.{with_back};
-    ghost use Rattle.load_orders.specs.declared.queue.Side.{Side};
+    ghost use Rattle.load_orders.specs.declared.queue.QueueView.{QueueView};
 
     ghost both = { with_back };
 
-    ghost spent = { Side.Rests };
+    ghost spent = { QueueView.Rests };
 }
 
 /// Once all ends are back, and the loader has taken a closing: what was taken is what was put.
-pub struct AllBack;
+pub struct AllEndsBack;
 
-impl<N: Drop> Lesson<Arrival<N>, Side> for AllBack {
+impl<N: Drop> Lesson<OrderMessage<N>, QueueView> for AllEndsBack {
     ghost use Rattle.load_orders.specs.Queue.{KnowsAllTaken};
 
     ghost fact = { λ view items. KnowsAllTaken view };
 }
 
 /// The sender of the end that keeps the queue, or of an end at which orders are put.
-pub type OrderSender<N, P> = RuledSender<Arrival<N>, Side, P, Global>;
+pub type OrderSender<N, P> = RuledSender<OrderMessage<N>, QueueView, P, Global>;
 
 /// The loader's end of the queue, which takes orders.
-pub type OrderReceiver<N, P> = RuledReceiver<Arrival<N>, Side, P, Global>;
+pub type OrderReceiver<N, P> = RuledReceiver<OrderMessage<N>, QueueView, P, Global>;
 
 /// What an end of the queue knows, as a claim to it.
-pub type OrderPass<N> = Pass<Arrival<N>, Side>;
+pub type OrderPass<N> = Pass<OrderMessage<N>, QueueView>;

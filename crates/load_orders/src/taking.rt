@@ -1,35 +1,41 @@
 //! Orders of feeds by their names, which a worker puts in the queue.
 
 ghost use Rattle.std.specs.Prelude.{◌≡◌, ◌++◌, ◌∷◌, [], map, string_bytes, Some, IfOk, IfErr, OnOk};
-ghost use Rattle.orders.specs.Ordering.{IsNotTaken, order_value, version_told, waited_value};
+ghost use Rattle.orders.specs.Ordering.{IsNotTaken, order_value, version_alone, waited_value};
 ghost use Rattle.load_orders.specs.Asking.{Hears, IsNotAwaited, IsPut, RefusesOrder, RefusesVersion};
-ghost use Rattle.load_orders.specs.Asking.{HasAsked, IsPutAt, OrderRoute, awaited_order, fault_told};
+ghost use Rattle.load_orders.specs.Asking.{HasAsked, IsPutAt, OrderRoute, awaited_order, fault_of_answer};
 ghost use Rattle.load_orders.specs.Asking.{route_of, unasked};
 ghost use Rattle.load_orders.specs.Ways.{WayId, heard_at};
 ghost use Rattle.load_orders.specs.declared.ways.LoadAnswer.{LoadAnswer};
 
 use crate::ends::OrderEnd;
-use crate::names::place_of;
+use crate::names::index_of;
 use crate::notes::Notes;
-use crate::queue::{Order, OrderPass, OrderRule, Waiting};
+use crate::queue::{EachOrderOnce, Order, OrderPass, OrderRule};
 use crate::ways::{LoadAnswer, UsedWay, way_back};
 use epochs::Versions;
-use orders::{OrderFault, Ordered, Orders};
+use orders::{OrderFault, OrderRecord, Orders};
 use std::alloc::Global;
 use std::collections::LinkedList;
 use std::marker::Model;
 use std::sync::Wait;
-use timetable::Kept;
+use timetable::GhostValue;
 
 /// A worker's end of the queue: it takes orders of feeds by their names, whose versions are published at the shelves.
 #[derive(Drop)]
-pub struct WorkerOrders<'a, R: Wait, N: Drop, T: Versions<Notice = N>, P: OrderRule<N> = Waiting> {
+pub struct WorkerOrders<
+    'a,
+    R: Wait,
+    N: Drop,
+    T: Versions<Notice = N>,
+    P: OrderRule<N> = EachOrderOnce,
+> {
     rt: &'a R,
     alloc: Global,
     names: &'a [String],
     shelves: &'a T,
     end: OrderEnd<N, P>,
-    asked: Notes<Ordered>,
+    asked: Notes<OrderRecord>,
     heard: Notes<UsedWay<N>>,
 }
 
@@ -61,9 +67,9 @@ impl<'a, R: Wait, N: Drop, T: Versions<Notice = N>, P: OrderRule<N>> Model
 /// gone. It takes no bytes.
 #[derive(Drop)]
 pub struct UsedOrders<N: Drop> {
-    names: Kept<LinkedList<LinkedList<u8>>>,
+    names: GhostValue<LinkedList<LinkedList<u8>>>,
     pub(crate) pass: OrderPass<N>,
-    asked: Notes<Ordered>,
+    asked: Notes<OrderRecord>,
     heard: Notes<UsedWay<N>>,
 }
 
@@ -118,7 +124,7 @@ impl<'a, R: Wait, N: Drop, T: Versions<Notice = N>, P: OrderRule<N>> WorkerOrder
         ensures same { result ≡ self.entry }
         ensures asked { HasAsked P.Protocol.holds T.noted result }
     {
-        let names = Kept::at(&self.names, &());
+        let names = GhostValue::at(&self.names, &());
         let WorkerOrders {
             end: OrderEnd { sender, pass },
             asked,
@@ -153,11 +159,11 @@ fn wait_for<R: Wait, N: Drop, T: Versions<Notice = N>, P: OrderRule<N>>(
         (unasked (map string_bytes names.now) end.old heard.old)
         (unasked (map string_bytes names.now) end.new heard.new)) }
 {
-    let Some(place) = place_of(names, feed) else {
+    let Some(index) = index_of(names, feed) else {
         return Err(OrderFault::UnknownFeed);
     };
-    match put_awaited(rt, alloc, place, end, heard) {
-        Ok(answer) => told::<N, T>(answer),
+    match put_awaited(rt, alloc, index, end, heard) {
+        Ok(answer) => version_or_fault::<N, T>(answer),
         Err(fault) => Err(fault),
     }
 }
@@ -166,13 +172,13 @@ fn wait_for<R: Wait, N: Drop, T: Versions<Notice = N>, P: OrderRule<N>>(
 fn put_awaited<R: Wait, N: Drop, P: OrderRule<N>>(
     rt: &R,
     alloc: Global,
-    place: usize,
+    index: usize,
     end: &mut OrderEnd<N, P>,
     heard: &mut Notes<UsedWay<N>>,
 ) -> Result<Option<LoadAnswer<N>>, OrderFault>
     ensures queue { end.new.queue ≡ end.old.queue }
     ensures heard { IfOk result (λ answer. (way : WayId)
-        × IsPutAt end.old (awaited_order place way) end.new
+        × IsPutAt end.old (awaited_order index way) end.new
         × (heard.new ≡ heard.old ++ heard_at way answer ∷ [])) }
     ensures refused { IfErr result (λ fault. IsNotAwaited P.Protocol.holds end.old fault end.new
         × (heard.new ≡ heard.old)) }
@@ -181,7 +187,7 @@ fn put_awaited<R: Wait, N: Drop, P: OrderRule<N>>(
         return Err(OrderFault::OutOfMemory);
     };
     let order = Order {
-        feed: place,
+        feed: index,
         way_back: Some(way_back),
     };
     match end.put(rt, order) {
@@ -195,11 +201,11 @@ fn put_awaited<R: Wait, N: Drop, P: OrderRule<N>>(
 }
 
 // What came of a load, from the loader's answer, or from the lack of one: the version is that of the notice.
-fn told<N: Drop, T: Versions<Notice = N>>(
+fn version_or_fault<N: Drop, T: Versions<Notice = N>>(
     answer: Option<LoadAnswer<N>>,
 ) -> Result<(u64, N), OrderFault>
     ensures notice { IfOk result (λ r. (T.noted r.1 ≡ r.0) × (answer ≡ Some (LoadAnswer.Published r.1))) }
-    ensures fault { IfErr result (λ fault. fault_told answer ≡ Some fault) }
+    ensures fault { IfErr result (λ fault. fault_of_answer answer ≡ Some fault) }
 {
     match answer {
         Some(LoadAnswer::Published { notice }) => Ok((T::version_of(&notice), notice)),
@@ -219,7 +225,7 @@ impl<'a, R: Wait, N: Drop, T: Versions<Notice = N>, P: OrderRule<N>> Orders
 
     ghost asked = { λ orders. orders.asked };
 
-    ghost told = { T.noted };
+    ghost notice_version = { T.noted };
 
     /// Puts an order of the first feed of that name: `UnknownFeed` exactly where there is none,
     /// `OrdersFull` where four orders waited in the queue at one moment of the call.
@@ -231,17 +237,17 @@ impl<'a, R: Wait, N: Drop, T: Versions<Notice = N>, P: OrderRule<N>> Orders
         ensures put { OnOk result (IsPut feed.now self.old self.new) }
         ensures refused { IfErr result (λ fault. RefusesOrder P.Protocol.holds feed.now fault self.old self.new) }
     {
-        let outcome = match place_of(self.names, feed) {
-            Some(place) => self.end.put(
+        let outcome = match index_of(self.names, feed) {
+            Some(index) => self.end.put(
                 self.rt,
                 Order {
-                    feed: place,
+                    feed: index,
                     way_back: None,
                 },
             ),
             None => Err(OrderFault::UnknownFeed),
         };
-        self.asked.note(&Ordered::put(feed, outcome));
+        self.asked.note(&OrderRecord::put(feed, outcome));
         outcome
     }
 
@@ -249,7 +255,7 @@ impl<'a, R: Wait, N: Drop, T: Versions<Notice = N>, P: OrderRule<N>> Orders
     /// `LoaderGone` may also mean that the order was put and no answer came. `OutOfMemory` means that there was no
     /// memory to wait, and nothing was put; or none for a notice of the version that was published.
     fn order_wait(&mut self, feed: &str) -> Result<(u64, N), OrderFault>
-        ensures asked { self.new.asked ≡ self.old.asked ++ waited_value feed.now (version_told result) ∷ [] }
+        ensures asked { self.new.asked ≡ self.old.asked ++ waited_value feed.now (version_alone result) ∷ [] }
         ensures notice { IfOk result (λ r. T.noted r.1 ≡ r.0) }
         ensures route { route_of self.new ≡ route_of self.old }
         ensures heard { IfOk result (λ r. Hears feed.now (Some (LoadAnswer.Published r.1)) self.old self.new) }
@@ -263,7 +269,7 @@ impl<'a, R: Wait, N: Drop, T: Versions<Notice = N>, P: OrderRule<N>> Orders
             &mut self.end,
             &mut self.heard,
         );
-        self.asked.note(&Ordered::waited(feed, &outcome));
+        self.asked.note(&OrderRecord::waited(feed, &outcome));
         outcome
     }
 }

@@ -1,7 +1,7 @@
 //! The way back to whoever waits for a load: one for each order, made for it, for one answer.
 
 ghost use Rattle.std.specs.Prelude.{◌≡◌, ◌∷◌, [], Some, None, IfNone, IfOk, MatchOption};
-ghost use Rattle.load_orders.specs.Telling.{IsToldAt};
+ghost use Rattle.load_orders.specs.Telling.{IsSentAt};
 ghost use Rattle.load_orders.specs.Ways.{WasSilent, heard_at};
 
 use crossbeam_channel::protocol::{Lesson, Outcome, Protocol, Split};
@@ -23,27 +23,27 @@ pub enum LoadAnswer<N> {
 }
 
 /// What an end of a way back knows. No value of it is made.
-pub enum Side<N> {
+pub enum WayView<N> {
     /// The way is new, and this is its one end.
     Whole,
     /// What was told there, in order.
-    Telling { told: LinkedList<LoadAnswer<N>> },
+    Telling { sent: LinkedList<LoadAnswer<N>> },
     /// What was heard there, in order.
     Hearing { heard: LinkedList<LoadAnswer<N>> },
 }
 
 /// A rule of ways back, which stays true whenever an answer is heard. Nothing here says that it is true of a new way
 /// back. So only the way itself can say that it was true while no answer was on the way.
-pub trait WayRule<N: Drop>: Protocol<LoadAnswer<N>, Side<N>> {
+pub trait WayRule<N: Drop>: Protocol<LoadAnswer<N>, WayView<N>> {
     ghost use Rattle.load_orders.specs.Ways.{IsKeptByHearing};
 
     ghost kept: { IsKeptByHearing Self.holds };
 }
 
 /// The rule of a way back: one end tells, and one hears what was told.
-pub struct OneTells;
+pub struct OneSender;
 
-impl<N: Drop> Protocol<LoadAnswer<N>, Side<N>> for OneTells {
+impl<N: Drop> Protocol<LoadAnswer<N>, WayView<N>> for OneSender {
     ghost use Rattle.load_orders.specs.Ways.{IsWay, new_way};
 
     ghost holds = { IsWay };
@@ -51,51 +51,51 @@ impl<N: Drop> Protocol<LoadAnswer<N>, Side<N>> for OneTells {
     ghost first = { new_way };
 }
 
-impl<N: Drop> WayRule<N> for OneTells {
+impl<N: Drop> WayRule<N> for OneSender {
     ghost use Rattle.load_orders.specs.WayRules.{one_hears};
 
     ghost kept = { one_hears };
 }
 
 /// An answer is told.
-pub struct Tells;
+pub struct SendsAnswer;
 
-impl<N: Drop> Outcome<LoadAnswer<N>, Side<N>> for Tells {
+impl<N: Drop> Outcome<LoadAnswer<N>, WayView<N>> for SendsAnswer {
     ghost use Rattle.load_orders.specs.Ways.{IsOneAnswerMore};
 
     ghost then = { IsOneAnswerMore };
 }
 
-impl<N: Drop> Lesson<LoadAnswer<N>, Side<N>> for Tells {
+impl<N: Drop> Lesson<LoadAnswer<N>, WayView<N>> for SendsAnswer {
     ghost use Rattle.std.specs.Prelude.{⊤};
 
     ghost fact = { λ view items. ⊤ };
 }
 
 /// An answer is heard. No value of it is made.
-pub struct Hears<P> {
+pub struct ReceivesAnswer<P> {
     rule: PhantomData<P>,
 }
 
-impl<N: Drop, P> Outcome<LoadAnswer<N>, Side<N>> for Hears<P> {
+impl<N: Drop, P> Outcome<LoadAnswer<N>, WayView<N>> for ReceivesAnswer<P> {
     ghost use Rattle.load_orders.specs.Ways.{IsOneAnswerMore};
 
     ghost then = { IsOneAnswerMore };
 }
 
-impl<N: Drop, P: WayRule<N>> Lesson<LoadAnswer<N>, Side<N>> for Hears<P> {
+impl<N: Drop, P: WayRule<N>> Lesson<LoadAnswer<N>, WayView<N>> for ReceivesAnswer<P> {
     ghost use Rattle.load_orders.specs.Ways.{IsHeldBeside};
 
     ghost fact = { IsHeldBeside P.Protocol.holds };
 }
 
 /// A new way has two ends: one that tells, and one that hears.
-pub struct Ends;
+pub struct SplitsInTwo;
 
-impl<N: Drop> Split<Side<N>> for Ends {
-    ghost use Rattle.load_orders.specs.Ways.{unheard, untold};
+impl<N: Drop> Split<WayView<N>> for SplitsInTwo {
+    ghost use Rattle.load_orders.specs.Ways.{unheard, unsent};
 
-    ghost left = { λ view. untold };
+    ghost left = { λ view. unsent };
 
     ghost right = { λ view. unheard };
 }
@@ -103,32 +103,32 @@ impl<N: Drop> Split<Side<N>> for Ends {
 /// Where the loader tells what came of an order, once. Contracts see which way it is.
 #[derive(Drop)]
 pub struct WayBack<N: Drop> {
-    sender: RuledSender<LoadAnswer<N>, Side<N>, OneTells, Global>,
-    pass: Pass<LoadAnswer<N>, Side<N>>,
+    sender: RuledSender<LoadAnswer<N>, WayView<N>, OneSender, Global>,
+    pass: Pass<LoadAnswer<N>, WayView<N>>,
 }
 
 impl<N: Drop> Model for WayBack<N> {
     ghost use Rattle.std.specs.Prelude.{◌≡◌};
     ghost use Rattle.crossbeam_channel.specs.Claims.{IsSeatAt, view as view_of};
     ghost use Rattle.crossbeam_channel.specs.Ends.{sends_on, ruled_capacity};
-    ghost use Rattle.load_orders.specs.Ways.{WayId, untold};
+    ghost use Rattle.load_orders.specs.Ways.{WayId, unsent};
 
     ghost Value = { WayId };
 
     ghost view = { λ s. s.pass.table_id };
 
     ghost invariant = { λ s. IsSeatAt (sends_on s.sender) s.pass × (ruled_capacity (sends_on s.sender) ≡ 1)
-        × (view_of s.pass ≡ untold) };
+        × (view_of s.pass ≡ unsent) };
 }
 
 /// Where whoever waits hears what came of the order. Contracts see which way it is.
 #[derive(Drop)]
-pub struct Awaited<N: Drop, P: WayRule<N> = OneTells> {
-    receiver: RuledReceiver<LoadAnswer<N>, Side<N>, P, Global>,
-    pass: Pass<LoadAnswer<N>, Side<N>>,
+pub struct AnswerReceiver<N: Drop, P: WayRule<N> = OneSender> {
+    receiver: RuledReceiver<LoadAnswer<N>, WayView<N>, P, Global>,
+    pass: Pass<LoadAnswer<N>, WayView<N>>,
 }
 
-impl<N: Drop, P: WayRule<N>> Model for Awaited<N, P> {
+impl<N: Drop, P: WayRule<N>> Model for AnswerReceiver<N, P> {
     ghost use Rattle.std.specs.Prelude.{◌≡◌};
     ghost use Rattle.crossbeam_channel.specs.Claims.{IsSeatAt, view as view_of};
     ghost use Rattle.crossbeam_channel.specs.Ends.{receives_on};
@@ -145,7 +145,7 @@ impl<N: Drop, P: WayRule<N>> Model for Awaited<N, P> {
 /// as its own end knows them.
 #[derive(Drop)]
 pub struct UsedWay<N: Drop> {
-    pass: Pass<LoadAnswer<N>, Side<N>>,
+    pass: Pass<LoadAnswer<N>, WayView<N>>,
 }
 
 impl<N: Drop> Model for UsedWay<N> {
@@ -158,12 +158,14 @@ impl<N: Drop> Model for UsedWay<N> {
 }
 
 /// A new way back for one answer: where it is told, and where it is heard.
-pub(crate) fn way_back<N: Drop>(alloc: Global) -> Result<(WayBack<N>, Awaited<N>), AllocError>
+pub(crate) fn way_back<N: Drop>(
+    alloc: Global,
+) -> Result<(WayBack<N>, AnswerReceiver<N>), AllocError>
     ensures { IfOk result (λ ends. ends.0 ≡ ends.1) }
 {
     let (sender, receiver, mut pass) = bounded_with(alloc, 1)?;
-    let hearing = sender.another::<Ends>(&mut pass);
-    let awaited = Awaited {
+    let hearing = sender.another::<SplitsInTwo>(&mut pass);
+    let awaited = AnswerReceiver {
         receiver,
         pass: hearing,
     };
@@ -172,24 +174,24 @@ pub(crate) fn way_back<N: Drop>(alloc: Global) -> Result<(WayBack<N>, Awaited<N>
 
 impl<N: Drop> WayBack<N> {
     // Tells the answer to whoever waits, if anybody still does.
-    pub(crate) fn tell<R: Wait>(self, rt: &R, answer: LoadAnswer<N>) -> UsedWay<N>
-        ensures { IsToldAt self answer result }
+    pub(crate) fn send<R: Wait>(self, rt: &R, answer: LoadAnswer<N>) -> UsedWay<N>
+        ensures { IsSentAt self answer result }
     {
         let WayBack { sender, mut pass } = self;
-        drop(sender.try_send_as::<Tells, R>(rt, &mut pass, answer));
+        drop(sender.try_send_as::<SendsAnswer, R>(rt, &mut pass, answer));
         UsedWay { pass }
     }
 }
 
-impl<N: Drop, P: WayRule<N>> Awaited<N, P> {
+impl<N: Drop, P: WayRule<N>> AnswerReceiver<N, P> {
     // Waits for the answer. None if the other end is gone and there is no answer: the contract says only that there was
     // none at one moment of the call; that the other end is gone, only tests show.
     pub(crate) fn hear<R: Wait>(self, rt: &R) -> (Option<LoadAnswer<N>>, UsedWay<N>)
         ensures heard { result.1 ≡ heard_at self result.0 }
         ensures none { IfNone result.0 (WasSilent P.Protocol.holds) }
     {
-        let Awaited { receiver, mut pass } = self;
-        let answer = receiver.recv_as::<Hears<P>, R>(rt, &mut pass).ok();
+        let AnswerReceiver { receiver, mut pass } = self;
+        let answer = receiver.recv_as::<ReceivesAnswer<P>, R>(rt, &mut pass).ok();
         (answer, UsedWay { pass })
     }
 }

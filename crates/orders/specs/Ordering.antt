@@ -1,7 +1,7 @@
 -- Orders to load a feed.
 use Rattle.std.specs.Prelude.{ℕ, List, Result, Ok, Err, codes}
 use Rattle.orders.specs.declared.fault.OrderFault.{OrderFault}
-use Rattle.orders.specs.declared.ordered.Outcome.{Outcome}
+use Rattle.orders.specs.declared.ordered.OrderOutcome.{OrderOutcome}
 
 abbrev pub order_fault_number : OrderFault → ℕ
 order_fault_number OrderFault.UnknownFeed = 114
@@ -26,16 +26,16 @@ IsNotTaken _ = Unit {0}
 -- an order that was asked for: the feed's name, and the answer
 pub record OrderValue : Type 0 where
   pub feed : List ℕ
-  pub outcome : Outcome
+  pub outcome : OrderOutcome
 
 abbrev pub order_value : List ℕ → Result (Unit {0}) OrderFault → OrderValue
-order_value feed taken = record { feed = feed; outcome = Outcome.Put taken }
+order_value feed taken = record { feed = feed; outcome = OrderOutcome.Put taken }
 
 -- the version that came with a notice, or why there is none
-abbrev pub version_told : {N : Type 0} → Result (ℕ × N) OrderFault → Result ℕ OrderFault
-version_told (Ok told) = Ok told.0
-version_told (Err fault) = Err fault
+abbrev pub version_alone : {N : Type 0} → Result (ℕ × N) OrderFault → Result ℕ OrderFault
+version_alone (Ok waited_for) = Ok waited_for.0
+version_alone (Err fault) = Err fault
 
 -- an order that was waited for
 abbrev pub waited_value : List ℕ → Result ℕ OrderFault → OrderValue
-waited_value feed version = record { feed = feed; outcome = Outcome.Waited version }
+waited_value feed version = record { feed = feed; outcome = OrderOutcome.Waited version }

@@ -7,6 +7,6 @@ mod scans;
 mod taking;
 
 pub use fault::OrderFault;
-pub use ordered::{Ordered, Outcome};
+pub use ordered::{OrderOutcome, OrderRecord};
 pub use scans::{Gate, OpenGate};
 pub use taking::Orders;

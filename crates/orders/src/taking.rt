@@ -1,7 +1,7 @@
 //! Orders to load a feed.
 
 ghost use Rattle.std.specs.Prelude.{◌≡◌, ℕ, List, [], ◌∷◌, ◌++◌, IfErr, IfOk};
-ghost use Rattle.orders.specs.Ordering.{IsNotTaken, OrderValue, order_value, version_told, waited_value};
+ghost use Rattle.orders.specs.Ordering.{IsNotTaken, OrderValue, order_value, version_alone, waited_value};
 
 use crate::fault::OrderFault;
 
@@ -19,7 +19,7 @@ pub trait Orders {
     ghost asked: { Self → List OrderValue };
 
     // The version that a notice is of.
-    ghost told: { Self.Notice → ℕ };
+    ghost notice_version: { Self.Notice → ℕ };
 
     /// Orders a load of the feed. `Ok` says that the order was taken, which promises no load; the outcome isn't
     /// reported here.
@@ -31,7 +31,7 @@ pub trait Orders {
     /// Orders a load of the feed, waits for the outcome, and returns the version as which the feed was published, with
     /// a notice of it. With `OutOfMemory`, a version may have been published that isn't reported here.
     fn order_wait(&mut self, feed: &str) -> Result<(u64, Self::Notice), OrderFault>
-        ensures asked { asked self.new ≡ asked self.old ++ waited_value feed.now (version_told result) ∷ [] }
+        ensures asked { asked self.new ≡ asked self.old ++ waited_value feed.now (version_alone result) ∷ [] }
         ensures route { Self.route self.new ≡ Self.route self.old }
-        ensures notice { IfOk result (λ r. told r.1 ≡ r.0) };
+        ensures notice { IfOk result (λ r. notice_version r.1 ≡ r.0) };
 }

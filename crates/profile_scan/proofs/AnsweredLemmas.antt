@@ -14,8 +14,8 @@ use Rattle.profile_scan.specs.Between.{BetweenValue, CountsBetween, IsDirectWalk
 use Rattle.profile_scan.specs.Plain.{IsPlainOf}
 use Rattle.profile_scan.specs.Points.{Before, IsAnswerOf, untagged}
 use Rattle.profile_scan.specs.Matching.{Matches}
-use Rattle.profile_scan.specs.Story.{Story, told}
-use Rattle.profile_scan.specs.Telling.{IsJourneyTold, IsRetold}
+use Rattle.profile_scan.specs.Story.{Story, spelling_of}
+use Rattle.profile_scan.specs.Telling.{IsJourneySpelled, IsSpelledAgain}
 use Rattle.profile_scan.specs.Answered.{IsAnsweredBetween}
 use Rattle.profile_scan.specs.LawStatements.{CanScan}
 use Rattle.profile_scan.specs.declared.nodes.Node.{Node}
@@ -23,9 +23,9 @@ use Rattle.profile_scan.proofs.Answer.{match_is_the_answer}
 use Rattle.profile_scan.proofs.OrderLemmas.{listed_bag, listed_match}
 
 -- points alike, tags aside
-retold_in : {V : Type 0} (old new : List (Point V)) → map untagged new ≡ map untagged old → (p : Point V)
+spelled_again_in : {V : Type 0} (old new : List (Point V)) → map untagged new ≡ map untagged old → (p : Point V)
     → Contains new p → (q : Point V) × Contains old q × (q.departure ≡ p.departure) × (q.value ≡ p.value)
-retold_in {V} old new same p h =
+spelled_again_in {V} old new same p h =
     let k = h.0 in
     let long = ap length same in
     let old_long = length-map old untagged in
@@ -35,9 +35,9 @@ retold_in {V} old new same p h =
     sym (get_or-map untagged old k p) ∙ ap (λ (xs : List (ℕ × V)). get_or xs k (untagged p)) (sym same) ∙ get_or-map untagged new k p ∙ ap untagged h.2 in
     (q, (k, omega (arith, h.1), get_or_default old k q p (omega (arith, h.1))), ap (λ (x : ℕ × V). x.0) e, ap (λ (x : ℕ × V). x.1) e)
 
-retold_before : {V : Type 0} (rules : Rules V) (old new : List (Point V)) → map untagged new ≡ map untagged old
+spelled_again_before : {V : Type 0} (rules : Rules V) (old new : List (Point V)) → map untagged new ≡ map untagged old
     → AllPairs (Before rules) old → AllPairs (Before rules) new
-retold_before {V} rules old new same pairs i j d lt within =
+spelled_again_before {V} rules old new same pairs i j d lt within =
     let long = ap length same in
     let old_long = length-map old untagged in
     let new_long = length-map new untagged in
@@ -54,34 +54,36 @@ retold_before {V} rules old new same pairs i j d lt within =
       ap (λ (v : V). rules.list_order v s.value) (sym (ap (λ (x : ℕ × V). x.1) e)) ∙ ap (rules.list_order p.value) (sym (ap (λ (x : ℕ × V). x.1) f)) ∙ less,
     )
 
-pub retold_answer : {V : Type 0} (rules : Rules V) (IsThere : ℕ → V → Type 0) (old new : List (Point V))
+pub spelled_again_answer : {V : Type 0} (rules : Rules V) (IsThere : ℕ → V → Type 0) (old new : List (Point V))
     → map untagged new ≡ map untagged old → IsAnswerOf rules IsThere old → IsAnswerOf rules IsThere new
-retold_answer {V} rules IsThere old new same is = record {
+spelled_again_answer {V} rules IsThere old new same is = record {
   exactly = λ d v. (
-    (λ listed. let r = retold_in old new same listed.0 listed.1 in (is.exactly d v).0 (r.0, r.1, r.2 ∙ listed.2, r.3 ∙ listed.3)),
+    (λ listed. let r = spelled_again_in old new same listed.0 listed.1 in (is.exactly d v).0 (r.0, r.1, r.2 ∙ listed.2, r.3 ∙ listed.3)),
     (λ undominated. let listed = (is.exactly d v).1 undominated in let r =
-        retold_in new old (sym same) listed.0 listed.1
+        spelled_again_in new old (sym same) listed.0 listed.1
         in (r.0, r.1, r.2 ∙ listed.2, r.3 ∙ listed.3)),
   );
   unbeaten = λ d v point.
       let c = is.unbeaten d v point in
-      let r = retold_in new old (sym same) c.0 c.1 in
+      let r = spelled_again_in new old (sym same) c.0 c.1 in
       (r.0, r.1, subst (λ (n : ℕ). d ≤ n) (sym r.2) c.2, subst (λ (w : V). NoWorse rules w v) (sym r.3) c.3);
-  ordered = retold_before rules old new same is.ordered;
+  ordered = spelled_again_before rules old new same is.ordered;
 }
 
 -- points that match at the start of the window, listed in order and told in nodes
 pub answered : {V : Type 0} (rules : Rules V) → Laws rules → (t : TimetableValue) (q : BetweenValue) → CanScan t q
     → (start : ℕ) → IsFirstAt t q.from start
-    → (s : Story) (nodes : List Node) (found points retold : List (Point V)) (walk : Option Footpath)
-    → Matches rules (told t.footpaths s).journey (CountsFrom t q start) (IsPlainOf t (Contains q.targets)) (journey_value rules t) found → IsBag rules found
+    → (s : Story) (nodes : List Node) (found points spelled_again : List (Point V)) (walk : Option Footpath)
+    → Matches rules (spelling_of t.footpaths s).journey (CountsFrom t q start) (IsPlainOf t (Contains q.targets)) (journey_value rules t) found
+    → IsBag rules found
     → AllPairs (Before rules) points → ((p : Point V) → Contains points p → Contains found p) → ((p : Point V) → Contains found p → Contains points p)
-    → map untagged retold ≡ map untagged points → ((p : Point V) → Contains retold p → IsRetold t.footpaths s points nodes p)
-    → IsDirectWalk t q walk → IsAnsweredBetween rules t q retold nodes walk
-answered rules laws t q can start is_start s nodes found points retold walk matches bag ordered only each same says way =
-    let tags = told t.footpaths s in
+    → map untagged spelled_again ≡ map untagged points → ((p : Point V) → Contains spelled_again p → IsSpelledAgain t.footpaths s points nodes p)
+    → IsDirectWalk t q walk → IsAnsweredBetween rules t q spelled_again nodes walk
+answered rules laws t q can start is_start s nodes found points spelled_again walk matches bag ordered only each same says way =
+    let tags = spelling_of t.footpaths s in
     record {
-      answer = retold_answer rules (IsPointBetween rules t q) points retold same (match_is_the_answer rules laws t q can start is_start tags points
+      answer = spelled_again_answer rules (IsPointBetween rules t q) points spelled_again same
+          (match_is_the_answer rules laws t q can start is_start tags points
           (listed_match rules tags.journey (CountsFrom t q start) (IsPlainOf t (Contains q.targets)) (journey_value rules t) found points only each matches)
           (listed_bag rules laws found points bag ordered only)
           ordered);
@@ -101,8 +103,8 @@ answered rules laws t q can start is_start s nodes found points retold walk matc
     }
 
 -- each point found is told
-pub journeys_told : {V : Type 0} (rules : Rules V) (t : TimetableValue) (q : BetweenValue) (start : ℕ) (s : Story)
-    (found points : List (Point V)) → Matches rules (told t.footpaths s).journey (CountsFrom t q start)
+pub journeys_spelled : {V : Type 0} (rules : Rules V) (t : TimetableValue) (q : BetweenValue) (start : ℕ) (s : Story)
+    (found points : List (Point V)) → Matches rules (spelling_of t.footpaths s).journey (CountsFrom t q start)
     (IsPlainOf t (Contains q.targets)) (journey_value rules t) found → ((p : Point V) → Contains points p → Contains found p)
-    → (p : Point V) → Contains points p → IsJourneyTold t.footpaths s p.tag
-journeys_told rules t q start s found points matches only p h = let a = matches.sound p (only p h) in (a.way, a.spells)
+    → (p : Point V) → Contains points p → IsJourneySpelled t.footpaths s p.tag
+journeys_spelled rules t q start s found points matches only p h = let a = matches.sound p (only p h) in (a.way, a.spells)

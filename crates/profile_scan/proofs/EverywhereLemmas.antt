@@ -22,8 +22,8 @@ use Rattle.profile_scan.specs.Points.{IsAnswer, IsPoint, untagged}
 use Rattle.profile_scan.specs.Matching.{IsAttained, Matches, Spellings}
 use Rattle.profile_scan.specs.Steps.{AreCarried, Leaving, MayLeave, TakesIn, changes, ends, ends_after, leavings}
 use Rattle.profile_scan.specs.Bound.{carried, is_bettered}
-use Rattle.profile_scan.specs.Story.{Story, told}
-use Rattle.profile_scan.specs.Telling.{IsJourneyTold, IsRetold}
+use Rattle.profile_scan.specs.Story.{Story, spelling_of}
+use Rattle.profile_scan.specs.Telling.{IsJourneySpelled, IsSpelledAgain}
 use Rattle.profile_scan.specs.Kept.{IsWay}
 use Rattle.profile_scan.specs.Answered.{IsAnswered}
 use Rattle.profile_scan.specs.LawStatements.{CanScan}
@@ -33,7 +33,7 @@ use Rattle.profile_scan.specs.declared.nodes.Node.{Node}
 use Rattle.profile_scan.specs.declared.origin.Origin.{Origin}
 use Rattle.profile_scan.specs.declared.origins.Origins.{Origins}
 use Rattle.profile_scan.proofs.Answer.{match_is_the_answer}
-use Rattle.profile_scan.proofs.AnsweredLemmas.{retold_answer}
+use Rattle.profile_scan.proofs.AnsweredLemmas.{spelled_again_answer}
 use Rattle.profile_scan.proofs.BoundLemmas.{from_carried, into_carried}
 use Rattle.profile_scan.proofs.Offers.{takes_as}
 use Rattle.profile_scan.proofs.OrderLemmas.{listed_bag, listed_match}
@@ -124,13 +124,14 @@ all_listed_to {V} rules found n lists are past stop = elim (slice_get_cases list
 -- points that match at the start of the window, in order, are the answer, and each is attained by what its tag tells
 pub answered_from : {V : Type 0} (rules : Rules V) → Laws rules → (t : TimetableValue) (q : BetweenValue) → CanScan t q → (start : ℕ)
     → IsFirstAt t q.from start → (s : Story) (found points : List (Point V))
-    → Matches rules (told t.footpaths s).journey (CountsFrom t q start) (IsPlainOf t (Contains q.targets)) (journey_value rules t) found → IsBag rules found
+    → Matches rules (spelling_of t.footpaths s).journey (CountsFrom t q start) (IsPlainOf t (Contains q.targets)) (journey_value rules t) found
+    → IsBag rules found
     → AreInOrder rules found points
-    → IsAnswerBetween rules t q points × ((p : Point V) → Contains points p → IsAttained (told t.footpaths s).journey (CountsBetween t q)
+    → IsAnswerBetween rules t q points × ((p : Point V) → Contains points p → IsAttained (spelling_of t.footpaths s).journey (CountsBetween t q)
     (IsPlainOf t (Contains q.targets))
     (journey_value rules t) p)
 answered_from rules laws t q can start is_start s found points matches bag are =
-    let tags = told t.footpaths s in (
+    let tags = spelling_of t.footpaths s in (
       match_is_the_answer rules laws t q can start is_start tags points
           (listed_match rules tags.journey (CountsFrom t q start) (IsPlainOf t (Contains q.targets))
           (journey_value rules t) found points are.only are.each matches)
@@ -141,13 +142,13 @@ answered_from rules laws t q can start is_start s found points matches bag are =
 
 -- told in nodes they still are
 pub answered_in_nodes : {V : Type 0} (rules : Rules V) (t : TimetableValue) (q : Query) (s : Story) (nodes : List Node)
-    (points retold : List (Point V)) (walk : Option ℕ)
-    → IsAnswer rules t q points → ((p : Point V) → Contains points p → IsAttained (told t.footpaths s).journey (Counts t q) (IsPlain t q.target)
+    (points spelled_again : List (Point V)) (walk : Option ℕ)
+    → IsAnswer rules t q points → ((p : Point V) → Contains points p → IsAttained (spelling_of t.footpaths s).journey (Counts t q) (IsPlain t q.target)
     (journey_value rules t) p)
-    → map untagged retold ≡ map untagged points → ((p : Point V) → Contains retold p → IsRetold t.footpaths s points nodes p)
-    → IsWay t q.target q.source walk → IsAnswered rules t q retold nodes walk
-answered_in_nodes rules t q s nodes points retold walk answer attained same says way = record {
-  answer = retold_answer rules (IsPoint rules t q) points retold same answer;
+    → map untagged spelled_again ≡ map untagged points → ((p : Point V) → Contains spelled_again p → IsSpelledAgain t.footpaths s points nodes p)
+    → IsWay t q.target q.source walk → IsAnswered rules t q spelled_again nodes walk
+answered_in_nodes rules t q s nodes points spelled_again walk answer attained same says way = record {
+  answer = spelled_again_answer rules (IsPoint rules t q) points spelled_again same answer;
   attained = λ p h.
       let r = says p h in
       let a = attained r.of r.is_there in
@@ -163,7 +164,7 @@ answered_in_nodes rules t q s nodes points retold walk answer attained same says
 }
 
 -- of each point a journey is told
-pub attained_told : {V : Type 0} (rules : Rules V) (t : TimetableValue) (q : Query) (s : Story) (points : List (Point V)) →
-    ((p : Point V) → Contains points p → IsAttained (told t.footpaths s).journey (Counts t q) (IsPlain t q.target) (journey_value rules t) p) →
-    (p : Point V) → Contains points p → IsJourneyTold t.footpaths s p.tag
-attained_told rules t q s points attained p h = let a = attained p h in (a.way, a.spells)
+pub attained_spelled : {V : Type 0} (rules : Rules V) (t : TimetableValue) (q : Query) (s : Story) (points : List (Point V)) →
+    ((p : Point V) → Contains points p → IsAttained (spelling_of t.footpaths s).journey (Counts t q) (IsPlain t q.target) (journey_value rules t) p) →
+    (p : Point V) → Contains points p → IsJourneySpelled t.footpaths s p.tag
+attained_spelled rules t q s points attained p h = let a = attained p h in (a.way, a.spells)

@@ -10,15 +10,15 @@ use Rattle.criteria.specs.Laws.{Rules, Laws, Admits, NoWorse}
 use Rattle.bags.specs.declared.point.Point.{Point}
 use Rattle.bags.specs.Dominance.{IsCovered}
 use Rattle.timetable.specs.declared.network.Footpath.{Footpath}
-use Rattle.fronts.specs.declared.entry.Ridden.{Ridden}
+use Rattle.fronts.specs.declared.entry.RiddenLabel.{RiddenLabel}
 use Rattle.fronts.specs.declared.entry.Step.{Step}
 use Rattle.fronts.specs.Lists.{TakesRidden}
 use Rattle.profile_scan.specs.Matching.{from_to}
 use Rattle.profile_scan.specs.Steps.{TakesIn}
-use Rattle.profile_scan.specs.Story.{Story, Grows, told}
+use Rattle.profile_scan.specs.Story.{Story, Grows, spelling_of}
 use Rattle.profile_scan.specs.Adding.{AreRidden, boardings_after, only_if}
 use Rattle.profile_scan.specs.Kept.{IsOffered}
-use Rattle.profile_scan.specs.declared.last_offers.Offered.{Offered}
+use Rattle.profile_scan.specs.declared.last_offers.LastOffer.{LastOffer}
 use Rattle.profile_scan.proofs.Admitted.{AreAdmitted}
 use Rattle.profile_scan.proofs.Offers.{takes_if, takes_unless}
 use Rattle.profile_scan.proofs.RideLemmas.{boardings_of_ridden}
@@ -32,14 +32,14 @@ covered_on rules laws points admitted time v w a b le (p, h, late, good) =
 
 -- a list that covers a value takes it in as it is
 pub takes_covered : {V : Type 0} (rules : Rules V) (steps : List Step) (departure first walk secs : ℕ)
-    (ride : Ridden V) (points : List (Point V)) → IsCovered rules points departure (rules.walk secs ride.value)
+    (ride : RiddenLabel V) (points : List (Point V)) → IsCovered rules points departure (rules.walk secs ride.value)
     → TakesRidden rules steps departure first walk secs (ride ∷ []) points points
 takes_covered rules steps departure first walk secs ride points covers = record {
   only = λ p h. inl h;
   kept = λ d v a c. c;
   covered = λ r h. elim (Contains-push_cases [] ride r h) [
     | inl n ↦ absurd (not_in_nil r n)
-    | inr e ↦ subst (λ (x : Ridden _). IsCovered rules points departure (rules.walk secs x.value)) e covers
+    | inr e ↦ subst (λ (x : RiddenLabel _). IsCovered rules points departure (rules.walk secs x.value)) e covers
   ];
 }
 
@@ -52,7 +52,7 @@ module _ {V : Type 0} (rules : Rules V) (old new : ℕ → List (Point V)) (head
   here = ap new (sym (get_or-set_same heads stop now 0 inside))
 
   -- what a stop was offered, it was offered when another list took something in
-  pub offered_on : (k : ℕ) (offered : Offered V) → IsOffered rules (old (slice_index heads k)) offered
+  pub offered_on : (k : ℕ) (offered : LastOffer V) → IsOffered rules (old (slice_index heads k)) offered
       → IsOffered rules (new (slice_index (set heads stop now) k)) offered
   offered_on k offered was = record {
     admitted = was.admitted;
@@ -70,9 +70,9 @@ module _ {V : Type 0} (rules : Rules V) (old new : ℕ → List (Point V)) (head
   }
 
   -- and what it is offered then
-  pub offered_put : (offers : List (Offered V)) → ((k : ℕ) (offered : Offered V) → slice_get offers k ≡ Some offered
-      → IsOffered rules (old (slice_index heads k)) offered) → (put : Offered V) → IsOffered rules (new now) put
-      → (k : ℕ) (offered : Offered V) → slice_get (set offers stop put) k ≡ Some offered
+  pub offered_put : (offers : List (LastOffer V)) → ((k : ℕ) (offered : LastOffer V) → slice_get offers k ≡ Some offered
+      → IsOffered rules (old (slice_index heads k)) offered) → (put : LastOffer V) → IsOffered rules (new now) put
+      → (k : ℕ) (offered : LastOffer V) → slice_get (set offers stop put) k ≡ Some offered
       → IsOffered rules (new (slice_index (set heads stop now) k)) offered
   offered_put offers were put fits k offered at = elim (cases_eq k stop) [
     | inl e ↦ at_stop e
@@ -107,16 +107,16 @@ pub covered_earlier : {V : Type 0} (rules : Rules V) (points : List (Point V)) (
 covered_earlier rules points time later v le (p, h, late, good) = (p, h, omega arith, good)
 
 -- the lists of all stops, of which one covers a ridden value after a footpath, take it in as they are
-pub takes_as_it_is : {V : Type 0} (rules : Rules V) (labels : List (Point V)) (walks : List Footpath) (ride : Ridden V)
+pub takes_as_it_is : {V : Type 0} (rules : Rules V) (labels : List (Point V)) (walks : List Footpath) (ride : RiddenLabel V)
     → AreRidden rules labels (ride ∷ []) → (points : ℕ → List (Point V)) (walk : Footpath) (place first dep : ℕ)
     → walk.secs ≤ dep → slice_get walks place ≡ Some walk
     → IsCovered rules (points walk.from) (dep - walk.secs) (rules.walk walk.secs ride.value)
     → (stop : ℕ) (before all : Story) → Grows before all
     → TakesIn rules (only_if ((walk.from ≡ stop) × (walk.secs ≤ dep))
-    (boardings_after rules (from_to (told walks before) (told walks all)) first (dep - walk.secs) walk labels))
+    (boardings_after rules (from_to (spelling_of walks before) (spelling_of walks all)) first (dep - walk.secs) walk labels))
     (points stop) (points stop)
 takes_as_it_is rules labels walks ride are points walk place first dep fits at covers stop before all ext =
-    let offer = boardings_after rules (from_to (told walks before) (told walks all)) first (dep - walk.secs) walk labels in
+    let offer = boardings_after rules (from_to (spelling_of walks before) (spelling_of walks all)) first (dep - walk.secs) walk labels in
     elim (cases_eq walk.from stop) [
       | inl here ↦
           subst (λ (n : ℕ). TakesIn rules (only_if ((walk.from ≡ stop) × (walk.secs ≤ dep)) offer) (points n) (points n)) here

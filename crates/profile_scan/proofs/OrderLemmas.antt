@@ -86,17 +86,17 @@ or_and_not true b c h = absurd (true≢false h)
 or_and_not false true c h = (refl, λ _. h)
 or_and_not false false c h = (refl, λ e. absurd (true≢false (sym e)))
 
-pub told_before : {V : Type 0} (rules : Rules V) (p q : Point V) → is_before rules p q ≡ true → Before rules p q
-told_before rules p q h = elim (or_and (nat_lt p.departure q.departure) (p.departure == q.departure) (is_lt (rules.list_order p.value q.value)) h) [
+pub before_by_test : {V : Type 0} (rules : Rules V) (p q : Point V) → is_before rules p q ≡ true → Before rules p q
+before_by_test rules p q h = elim (or_and (nat_lt p.departure q.departure) (p.departure == q.departure) (is_lt (rules.list_order p.value q.value)) h) [
   | inl lt ↦ inl (ltb-true p.departure q.departure lt)
   | inr both ↦ inr (eqb-true p.departure q.departure both.0, is_lt-true (rules.list_order p.value q.value) both.1)
 ]
 
-pub told_not_before : {V : Type 0} (rules : Rules V) (p q : Point V) → is_before rules p q ≡ false → Before rules p q → ⊥
-told_not_before rules p q h (inl lt) = true≢false (sym (lt-ltb p.departure q.departure lt)
+pub not_before_by_test : {V : Type 0} (rules : Rules V) (p q : Point V) → is_before rules p q ≡ false → Before rules p q → ⊥
+not_before_by_test rules p q h (inl lt) = true≢false (sym (lt-ltb p.departure q.departure lt)
     ∙ (or_and_not (nat_lt p.departure q.departure) (p.departure == q.departure)
     (is_lt (rules.list_order p.value q.value)) h).0)
-told_not_before rules p q h (inr (e, less)) =
+not_before_by_test rules p q h (inr (e, less)) =
     is_lt-false (rules.list_order p.value q.value)
     ((or_and_not (nat_lt p.departure q.departure) (p.departure == q.departure)
     (is_lt (rules.list_order p.value q.value)) h).1 (eq-eqb p.departure q.departure e)) less

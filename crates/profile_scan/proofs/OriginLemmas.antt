@@ -16,7 +16,7 @@ use Rattle.fronts.specs.declared.entry.Step.{Step}
 use Rattle.profile_scan.specs.Between.{BetweenValue}
 use Rattle.profile_scan.specs.Matching.{Spellings, from_to}
 use Rattle.profile_scan.specs.Steps.{Offer}
-use Rattle.profile_scan.specs.Story.{story, told}
+use Rattle.profile_scan.specs.Story.{story, spelling_of}
 use Rattle.profile_scan.specs.Adding.{IsInTime, MayStart, StartsFrom, Takes, only_if}
 use Rattle.profile_scan.specs.Parts.{ChangesOrigin, OriginTakes}
 use Rattle.profile_scan.specs.Origins.{IsLoop, AreUnder, ChangesOrigins, SourceTakes, found_by, found_from, from_stop, set_outs_by, set_outs_from, starts_at}
@@ -130,7 +130,8 @@ pub source_unless : {A K V : Type 0} {d : _} (rules : Rules V) (walks : List Foo
     → slice_get new.each.items stop ≡ slice_get old.each.items stop → (P → ⊥) → SourceTakes rules walks stop (λ tags. only_if P (offer tags)) old new
 source_unless {A} {K} {V} {d} rules walks stop P offer old new same fails =
     subst (λ (o : Option (Origin K V d)). TakesBy rules walks (λ tags. only_if P (offer tags)) (slice_get old.each.items stop) o) (sym same)
-    (λ exits steps before all ext_before ext. takes_unless rules P (offer (from_to (told walks before) (told walks all))) (found_from old stop) fails)
+    (λ exits steps before all ext_before ext. takes_unless rules P (offer (from_to (spelling_of walks before) (spelling_of walks all)))
+    (found_from old stop) fails)
 
 -- stops without points
 pub record AreNew {K V : Type 0} {d : _} (criterion : K) (count : ℕ) (each : List (Origin K V d)) : Type 0 where

@@ -9,43 +9,43 @@ use Rattle.criteria.specs.Laws.{Rules, Laws, Admits}
 use Rattle.bags.specs.declared.point.Point.{Point}
 use Rattle.timetable.specs.declared.network.Footpath.{Footpath}
 use Rattle.fronts.specs.declared.entry.Step.{Step}
-use Rattle.fronts.specs.declared.entry.Ridden.{Ridden}
+use Rattle.fronts.specs.declared.entry.RiddenLabel.{RiddenLabel}
 use Rattle.fronts.specs.Lists.{TakesRidden}
 use Rattle.fronts.specs.Front.{Extends}
 use Rattle.profile_scan.specs.Matching.{from_to}
 use Rattle.profile_scan.specs.Steps.{TakesIn}
 use Rattle.profile_scan.specs.Points.{Covers}
-use Rattle.profile_scan.specs.Story.{Story, Grows, told}
+use Rattle.profile_scan.specs.Story.{Story, Grows, spelling_of}
 use Rattle.profile_scan.specs.Adding.{StandsBefore, AreRidden, boardings_after, only_if}
 use Rattle.profile_scan.specs.Bound.{is_bettered, carried, RidesLabel}
 use Rattle.profile_scan.proofs.BoundLemmas.{from_carried, into_carried}
 use Rattle.profile_scan.proofs.Admitted.{AreAdmitted}
 use Rattle.profile_scan.proofs.Offers.{stands_in, all_stand, stands_split, takes_if, takes_unless}
-use Rattle.profile_scan.proofs.StoryLemmas.{stays, step_told}
+use Rattle.profile_scan.proofs.StoryLemmas.{stays, step_spelled}
 
 -- values are those of labels after the ride that aren't bettered, and all such labels below a place are among them
-pub record RiddenBefore {V : Type 0} (rules : Rules V) (values : List V) (labels : List (Point V)) (n : ℕ) (ridden : List (Ridden V)) : Type 0 where
-  pub of_label : (r : Ridden V) → Contains ridden r
+pub record RiddenBefore {V : Type 0} (rules : Rules V) (values : List V) (labels : List (Point V)) (n : ℕ) (ridden : List (RiddenLabel V)) : Type 0 where
+  pub of_label : (r : RiddenLabel V) → Contains ridden r
       → (l : Point V) × Contains (carried rules values labels) l × (r.value ≡ rules.ride l.value) × (r.label ≡ l.tag)
   pub each : (l : Point V) → StandsBefore labels n l → is_bettered rules values (rules.ride l.value) ≡ false
-      → (r : Ridden V) × Contains ridden r × (r.value ≡ rules.ride l.value)
+      → (r : RiddenLabel V) × Contains ridden r × (r.value ≡ rules.ride l.value)
 
 module _ {V : Type 0} (rules : Rules V) (values : List V) where
   -- one label
-  pub rides_one : (x : Point V) (r : Ridden V) (old new : List (Ridden V)) → is_bettered rules values r.value ≡ false
+  pub rides_one : (x : Point V) (r : RiddenLabel V) (old new : List (RiddenLabel V)) → is_bettered rules values r.value ≡ false
       → r.value ≡ rules.ride x.value → r.label ≡ x.tag → new ≡ old ++ r ∷ [] → RidesLabel rules values x old new
   rides_one x r old new free worth label pushed =
       let is_free : is_bettered rules values (rules.ride x.value) ≡ false = ap (is_bettered rules values) (sym worth) ∙ free in
       record {
         only = λ s h. elim (Contains-push_cases old r s (subst (λ rs. Contains rs s) pushed h)) [
           | inl was ↦ inl was
-          | inr e ↦ inr (is_free, ap (λ (z : Ridden V). z.value) (sym e) ∙ worth, ap (λ (z : Ridden V). z.label) (sym e) ∙ label)
+          | inr e ↦ inr (is_free, ap (λ (z : RiddenLabel V). z.value) (sym e) ∙ worth, ap (λ (z : RiddenLabel V). z.label) (sym e) ∙ label)
         ];
         kept = λ s h. subst (λ rs. Contains rs s) (sym pushed) (Contains-append_left old (r ∷ []) s h);
         rides = λ _. (r, subst (λ rs. Contains rs r) (sym pushed) (Contains-push old r), worth);
       }
 
-  pub rides_none : (x : Point V) (v : V) (ridden : List (Ridden V)) → v ≡ rules.ride x.value
+  pub rides_none : (x : Point V) (v : V) (ridden : List (RiddenLabel V)) → v ≡ rules.ride x.value
       → is_bettered rules values v ≡ true → RidesLabel rules values x ridden ridden
   rides_none x v ridden worth bettered = record {
     only = λ s h. inl h;
@@ -54,13 +54,13 @@ module _ {V : Type 0} (rules : Rules V) (values : List V) where
   }
 
 module _ {V : Type 0} (rules : Rules V) (values : List V) (labels : List (Point V)) where
-  pub ridden_none : (ridden : List (Ridden V)) → ridden ≡ [] → RiddenBefore rules values labels 0 ridden
+  pub ridden_none : (ridden : List (RiddenLabel V)) → ridden ≡ [] → RiddenBefore rules values labels 0 ridden
   ridden_none ridden e = record {
     of_label = λ r h. absurd (not_in_nil r (subst (λ rs. Contains rs r) e h));
     each = λ l s free. absurd (omega (arith, s.1));
   }
 
-  pub ridden_more : (n : ℕ) (x : Point V) (old new : List (Ridden V)) → slice_get labels n ≡ Some x
+  pub ridden_more : (n : ℕ) (x : Point V) (old new : List (RiddenLabel V)) → slice_get labels n ≡ Some x
       → RidesLabel rules values x old new → RiddenBefore rules values labels n old
       → RiddenBefore rules values labels (n + 1) new
   ridden_more n x old new at takes is = record {
@@ -76,7 +76,7 @@ module _ {V : Type 0} (rules : Rules V) (values : List V) (labels : List (Point 
     ];
   }
 
-  pub ridden_all : (n : ℕ) (ridden : List (Ridden V)) → length labels ≤ n → RiddenBefore rules values labels n ridden
+  pub ridden_all : (n : ℕ) (ridden : List (RiddenLabel V)) → length labels ≤ n → RiddenBefore rules values labels n ridden
       → AreRidden rules (carried rules values labels) ridden
   ridden_all n ridden long is = record {
     of_label = is.of_label;
@@ -91,7 +91,7 @@ one_alone (y ∷ z ∷ zs) x long is = absurd (omega arith)
 
 -- one label alone
 module _ {V : Type 0} (rules : Rules V) (values : List V) (x : Point V) where
-  pub alone_ridden : (r : Ridden V) → is_bettered rules values r.value ≡ false → r.value ≡ rules.ride x.value
+  pub alone_ridden : (r : RiddenLabel V) → is_bettered rules values r.value ≡ false → r.value ≡ rules.ride x.value
       → r.label ≡ x.tag → AreRidden rules (carried rules values (x ∷ [])) (r ∷ [])
   alone_ridden r free worth label =
       ridden_all rules values (x ∷ []) (0 + 1) (r ∷ []) (omega arith)
@@ -113,22 +113,22 @@ module _ {V : Type 0} (rules : Rules V) (values : List V) (x : Point V) where
 
 module _ {V : Type 0} (rules : Rules V) (labels : List (Point V)) where
   -- each of them is admitted
-  pub ridden_admitted : (laws : Laws rules) → AreAdmitted rules labels → (ridden : List (Ridden V))
-      → AreRidden rules labels ridden → (r : Ridden V) → Contains ridden r → Admits rules r.value
+  pub ridden_admitted : (laws : Laws rules) → AreAdmitted rules labels → (ridden : List (RiddenLabel V))
+      → AreRidden rules labels ridden → (r : RiddenLabel V) → Contains ridden r → Admits rules r.value
   ridden_admitted laws admitted ridden are r h =
       let l = are.of_label r h in
       subst (Admits rules) (sym l.2) (laws.ride_admits l.0.value (admitted l.0 l.1))
 
   -- where there are none, there are no labels
-  pub no_ridden : (ridden : List (Ridden V)) → AreRidden rules labels ridden → length ridden ≡ 0 → (l : Point V) → Contains labels l → ⊥
+  pub no_ridden : (ridden : List (RiddenLabel V)) → AreRidden rules labels ridden → length ridden ≡ 0 → (l : Point V) → Contains labels l → ⊥
   no_ridden ridden are none l h = let r = are.each l h in omega (arith, r.1.1, none)
 
   -- a list that takes them in after a footpath takes the labels in
-  pub boardings_of_ridden : (walks : List Footpath) (ridden : List (Ridden V)) → AreRidden rules labels ridden
+  pub boardings_of_ridden : (walks : List Footpath) (ridden : List (RiddenLabel V)) → AreRidden rules labels ridden
       → (steps : List Step) (departure first place : ℕ) (walk : Footpath) (old new : List (Point V))
       → slice_get walks place ≡ Some walk
       → TakesRidden rules steps departure first place walk.secs ridden old new → (before all : Story) → Grows before all → Extends steps all.steps
-      → TakesIn rules (boardings_after rules (from_to (told walks before) (told walks all)) first departure walk labels) old new
+      → TakesIn rules (boardings_after rules (from_to (spelling_of walks before) (spelling_of walks all)) first departure walk labels) old new
   boardings_of_ridden walks ridden are steps departure first place walk old new at takes before all ext more = record {
     only = λ p h. elim (takes.only p h) [
       | inl was ↦ inl was
@@ -142,7 +142,7 @@ module _ {V : Type 0} (rules : Rules V) (labels : List (Point V)) where
             is_open = l.1;
             departs = sym (ap (λ (z : Point V). z.departure) same) ∙ b.departs;
             worth = sym (ap (λ (z : Point V). z.value) same) ∙ b.worth ∙ ap (rules.walk walk.secs) l.2;
-            fits = λ x e. step_told walks before all p.tag first l.0.tag place walk ext here at x e;
+            fits = λ x e. step_spelled walks before all p.tag first l.0.tag place walk ext here at x e;
           }))
     ];
     kept = takes.kept;
@@ -156,7 +156,7 @@ module _ {V : Type 0} (rules : Rules V) (labels : List (Point V)) where
 
 -- the lists of all stops, one of them having taken ridden values in
 pub boarded_at : {K V : Type 0} (rules_of : K → Rules V) (a b : K) → a ≡ b
-    → (labels : List (Point V)) (walks : List Footpath) (ridden : List (Ridden V))
+    → (labels : List (Point V)) (walks : List Footpath) (ridden : List (RiddenLabel V))
     → AreRidden (rules_of b) labels ridden
     → (old new : ℕ → List (Point V)) (heads : List ℕ) (bound : ℕ) → ((k : ℕ) → slice_index heads k < bound)
     → ((place : ℕ) → place < bound → new place ≡ old place)
@@ -165,13 +165,13 @@ pub boarded_at : {K V : Type 0} (rules_of : K → Rules V) (a b : K) → a ≡ b
     → TakesRidden (rules_of a) steps (dep - walk.secs) first place walk.secs ridden (old head) (new now)
     → (stop : ℕ) (before all : Story) → Grows before all → Extends steps all.steps
     → TakesIn (rules_of b) (only_if ((walk.from ≡ stop)
-    × (walk.secs ≤ dep)) (boardings_after (rules_of b) (from_to (told walks before) (told walks all)) first
+    × (walk.secs ≤ dep)) (boardings_after (rules_of b) (from_to (spelling_of walks before) (spelling_of walks all)) first
     (dep - walk.secs) walk labels)) (old (slice_index heads stop))
     (new (slice_index (set heads walk.from now) stop))
 boarded_at {K} {V} rules_of a b e labels walks ridden are old new heads bound within same steps walk place first dep
     head now inside fits at head_is takes stop before all ext more =
     let rules = rules_of b in
-    let offer = boardings_after rules (from_to (told walks before) (told walks all)) first (dep - walk.secs) walk labels in
+    let offer = boardings_after rules (from_to (spelling_of walks before) (spelling_of walks all)) first (dep - walk.secs) walk labels in
     elim (cases_eq walk.from stop) [
       | inl here ↦
           let taken = boardings_of_ridden rules labels walks ridden are steps (dep - walk.secs) first place walk

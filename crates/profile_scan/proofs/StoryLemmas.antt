@@ -12,7 +12,7 @@ use Rattle.profile_scan.specs.Continuations.{Onward, Aboard}
 use Rattle.profile_scan.specs.Matching.{Keeps, from_to}
 use Rattle.profile_scan.specs.Steps.{boarded}
 use Rattle.profile_scan.specs.Nodes.{changed_at, boarded_after, set_out_by}
-use Rattle.profile_scan.specs.Story.{Story, story, Grows, exit_tells, boards_by, step_tells, set_out_tells, label_tells, told, IsExit}
+use Rattle.profile_scan.specs.Story.{Story, story, Grows, exit_tells, boards_by, step_tells, set_out_tells, label_tells, spelling_of, IsExit}
 use Rattle.profile_scan.specs.declared.story.Exit.{Exit}
 use Rattle.profile_scan.specs.declared.story.Exit.TheVariants.{Ends, Changes}
 use Rattle.profile_scan.specs.declared.story.SetOut.{SetOut}
@@ -67,26 +67,26 @@ set_more s (Some y) p more x e = ap (set_out_by s.start s.first) (more y refl) �
 
 exit_more : (less more : ℕ → Option Onward) → TellsMore less more → (e f : Option Exit)
     → ((z : Exit) → e ≡ Some z → f ≡ Some z) → (x : Aboard) → exit_tells less e ≡ Some x → exit_tells more f ≡ Some x
-exit_more less more tells None f there x told_x = absurd cc
-exit_more less more tells (Some (Ends last walk)) f there x told_x = ap (exit_tells more) (there (Ends last walk) refl) ∙ told_x
-exit_more less more tells (Some (Changes last step)) f there x told_x =
+exit_more less more tells None f there x spelled_x = absurd cc
+exit_more less more tells (Some (Ends last walk)) f there x spelled_x = ap (exit_tells more) (there (Ends last walk) refl) ∙ spelled_x
+exit_more less more tells (Some (Changes last step)) f there x spelled_x =
     ap (exit_tells more) (there (Changes last step) refl)
-    ∙ changed_more last (less step) (more step) (tells step) x told_x
+    ∙ changed_more last (less step) (more step) (tells step) x spelled_x
 
 step_more : (walks : List Footpath) (less more : ℕ → Option Aboard) → TellsMore less more → (s r : Option Step)
     → ((z : Step) → s ≡ Some z → r ≡ Some z) → (x : Onward) → step_tells walks less s ≡ Some x
     → step_tells walks more r ≡ Some x
-step_more walks less more tells None r there x told_x = absurd cc
-step_more walks less more tells (Some s) r there x told_x =
+step_more walks less more tells None r there x spelled_x = absurd cc
+step_more walks less more tells (Some s) r there x spelled_x =
     ap (step_tells walks more) (there s refl)
-    ∙ boards_more s.first (less s.label) (more s.label) (slice_get walks s.walk) (tells s.label) x told_x
+    ∙ boards_more s.first (less s.label) (more s.label) (slice_get walks s.walk) (tells s.label) x spelled_x
 
 set_out_more : (less more : ℕ → Option Aboard) → TellsMore less more → (s r : Option SetOut)
     → ((z : SetOut) → s ≡ Some z → r ≡ Some z) → (x : JourneyValue) → set_out_tells less s ≡ Some x
     → set_out_tells more r ≡ Some x
-set_out_more less more tells None r there x told_x = absurd cc
-set_out_more less more tells (Some s) r there x told_x =
-    ap (set_out_tells more) (there s refl) ∙ set_more s (less s.label) (more s.label) (tells s.label) x told_x
+set_out_more less more tells None r there x spelled_x = absurd cc
+set_out_more less more tells (Some s) r there x spelled_x =
+    ap (set_out_tells more) (there s refl) ∙ set_more s (less s.label) (more s.label) (tells s.label) x spelled_x
 
 -- of a longer story, in more legs, a label tells the same
 pub label_more : (walks : List Footpath) (a b : Story) → Grows a b → (n m : ℕ) → n ≤ m → TellsMore (label_tells walks a n) (label_tells walks b m)
@@ -102,7 +102,7 @@ label_more walks a b grows (suc n) (suc m) le label x e =
     (slice_get a.exits label) (slice_get b.exits label) (stays a.exits b.exits grows.exits label) x e
 
 -- so what was told stays so
-pub grows_keeps : (walks : List Footpath) (a b : Story) → Grows a b → Keeps (told walks a) (told walks b)
+pub grows_keeps : (walks : List Footpath) (a b : Story) → Grows a b → Keeps (spelling_of walks a) (spelling_of walks b)
 grows_keeps walks a b grows =
     let more = label_more walks a b grows (length a.exits) (length b.exits) (extends_long a.exits b.exits grows.exits) in
     record {
@@ -121,16 +121,16 @@ unfolding label_tells
 tells_next walks s n label exit at = ap (exit_tells (λ tag. step_tells walks (label_tells walks s n) (slice_get s.steps tag))) at
 
 -- an exit that is written down next, by what was told before
-pub exit_told : (walks : List Footpath) (before was now all : Story) (exit : Exit) → Grows before was → Grows was now
+pub exit_spelled : (walks : List Footpath) (before was now all : Story) (exit : Exit) → Grows before was → Grows was now
     → now.exits ≡ was.exits ++ exit ∷ [] → Grows now all
-    → IsExit (from_to (told walks before) (told walks all)) exit (length was.exits)
-exit_told walks before was now all (Ends last walk) ext_before ext pushed ext_all =
+    → IsExit (from_to (spelling_of walks before) (spelling_of walks all)) exit (length was.exits)
+exit_spelled walks before was now all (Ends last walk) ext_before ext pushed ext_all =
     let n = length was.exits in
     let long = ap length pushed ∙ length_push was.exits (Ends last walk) in
     let grows = extends_long now.exits all.exits ext_all.exits in
     let at = ap (λ (es : List Exit). slice_get es n) pushed ∙ slice_get-middle was.exits (Ends last walk) [] in
     label_more walks now all ext_all (suc n) (length all.exits) (omega arith) n _ (tells_next walks now n n (Ends last walk) at)
-exit_told walks before was now all (Changes last step) ext_before ext pushed ext_all = λ x e.
+exit_spelled walks before was now all (Changes last step) ext_before ext pushed ext_all = λ x e.
     let n = length was.exits in
     let long = ap length pushed ∙ length_push was.exits (Changes last step) in
     let grows = extends_long now.exits all.exits ext_all.exits in
@@ -143,20 +143,22 @@ exit_told walks before was now all (Changes last step) ext_before ext pushed ext
     label_more walks now all ext_all (suc n) (length all.exits) (omega arith) n _ (tells_next walks now n n (Changes last step) at ∙ ap (changed_at last) here)
 
 -- a step that is written down, by what was told before
-pub step_told : (walks : List Footpath) (before all : Story) (tag first label place : ℕ) (walk : Footpath)
+pub step_spelled : (walks : List Footpath) (before all : Story) (tag first label place : ℕ) (walk : Footpath)
     → Grows before all → slice_get all.steps tag ≡ Some (record { first = first; label = label; walk = place })
     → slice_get walks place ≡ Some walk
-    → (x : Aboard) → (told walks before).aboard label ≡ Some x → (told walks all).onward tag ≡ Some (record { walk = walk ∷ []; rides = boarded first x })
-step_told walks before all tag first label place walk ext at walk_at x e =
+    → (x : Aboard) → (spelling_of walks before).aboard label ≡ Some x → (spelling_of walks all).onward tag ≡ Some
+    (record { walk = walk ∷ []; rides = boarded first x })
+step_spelled walks before all tag first label place walk ext at walk_at x e =
     let more = label_more walks before all ext (length before.exits) (length all.exits) (extends_long before.exits all.exits ext.exits) label x e in
     ap (step_tells walks (label_tells walks all (length all.exits))) at
     ∙ ap (boards_by first (label_tells walks all (length all.exits) label)) walk_at
     ∙ ap (boarded_after walk first) more
 
 -- a way to set out that is written down, by what was told before
-pub set_out_told : (walks : List Footpath) (before all : Story) (tag : ℕ) (s : SetOut) → Grows before all → slice_get all.set_outs tag ≡ Some s
-    → (x : Aboard) → (told walks before).aboard s.label ≡ Some x → (told walks all).journey tag ≡ Some (record { start = s.start; rides = boarded s.first x })
-set_out_told walks before all tag s ext at x e =
+pub set_out_spelled : (walks : List Footpath) (before all : Story) (tag : ℕ) (s : SetOut) → Grows before all → slice_get all.set_outs tag ≡ Some s
+    → (x : Aboard) → (spelling_of walks before).aboard s.label ≡ Some x → (spelling_of walks all).journey tag ≡ Some
+    (record { start = s.start; rides = boarded s.first x })
+set_out_spelled walks before all tag s ext at x e =
     let more = label_more walks before all ext (length before.exits) (length all.exits) (extends_long before.exits all.exits ext.exits) s.label x e in
     ap (set_out_tells (label_tells walks all (length all.exits))) at ∙ ap (set_out_by s.start s.first) more
 
@@ -164,22 +166,22 @@ set_out_told walks before all tag s ext at x e =
 pub set_out_next : (walks : List Footpath) (exits : List Exit) (steps : List Step) (old new : List SetOut)
     (before all : Story) (s : SetOut) → new ≡ old ++ s ∷ [] → Grows before (story exits steps old)
     → Grows (story exits steps new) all
-    → (x : Aboard) → (told walks before).aboard s.label ≡ Some x
-    → (told walks all).journey (length old) ≡ Some (record { start = s.start; rides = boarded s.first x })
+    → (x : Aboard) → (spelling_of walks before).aboard s.label ≡ Some x
+    → (spelling_of walks all).journey (length old) ≡ Some (record { start = s.start; rides = boarded s.first x })
 set_out_next walks exits steps old new before all s pushed ext_before ext =
     let on = grows_on before (story exits steps old) all ext_before
     (grows_on (story exits steps old) (story exits steps new) all (set_outs_grow exits steps old new (
       s ∷ [],
       pushed,
     )) ext) in
-    set_out_told walks before all (length old) s on
+    set_out_spelled walks before all (length old) s on
     (stays new all.set_outs ext.set_outs (length old) s (ap (λ (ss : List SetOut). slice_get ss (length old)) pushed
     ∙ slice_get-middle old s []))
 
 pub exit_next : (walks : List Footpath) (old new : List Exit) (steps : List Step) (set_outs : List SetOut)
     (before all : Story) (exit : Exit) → new ≡ old ++ exit ∷ [] → Grows before (story old steps set_outs)
     → Grows (story new steps set_outs) all
-    → IsExit (from_to (told walks before) (told walks all)) exit (length old)
+    → IsExit (from_to (spelling_of walks before) (spelling_of walks all)) exit (length old)
 exit_next walks old new steps set_outs before all exit pushed ext_before ext =
-    exit_told walks before (story old steps set_outs) (story new steps set_outs) all exit ext_before
+    exit_spelled walks before (story old steps set_outs) (story new steps set_outs) all exit ext_before
     (exits_grow old new steps set_outs (exit ∷ [], pushed)) pushed ext

@@ -12,11 +12,12 @@ use Rattle.fronts.specs.declared.entry.Step.{Step}
 use Rattle.profile_scan.specs.Continuations.{Aboard}
 use Rattle.profile_scan.specs.Steps.{boarded}
 use Rattle.profile_scan.specs.Nodes.{Extends, walk_of, changed_at, set_out_by}
-use Rattle.profile_scan.specs.Story.{Story, exit_tells, boards_by, step_tells, set_out_tells, label_tells, told}
+use Rattle.profile_scan.specs.Story.{Story, exit_tells, boards_by, step_tells, set_out_tells, label_tells, spelling_of}
 use Rattle.profile_scan.specs.Points.{untagged}
-use Rattle.profile_scan.specs.Telling.{with_last, change_by, change, ending_by, ending, IsRoute, IsLabelTold, SaysLabel, IsJourneyTold, SaysJourney, IsRetold}
+use Rattle.profile_scan.specs.Telling.{with_last, change_by, change, ending_by, ending}
+use Rattle.profile_scan.specs.Telling.{IsRoute, IsLabelSpelled, SaysLabel, IsJourneySpelled, SaysJourney, IsSpelledAgain}
 use Rattle.profile_scan.specs.declared.telling.Change.{Change}
-use Rattle.profile_scan.specs.declared.telling.End.{End}
+use Rattle.profile_scan.specs.declared.telling.LastAlighting.{LastAlighting}
 use Rattle.profile_scan.specs.declared.nodes.Node.{Node}
 use Rattle.profile_scan.specs.declared.nodes.Node.TheVariants.{Ends, Changes, Boards, SetsOut}
 use Rattle.profile_scan.specs.declared.story.Exit.{Exit}
@@ -42,18 +43,18 @@ changed walks aboard last s x (Some f) None ef eo e = absurd cc
 changed walks aboard last s x (Some f) (Some y) ef eo e = record { walk = f; rides_on = y; is_walk = ef; tells = eo; is = sym (same_Some _ _ e) }
 
 -- by cases of the exit
-told_by : (walks : List Footpath) (steps : List Step) (aboard : ℕ
+spelled_by : (walks : List Footpath) (steps : List Step) (aboard : ℕ
     → Option Aboard) (exit : Option Exit) (last : ℕ) (s : Step) (x : Aboard)
     → change_by steps exit ≡ Some (record { last = last; step = s })
     → exit_tells (λ tag. step_tells walks aboard (slice_get steps tag)) exit ≡ Some x → IsChange walks aboard last s x
-told_by walks steps aboard None last s x is e = absurd cc
-told_by walks steps aboard (Some (LabelEnds at walk)) last s x is e = absurd cc
-told_by walks steps aboard (Some (LabelChanges at step)) last s x is e = go (slice_get steps step) is e
+spelled_by walks steps aboard None last s x is e = absurd cc
+spelled_by walks steps aboard (Some (LabelEnds at walk)) last s x is e = absurd cc
+spelled_by walks steps aboard (Some (LabelChanges at step)) last s x is e = go (slice_get steps step) is e
   where
     go : (found : Option Step) → with_last at found ≡ Some (record { last = last; step = s })
         → changed_at at (step_tells walks aboard found) ≡ Some x → IsChange walks aboard last s x
-    go None i told_x = absurd cc
-    go (Some r) i told_x =
+    go None i spelled_x = absurd cc
+    go (Some r) i spelled_x =
         let found_is : Change = record { last = at; step = r } in
         let wanted : Change = record { last = last; step = s } in
         let same = same_Some found_is wanted i in
@@ -61,7 +62,7 @@ told_by walks steps aboard (Some (LabelChanges at step)) last s x is e = go (sli
         let same_last : at ≡ last = ap (λ (z : Change). z.last) same in
         subst (λ (z : Step). IsChange walks aboard last z x) same_step
         (subst (λ (n : ℕ). IsChange walks aboard n r x) same_last
-        (changed walks aboard at r x (slice_get walks r.walk) (aboard r.label) refl refl told_x))
+        (changed walks aboard at r x (slice_get walks r.walk) (aboard r.label) refl refl spelled_x))
 
 -- a label that is told in so many legs, and changes
 pub tells_change : (walks : List Footpath) (s : Story) (n label last : ℕ) (step : Step) (x : Aboard)
@@ -73,14 +74,14 @@ tells_change walks s (suc n) label last step x is e =
     let back : suc n - 1 ≡ n = omega arith in (
       omega arith,
       subst (λ (k : ℕ). IsChange walks (label_tells walks s k) last step x) (sym back)
-          (told_by walks s.steps (label_tells walks s n) (slice_get s.exits label) last step x is e),
+          (spelled_by walks s.steps (label_tells walks s n) (slice_get s.exits label) last step x is e),
     )
 
 -- in any number of legs
-pub told_change : (walks : List Footpath) (s : Story) (label last : ℕ) (step : Step) (x : Aboard)
-    → change s label ≡ Some (record { last = last; step = step }) → (told walks s).aboard label ≡ Some x
-    → IsChange walks (told walks s).aboard last step x
-told_change walks s label last step x is e =
+pub spelled_change : (walks : List Footpath) (s : Story) (label last : ℕ) (step : Step) (x : Aboard)
+    → change s label ≡ Some (record { last = last; step = step }) → (spelling_of walks s).aboard label ≡ Some x
+    → IsChange walks (spelling_of walks s).aboard last step x
+spelled_change walks s label last step x is e =
     let c = (tells_change walks s (length s.exits) label last step x is e).1 in
     record {
       walk = c.walk;
@@ -104,38 +105,38 @@ ended_by walks steps aboard (Some (LabelChanges at step)) x is e = go (slice_get
     go : (found : Option Step) → with_last at found ≡ None → changed_at at (step_tells walks aboard found) ≡ Some x
         → (last : ℕ) × (walk : Option Footpath) × (Some (LabelChanges at step) ≡ Some (LabelEnds last walk))
         × (x ≡ record { last = last; walk = walk_of walk; rides = [] })
-    go None i told_x = absurd cc
-    go (Some r) i told_x = absurd cc
+    go None i spelled_x = absurd cc
+    go (Some r) i spelled_x = absurd cc
 
-pub told_end : (walks : List Footpath) (s : Story) (n label : ℕ) (x : Aboard) → change s label ≡ None
+pub spelled_end : (walks : List Footpath) (s : Story) (n label : ℕ) (x : Aboard) → change s label ≡ None
     → label_tells walks s n label ≡ Some x → (last : ℕ) × (walk : Option Footpath)
     × (slice_get s.exits label ≡ Some (LabelEnds last walk))
     × (x ≡ record { last = last; walk = walk_of walk; rides = [] })
 unfolding label_tells
-told_end walks s zero label x is e = absurd cc
-told_end walks s (suc n) label x is e = ended_by walks s.steps (label_tells walks s n) (slice_get s.exits label) x is e
+spelled_end walks s zero label x is e = absurd cc
+spelled_end walks s (suc n) label x is e = ended_by walks s.steps (label_tells walks s n) (slice_get s.exits label) x is e
 
-pub not_told : (walks : List Footpath) (s : Story) (label : ℕ) (x : Aboard) → label_tells walks s 0 label ≡ Some x → ⊥
+pub not_spelled : (walks : List Footpath) (s : Story) (label : ℕ) (x : Aboard) → label_tells walks s 0 label ≡ Some x → ⊥
 unfolding label_tells
-not_told walks s label x e = cc
+not_spelled walks s label x e = cc
 
 -- a node that ends says what is told
-pub says_end : (walks : List Footpath) (s : Story) (label : ℕ) (e : End) (old new : List Node) → change s label ≡ None
+pub says_end : (walks : List Footpath) (s : Story) (label : ℕ) (e : LastAlighting) (old new : List Node) → change s label ≡ None
     → ending s label ≡ Some e → new ≡ old ++ Ends e.last e.walk ∷ [] → SaysLabel walks s label new (length old)
-says_end walks s label e old new none is pushed x told_x =
-    let t = told_end walks s (length s.exits) label x none told_x in
+says_end walks s label e old new none is pushed x spelled_x =
+    let t = spelled_end walks s (length s.exits) label x none spelled_x in
     let says = comes_next old old new new (Ends e.last e.walk) pushed (extends_none old) (extends_none new) in
-    let found : End = record { last = t.0; walk = t.1 } in
+    let found : LastAlighting = record { last = t.0; walk = t.1 } in
     let same = same_Some found e (sym (ap ending_by t.2) ∙ is) in
-    says ∙ ap (λ (z : End). Some (aboard_of z)) (sym same) ∙ ap Some (sym t.3)
+    says ∙ ap (λ (z : LastAlighting). Some (aboard_of z)) (sym same) ∙ ap Some (sym t.3)
   where
-    aboard_of : End → Aboard
+    aboard_of : LastAlighting → Aboard
     aboard_of z = record { last = z.last; walk = walk_of z.walk; rides = [] }
 
 -- one who is told changes or ends
-pub told_ends : (walks : List Footpath) (s : Story) (label : ℕ) → IsLabelTold walks s label → change s label ≡ None → ending s label ≡ None → ⊥
-told_ends walks s label is none no_end =
-    let t = told_end walks s (length s.exits) label is.0 none is.1 in
+pub spelled_ends : (walks : List Footpath) (s : Story) (label : ℕ) → IsLabelSpelled walks s label → change s label ≡ None → ending s label ≡ None → ⊥
+spelled_ends walks s label is none no_end =
+    let t = spelled_end walks s (length s.exits) label is.0 none is.1 in
     let found : ending s label ≡ Some (record { last = t.0; walk = t.1 }) = ap ending_by t.2 in
     cc
 
@@ -145,7 +146,7 @@ pub says_change : (walks : List Footpath) (s : Story) (label last next : ℕ) (s
     → slice_get walks step.walk ≡ Some walk → SaysLabel walks s step.label old next
     → mid ≡ old ++ Boards walk step.first next ∷ [] → new ≡ mid ++ Changes last (length old) ∷ [] → SaysLabel walks s label new (length mid)
 says_change walks s label last next step walk old mid new is at before first second x e =
-    let c = told_change walks s label last step x is e in
+    let c = spelled_change walks s label last step x is e in
     let same_walk : walk ≡ c.walk = same_Some walk c.walk (sym at ∙ c.is_walk) in
     let boards = comes_next old old mid mid (Boards walk step.first next) first (extends_none old) (extends_none mid) c.rides_on (before c.rides_on c.tells) in
     let changes = comes_next mid mid new new (Changes last (length old)) second (extends_none mid) (extends_none new) _ boards in
@@ -164,36 +165,36 @@ journey_by aboard set_out j e = go (aboard set_out.label) refl e
     go : (o : Option Aboard) → aboard set_out.label ≡ o → set_out_by set_out.start set_out.first o ≡ Some j
         → (x : Aboard) × (aboard set_out.label ≡ Some x)
         × (j ≡ record { start = set_out.start; rides = boarded set_out.first x })
-    go None i told_j = absurd cc
-    go (Some x) i told_j = (x, i, sym (same_Some _ _ told_j))
+    go None i spelled_j = absurd cc
+    go (Some x) i spelled_j = (x, i, sym (same_Some _ _ spelled_j))
 
-pub told_journey : (walks : List Footpath) (s : Story) (tag : ℕ) (set_out : SetOut) (j : JourneyValue)
-    → slice_get s.set_outs tag ≡ Some set_out → (told walks s).journey tag ≡ Some j
-    → (x : Aboard) × ((told walks s).aboard set_out.label ≡ Some x)
+pub spelled_journey : (walks : List Footpath) (s : Story) (tag : ℕ) (set_out : SetOut) (j : JourneyValue)
+    → slice_get s.set_outs tag ≡ Some set_out → (spelling_of walks s).journey tag ≡ Some j
+    → (x : Aboard) × ((spelling_of walks s).aboard set_out.label ≡ Some x)
     × (j ≡ record { start = set_out.start; rides = boarded set_out.first x })
-told_journey walks s tag set_out j at e = journey_by (told walks s).aboard set_out j (ap (set_out_tells (told walks s).aboard) (sym at) ∙ e)
+spelled_journey walks s tag set_out j at e = journey_by (spelling_of walks s).aboard set_out j (ap (set_out_tells (spelling_of walks s).aboard) (sym at) ∙ e)
 
-pub journey_within : (walks : List Footpath) (s : Story) (tag : ℕ) → IsJourneyTold walks s tag → tag < length s.set_outs
+pub journey_within : (walks : List Footpath) (s : Story) (tag : ℕ) → IsJourneySpelled walks s tag → tag < length s.set_outs
 journey_within walks s tag is = go (slice_get s.set_outs tag) refl is.1
   where
-    go : (o : Option SetOut) → slice_get s.set_outs tag ≡ o → set_out_tells (told walks s).aboard o ≡ Some is.0 → tag < length s.set_outs
+    go : (o : Option SetOut) → slice_get s.set_outs tag ≡ o → set_out_tells (spelling_of walks s).aboard o ≡ Some is.0 → tag < length s.set_outs
     go None at e = absurd cc
     go (Some set_out) at e = slice_get_within s.set_outs tag set_out at
 
 -- where a journey is told, so is the label by which one rides on
-pub first_told : (walks : List Footpath) (s : Story) (tag : ℕ) (x : SetOut) → IsJourneyTold walks s tag → x ≡ get_or s.set_outs tag x
-    → (slice_get s.set_outs tag ≡ Some x) × IsLabelTold walks s x.label
-first_told walks s tag x is read =
+pub first_spelled : (walks : List Footpath) (s : Story) (tag : ℕ) (x : SetOut) → IsJourneySpelled walks s tag → x ≡ get_or s.set_outs tag x
+    → (slice_get s.set_outs tag ≡ Some x) × IsLabelSpelled walks s x.label
+first_spelled walks s tag x is read =
     let within = journey_within walks s tag is in
     let at : slice_get s.set_outs tag ≡ Some x = slice_get-get_or s.set_outs tag x within ∙ ap Some (sym read) in
-    let t = told_journey walks s tag x is.0 at is.1 in
+    let t = spelled_journey walks s tag x is.0 at is.1 in
     (at, (t.0, t.1))
 
 pub says_journey : (walks : List Footpath) (s : Story) (tag next : ℕ) (set_out : SetOut) (old new : List Node)
     → slice_get s.set_outs tag ≡ Some set_out → SaysLabel walks s set_out.label old next
     → new ≡ old ++ SetsOut set_out.start set_out.first next ∷ [] → SaysJourney walks s tag new (length old)
 says_journey walks s tag next set_out old new at before pushed j e =
-    let t = told_journey walks s tag set_out j at e in
+    let t = spelled_journey walks s tag set_out j at e in
     comes_next old old new new (SetsOut set_out.start set_out.first next) pushed (extends_none old) (extends_none new) t.0 (before t.0 t.1) ∙ ap Some (sym t.2)
 
 -- along a route
@@ -221,16 +222,16 @@ route_over s first [] last none on = on
 route_over s first (l ∷ ls) last none on = absurd (omega arith)
 
 -- where the first label of a route is told, the last is
-pub route_told : (walks : List Footpath) (s : Story) (first : ℕ) (labels : List ℕ) (last : ℕ)
-    → IsRoute s first labels last → IsLabelTold walks s first → IsLabelTold walks s last
-route_told walks s first [] last route is = subst (IsLabelTold walks s) route is
-route_told walks s first (l ∷ ls) last route is =
+pub route_spelled : (walks : List Footpath) (s : Story) (first : ℕ) (labels : List ℕ) (last : ℕ)
+    → IsRoute s first labels last → IsLabelSpelled walks s first → IsLabelSpelled walks s last
+route_spelled walks s first [] last route is = subst (IsLabelSpelled walks s) route is
+route_spelled walks s first (l ∷ ls) last route is =
     let c = route.1.0 in
-    let t = told_change walks s first c.last c.step is.0 (ap (change s) route.0 ∙ route.1.1) is.1 in
-    route_told walks s c.step.label ls last route.1.2 (t.rides_on, t.tells)
+    let t = spelled_change walks s first c.last c.step is.0 (ap (change s) route.0 ∙ route.1.1) is.1 in
+    route_spelled walks s c.step.label ls last route.1.2 (t.rides_on, t.tells)
 
 -- points told in nodes, one more
-pub retold_more : {V : Type 0} (walks : List Footpath) (s : Story) (points old new : List (Point V))
+pub spelled_again_more : {V : Type 0} (walks : List Footpath) (s : Story) (points old new : List (Point V))
     (nodes more : List Node) (i : ℕ) (x : Point V) (tag : ℕ) → Extends nodes more → i < length points
     → x ≡ get_or points i x → new ≡ old ++ record {
       departure = x.departure;
@@ -238,9 +239,9 @@ pub retold_more : {V : Type 0} (walks : List Footpath) (s : Story) (points old n
       tag =
           tag;
     } ∷ [] → SaysJourney walks s x.tag more tag
-    → map untagged old ≡ map untagged (take i points) → ((p : Point V) → Contains old p → IsRetold walks s points nodes p)
-    → (map untagged new ≡ map untagged (take (i + 1) points)) × ((p : Point V) → Contains new p → IsRetold walks s points more p)
-retold_more {V} walks s points old new nodes more i x tag ext lt is pushed says same each =
+    → map untagged old ≡ map untagged (take i points) → ((p : Point V) → Contains old p → IsSpelledAgain walks s points nodes p)
+    → (map untagged new ≡ map untagged (take (i + 1) points)) × ((p : Point V) → Contains new p → IsSpelledAgain walks s points more p)
+spelled_again_more {V} walks s points old new nodes more i x tag ext lt is pushed says same each =
     let me : Point V = record { departure = x.departure; value = x.value; tag = tag } in (
       ap (map untagged) pushed ∙ map-append untagged old (me ∷ []) ∙ ap (λ ys. ys ++ untagged x ∷ []) same
           ∙ sym (ap (map untagged) (take_more points i x lt ∙ ap (λ y. take i points ++ y ∷ []) (sym is)) ∙ map-append untagged (take i points) (x ∷ [])),
@@ -254,6 +255,6 @@ retold_more {V} walks s points old new nodes more i x tag ext lt is pushed says 
           says = λ j e.
               (extends_keeps nodes more ext).journey p.tag j (r.says j e);
         })
-        | inr e ↦ subst (IsRetold walks s points more) e (record { of = x; is_there = (i, lt, sym is); departs = refl; worth = refl; says = says })
+        | inr e ↦ subst (IsSpelledAgain walks s points more) e (record { of = x; is_there = (i, lt, sym is); departs = refl; worth = refl; says = says })
       ],
     )

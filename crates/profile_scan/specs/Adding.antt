@@ -14,10 +14,10 @@ use Rattle.profile_scan.specs.Continuations.{Aboard}
 use Rattle.profile_scan.specs.Matching.{Spellings, from_to}
 use Rattle.profile_scan.specs.Steps.{Offer, TakesIn, boarded}
 use Rattle.profile_scan.specs.Nodes.{SpellsEnd, SpellsChange}
-use Rattle.profile_scan.specs.Story.{Story, Grows, told}
+use Rattle.profile_scan.specs.Story.{Story, Grows, spelling_of}
 use Rattle.profile_scan.specs.declared.story.SetOut.{SetOut}
 use Rattle.profile_scan.specs.declared.ways.Way.{Way}
-use Rattle.fronts.specs.declared.entry.Ridden.{Ridden}
+use Rattle.fronts.specs.declared.entry.RiddenLabel.{RiddenLabel}
 use Rattle.fronts.specs.declared.labels.Label.{Label}
 use Rattle.fronts.specs.declared.labels.Labels.{Labels}
 use Rattle.fronts.specs.Labels.{AreLabels, labels_at, trips_of}
@@ -63,7 +63,7 @@ abbrev pub Takes : {A V : Type 0} → Rules V → List Footpath → Story → St
     → List (Point V) → Type 0
 Takes rules walks was now offer old new =
     (before all : Story) → Grows before was → Grows now all
-    → TakesIn rules (offer (from_to (told walks before) (told walks all))) old new
+    → TakesIn rules (offer (from_to (spelling_of walks before) (spelling_of walks all))) old new
 
 -- the element is among the first n
 abbrev pub StandsBefore : {X : Type 0} → List X → ℕ → X → Type 0
@@ -95,10 +95,10 @@ settings_out_after rules tags i departure start labels = record {
 }
 
 -- the ridden values are those of the labels after the ride, each with the tag of its label
-pub record AreRidden {V : Type 0} (rules : Rules V) (labels : List (Point V)) (ridden : List (Ridden V)) : Type 0 where
-  pub of_label : (r : Ridden V) → Contains ridden r → (l : Point V) × Contains labels l
+pub record AreRidden {V : Type 0} (rules : Rules V) (labels : List (Point V)) (ridden : List (RiddenLabel V)) : Type 0 where
+  pub of_label : (r : RiddenLabel V) → Contains ridden r → (l : Point V) × Contains labels l
       × (r.value ≡ rules.ride l.value) × (r.label ≡ l.tag)
-  pub each : (l : Point V) → Contains labels l → (r : Ridden V) × Contains ridden r × (r.value ≡ rules.ride l.value)
+  pub each : (l : Point V) → Contains labels l → (r : RiddenLabel V) × Contains ridden r × (r.value ≡ rules.ride l.value)
 
 -- offered to labels: each point of a stop that departs at a time or later; the trip is left at connection i
 abbrev pub changes_from : {V : Type 0} → Spellings → ℕ → ℕ → List (Point V) → Offer (Point V) V

@@ -4,7 +4,7 @@ use Rattle.std.specs.List.{list_any}
 use Rattle.criteria.specs.Laws.{Rules, Admits, RidingWorsens}
 use Rattle.bags.specs.declared.point.Point.{Point}
 use Rattle.timetable.specs.TimetableValue.{TimetableValue}
-use Rattle.fronts.specs.declared.entry.Ridden.{Ridden}
+use Rattle.fronts.specs.declared.entry.RiddenLabel.{RiddenLabel}
 use Rattle.profile_scan.specs.Matching.{IsOutdone}
 
 -- whether one of some values is no worse than v (an equal one counts, unlike in is_bettered_by of bags, which asks for a strictly better one)
@@ -62,10 +62,10 @@ pub record TakesPoints {V : Type 0} (rules : Rules V) (points : List (Point V)) 
 
 -- a label's value after the ride is added, unless it is bettered
 pub record RidesLabel {V : Type 0} (rules : Rules V) (values : List V) (label : Point V)
-    (old new : List (Ridden V)) : Type 0 where
-  pub only : (r : Ridden V) → Contains new r → Contains old r
+    (old new : List (RiddenLabel V)) : Type 0 where
+  pub only : (r : RiddenLabel V) → Contains new r → Contains old r
       ⊎ ((is_bettered rules values (rules.ride label.value) ≡ false) × (r.value ≡ rules.ride label.value)
       × (r.label ≡ label.tag))
-  pub kept : (r : Ridden V) → Contains old r → Contains new r
-  pub rides : is_bettered rules values (rules.ride label.value) ≡ false → (r : Ridden V) × Contains new r
+  pub kept : (r : RiddenLabel V) → Contains old r → Contains new r
+  pub rides : is_bettered rules values (rules.ride label.value) ≡ false → (r : RiddenLabel V) × Contains new r
       × (r.value ≡ rules.ride label.value)

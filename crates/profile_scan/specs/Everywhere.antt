@@ -16,7 +16,7 @@ use Rattle.profile_scan.specs.Plain.{IsPlain, IsPlainOf}
 use Rattle.profile_scan.specs.Points.{Before, IsAnswer}
 use Rattle.profile_scan.specs.Matching.{IsAttained, Matches, ScanValue}
 use Rattle.profile_scan.specs.Adding.{trip_points}
-use Rattle.profile_scan.specs.Story.{Story, story, told}
+use Rattle.profile_scan.specs.Story.{Story, story, spelling_of}
 use Rattle.profile_scan.specs.Kept.{AreStops, IsWay, points_at, way_secs, ways_of}
 use Rattle.profile_scan.specs.Destinations.{query_from}
 use Rattle.profile_scan.specs.Origins.{AreOrigins, found_from, from_stop, set_outs_from}
@@ -48,7 +48,7 @@ pub record IsStateOfAll {K V : Type 0} {c : _} (rules_of : K → Rules V) (crite
 -- the points found from a stop match every journey from there that boards connection `start` or a later one
 abbrev pub HasFoundFrom : {K V : Type 0} {c : _} → Rules V → TimetableValue → BetweenValue → ℕ → StateOfAll K V c → ℕ → Type 0
 HasFoundFrom rules t q start state stop =
-    Matches rules (told t.footpaths (story_from state stop)).journey
+    Matches rules (spelling_of t.footpaths (story_from state stop)).journey
     (CountsFrom t (from_stop q stop) start) (IsPlainOf t (Contains q.targets)) (journey_value rules t) (found_from state.origins stop)
 
 -- points are those of another list, in order
@@ -85,7 +85,7 @@ pub record AnswersFrom {K V : Type 0} {c : _} (rules : Rules V) (t : TimetableVa
     (profiles : Profiles K V c) : Type 0 where
   pub answer : IsAnswer rules t q (listed_from profiles q.source)
   pub attained : (p : Point V) → Contains (listed_from profiles q.source) p
-      → IsAttained (told t.footpaths (story_from profiles.state q.source)).journey
+      → IsAttained (spelling_of t.footpaths (story_from profiles.state q.source)).journey
       (Counts t q) (IsPlain t q.target) (journey_value rules t) p
   pub direct : IsWay t q.target q.source (walk_from profiles q.source)
 

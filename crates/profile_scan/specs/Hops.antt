@@ -9,19 +9,19 @@ use Rattle.sources.specs.FirstAt.{IsFirstAt}
 use Rattle.profile_scan.specs.Between.{BetweenValue, question}
 use Rattle.profile_scan.specs.Kept.{AreWays, IsWayTo, ways_of}
 use Rattle.profile_scan.specs.Starts.{AreStarts, IsLead, SaysSource}
-use Rattle.profile_scan.specs.declared.hop.Asked.{Asked}
+use Rattle.profile_scan.specs.declared.hop.ScanQuery.{ScanQuery}
 use Rattle.profile_scan.specs.declared.hop.Hop.{Hop}
 use Rattle.profile_scan.specs.declared.starts.Lead.{Lead}
 use Rattle.profile_scan.specs.declared.starts.Starts.{Starts}
 
 -- the query's latest arrival is a time, the starts lead from its sources, and the ways to its targets
-pub record IsAsked {K : Type 0} (t : TimetableValue) (asked : Asked K) : Type 0 where
+pub record IsAsked {K : Type 0} (t : TimetableValue) (asked : ScanQuery K) : Type 0 where
   pub by : IsTime asked.query.by
   pub starts : AreStarts t (question asked.query).sources asked.starts
   pub ways : AreWays t (question asked.query).targets (ways_of asked.ways)
 
 -- the indices from `start` on, before `end`, which is the first of a connection that departs at the latest arrival or later
-pub record IsWindow {K : Type 0} (t : TimetableValue) (asked : Asked K) (start end : ℕ) : Type 0 where
+pub record IsWindow {K : Type 0} (t : TimetableValue) (asked : ScanQuery K) (start end : ℕ) : Type 0 where
   pub can_ask : IsAsked t asked
   pub order : start ≤ end
   pub past : IsFirstAt t asked.query.by end

@@ -13,7 +13,7 @@ use Rattle.fronts.specs.Labels.{AreLabels, trips_of}
 use Rattle.profile_scan.specs.Adding.{trip_points}
 use Rattle.profile_scan.specs.Matching.{ScanValue}
 use Rattle.profile_scan.specs.Story.{Story, story}
-use Rattle.profile_scan.specs.declared.last_offers.Offered.{Offered}
+use Rattle.profile_scan.specs.declared.last_offers.LastOffer.{LastOffer}
 use Rattle.profile_scan.specs.declared.stops.Stops.{Stops}
 use Rattle.profile_scan.specs.Bound.{AreBounds}
 use Rattle.profile_scan.specs.declared.scan.Scan.{Scan}
@@ -27,7 +27,7 @@ points_at stops stop = list_points stops.lists (slice_index stops.heads.items st
 
 -- what a stop was offered last: for each time before `before`, its points have one that departs then or later and is no worse than `value`. (Not to be confused
 -- with IsOffered of Steps, by which a point is one of an offer.)
-pub record IsOffered {V : Type 0} (rules : Rules V) (points : List (Point V)) (offered : Offered V) : Type 0 where
+pub record IsOffered {V : Type 0} (rules : Rules V) (points : List (Point V)) (offered : LastOffer V) : Type 0 where
   pub admitted : Admits rules offered.value
   pub covers : (time : ℕ) → time < offered.before → IsCovered rules points time offered.value
 
@@ -39,7 +39,7 @@ pub record AreStops {K V : Type 0} (rules_of : K → Rules V) (criterion : K) (c
   pub long : vec_len stops.heads ≡ count
   pub within : (stop : ℕ) → slice_index stops.heads.items stop < length (entries_of stops.lists)
   pub many : length stops.offers.items ≡ count
-  pub offered : (stop : ℕ) (offered : Offered V) → slice_get stops.offers.items stop ≡ Some offered
+  pub offered : (stop : ℕ) (offered : LastOffer V) → slice_get stops.offers.items stop ≡ Some offered
       → IsOffered (rules_of criterion) (points_at stops stop) offered
 
 -- the seconds of the footpath from a stop to the target, if there is one

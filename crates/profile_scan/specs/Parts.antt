@@ -9,7 +9,7 @@ use Rattle.timetable.specs.Journeys.{connection_at}
 use Rattle.fronts.specs.Front.{Extends}
 use Rattle.fronts.specs.Labels.{AreLabels, trips_of}
 use Rattle.fronts.specs.Lists.{steps_of}
-use Rattle.fronts.specs.declared.entry.Ridden.{Ridden}
+use Rattle.fronts.specs.declared.entry.RiddenLabel.{RiddenLabel}
 use Rattle.fronts.specs.declared.entry.Step.{Step}
 use Rattle.fronts.specs.declared.labels.Label.{Label}
 use Rattle.profile_scan.specs.Between.{BetweenValue}
@@ -21,7 +21,7 @@ use Rattle.profile_scan.specs.Steps.{Offer, leavings, boardings, settings_out}
 use Rattle.profile_scan.specs.Adding.{Takes, IsRelabelled, AreRidden, StandsBetween, each_of, boardings_by}
 use Rattle.profile_scan.specs.Adding.{label_points, trip_points}
 use Rattle.profile_scan.specs.Bound.{carried}
-use Rattle.profile_scan.specs.Story.{Story, Grows, story, told}
+use Rattle.profile_scan.specs.Story.{Story, Grows, story, spelling_of}
 use Rattle.profile_scan.specs.Kept.{AreStops, points_at, story_of}
 use Rattle.profile_scan.specs.declared.hop.Hop.{Hop}
 use Rattle.profile_scan.specs.declared.origin.Origin.{Origin}
@@ -69,7 +69,7 @@ OriginTakes rules walks offer old new =
 pub record AreReady {K V : Type 0} (rules_of : K → Rules V) (criterion : K) (count : ℕ)
     (kept : Stops K V) : Type 0 where
   pub stops : AreStops rules_of criterion count kept
-  pub ridden : (r : Ridden V) → Contains kept.ridden.items r → Admits (rules_of criterion) r.value
+  pub ridden : (r : RiddenLabel V) → Contains kept.ridden.items r → Admits (rules_of criterion) r.value
 
 -- steps are only added
 pub record ChangesStops {K V : Type 0} (rules_of : K → Rules V) (criterion : K) (count : ℕ)
@@ -94,7 +94,7 @@ StopTakes rules walks stop offer old new =
 
 -- the points of each stop take in what the footpath at an index offers them; the ridden values are those of the labels
 abbrev pub BoardsAfter : {K V : Type 0}
-    → Rules V → Hop V → ℕ → Footpath → List (Ridden V) → Stops K V → Stops K V → Type 0
+    → Rules V → Hop V → ℕ → Footpath → List (RiddenLabel V) → Stops K V → Stops K V → Type 0
 BoardsAfter {K} {V} rules hop place walk ridden old new =
     (labels : List (Point V)) → AreRidden rules labels ridden
     → (walks : List Footpath) → slice_get walks place ≡ Some walk
@@ -103,7 +103,7 @@ BoardsAfter {K} {V} rules hop place walk ridden old new =
 
 -- the same for the footpaths at indices from `begin` on, before `end`
 abbrev pub BoardsAfterEach : {K V : Type 0}
-    → Rules V → List Footpath → ℕ → ℕ → Hop V → List (Ridden V) → Stops K V → Stops K V → Type 0
+    → Rules V → List Footpath → ℕ → ℕ → Hop V → List (RiddenLabel V) → Stops K V → Stops K V → Type 0
 BoardsAfterEach {K} {V} rules walks begin end hop ridden old new =
     (labels : List (Point V)) → AreRidden rules labels ridden
     → ((l : Point V) → Contains labels l → Admits rules l.value)
@@ -139,6 +139,6 @@ pub record TakesConnection {K V : Type 0} {c : _} (rules : Rules V) (t : Timetab
 pub record HasFound {K V : Type 0} {c : _} (rules_of : K → Rules V) (t : TimetableValue) (criterion : K) (q : BetweenValue)
     (start : ℕ) (state : State K V c) : Type 0 where
   pub same : criterion_of state.origin.found ≡ criterion
-  pub matches : Matches (rules_of criterion) (told t.footpaths (story_of state)).journey
+  pub matches : Matches (rules_of criterion) (spelling_of t.footpaths (story_of state)).journey
       (CountsFrom t q start) (IsPlainOf t (Contains q.targets)) (journey_value (rules_of criterion) t)
       (points_of state.origin.found)

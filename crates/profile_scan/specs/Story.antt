@@ -54,8 +54,8 @@ label_tells walks s (suc n) label = exit_tells
     (λ tag. step_tells walks (label_tells walks s n) (slice_get s.steps tag)) (slice_get s.exits label)
 
 -- what each tag tells: as that of a point of a stop, of a label, or of a point found
-abbrev pub told : List Footpath → Story → Spelling
-told walks s = record {
+abbrev pub spelling_of : List Footpath → Story → Spelling
+spelling_of walks s = record {
   onward = λ tag. step_tells walks (label_tells walks s (length s.exits)) (slice_get s.steps tag);
   aboard = label_tells walks s (length s.exits);
   journey = λ tag. set_out_tells (label_tells walks s (length s.exits)) (slice_get s.set_outs tag);

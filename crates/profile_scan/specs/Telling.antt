@@ -6,10 +6,10 @@ use Rattle.timetable.specs.JourneyValue.{JourneyValue}
 use Rattle.fronts.specs.declared.entry.Step.{Step}
 use Rattle.profile_scan.specs.Continuations.{Aboard}
 use Rattle.profile_scan.specs.Nodes.{spelling}
-use Rattle.profile_scan.specs.Story.{Story, told}
+use Rattle.profile_scan.specs.Story.{Story, spelling_of}
 use Rattle.profile_scan.specs.declared.nodes.Node.{Node}
 use Rattle.profile_scan.specs.declared.telling.Change.{Change}
-use Rattle.profile_scan.specs.declared.telling.End.{End}
+use Rattle.profile_scan.specs.declared.telling.LastAlighting.{LastAlighting}
 use Rattle.profile_scan.specs.declared.story.Exit.{Exit}
 use Rattle.profile_scan.specs.declared.story.Exit.TheVariants.{Ends, Changes}
 
@@ -26,13 +26,13 @@ change_by steps (Some (Changes last step)) = with_last last (slice_get steps ste
 abbrev pub change : Story → ℕ → Option Change
 change s label = change_by s.steps (slice_get s.exits label)
 
-abbrev pub ending_by : Option Exit → Option End
+abbrev pub ending_by : Option Exit → Option LastAlighting
 ending_by None = None
 ending_by (Some (Ends last walk)) = Some (record { last = last; walk = walk })
 ending_by (Some (Changes last step)) = None
 
 -- how one ends after a label, if one does
-abbrev pub ending : Story → ℕ → Option End
+abbrev pub ending : Story → ℕ → Option LastAlighting
 ending s label = ending_by (slice_get s.exits label)
 
 -- these labels, each by its change, lead from `first` to `last`
@@ -42,24 +42,24 @@ IsRoute s first (label ∷ labels) last = (first ≡ label)
     × ((c : Change) × (change s label ≡ Some c) × IsRoute s c.step.label labels last)
 
 -- a story tells something of a label
-abbrev pub IsLabelTold : List Footpath → Story → ℕ → Type 0
-IsLabelTold walks s label = (x : Aboard) × ((told walks s).aboard label ≡ Some x)
+abbrev pub IsLabelSpelled : List Footpath → Story → ℕ → Type 0
+IsLabelSpelled walks s label = (x : Aboard) × ((spelling_of walks s).aboard label ≡ Some x)
 
 -- the node of a number says what the story tells of a label
 abbrev pub SaysLabel : List Footpath → Story → ℕ → List Node → ℕ → Type 0
-SaysLabel walks s label nodes number = (x : Aboard) → (told walks s).aboard label ≡ Some x
+SaysLabel walks s label nodes number = (x : Aboard) → (spelling_of walks s).aboard label ≡ Some x
     → (spelling nodes).aboard number ≡ Some x
 
 -- a story tells a journey of a point found
-abbrev pub IsJourneyTold : List Footpath → Story → ℕ → Type 0
-IsJourneyTold walks s tag = (j : JourneyValue) × ((told walks s).journey tag ≡ Some j)
+abbrev pub IsJourneySpelled : List Footpath → Story → ℕ → Type 0
+IsJourneySpelled walks s tag = (j : JourneyValue) × ((spelling_of walks s).journey tag ≡ Some j)
 
 abbrev pub SaysJourney : List Footpath → Story → ℕ → List Node → ℕ → Type 0
-SaysJourney walks s tag nodes number = (j : JourneyValue) → (told walks s).journey tag ≡ Some j
+SaysJourney walks s tag nodes number = (j : JourneyValue) → (spelling_of walks s).journey tag ≡ Some j
     → (spelling nodes).journey number ≡ Some j
 
 -- a point has the departure and the value of one of `points`, and its tag is the number of a node that says the journey of that one
-pub record IsRetold {V : Type 0} (walks : List Footpath) (s : Story) (points : List (Point V)) (nodes : List Node)
+pub record IsSpelledAgain {V : Type 0} (walks : List Footpath) (s : Story) (points : List (Point V)) (nodes : List Node)
     (p : Point V) : Type 0 where
   pub of : Point V
   pub is_there : Contains points of

@@ -10,22 +10,22 @@ ghost use Rattle.profile_scan.specs.Hops.{IsAsked};
 use crate::between::Between;
 use crate::found::{Found, in_order};
 use crate::found_between::FoundBetween;
-use crate::hop::Asked;
+use crate::hop::ScanQuery;
 use crate::scan::scan_window;
 use crate::starts::starts_from;
 use crate::telling::tell_journeys;
-use crate::view::View;
+use crate::view::ScanView;
 use crate::ways::ways_to;
 use criteria::Criterion;
 use sources::ConnSource;
 use std::alloc::{AllocError, Global};
-use timetable::{Kept, Query, Timetable};
+use timetable::{GhostValue, Query, Timetable};
 
 /// The timetable that a source stands for.
-pub fn timetable_of<S: ConnSource>(source: &S) -> Kept<Timetable>
+pub fn timetable_of<S: ConnSource>(source: &S) -> GhostValue<Timetable>
     ensures { result.value ≡ S.timetable source.now }
 {
-    Kept::at(source, &())
+    GhostValue::at(source, &())
 }
 
 /// Finds the answer of a query that can be asked: exactly the points of all journeys that count for it which no other
@@ -83,19 +83,19 @@ pub fn profile_between<S: ConnSource, C: Criterion>(
     let asked = ask(alloc, source, criterion, query)?;
     let scan = scan_window(alloc, source, &asked, start..end)?;
     let points = in_order(alloc, criterion, &scan.state.origin.found)?;
-    let view = View {
+    let view = ScanView {
         trips: &scan.state.trips,
         stops: &scan.state.stops,
         origin: &scan.state.origin,
     };
-    let told = tell_journeys(alloc, source, &view, &points)?;
+    let spelled = tell_journeys(alloc, source, &view, &points)?;
     Ok(FoundBetween {
         criterion: *criterion,
-        points: told.points,
-        nodes: told.nodes,
+        points: spelled.points,
+        nodes: spelled.nodes,
         walk: asked.ways.direct_walk(&query.sources),
         timetable: timetable_of(source),
-        query: Kept::of(query),
+        query: GhostValue::of(query),
     })
 }
 
@@ -105,7 +105,7 @@ fn ask<S: ConnSource, C: Criterion>(
     source: &S,
     criterion: &C,
     query: &Between,
-) -> Result<Asked<C>, AllocError>
+) -> Result<ScanQuery<C>, AllocError>
     requires { IsAskableBetween (S.timetable source.now).stops (question query.now) }
     ensures asked { IfOk result (λ asked. IsAsked (S.timetable source.now) asked) }
     ensures keeps { IfOk result (λ asked. (asked.criterion ≡ criterion.now)
@@ -114,7 +114,7 @@ fn ask<S: ConnSource, C: Criterion>(
     let starts = starts_from(alloc, source, &query.sources)?;
     let ways = ways_to(alloc, source, &query.targets)?;
     let query = query.copy()?;
-    Ok(Asked {
+    Ok(ScanQuery {
         criterion: *criterion,
         query,
         starts,

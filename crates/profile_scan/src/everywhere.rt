@@ -5,7 +5,7 @@
 
 ghost use Rattle.std.specs.Prelude.{◌≡◌};
 
-use crate::hop::{Asked, Hop};
+use crate::hop::{Hop, ScanQuery};
 use crate::origins::Origins;
 use crate::scan::ends_nothing;
 use crate::stops::Stops;
@@ -32,7 +32,7 @@ impl<C: Criterion> StateOfAll<C> {
     ghost use Rattle.std.specs.Prelude.{◌≡◌, ◌<◌, [], ℕ, IfOk, OnOk, true};
     ghost use Rattle.profile_scan.specs.Matching.{from_to};
     ghost use Rattle.profile_scan.specs.Steps.{IsIdle, IsStep};
-    ghost use Rattle.profile_scan.specs.Story.{told};
+    ghost use Rattle.profile_scan.specs.Story.{spelling_of};
     ghost use Rattle.profile_scan.specs.Kept.{HasStop, points_at};
     ghost use Rattle.profile_scan.specs.Adding.{trip_points};
     ghost use Rattle.profile_scan.specs.Hops.{IsAsked, IsHopOf, StandsAt};
@@ -58,7 +58,7 @@ impl<C: Criterion> StateOfAll<C> {
     }
 
     // Returns true only if the connection can add nothing, as many can't; false is always safe.
-    fn is_idle(&self, asked: &Asked<C>, connection: &Connection, way: Option<Way>) -> bool
+    fn is_idle(&self, asked: &ScanQuery<C>, connection: &Connection, way: Option<Way>) -> bool
         requires trip { HasTrip (C.rules asked.now.criterion) connection.now.trip self.now.trips }
         requires stop { HasStop C.rules asked.now.criterion connection.now.to self.now.stops }
         ensures { result ≡ true → IsIdle connection.now way
@@ -75,7 +75,7 @@ impl<C: Criterion> StateOfAll<C> {
     // out for it from each stop that leads there, and boards it.
     fn take<S: ConnSource>(
         &mut self,
-        asked: &Asked<C>,
+        asked: &ScanQuery<C>,
         source: &S,
         hop: &Hop<C::V>,
     ) -> Result<(), AllocError>
@@ -88,8 +88,8 @@ impl<C: Criterion> StateOfAll<C> {
             (S.timetable source.now).stops (S.timetable source.now).trips self.new) }
         ensures steps { OnOk result ((stop : ℕ)
             → IsStep (C.rules asked.now.criterion) (S.timetable source.now) (from_stop (question asked.now.query) stop)
-            (from_to (told (S.timetable source.now).footpaths (story_from self.old stop))
-            (told (S.timetable source.now).footpaths (story_from self.new stop)))
+            (from_to (spelling_of (S.timetable source.now).footpaths (story_from self.old stop))
+            (spelling_of (S.timetable source.now).footpaths (story_from self.new stop)))
             hop.now.place (kept_from self.old stop) (kept_from self.new stop)) }
     {
         self.trips.alight(asked, hop, &self.stops)?;
@@ -106,7 +106,7 @@ impl<C: Criterion> StateOfAll<C> {
     // no sources, so `hop.lead` says no; `Trips::alight`, `Origins::set_out` and `Stops::board` don't read it.
     fn step<S: ConnSource>(
         &mut self,
-        asked: &Asked<C>,
+        asked: &ScanQuery<C>,
         source: &S,
         connection: &Connection,
         place: u32,
@@ -121,8 +121,8 @@ impl<C: Criterion> StateOfAll<C> {
             (S.timetable source.now).stops (S.timetable source.now).trips self.new) }
         ensures steps { OnOk result ((stop : ℕ)
             → IsStep (C.rules asked.now.criterion) (S.timetable source.now) (from_stop (question asked.now.query) stop)
-            (from_to (told (S.timetable source.now).footpaths (story_from self.old stop))
-            (told (S.timetable source.now).footpaths (story_from self.new stop)))
+            (from_to (spelling_of (S.timetable source.now).footpaths (story_from self.old stop))
+            (spelling_of (S.timetable source.now).footpaths (story_from self.new stop)))
             place (kept_from self.old stop) (kept_from self.new stop)) }
     {
         let way = asked.ways.way_from(connection.to);
@@ -151,7 +151,7 @@ ghost use Rattle.profile_scan.specs.Everywhere.{HasFoundFrom, IsStateOfAll};
 pub fn scan_for_all<S: ConnSource, C: Criterion>(
     alloc: Global,
     source: &mut S,
-    asked: &Asked<C>,
+    asked: &ScanQuery<C>,
     window: Range<usize>,
 ) -> Result<StateOfAll<C>, AllocError>
     requires { IsWindow (S.timetable source.old) asked.now window.start window.end }

@@ -11,7 +11,7 @@ use crate::nodes::Node;
 use bags::{Bag, Point, comes_first};
 use criteria::Criterion;
 use std::alloc::{AllocError, Global};
-use timetable::{Kept, Query, Timetable};
+use timetable::{GhostValue, Query, Timetable};
 
 /// The answer of a profile query: the points of all best departures, by departure, then by the criterion's order.
 /// Each point's tag is the number of a node, from which on the nodes spell a journey that attains the point.
@@ -24,8 +24,8 @@ pub struct Found<C: Criterion> {
     pub(crate) points: Vec<Point<C::V>>,
     pub(crate) nodes: Vec<Node>,
     pub(crate) walk: Option<u32>,
-    pub(crate) timetable: Kept<Timetable>,
-    pub(crate) query: Kept<Query>,
+    pub(crate) timetable: GhostValue<Timetable>,
+    pub(crate) query: GhostValue<Query>,
     pub(crate) ghost answered: { Answer (C.rules criterion) timetable.value query.value points.items nodes.items walk },
 }
 

@@ -9,7 +9,7 @@ use crate::found::Found;
 use crate::nodes::Node;
 use bags::Point;
 use criteria::Criterion;
-use timetable::{Footpath, Kept, Query, Timetable};
+use timetable::{Footpath, GhostValue, Query, Timetable};
 
 /// The answer of a query between sets: the points of all best departures, by departure, then by the criterion's order.
 /// Each point's tag is the number of a node, from which on the nodes spell a journey that attains the point.
@@ -22,8 +22,8 @@ pub struct FoundBetween<C: Criterion> {
     pub(crate) points: Vec<Point<C::V>>,
     pub(crate) nodes: Vec<Node>,
     pub(crate) walk: Option<Footpath>,
-    pub(crate) timetable: Kept<Timetable>,
-    pub(crate) query: Kept<Between>,
+    pub(crate) timetable: GhostValue<Timetable>,
+    pub(crate) query: GhostValue<Between>,
     pub(crate) ghost answered: { AnswerBetween (C.rules criterion) timetable.value (question query.value)
         points.items nodes.items walk },
 }
@@ -85,7 +85,7 @@ impl<C: Criterion> FoundBetween<C> {
             nodes: self.nodes,
             walk: secs_of(self.walk),
             timetable: self.timetable,
-            query: Kept::of(query),
+            query: GhostValue::of(query),
         }
     }
 }

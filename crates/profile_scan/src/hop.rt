@@ -7,7 +7,7 @@ use timetable::Connection;
 
 /// What a scan is asked, the same at each connection.
 #[derive(Drop)]
-pub struct Asked<C> {
+pub struct ScanQuery<C> {
     // by which values are compared
     pub criterion: C,
     // in a scan for all sources it has none

@@ -6,7 +6,7 @@
 
 ghost use Rattle.std.specs.Prelude.{◌≡◌, ℕ, IfOk, length, slice_get, Some};
 ghost use Rattle.criteria.specs.Laws.{Admits};
-ghost use Rattle.profile_scan.specs.declared.last_offers.Offered.{Offered};
+ghost use Rattle.profile_scan.specs.declared.last_offers.LastOffer.{LastOffer};
 
 use criteria::Criterion;
 use fronts::copies;
@@ -15,7 +15,7 @@ use std::alloc::{AllocError, Global};
 /// What a stop was offered last: for each time before `before`, its list has a point that departs then or later and is
 /// no worse than `value`. `before` is a time in seconds, and 0 until something is offered: no time is before 0.
 #[derive(Clone, Copy, Drop)]
-pub struct Offered<V> {
+pub struct LastOffer<V> {
     pub before: u32,
     pub value: V,
 }
@@ -25,12 +25,12 @@ pub fn none_offered<C: Criterion>(
     alloc: Global,
     criterion: &C,
     count: usize,
-) -> Result<Vec<Offered<C::V>>, AllocError>
+) -> Result<Vec<LastOffer<C::V>>, AllocError>
     ensures long { IfOk result (λ offers. length offers.items ≡ count) }
-    ensures none { IfOk result (λ offers. (k : ℕ) (offered : Offered _) → slice_get offers.items k ≡ Some offered
+    ensures none { IfOk result (λ offers. (k : ℕ) (offered : LastOffer _) → slice_get offers.items k ≡ Some offered
         → (offered.before ≡ 0) × Admits (C.rules criterion.now) offered.value) }
 {
-    let nothing = Offered {
+    let nothing = LastOffer {
         before: 0,
         value: criterion.arrive(0),
     };

@@ -9,7 +9,7 @@ ghost use Rattle.profile_scan.specs.Between.{question};
 ghost use Rattle.profile_scan.specs.Hops.{CanTry};
 
 use crate::between::Between;
-use crate::hop::{Asked, Hop};
+use crate::hop::{Hop, ScanQuery};
 use crate::riding::label_at;
 use crate::story::SetOut;
 use bags::Bag;
@@ -78,9 +78,9 @@ impl<C: Criterion> Origin<C> {
     #[inline(never)]
     pub fn set_out_after(
         &mut self,
-        asked: &Asked<C>,
+        asked: &ScanQuery<C>,
         hop: &Hop<C::V>,
-        departure: Departure,
+        departure: SourceDeparture,
         labels: &[Label<C::V>],
     ) -> Result<(), AllocError>
         requires secs { IfSome departure.start (λ walk. IsSecs walk.secs) }
@@ -110,7 +110,7 @@ impl<C: Criterion> Origin<C> {
     #[inline(always)]
     fn set_out_by(
         &mut self,
-        asked: &Asked<C>,
+        asked: &ScanQuery<C>,
         hop: &Hop<C::V>,
         start: Option<Footpath>,
         labels: &[Label<C::V>],
@@ -140,7 +140,7 @@ impl<C: Criterion> Origin<C> {
     /// loop.
     pub fn set_out<S: ConnSource>(
         &mut self,
-        asked: &Asked<C>,
+        asked: &ScanQuery<C>,
         source: &S,
         hop: &Hop<C::V>,
         labels: &[Label<C::V>],
@@ -174,14 +174,18 @@ impl<C: Criterion> Origin<C> {
 
 /// How one sets out: the start, and when one leaves the source.
 #[derive(Clone, Copy)]
-pub struct Departure {
+pub struct SourceDeparture {
     pub start: Option<Footpath>,
     pub time: u32,
 }
 
 // Whether a start for the connection of a hop begins at a source and isn't a loop.
 #[inline(always)]
-fn is_from_source<C: Criterion>(asked: &Asked<C>, hop: &Hop<C::V>, start: Option<Footpath>) -> bool
+fn is_from_source<C: Criterion>(
+    asked: &ScanQuery<C>,
+    hop: &Hop<C::V>,
+    start: Option<Footpath>,
+) -> bool
     requires { CanTry (question asked.now.query).sources hop.now asked.now.starts start }
     ensures { MatchBool result (StartsFrom (question asked.now.query) hop.now.connection start)
         (StartsFrom (question asked.now.query) hop.now.connection start → ⊥) }
@@ -203,7 +207,7 @@ pub fn departure_by(
     query: &Between,
     connection: &Connection,
     start: Option<Footpath>,
-) -> Option<Departure>
+) -> Option<SourceDeparture>
     ensures { MatchOption result (IsInTime query.now.from query.now.until connection.now start → ⊥)
         (λ departure. IsInTime query.now.from query.now.until connection.now start × (departure.start ≡ start)
         × (departure.time ≡ connection.now.dep - start_secs start)) }
@@ -219,7 +223,7 @@ pub fn departure_by(
     if time < query.from || time > query.until {
         return None;
     }
-    Some(Departure { start, time })
+    Some(SourceDeparture { start, time })
 }
 
 // The value of a start and a ride, with a label's value after them.

@@ -3,8 +3,8 @@
 ghost use Rattle.std.specs.Prelude.{◌≡◌, MatchBool};
 ghost use Rattle.profile_scan.specs.Origins.{IsLoop, starts_at};
 
-use crate::hop::{Asked, Hop};
-use crate::origin::{Departure, Origin, departure_by};
+use crate::hop::{Hop, ScanQuery};
+use crate::origin::{Origin, SourceDeparture, departure_by};
 use criteria::Criterion;
 use fronts::Label;
 use sources::ConnSource;
@@ -46,10 +46,10 @@ impl<C: Criterion> Origins<C> {
     // there.
     fn set_out_from(
         &mut self,
-        asked: &Asked<C>,
+        asked: &ScanQuery<C>,
         hop: &Hop<C::V>,
         stop: u32,
-        departure: Departure,
+        departure: SourceDeparture,
         labels: &[Label<C::V>],
     ) -> Result<(), AllocError>
         requires secs { IfSome departure.start (λ walk. IsSecs walk.secs) }
@@ -71,7 +71,7 @@ impl<C: Criterion> Origins<C> {
     // start begins; nothing if the start is a loop, or the query doesn't allow that departure.
     fn set_out_by(
         &mut self,
-        asked: &Asked<C>,
+        asked: &ScanQuery<C>,
         hop: &Hop<C::V>,
         start: Option<Footpath>,
         labels: &[Label<C::V>],
@@ -103,7 +103,7 @@ impl<C: Criterion> Origins<C> {
     /// the footpath begins.
     pub fn set_out<S: ConnSource>(
         &mut self,
-        asked: &Asked<C>,
+        asked: &ScanQuery<C>,
         source: &S,
         hop: &Hop<C::V>,
         labels: &[Label<C::V>],

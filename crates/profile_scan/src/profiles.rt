@@ -14,24 +14,24 @@ use crate::between::Between;
 use crate::destination::Destination;
 use crate::everywhere::{StateOfAll, scan_for_all};
 use crate::found::{Found, in_order};
-use crate::hop::Asked;
+use crate::hop::ScanQuery;
 use crate::origins::Origins;
 use crate::starts::starts_from;
 use crate::telling::tell_journeys;
-use crate::view::View;
+use crate::view::ScanView;
 use crate::ways::ways_to;
 use bags::Point;
 use criteria::Criterion;
 use sources::ConnSource;
 use std::alloc::{AllocError, Global};
-use timetable::Kept;
+use timetable::GhostValue;
 
 /// The answers from every stop, for one target, window and criterion. The scan's story of how journeys go is kept as
 /// it is; `found_from` spells those from one stop.
 #[derive(Drop)]
 pub struct Profiles<C: Criterion> {
     destination: Destination,
-    asked: Asked<C>,
+    asked: ScanQuery<C>,
     state: StateOfAll<C>,
     // the points of each stop, in order; a point's tag is the index of how one sets out for it
     lists: Vec<Vec<Point<C::V>>>,
@@ -86,21 +86,21 @@ impl<C: Criterion> Profiles<C> {
             (query_from (destination_of self.now) stop) found) }
     {
         let origin = &self.state.origins.each[stop as usize];
-        let view = View {
+        let view = ScanView {
             trips: &self.state.trips,
             stops: &self.state.stops,
             origin,
         };
         let points = self.points(stop);
-        let told = tell_journeys(alloc, source, &view, points)?;
+        let spelled = tell_journeys(alloc, source, &view, points)?;
         let query = self.destination.query_from(stop);
         Ok(Found {
             criterion: self.asked.criterion,
-            points: told.points,
-            nodes: told.nodes,
+            points: spelled.points,
+            nodes: spelled.nodes,
             walk: self.asked.ways.secs_from(stop),
             timetable: timetable_of(source),
-            query: Kept::of(&query),
+            query: GhostValue::of(&query),
         })
     }
 }
@@ -111,7 +111,7 @@ fn ask_from_all<S: ConnSource, C: Criterion>(
     source: &S,
     criterion: &C,
     destination: &Destination,
-) -> Result<Asked<C>, AllocError>
+) -> Result<ScanQuery<C>, AllocError>
     requires { CanBeAsked (S.timetable source.now).stops destination.now }
     ensures asked { IfOk result (λ asked. IsAsked (S.timetable source.now) asked) }
     ensures keeps { IfOk result (λ asked. (asked.criterion ≡ criterion.now)
@@ -126,7 +126,7 @@ fn ask_from_all<S: ConnSource, C: Criterion>(
     };
     let starts = starts_from(alloc, source, &query.sources)?;
     let ways = ways_to(alloc, source, &query.targets)?;
-    Ok(Asked {
+    Ok(ScanQuery {
         criterion: *criterion,
         query,
         starts,

@@ -9,7 +9,7 @@ ghost use Rattle.profile_scan.specs.Bound.{carried, RidesLabel};
 use crate::bound::is_bettered;
 use bags::Point;
 use criteria::Criterion;
-use fronts::{Label, Ridden};
+use fronts::{Label, RiddenLabel};
 use std::alloc::AllocError;
 
 /// Returns a tag or an index as a number of 32 bits. Past 2^32 - 1 it fails, as if memory had run out.
@@ -47,7 +47,7 @@ fn ride_label<C: Criterion>(
     criterion: &C,
     bound: &[C::V],
     label: &Point<C::V>,
-    ridden: &mut Vec<Ridden<C::V>>,
+    ridden: &mut Vec<RiddenLabel<C::V>>,
 ) -> Result<(), AllocError>
     requires bound { (b : _) → Contains bound.now b → Admits (C.rules criterion.now) b }
     requires label { Admits (C.rules criterion.now) label.now.value }
@@ -59,7 +59,7 @@ fn ride_label<C: Criterion>(
         return Ok(());
     }
     let number = number_of(label.tag)?;
-    ridden.push(Ridden {
+    ridden.push(RiddenLabel {
         value,
         label: number,
     })?;
@@ -72,7 +72,7 @@ pub fn ride_labels<C: Criterion>(
     criterion: &C,
     bound: &[C::V],
     labels: &[Label<C::V>],
-    ridden: &mut Vec<Ridden<C::V>>,
+    ridden: &mut Vec<RiddenLabel<C::V>>,
 ) -> Result<(), AllocError>
     requires bound { (b : _) → Contains bound.now b → Admits (C.rules criterion.now) b }
     requires labels { (l : Point _) → Contains (label_points labels.now) l → Admits (C.rules criterion.now) l.value }

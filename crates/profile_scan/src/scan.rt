@@ -3,7 +3,7 @@
 ghost use Rattle.std.specs.Prelude.{◌≡◌, ◌↔◌, None, true};
 
 use crate::bound::Bound;
-use crate::hop::{Asked, Hop};
+use crate::hop::{Hop, ScanQuery};
 use crate::origin::Origin;
 use crate::stops::Stops;
 use crate::trips::Trips;
@@ -51,7 +51,7 @@ impl<C: Criterion> State<C> {
     }
 
     // Returns true only if the connection can add nothing, as most can't; false is always safe.
-    fn is_idle(&self, asked: &Asked<C>, connection: &Connection, way: Option<Way>) -> bool
+    fn is_idle(&self, asked: &ScanQuery<C>, connection: &Connection, way: Option<Way>) -> bool
         requires trip { HasTrip (C.rules asked.now.criterion) connection.now.trip self.now.trips }
         requires stop { HasStop C.rules asked.now.criterion connection.now.to self.now.stops }
         ensures { result ≡ true → IsIdle connection.now way
@@ -68,7 +68,7 @@ impl<C: Criterion> State<C> {
     // boards it.
     fn take<S: ConnSource>(
         &mut self,
-        asked: &Asked<C>,
+        asked: &ScanQuery<C>,
         source: &S,
         hop: &Hop<C::V>,
     ) -> Result<(), AllocError>
@@ -123,7 +123,7 @@ impl<C: Criterion> Scan<C> {
     ghost use Rattle.std.specs.Prelude.{◌≡◌, ◌+◌, OnOk};
     ghost use Rattle.profile_scan.specs.Matching.{from_to};
     ghost use Rattle.profile_scan.specs.Steps.{IsStep};
-    ghost use Rattle.profile_scan.specs.Story.{told};
+    ghost use Rattle.profile_scan.specs.Story.{spelling_of};
     ghost use Rattle.profile_scan.specs.Kept.{IsScan, kept_by, story_of};
     ghost use Rattle.profile_scan.specs.Hops.{IsAsked, StandsAt};
 
@@ -131,7 +131,7 @@ impl<C: Criterion> Scan<C> {
     // nothing.
     fn step<S: ConnSource>(
         &mut self,
-        asked: &Asked<C>,
+        asked: &ScanQuery<C>,
         source: &S,
         connection: &Connection,
         place: u32,
@@ -142,8 +142,8 @@ impl<C: Criterion> Scan<C> {
         ensures scan { OnOk result (IsScan C.rules asked.now.criterion (S.timetable source.now) place self.new) }
         ensures step { OnOk result
             (IsStep (C.rules asked.now.criterion) (S.timetable source.now) (question asked.now.query)
-            (from_to (told (S.timetable source.now).footpaths (story_of self.old.state))
-            (told (S.timetable source.now).footpaths (story_of self.new.state)))
+            (from_to (spelling_of (S.timetable source.now).footpaths (story_of self.old.state))
+            (spelling_of (S.timetable source.now).footpaths (story_of self.new.state)))
             place (kept_by self.old.state) (kept_by self.new.state)) }
     {
         let way = asked.ways.way_from(connection.to);
@@ -179,7 +179,7 @@ ghost use Rattle.profile_scan.specs.Parts.{HasFound};
 pub fn scan_window<S: ConnSource, C: Criterion>(
     alloc: Global,
     source: &mut S,
-    asked: &Asked<C>,
+    asked: &ScanQuery<C>,
     window: Range<usize>,
 ) -> Result<Scan<C>, AllocError>
     requires { IsWindow (S.timetable source.old) asked.now window.start window.end }

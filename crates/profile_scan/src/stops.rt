@@ -3,11 +3,11 @@
 ghost use Rattle.std.specs.Prelude.{◌≡◌, ℕ, IfOk, replicate};
 
 use crate::bound::is_bettered;
-use crate::hop::{Asked, Hop};
-use crate::last_offers::{Offered, none_offered};
+use crate::hop::{Hop, ScanQuery};
+use crate::last_offers::{LastOffer, none_offered};
 use crate::riding::{number_of, ride_labels};
 use criteria::Criterion;
-use fronts::{FrontLists, Label, Ridden};
+use fronts::{FrontLists, Label, RiddenLabel};
 use sources::ConnSource;
 use std::alloc::{AllocError, Global};
 use std::ops::Range;
@@ -19,9 +19,9 @@ use timetable::Footpath;
 pub struct Stops<C: Criterion> {
     pub lists: FrontLists<C>,
     pub heads: Vec<u32>,
-    pub offers: Vec<Offered<C::V>>,
+    pub offers: Vec<LastOffer<C::V>>,
     // scratch memory: the values of a trip's labels after the ride, if it has several, overwritten by each boarding
-    pub ridden: Vec<Ridden<C::V>>,
+    pub ridden: Vec<RiddenLabel<C::V>>,
 }
 
 impl<C: Criterion> Stops<C> {
@@ -84,7 +84,7 @@ impl<C: Criterion> Stops<C> {
     #[inline(always)]
     fn board_after(
         &mut self,
-        asked: &Asked<C>,
+        asked: &ScanQuery<C>,
         hop: &Hop<C::V>,
         place: usize,
         walk: Footpath,
@@ -120,7 +120,7 @@ impl<C: Criterion> Stops<C> {
     #[inline(always)]
     fn board_walks<S: ConnSource>(
         &mut self,
-        asked: &Asked<C>,
+        asked: &ScanQuery<C>,
         source: &S,
         hop: &Hop<C::V>,
         walks: Range<usize>,
@@ -146,11 +146,11 @@ impl<C: Criterion> Stops<C> {
     #[inline(always)]
     fn board_one_after(
         &mut self,
-        asked: &Asked<C>,
+        asked: &ScanQuery<C>,
         hop: &Hop<C::V>,
         place: usize,
         walk: Footpath,
-        ride: Ridden<C::V>,
+        ride: RiddenLabel<C::V>,
     ) -> Result<(), AllocError>
         requires secs { IsSecs walk.secs }
         requires stop { walk.from < vec_len self.old.heads }
@@ -175,7 +175,7 @@ impl<C: Criterion> Stops<C> {
             .lists
             .insert_one(head, dep - walk.secs, hop.place, number, walk.secs, ride)?;
         self.heads[walk.from as usize] = new;
-        self.offers[walk.from as usize] = Offered {
+        self.offers[walk.from as usize] = LastOffer {
             before: (dep - walk.secs).saturating_add(1),
             value,
         };
@@ -187,11 +187,11 @@ impl<C: Criterion> Stops<C> {
     #[inline(always)]
     fn board_one<S: ConnSource>(
         &mut self,
-        asked: &Asked<C>,
+        asked: &ScanQuery<C>,
         source: &S,
         hop: &Hop<C::V>,
         walks: Range<usize>,
-        ride: Ridden<C::V>,
+        ride: RiddenLabel<C::V>,
     ) -> Result<(), AllocError>
         requires walks { AreWalksInto (S.timetable source.now) hop.now.connection.from walks.start walks.end }
         requires stops { AreStops C.rules asked.now.criterion (S.timetable source.now).stops self.old }
@@ -212,7 +212,7 @@ impl<C: Criterion> Stops<C> {
     #[inline(always)]
     fn board_alone<S: ConnSource>(
         &mut self,
-        asked: &Asked<C>,
+        asked: &ScanQuery<C>,
         source: &S,
         hop: &Hop<C::V>,
         label: &Label<C::V>,
@@ -234,7 +234,7 @@ impl<C: Criterion> Stops<C> {
         if is_bettered(&asked.criterion, hop.bound, &value) {
             return Ok(());
         }
-        let ride = Ridden {
+        let ride = RiddenLabel {
             value,
             label: label.tag,
         };
@@ -248,7 +248,7 @@ impl<C: Criterion> Stops<C> {
     #[inline(always)]
     pub fn board<S: ConnSource>(
         &mut self,
-        asked: &Asked<C>,
+        asked: &ScanQuery<C>,
         source: &S,
         hop: &Hop<C::V>,
         labels: &[Label<C::V>],

@@ -6,12 +6,12 @@ ghost use Rattle.fronts.specs.Front.{Extends};
 ghost use Rattle.profile_scan.specs.Points.{untagged};
 ghost use Rattle.profile_scan.specs.Views.{story_seen};
 ghost use Rattle.profile_scan.specs.declared.telling.Change.{Change};
-ghost use Rattle.profile_scan.specs.Telling.{IsRoute, change, ending, IsLabelTold, SaysLabel, IsJourneyTold};
-ghost use Rattle.profile_scan.specs.Telling.{SaysJourney, IsRetold};
+ghost use Rattle.profile_scan.specs.Telling.{IsRoute, change, ending, IsLabelSpelled, SaysLabel, IsJourneySpelled};
+ghost use Rattle.profile_scan.specs.Telling.{SaysJourney, IsSpelledAgain};
 
 use crate::nodes::Node;
 use crate::story::Exit;
-use crate::view::View;
+use crate::view::ScanView;
 use bags::Point;
 use criteria::Criterion;
 use fronts::Step;
@@ -29,20 +29,20 @@ struct Change {
 // How one ends after a label: the index of the connection that one leaves, and the footpath to the target, if there
 // is one.
 #[derive(Clone, Copy, Drop)]
-struct End {
+struct LastAlighting {
     last: u32,
     walk: Option<Footpath>,
 }
 
-impl<'a, C: Criterion> View<'a, C> {
+impl<'a, C: Criterion> ScanView<'a, C> {
     ghost use Rattle.std.specs.Prelude.{◌≡◌, ◌++◌, ◌∷◌, [], ℕ, IfOk, Contains, Some, None, length, map};
     ghost use Rattle.bags.specs.declared.point.Point.{Point};
     ghost use Rattle.fronts.specs.Front.{Extends};
     ghost use Rattle.profile_scan.specs.Points.{untagged};
     ghost use Rattle.profile_scan.specs.Views.{story_seen};
     ghost use Rattle.profile_scan.specs.declared.telling.Change.{Change};
-    ghost use Rattle.profile_scan.specs.Telling.{IsRoute, change, ending, IsLabelTold, SaysLabel, IsJourneyTold};
-    ghost use Rattle.profile_scan.specs.Telling.{SaysJourney, IsRetold};
+    ghost use Rattle.profile_scan.specs.Telling.{IsRoute, change, ending, IsLabelSpelled, SaysLabel, IsJourneySpelled};
+    ghost use Rattle.profile_scan.specs.Telling.{SaysJourney, IsSpelledAgain};
 
     // How one changes after a label, if one does.
     fn change_after(&self, label: usize) -> Option<Change>
@@ -58,11 +58,11 @@ impl<'a, C: Criterion> View<'a, C> {
     }
 
     // How one ends after a label, if one does.
-    fn end_after(&self, label: usize) -> Option<End>
+    fn end_after(&self, label: usize) -> Option<LastAlighting>
         ensures { result ≡ ending (story_seen self.now) label }
     {
         match self.trips.exits.get(label).copied()? {
-            Exit::Ends { last, walk } => Some(End { last, walk }),
+            Exit::Ends { last, walk } => Some(LastAlighting { last, walk }),
             Exit::Changes { .. } => None,
         }
     }
@@ -71,7 +71,7 @@ impl<'a, C: Criterion> View<'a, C> {
     // change leads to an earlier label, so no label comes twice.
     fn note_route(&self, first: usize, route: &mut Vec<usize>) -> Result<usize, AllocError>
         ensures route { IfOk result (λ last. IsRoute (story_seen self.now) first route.new.items last) }
-        ensures ends { IfOk result (λ last. (walks : _) → IsLabelTold walks (story_seen self.now) first
+        ensures ends { IfOk result (λ last. (walks : _) → IsLabelSpelled walks (story_seen self.now) first
             → change (story_seen self.now) last ≡ None) }
     {
         route.clear();
@@ -92,7 +92,7 @@ impl<'a, C: Criterion> View<'a, C> {
     // one that ends, like the one that `tell_journey` gets from `note_route`; for any other the number means nothing.
     fn tell_end(&self, label: usize, nodes: &mut Vec<Node>) -> Result<usize, AllocError>
         ensures nodes { Extends nodes.old.items nodes.new.items }
-        ensures says { IfOk result (λ number. (walks : _) → IsLabelTold walks (story_seen self.now) label
+        ensures says { IfOk result (λ number. (walks : _) → IsLabelSpelled walks (story_seen self.now) label
             → change (story_seen self.now) label ≡ None
             → SaysLabel walks (story_seen self.now) label nodes.new.items number) }
     {
@@ -117,7 +117,7 @@ impl<'a, C: Criterion> View<'a, C> {
         next: usize,
         nodes: &mut Vec<Node>,
     ) -> Result<usize, AllocError>
-        requires told { IsLabelTold (S.timetable source.now).footpaths (story_seen self.now) label }
+        requires spelled { IsLabelSpelled (S.timetable source.now).footpaths (story_seen self.now) label }
         requires next { (c : Change) × (change (story_seen self.now) label ≡ Some c)
             × SaysLabel (S.timetable source.now).footpaths (story_seen self.now) c.step.label nodes.old.items next }
         ensures nodes { Extends nodes.old.items nodes.new.items }
@@ -156,7 +156,7 @@ impl<'a, C: Criterion> View<'a, C> {
         route: &mut Vec<usize>,
         nodes: &mut Vec<Node>,
     ) -> Result<usize, AllocError>
-        requires { IsJourneyTold (S.timetable source.now).footpaths (story_seen self.now) tag }
+        requires { IsJourneySpelled (S.timetable source.now).footpaths (story_seen self.now) tag }
         ensures nodes { Extends nodes.old.items nodes.new.items }
         ensures says { IfOk result
             (λ number. SaysJourney (S.timetable source.now).footpaths (story_seen self.now) tag nodes.new.items
@@ -192,7 +192,7 @@ fn add(nodes: &mut Vec<Node>, node: Node) -> Result<usize, AllocError>
 
 /// Points whose tags are the numbers of nodes.
 #[derive(Drop)]
-pub struct Told<V> {
+pub struct NodePoints<V> {
     pub points: Vec<Point<V>>,
     pub nodes: Vec<Node>,
 }
@@ -201,29 +201,29 @@ pub struct Told<V> {
 pub fn tell_journeys<S: ConnSource, C: Criterion>(
     alloc: Global,
     source: &S,
-    view: &View<'_, C>,
+    view: &ScanView<'_, C>,
     points: &[Point<C::V>],
-) -> Result<Told<C::V>, AllocError>
+) -> Result<NodePoints<C::V>, AllocError>
     requires { (p : Point _) → Contains points.now p
-        → IsJourneyTold (S.timetable source.now).footpaths (story_seen view.now) p.tag }
-    ensures same { IfOk result (λ told. map untagged told.points.items ≡ map untagged points.now) }
-    ensures says { IfOk result (λ told. (p : Point _) → Contains told.points.items p
-        → IsRetold (S.timetable source.now).footpaths (story_seen view.now) points.now told.nodes.items p) }
+        → IsJourneySpelled (S.timetable source.now).footpaths (story_seen view.now) p.tag }
+    ensures same { IfOk result (λ spelled. map untagged spelled.points.items ≡ map untagged points.now) }
+    ensures says { IfOk result (λ spelled. (p : Point _) → Contains spelled.points.items p
+        → IsSpelledAgain (S.timetable source.now).footpaths (story_seen view.now) points.now spelled.nodes.items p) }
 {
-    let mut told = Vec::with_capacity(alloc, points.len())?;
+    let mut spelled = Vec::with_capacity(alloc, points.len())?;
     let mut nodes = Vec::new(alloc);
     let mut route = Vec::new(alloc);
     for i in 0..points.len() {
         let point = points[i];
         let tag = view.tell_journey(source, point.tag, &mut route, &mut nodes)?;
-        told.push(Point {
+        spelled.push(Point {
             departure: point.departure,
             value: point.value,
             tag,
         })?;
     }
-    Ok(Told {
-        points: told,
+    Ok(NodePoints {
+        points: spelled,
         nodes,
     })
 }

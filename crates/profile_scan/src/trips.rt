@@ -16,7 +16,7 @@ ghost use Rattle.profile_scan.specs.Between.{question};
 
 use crate::between::Between;
 use crate::bound::is_bettered;
-use crate::hop::{Asked, Hop};
+use crate::hop::{Hop, ScanQuery};
 use crate::stops::Stops;
 use crate::story::Exit;
 use crate::ways::Way;
@@ -81,7 +81,7 @@ impl<C: Criterion> Trips<C> {
     // and with the bound only if none of them is no worse.
     fn change_by(
         &mut self,
-        asked: &Asked<C>,
+        asked: &ScanQuery<C>,
         hop: &Hop<C::V>,
         point: &Point<C::V>,
     ) -> Result<(), AllocError>
@@ -119,7 +119,7 @@ impl<C: Criterion> Trips<C> {
     #[inline(always)]
     fn change(
         &mut self,
-        asked: &Asked<C>,
+        asked: &ScanQuery<C>,
         hop: &Hop<C::V>,
         stops: &Stops<C>,
     ) -> Result<(), AllocError>
@@ -151,7 +151,7 @@ impl<C: Criterion> Trips<C> {
     }
 
     // Offers to the labels of the connection's trip the end, if one is at a target in time.
-    fn end(&mut self, asked: &Asked<C>, hop: &Hop<C::V>) -> Result<(), AllocError>
+    fn end(&mut self, asked: &ScanQuery<C>, hop: &Hop<C::V>) -> Result<(), AllocError>
         requires hop { IsHop (C.rules asked.now.criterion) (question asked.now.query) hop.now }
         requires trip { HasTrip (C.rules asked.now.criterion) hop.now.connection.trip self.old }
         ensures trip { OnOk result
@@ -180,7 +180,7 @@ impl<C: Criterion> Trips<C> {
     #[inline(always)]
     pub fn alight(
         &mut self,
-        asked: &Asked<C>,
+        asked: &ScanQuery<C>,
         hop: &Hop<C::V>,
         stops: &Stops<C>,
     ) -> Result<(), AllocError>
@@ -208,14 +208,14 @@ impl<C: Criterion> Trips<C> {
 
 // How to end: the walk to a target, and when it is over.
 #[derive(Clone, Copy)]
-struct Ending {
+struct EndingWalk {
     walk: Option<Footpath>,
     time: u32,
 }
 
 // The end of a journey that gets off where a connection ends, if it reaches a target by `query.by`; `way` is the
 // footpath from that stop to the nearest target, which is its loop if it is a target itself.
-fn end_of(connection: &Connection, query: &Between, way: Option<Way>) -> Option<Ending>
+fn end_of(connection: &Connection, query: &Between, way: Option<Way>) -> Option<EndingWalk>
     requires arrival { IsTime connection.now.arr }
     requires secs { IfSome way (λ way. IsSecs way.secs) }
     ensures { MatchOption result ((walk : Option Footpath) → IsEnding connection.now (question query.now) way walk → ⊥)
@@ -229,7 +229,7 @@ fn end_of(connection: &Connection, query: &Between, way: Option<Way>) -> Option<
         if connection.arr > query.by {
             return None;
         }
-        return Some(Ending {
+        return Some(EndingWalk {
             walk: None,
             time: connection.arr,
         });
@@ -243,7 +243,7 @@ fn end_of(connection: &Connection, query: &Between, way: Option<Way>) -> Option<
         to: way.to,
         secs: way.secs,
     };
-    Some(Ending {
+    Some(EndingWalk {
         walk: Some(walk),
         time,
     })

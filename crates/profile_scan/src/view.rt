@@ -7,7 +7,7 @@ use criteria::Criterion;
 
 /// What a scan keeps of all trips and stops, and for one source.
 #[derive(Clone, Copy)]
-pub struct View<'a, C: Criterion> {
+pub struct ScanView<'a, C: Criterion> {
     pub trips: &'a Trips<C>,
     pub stops: &'a Stops<C>,
     pub origin: &'a Origin<C>,

@@ -4,11 +4,11 @@
 //! Nothing here is about timetables: definitions and lemmas use nothing but std.
 #![tactic(auto)]
 
-mod kept;
+mod ghost_value;
 mod trace;
 mod variant_name;
 
-pub use kept::Kept;
+pub use ghost_value::GhostValue;
 pub use trace::Trace;
 
 #[cfg(test)]

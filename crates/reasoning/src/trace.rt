@@ -6,10 +6,10 @@ use std::snapshot::Snapshot;
 
 // How a list was put together. A node exists only during a call of `Snapshot::of`.
 #[derive(Drop)]
-enum Node<T> {
+enum TraceNode<T> {
     Nothing,
-    Noted(Snapshot<Node<T>>, Snapshot<T>),
-    Both(Snapshot<Node<T>>, Snapshot<Node<T>>),
+    One(Snapshot<TraceNode<T>>, Snapshot<T>),
+    Both(Snapshot<TraceNode<T>>, Snapshot<TraceNode<T>>),
 }
 
 /// A list that contracts alone see. It takes no bytes, and its functions no memory.
@@ -18,7 +18,7 @@ enum Node<T> {
 /// how the list agrees with the fields that exist at run time, and lets no other code add to it.
 #[derive(Drop)]
 pub struct Trace<T> {
-    node: Snapshot<Node<T>>,
+    node: Snapshot<TraceNode<T>>,
 }
 
 impl<T> Model for Trace<T> {
@@ -39,7 +39,7 @@ impl<T> Trace<T> {
         ensures { result ≡ [] }
     {
         Trace {
-            node: Snapshot::of(&Node::Nothing),
+            node: Snapshot::of(&TraceNode::Nothing),
         }
     }
 
@@ -47,8 +47,8 @@ impl<T> Trace<T> {
     pub fn note(&mut self, item: &T)
         ensures { self.new ≡ self.old ++ item.now ∷ [] }
     {
-        let before = mem::replace(&mut self.node, Snapshot::of(&Node::Nothing));
-        self.node = Snapshot::of(&Node::Noted(before, Snapshot::of(item)));
+        let before = mem::replace(&mut self.node, Snapshot::of(&TraceNode::Nothing));
+        self.node = Snapshot::of(&TraceNode::One(before, Snapshot::of(item)));
     }
 
     /// Adds another list at the end.
@@ -56,7 +56,7 @@ impl<T> Trace<T> {
         ensures { self.new ≡ self.old ++ other }
     {
         let Trace { node } = other;
-        let before = mem::replace(&mut self.node, Snapshot::of(&Node::Nothing));
-        self.node = Snapshot::of(&Node::Both(before, node));
+        let before = mem::replace(&mut self.node, Snapshot::of(&TraceNode::Nothing));
+        self.node = Snapshot::of(&TraceNode::Both(before, node));
     }
 }

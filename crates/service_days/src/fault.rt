@@ -1,7 +1,7 @@
 //! What can be wrong with a zone or with a day.
 
 ghost use Rattle.std.specs.Prelude.{◌≡◌};
-ghost use Rattle.service_days.specs.Faults.{fault_told};
+ghost use Rattle.service_days.specs.Faults.{numbered_fault};
 
 use reasoning::variant_name;
 use thiserror::Error;
@@ -20,14 +20,14 @@ pub enum DayFault {
 impl DayFault {
     /// Returns the number of the fault.
     pub fn number(self) -> u8
-        ensures { result ≡ (fault_told self).0 }
+        ensures { result ≡ (numbered_fault self).0 }
     {
         self as u8
     }
 
     /// Returns the name of the fault, such as `BadZone`.
     pub fn name(self) -> &'static str
-        ensures { result.now ≡ (fault_told self).1 }
+        ensures { result.now ≡ (numbered_fault self).1 }
     {
         variant_name!(self, DayFault: BadZone, DayOutOfRange, OutOfMemory)
     }

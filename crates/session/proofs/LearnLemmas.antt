@@ -3,8 +3,8 @@ use Rattle.std.proofs.Common.{◌≡◌, ◌⊎◌, ℕ, List, [], ◌∷◌, �
 use Rattle.std.proofs.Common.{subst, append_assoc, append-nil, inl, inr}
 use Rattle.std.proofs.lemmas.List.{append_cancel_left}
 use Rattle.image_layout.specs.Image.{ImageValue}
-use Rattle.shelf_steps.specs.declared.views.Known.{Known}
-use Rattle.epochs.specs.declared.seats.Answer.{Answer}
+use Rattle.shelf_steps.specs.declared.views.KnownHistory.{KnownHistory}
+use Rattle.epochs.specs.declared.seats.SeatAnswer.{SeatAnswer}
 use Rattle.epochs.specs.declared.faults.PinFault.{PinFault}
 use Rattle.epochs.specs.SeatHistory.{Grows, HoldsAsKnown, HoldsIn, IsPublished}
 use Rattle.epochs.specs.Seats.{SeatValue, PinStep, ReleaseStep, JoinStep}
@@ -21,136 +21,137 @@ use Rattle.session.proofs.SeatLemmas.{answers_grow, step_grows}
 use Rattle.session.proofs.TurnLemmas.{moves_follow}
 
 -- what was published stays so
-published_later : (k later : Known) (answers : List Answer) → Grows k later → ArePublished k answers → ArePublished later answers
+published_later : (k later : KnownHistory) (answers : List SeatAnswer) → Grows k later → ArePublished k answers → ArePublished later answers
 published_later k later [] grows is = tt
-published_later k later (Answer.Pinned version image ∷ answers) grows is =
+published_later k later (SeatAnswer.Pinned version image ∷ answers) grows is =
     (published_stay k later version image.value grows is.0, published_later k later answers grows is.1)
-published_later k later (Answer.PinRefused fault ∷ answers) grows is = published_later k later answers grows is
-published_later k later (Answer.Released ∷ answers) grows is = published_later k later answers grows is
-published_later k later (Answer.ReleaseRefused fault ∷ answers) grows is = published_later k later answers grows is
+published_later k later (SeatAnswer.PinRefused fault ∷ answers) grows is = published_later k later answers grows is
+published_later k later (SeatAnswer.Released ∷ answers) grows is = published_later k later answers grows is
+published_later k later (SeatAnswer.ReleaseRefused fault ∷ answers) grows is = published_later k later answers grows is
 
-published_all : (k : Known) (xs ys : List Answer) → ArePublished k xs → ArePublished k ys → ArePublished k (xs ++ ys)
+published_all : (k : KnownHistory) (xs ys : List SeatAnswer) → ArePublished k xs → ArePublished k ys → ArePublished k (xs ++ ys)
 published_all k [] ys p q = q
-published_all k (Answer.Pinned version image ∷ xs) ys p q = (p.0, published_all k xs ys p.1 q)
-published_all k (Answer.PinRefused fault ∷ xs) ys p q = published_all k xs ys p q
-published_all k (Answer.Released ∷ xs) ys p q = published_all k xs ys p q
-published_all k (Answer.ReleaseRefused fault ∷ xs) ys p q = published_all k xs ys p q
+published_all k (SeatAnswer.Pinned version image ∷ xs) ys p q = (p.0, published_all k xs ys p.1 q)
+published_all k (SeatAnswer.PinRefused fault ∷ xs) ys p q = published_all k xs ys p q
+published_all k (SeatAnswer.Released ∷ xs) ys p q = published_all k xs ys p q
+published_all k (SeatAnswer.ReleaseRefused fault ∷ xs) ys p q = published_all k xs ys p q
 
-published_parts : (k : Known) (xs ys : List Answer) → ArePublished k (xs ++ ys) → ArePublished k xs × ArePublished k ys
+published_parts : (k : KnownHistory) (xs ys : List SeatAnswer) → ArePublished k (xs ++ ys) → ArePublished k xs × ArePublished k ys
 published_parts k [] ys p = (tt, p)
-published_parts k (Answer.Pinned version image ∷ xs) ys p = let rest = published_parts k xs ys p.1 in ((p.0, rest.0), rest.1)
-published_parts k (Answer.PinRefused fault ∷ xs) ys p = published_parts k xs ys p
-published_parts k (Answer.Released ∷ xs) ys p = published_parts k xs ys p
-published_parts k (Answer.ReleaseRefused fault ∷ xs) ys p = published_parts k xs ys p
+published_parts k (SeatAnswer.Pinned version image ∷ xs) ys p = let rest = published_parts k xs ys p.1 in ((p.0, rest.0), rest.1)
+published_parts k (SeatAnswer.PinRefused fault ∷ xs) ys p = published_parts k xs ys p
+published_parts k (SeatAnswer.Released ∷ xs) ys p = published_parts k xs ys p
+published_parts k (SeatAnswer.ReleaseRefused fault ∷ xs) ys p = published_parts k xs ys p
 
 -- nothing was answered
-pub learns_same : (k : Known) (a : SeatValue) → Learns k a k a
+pub learns_same : (k : KnownHistory) (a : SeatValue) → Learns k a k a
 learns_same k a = record { grows = grows_same k; answers = []; answers_are = sym (append-nil a.answers); published = tt }
 
 -- and one behind the other
-pub learns_on : (k : Known) (a : SeatValue) (l : Known) (m : SeatValue) (n : Known) (b : SeatValue) → Learns k a l m → Learns l m n b → Learns k a n b
+pub learns_on : (k : KnownHistory) (a : SeatValue) (l : KnownHistory) (m : SeatValue) (n : KnownHistory) (b : SeatValue) → Learns k a l m → Learns l m n b
+    → Learns k a n b
 learns_on k a l m n b p q = record {
   grows = growths_join k l n p.grows q.grows;
   answers = p.answers ++ q.answers;
-  answers_are = q.answers_are ∙ ap (λ (xs : List Answer). xs ++ q.answers) p.answers_are ∙ append_assoc a.answers p.answers q.answers;
+  answers_are = q.answers_are ∙ ap (λ (xs : List SeatAnswer). xs ++ q.answers) p.answers_are ∙ append_assoc a.answers p.answers q.answers;
   published = published_all n p.answers q.answers (published_later l n p.answers q.grows p.published) q.published;
 }
 
 -- one answer
-learns_answer : (k l : Known) (a b : SeatValue) (answer : Answer) → Grows k l → b.answers ≡ a.answers ++ answer ∷ [] → ArePublished l (answer ∷ [])
+learns_answer : (k l : KnownHistory) (a b : SeatValue) (answer : SeatAnswer) → Grows k l → b.answers ≡ a.answers ++ answer ∷ [] → ArePublished l (answer ∷ [])
     → Learns k a l b
 learns_answer k l a b answer grows is published = record { grows = grows; answers = answer ∷ []; answers_are = is; published = published }
 
-abbrev answers_of : SeatValue → List Answer
+abbrev answers_of : SeatValue → List SeatAnswer
 answers_of s = s.answers
 
 abbrev held_by : SeatValue → Option (ℕ × ImageValue)
 held_by s = s.held
 
-pub learns_pinned : (k l : Known) (number : ℕ) (a b : SeatValue) → PinStep a (Ok tt) b → Grows k l → HoldsAsKnown l number b.held → Learns k a l b
+pub learns_pinned : (k l : KnownHistory) (number : ℕ) (a b : SeatValue) → PinStep a (Ok tt) b → Grows k l → HoldsAsKnown l number b.held → Learns k a l b
 learns_pinned k l number a b step grows known =
     let version = step.1.0 in
     let image = step.1.1 in
     let is : b.held ≡ Some (version, image.value) = ap held_by step.1.3 in
     let holds : HoldsIn l number version image.value = subst (λ (h : Option (ℕ × ImageValue)). HoldsAsKnown l number h) is known in
-    learns_answer k l a b (Answer.Pinned version image) grows (ap answers_of step.1.3) (holds.published, tt)
+    learns_answer k l a b (SeatAnswer.Pinned version image) grows (ap answers_of step.1.3) (holds.published, tt)
 
-pub learns_unpinned : (k l : Known) (a b : SeatValue) (fault : PinFault) → PinStep a (Err fault) b → Grows k l → Learns k a l b
+pub learns_unpinned : (k l : KnownHistory) (a b : SeatValue) (fault : PinFault) → PinStep a (Err fault) b → Grows k l → Learns k a l b
 learns_unpinned k l a b (PinFault.Moved newest) step grows =
-    learns_answer k l a b (Answer.PinRefused (PinFault.Moved newest)) grows (ap answers_of step.2) tt
+    learns_answer k l a b (SeatAnswer.PinRefused (PinFault.Moved newest)) grows (ap answers_of step.2) tt
 learns_unpinned k l a b PinFault.AlreadyPinned step grows =
-    learns_answer k l a b (Answer.PinRefused PinFault.AlreadyPinned) grows (ap answers_of step.1) tt
+    learns_answer k l a b (SeatAnswer.PinRefused PinFault.AlreadyPinned) grows (ap answers_of step.1) tt
 learns_unpinned k l a b PinFault.SeatLost step grows =
-    learns_answer k l a b (Answer.PinRefused PinFault.SeatLost) grows (ap answers_of step.1) tt
+    learns_answer k l a b (SeatAnswer.PinRefused PinFault.SeatLost) grows (ap answers_of step.1) tt
 learns_unpinned k l a b PinFault.OutOfMemory step grows =
-    learns_answer k l a b (Answer.PinRefused PinFault.OutOfMemory) grows (ap answers_of step.1) tt
+    learns_answer k l a b (SeatAnswer.PinRefused PinFault.OutOfMemory) grows (ap answers_of step.1) tt
 learns_unpinned k l a b PinFault.NotPinned step grows = absurd step
 
-pub learns_by_release : (k l : Known) (a b : SeatValue) (r : Result (Unit {0}) PinFault) → ReleaseStep a r b → Grows k l → Learns k a l b
-learns_by_release k l a b (Ok u) step grows = learns_answer k l a b Answer.Released grows (ap answers_of step.1) tt
+pub learns_by_release : (k l : KnownHistory) (a b : SeatValue) (r : Result (Unit {0}) PinFault) → ReleaseStep a r b → Grows k l → Learns k a l b
+learns_by_release k l a b (Ok u) step grows = learns_answer k l a b SeatAnswer.Released grows (ap answers_of step.1) tt
 learns_by_release k l a b (Err PinFault.NotPinned) step grows =
-    learns_answer k l a b (Answer.ReleaseRefused PinFault.NotPinned) grows (ap answers_of step.1) tt
+    learns_answer k l a b (SeatAnswer.ReleaseRefused PinFault.NotPinned) grows (ap answers_of step.1) tt
 learns_by_release k l a b (Err PinFault.SeatLost) step grows =
-    learns_answer k l a b (Answer.ReleaseRefused PinFault.SeatLost) grows (ap answers_of step.1) tt
+    learns_answer k l a b (SeatAnswer.ReleaseRefused PinFault.SeatLost) grows (ap answers_of step.1) tt
 learns_by_release k l a b (Err PinFault.AlreadyPinned) step grows = absurd step
 learns_by_release k l a b (Err PinFault.OutOfMemory) step grows = absurd step
 learns_by_release k l a b (Err (PinFault.Moved n)) step grows = absurd step
 
-pub learns_unreleased : (k l : Known) (a b : SeatValue) (fault : PinFault) → ReleaseStep a (Err fault) b → Grows k l → Learns k a l b
+pub learns_unreleased : (k l : KnownHistory) (a b : SeatValue) (fault : PinFault) → ReleaseStep a (Err fault) b → Grows k l → Learns k a l b
 learns_unreleased k l a b fault step grows = learns_by_release k l a b (Err fault) step grows
 
-pub learns_by_notice : (k l : Known) (a b : SeatValue) (version : ℕ) → JoinStep a version b → l ≡ k → Learns k a l b
+pub learns_by_notice : (k l : KnownHistory) (a b : SeatValue) (version : ℕ) → JoinStep a version b → l ≡ k → Learns k a l b
 learns_by_notice k l a b version step same =
-    let grows : Grows k l = subst (λ (x : Known). Grows k x) (sym same) (grows_same k) in
+    let grows : Grows k l = subst (λ (x : KnownHistory). Grows k x) (sym same) (grows_same k) in
     record { grows = grows; answers = []; answers_are = ap answers_of step ∙ sym (append-nil a.answers); published = tt }
 
 -- a pin and what gives it back
-pub learns_once : (k l n : Known) (number : ℕ) (a m b : SeatValue) (back : Result (Unit {0}) PinFault) → PinStep a (Ok tt) m → Grows k l
+pub learns_once : (k l n : KnownHistory) (number : ℕ) (a m b : SeatValue) (back : Result (Unit {0}) PinFault) → PinStep a (Ok tt) m → Grows k l
     → HoldsAsKnown l number m.held → ReleaseStep m back b → Grows l n → Learns k a n b
 learns_once k l n number a m b back pins grows known releases more =
     learns_on k a l m n b (learns_pinned k l number a m pins grows known) (learns_by_release l n m b back releases more)
 
 -- what is held after a move was published, if what was held before was
-held_so : (k : Known) (a b : SeatValue) (held : Option (ℕ × ImageValue)) → IsPublishedIfHeld k held → b.held ≡ held → IsPublishedIfHeld k b.held
+held_so : (k : KnownHistory) (a b : SeatValue) (held : Option (ℕ × ImageValue)) → IsPublishedIfHeld k held → b.held ≡ held → IsPublishedIfHeld k b.held
 held_so k a b held is same = subst (λ (h : Option (ℕ × ImageValue)). IsPublishedIfHeld k h) (sym same) is
 
-held_published : (number : ℕ) (k : Known) (a b : SeatValue) (moves : List SeatMove) → Follows number a moves b → IsPublishedIfHeld k a.held
+held_published : (number : ℕ) (k : KnownHistory) (a b : SeatValue) (moves : List SeatMove) → Follows number a moves b → IsPublishedIfHeld k a.held
     → ArePublished k (answers_in moves) → IsPublishedIfHeld k b.held
 held_published number k a b [] same held are = held_so k a b a.held held (ap held_by same)
-held_published number k a b (answered (Answer.Pinned version image) ∷ moves) (m, step, rest) held are =
+held_published number k a b (answered (SeatAnswer.Pinned version image) ∷ moves) (m, step, rest) held are =
     held_published number k m b moves rest (held_so k a m (Some (version, image.value)) are.0 (ap held_by step.2)) are.1
-held_published number k a b (answered (Answer.PinRefused (PinFault.Moved newest)) ∷ moves) (m, step, rest) held are =
+held_published number k a b (answered (SeatAnswer.PinRefused (PinFault.Moved newest)) ∷ moves) (m, step, rest) held are =
     held_published number k m b moves rest (held_so k a m a.held held (ap held_by step.2)) are
-held_published number k a b (answered (Answer.PinRefused PinFault.AlreadyPinned) ∷ moves) (m, step, rest) held are =
+held_published number k a b (answered (SeatAnswer.PinRefused PinFault.AlreadyPinned) ∷ moves) (m, step, rest) held are =
     held_published number k m b moves rest (held_so k a m a.held held (ap held_by step.1)) are
-held_published number k a b (answered (Answer.PinRefused PinFault.SeatLost) ∷ moves) (m, step, rest) held are =
+held_published number k a b (answered (SeatAnswer.PinRefused PinFault.SeatLost) ∷ moves) (m, step, rest) held are =
     held_published number k m b moves rest (held_so k a m a.held held (ap held_by step.1)) are
-held_published number k a b (answered (Answer.PinRefused PinFault.OutOfMemory) ∷ moves) (m, step, rest) held are =
+held_published number k a b (answered (SeatAnswer.PinRefused PinFault.OutOfMemory) ∷ moves) (m, step, rest) held are =
     held_published number k m b moves rest (held_so k a m a.held held (ap held_by step.1)) are
-held_published number k a b (answered (Answer.PinRefused PinFault.NotPinned) ∷ moves) (m, step, rest) held are = absurd step
-held_published number k a b (answered Answer.Released ∷ moves) (m, step, rest) held are =
+held_published number k a b (answered (SeatAnswer.PinRefused PinFault.NotPinned) ∷ moves) (m, step, rest) held are = absurd step
+held_published number k a b (answered SeatAnswer.Released ∷ moves) (m, step, rest) held are =
     held_published number k m b moves rest (held_so k a m None tt (ap held_by step.1)) are
-held_published number k a b (answered (Answer.ReleaseRefused PinFault.NotPinned) ∷ moves) (m, step, rest) held are =
+held_published number k a b (answered (SeatAnswer.ReleaseRefused PinFault.NotPinned) ∷ moves) (m, step, rest) held are =
     held_published number k m b moves rest (held_so k a m a.held held (ap held_by step.1)) are
-held_published number k a b (answered (Answer.ReleaseRefused PinFault.SeatLost) ∷ moves) (m, step, rest) held are =
+held_published number k a b (answered (SeatAnswer.ReleaseRefused PinFault.SeatLost) ∷ moves) (m, step, rest) held are =
     held_published number k m b moves rest (held_so k a m None tt (ap held_by step.1)) are
-held_published number k a b (answered (Answer.ReleaseRefused PinFault.AlreadyPinned) ∷ moves) (m, step, rest) held are = absurd step
-held_published number k a b (answered (Answer.ReleaseRefused PinFault.OutOfMemory) ∷ moves) (m, step, rest) held are = absurd step
-held_published number k a b (answered (Answer.ReleaseRefused (PinFault.Moved newest)) ∷ moves) (m, step, rest) held are = absurd step
+held_published number k a b (answered (SeatAnswer.ReleaseRefused PinFault.AlreadyPinned) ∷ moves) (m, step, rest) held are = absurd step
+held_published number k a b (answered (SeatAnswer.ReleaseRefused PinFault.OutOfMemory) ∷ moves) (m, step, rest) held are = absurd step
+held_published number k a b (answered (SeatAnswer.ReleaseRefused (PinFault.Moved newest)) ∷ moves) (m, step, rest) held are = absurd step
 held_published number k a b (joined version ∷ moves) (m, step, rest) held are =
     held_published number k m b moves rest (held_so k a m a.held held (ap held_by step)) are
 
 -- a profile is answered from what was published
-profile_from : (k : Known) (form : ReplyForm) (held : Option (ℕ × ImageValue)) (ask : AskValue) (moves : List SeatMove) (reply : List ℕ)
+profile_from : (k : KnownHistory) (form : ReplyForm) (held : Option (ℕ × ImageValue)) (ask : AskValue) (moves : List SeatMove) (reply : List ℕ)
     → ProfileIsMet form held ask moves reply → IsPublishedIfHeld k held → ArePublished k (answers_in moves) → IsFromPublished k form (asks (profile ask)) reply
 profile_from k form (Some h) ask moves reply met held are = inl (h.0, h.1, held, met.1)
 profile_from k form None ask moves reply (inl met) held are =
-    let once : ArePublished k (Answer.Pinned met.version met.once.shown ∷ met.once.last ∷ []) =
+    let once : ArePublished k (SeatAnswer.Pinned met.version met.once.shown ∷ met.once.last ∷ []) =
     subst (λ (xs : List SeatMove). ArePublished k (answers_in xs)) met.once.moves_are are in
-    inl (met.version, met.image, subst (λ (i : ImageValue). IsPublished k met.version i) met.once.image_is once.0, met.told)
+    inl (met.version, met.image, subst (λ (i : ImageValue). IsPublished k met.version i) met.once.image_is once.0, met.replied)
 profile_from k form None ask moves reply (inr refused) held are = inr (refused.fault, refused.reply_is)
 
-request_from : (k : Known) (form : ReplyForm) (held : Option (ℕ × ImageValue)) (asked : Asked) (moves : List SeatMove) (orders : List OrderValue)
+request_from : (k : KnownHistory) (form : ReplyForm) (held : Option (ℕ × ImageValue)) (asked : Asked) (moves : List SeatMove) (orders : List OrderValue)
     (reply : List ℕ) → Meets form held asked moves orders reply → IsPublishedIfHeld k held
     → ArePublished k (answers_in moves) → IsFromPublished k form asked reply
 request_from k form held too_long moves orders reply met is are = tt
@@ -163,10 +164,10 @@ request_from k form held (asks (profile ask)) moves orders reply met is are = pr
 
 answers_in-append : (xs ys : List SeatMove) → answers_in (xs ++ ys) ≡ answers_in xs ++ answers_in ys
 answers_in-append [] ys = refl
-answers_in-append (answered answer ∷ xs) ys = ap (λ (zs : List Answer). answer ∷ zs) (answers_in-append xs ys)
+answers_in-append (answered answer ∷ xs) ys = ap (λ (zs : List SeatAnswer). answer ∷ zs) (answers_in-append xs ys)
 answers_in-append (joined version ∷ xs) ys = answers_in-append xs ys
 
-asked_from : (k : Known) (form : ReplyForm) (held : Option (ℕ × ImageValue)) (asked : Asked) (t : Turn) → IsAsked t.line asked
+asked_from : (k : KnownHistory) (form : ReplyForm) (held : Option (ℕ × ImageValue)) (asked : Asked) (t : Turn) → IsAsked t.line asked
     → WantsMemory asked t.moves t.orders t.reply ⊎ Meets form held asked t.moves t.orders t.reply
     → IsPublishedIfHeld k held → ArePublished k (answers_in t.moves)
     → (t.reply ≡ memory_line) ⊎ ((asked : Asked) × IsAsked t.line asked × IsFromPublished k form asked t.reply)
@@ -174,13 +175,13 @@ asked_from k form held asked t is (inl memory) published are = inl memory.0
 asked_from k form held asked t is (inr met) published are =
     inr (asked, is, request_from k form held asked t.moves t.orders t.reply met published are)
 
-turns_from : (k : Known) (form : ReplyForm) (number : ℕ) (a b : SeatValue) (asked asked_then : List OrderValue) (turns : List Turn)
+turns_from : (k : KnownHistory) (form : ReplyForm) (number : ℕ) (a b : SeatValue) (asked asked_then : List OrderValue) (turns : List Turn)
     → AreTurns form number a asked turns b asked_then → IsPublishedIfHeld k a.held → ArePublished k (answers_in (moves_of turns))
     → AreFromPublished k form turns
 turns_from k form number a b asked asked_then [] same held are = tt
 turns_from k form number a b asked asked_then (t ∷ turns) (m, between, turn, rest) held are =
     let parts = published_parts k (answers_in t.moves) (answers_in (moves_of turns))
-    (subst (λ (xs : List Answer). ArePublished k xs) (answers_in-append t.moves (moves_of turns)) are) in
+    (subst (λ (xs : List SeatAnswer). ArePublished k xs) (answers_in-append t.moves (moves_of turns)) are) in
     let first : (t.reply ≡ memory_line) ⊎ ((asked : Asked) × IsAsked t.line asked × IsFromPublished k form asked t.reply) =
     elim turn.is [
       | inl memory ↦ inl memory.0
@@ -189,7 +190,7 @@ turns_from k form number a b asked asked_then (t ∷ turns) (m, between, turn, r
     (first, turns_from k form number m b between asked_then turns rest (held_published number k a m t.moves turn.seat held parts.0) parts.1)
 
 -- what was answered in the turns, and by the release behind them
-released_too : (number : ℕ) (last b : SeatValue) → LastRelease number last b → (rest : List Answer) × (b.answers ≡ last.answers ++ rest)
+released_too : (number : ℕ) (last b : SeatValue) → LastRelease number last b → (rest : List SeatAnswer) × (b.answers ≡ last.answers ++ rest)
 released_too number last b (inl kept) = ([], ap answers_of kept.1 ∙ sym (append-nil last.answers))
 released_too number last b (inr gave) = (gave.1.0 ∷ [], step_grows number last b gave.1.0 gave.1.2)
 
@@ -200,8 +201,8 @@ learning_tells k l a b learns = λ form number asked asked_then turns last does 
     let grown = answers_grow number a last (moves_of turns) (moves_follow form number a last asked asked_then turns does) in
     let rest = released_too number last b released in
     let all : b.answers ≡ a.answers ++ (moves ++ rest.0) =
-    rest.1 ∙ ap (λ (xs : List Answer). xs ++ rest.0) grown ∙ append_assoc a.answers moves rest.0 in
+    rest.1 ∙ ap (λ (xs : List SeatAnswer). xs ++ rest.0) grown ∙ append_assoc a.answers moves rest.0 in
     let same : learns.answers ≡ moves ++ rest.0 =
     append_cancel_left a.answers learns.answers (moves ++ rest.0) (sym learns.answers_are ∙ all) in
-    let parts = published_parts l moves rest.0 (subst (λ (xs : List Answer). ArePublished l xs) same learns.published) in
+    let parts = published_parts l moves rest.0 (subst (λ (xs : List SeatAnswer). ArePublished l xs) same learns.published) in
     turns_from l form number a last asked asked_then turns does held parts.0

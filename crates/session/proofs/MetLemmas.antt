@@ -1,7 +1,7 @@
 -- What a request asks of a seat is met.
 use Rattle.std.proofs.Common.{◌≡◌, ◌⊎◌, ℕ, List, [], ◌∷◌, ◌++◌, Option, Some, None, Result, Ok, Err, refl, sym, ap, ◌∙◌, subst, inl, inr}
 use Rattle.image_layout.specs.Image.{ImageValue}
-use Rattle.epochs.specs.declared.seats.Answer.{Answer}
+use Rattle.epochs.specs.declared.seats.SeatAnswer.{SeatAnswer}
 use Rattle.epochs.specs.declared.faults.PinFault.{PinFault}
 use Rattle.session.specs.SeatSteps.{HoldsInSome}
 use Rattle.epochs.specs.Seats.{SeatValue, PinStep, ReleaseStep}
@@ -18,33 +18,33 @@ use Rattle.session.proofs.SeatLemmas.{is_pinned, is_released, pins_once, some_is
 pub pin_met : {form : ReplyForm} (number : ℕ) (a m : SeatValue) (v : ℕ) (image : ImageValue) (reply : List ℕ) → PinStep a (Ok tt) m
     → HoldsInSome number m.held → m.held ≡ Some (v, image)
     → reply ≡ pin_text image.names.base v ++ 10 ∷ [] → IsMet form number a (asks pin) reply m
-pin_met {form} number a m v image reply step known held told =
+pin_met {form} number a m v image reply step known held fact =
     let pinned = is_pinned number a m v image step known held in
-    let met : PinIsMet (answered (Answer.Pinned v pinned.shown) ∷ []) reply = record {
+    let met : PinIsMet (answered (SeatAnswer.Pinned v pinned.shown) ∷ []) reply = record {
       version = v;
       image = pinned.shown;
       moves_are = refl;
-      reply_is = told ∙ ap (λ (i : ImageValue). pin_text i.names.base v ++ 10 ∷ []) (sym pinned.image_is);
+      reply_is = fact ∙ ap (λ (i : ImageValue). pin_text i.names.base v ++ 10 ∷ []) (sym pinned.image_is);
     } in
-    record { moves = answered (Answer.Pinned v pinned.shown) ∷ []; meets = inr (refl, inl met); seat = (m, pinned.step, refl) }
+    record { moves = answered (SeatAnswer.Pinned v pinned.shown) ∷ []; meets = inr (refl, inl met); seat = (m, pinned.step, refl) }
 
 pub pin_refused : {form : ReplyForm} (number : ℕ) (a b : SeatValue) (fault : PinFault) (reply : List ℕ) → PinStep a (Err fault) b → reply ≡ pin_fault_line fault
     → IsMet form number a (asks pin) reply b
-pin_refused {form} number a b fault reply step told =
-    let met : PinIsRefused (answered (Answer.PinRefused fault) ∷ []) reply = record { fault = fault; moves_are = refl; reply_is = told } in
-    record { moves = answered (Answer.PinRefused fault) ∷ []; meets = inr (refl, inr met); seat = (b, step, refl) }
+pin_refused {form} number a b fault reply step fact =
+    let met : PinIsRefused (answered (SeatAnswer.PinRefused fault) ∷ []) reply = record { fault = fault; moves_are = refl; reply_is = fact } in
+    record { moves = answered (SeatAnswer.PinRefused fault) ∷ []; meets = inr (refl, inr met); seat = (b, step, refl) }
 
 -- where memory is wanting, what was pinned is given back
 given_back : {form : ReplyForm} (number : ℕ) (asked : Asked) → MayPin asked → (a m b : SeatValue) (v : ℕ) (image : ImageValue)
     (r : Result (Unit {0}) PinFault) (reply : List ℕ) → PinStep a (Ok tt) m → HoldsInSome number m.held → m.held ≡ Some (v, image)
     → ReleaseStep m r b → reply ≡ memory_line → IsMet form number a asked reply b
-given_back {form} number asked may a m b v image r reply step known held back told =
+given_back {form} number asked may a m b v image r reply step known held back fact =
     let pinned = is_pinned number a m v image step known held in
     let released = is_released number m b r (some_is_held v image m.held held) back in
     let both = pins_once number a m b v image pinned released in
     record {
-      moves = answered (Answer.Pinned v pinned.shown) ∷ answered released.last ∷ [];
-      meets = inl (told, refl, inr (may, (v, image, both.0)));
+      moves = answered (SeatAnswer.Pinned v pinned.shown) ∷ answered released.last ∷ [];
+      meets = inl (fact, refl, inr (may, (v, image, both.0)));
       seat = both.1;
     }
 
@@ -52,33 +52,38 @@ given_back {form} number asked may a m b v image r reply step known held back to
 pub pin_given_back : {form : ReplyForm} (number : ℕ) (a m b : SeatValue) (v : ℕ) (image : ImageValue) (r : Result (Unit {0}) PinFault) (reply : List ℕ)
     → PinStep a (Ok tt) m → HoldsInSome number m.held → m.held ≡ Some (v, image)
     → ReleaseStep m r b → reply ≡ memory_line → IsMet form number a (asks pin) reply b
-pin_given_back {form} number a m b v image r reply step known held back told = given_back number (asks pin) tt a m b v image r reply step known held back told
+pin_given_back {form} number a m b v image r reply step known held back fact = given_back number (asks pin) tt a m b v image r reply step known held back fact
 
 pub release_met : {form : ReplyForm} (number : ℕ) (a b : SeatValue) (reply : List ℕ) → ReleaseStep a (Ok tt) b → reply ≡ release_text
     → IsMet form number a (asks release) reply b
-release_met {form} number a b reply step told = record { moves = answered Answer.Released ∷ []; meets = inr (refl, inl (refl, told)); seat = (b, step, refl) }
+release_met {form} number a b reply step fact = record {
+  moves = answered SeatAnswer.Released ∷ [];
+  meets = inr (refl, inl (refl, fact));
+  seat =
+      (b, step, refl);
+}
 
 pub release_refused : {form : ReplyForm} (number : ℕ) (a b : SeatValue) (fault : PinFault) (reply : List ℕ) → ReleaseStep a (Err fault) b
     → reply ≡ pin_fault_line fault → IsMet form number a (asks release) reply b
-release_refused {form} number a b fault reply step told =
-    let met : ReleaseIsRefused (answered (Answer.ReleaseRefused fault) ∷ []) reply = record { fault = fault; moves_are = refl; reply_is = told } in
-    record { moves = answered (Answer.ReleaseRefused fault) ∷ []; meets = inr (refl, inr met); seat = (b, step, refl) }
+release_refused {form} number a b fault reply step fact =
+    let met : ReleaseIsRefused (answered (SeatAnswer.ReleaseRefused fault) ∷ []) reply = record { fault = fault; moves_are = refl; reply_is = fact } in
+    record { moves = answered (SeatAnswer.ReleaseRefused fault) ∷ []; meets = inr (refl, inr met); seat = (b, step, refl) }
 
 -- a profile for which no version can be pinned
 pub profile_refused : {form : ReplyForm} (number : ℕ) (a b : SeatValue) (fault : PinFault) (ask : AskValue) (reply : List ℕ) → a.held ≡ None
     → PinStep a (Err fault) b → reply ≡ pin_fault_line fault → IsMet form number a (asks (profile ask)) reply b
-profile_refused {form} number a b fault ask reply empty step told =
-    let refused : PinIsRefused (answered (Answer.PinRefused fault) ∷ []) reply = record { fault = fault; moves_are = refl; reply_is = told } in
-    let met : ProfileIsMet form a.held ask (answered (Answer.PinRefused fault) ∷ []) reply =
-    subst (λ (h : Option (ℕ × ImageValue)). ProfileIsMet form h ask (answered (Answer.PinRefused fault) ∷ []) reply) (sym empty) (inr refused) in
-    record { moves = answered (Answer.PinRefused fault) ∷ []; meets = inr (refl, met); seat = (b, step, refl) }
+profile_refused {form} number a b fault ask reply empty step fact =
+    let refused : PinIsRefused (answered (SeatAnswer.PinRefused fault) ∷ []) reply = record { fault = fault; moves_are = refl; reply_is = fact } in
+    let met : ProfileIsMet form a.held ask (answered (SeatAnswer.PinRefused fault) ∷ []) reply =
+    subst (λ (h : Option (ℕ × ImageValue)). ProfileIsMet form h ask (answered (SeatAnswer.PinRefused fault) ∷ []) reply) (sym empty) (inr refused) in
+    record { moves = answered (SeatAnswer.PinRefused fault) ∷ []; meets = inr (refl, met); seat = (b, step, refl) }
 
 -- a profile from what is held
 pub profile_met : {form : ReplyForm} (number : ℕ) (a : SeatValue) (v : ℕ) (image : ImageValue) (ask : AskValue) (reply : List ℕ) → a.held ≡ Some (v, image)
     → (IsProfileReply form image v ask reply ⊎ (reply ≡ memory_line))
     → IsMet form number a (asks (profile ask)) reply a
-profile_met {form} number a v image ask reply held (inl told) =
-    let met : ProfileIsMet form a.held ask [] reply = subst (λ (h : Option (ℕ × ImageValue)). ProfileIsMet form h ask [] reply) (sym held) (refl, told) in
+profile_met {form} number a v image ask reply held (inl fact) =
+    let met : ProfileIsMet form a.held ask [] reply = subst (λ (h : Option (ℕ × ImageValue)). ProfileIsMet form h ask [] reply) (sym held) (refl, fact) in
     record { moves = []; meets = inr (refl, met); seat = refl }
 profile_met {form} number a v image ask reply held (inr memory) = record { moves = []; meets = inl (memory, refl, inl refl); seat = refl }
 
@@ -87,17 +92,17 @@ pub profile_met_once : {form : ReplyForm} (number : ℕ) (a m b : SeatValue) (v 
     (reply : List ℕ) → PinStep a (Ok tt) m → HoldsInSome number m.held
     → m.held ≡ Some (v, image) → ReleaseStep m r b → (IsProfileReply form image v ask reply ⊎ (reply ≡ memory_line))
     → IsMet form number a (asks (profile ask)) reply b
-profile_met_once {form} number a m b v image r ask reply step known held back (inl told) =
+profile_met_once {form} number a m b v image r ask reply step known held back (inl fact) =
     let pinned = is_pinned number a m v image step known held in
     let released = is_released number m b r (some_is_held v image m.held held) back in
     let both = pins_once number a m b v image pinned released in
-    let once : ProfileIsMetOnce form ask (answered (Answer.Pinned v pinned.shown) ∷ answered released.last ∷ []) reply =
-    record { version = v; image = image; once = both.0; told = told } in
-    let met : ProfileIsMet form a.held ask (answered (Answer.Pinned v pinned.shown) ∷ answered released.last ∷ []) reply =
-    subst (λ (h : Option (ℕ × ImageValue)). ProfileIsMet form h ask (answered (Answer.Pinned v pinned.shown) ∷ answered released.last ∷ []) reply)
+    let once : ProfileIsMetOnce form ask (answered (SeatAnswer.Pinned v pinned.shown) ∷ answered released.last ∷ []) reply =
+    record { version = v; image = image; once = both.0; replied = fact } in
+    let met : ProfileIsMet form a.held ask (answered (SeatAnswer.Pinned v pinned.shown) ∷ answered released.last ∷ []) reply =
+    subst (λ (h : Option (ℕ × ImageValue)). ProfileIsMet form h ask (answered (SeatAnswer.Pinned v pinned.shown) ∷ answered released.last ∷ []) reply)
     (sym pinned.empty) (inl once) in
     record {
-      moves = answered (Answer.Pinned v pinned.shown) ∷ answered released.last ∷ [];
+      moves = answered (SeatAnswer.Pinned v pinned.shown) ∷ answered released.last ∷ [];
       meets = inr (refl, met);
       seat = both.1;
     }

@@ -3,7 +3,7 @@ use Rattle.std.proofs.Common.{◌≡◌, ◌≢◌, ◌≤◌, ℕ, max, List, [
 use Rattle.std.proofs.Common.{None, Result, Ok, Err, refl, sym, ap, ◌∙◌, subst, append_assoc, append-nil, arith}
 use Rattle.std.specs.declared.snapshot.Snapshot.{Snapshot}
 use Rattle.image_layout.specs.Image.{ImageValue}
-use Rattle.epochs.specs.declared.seats.Answer.{Answer}
+use Rattle.epochs.specs.declared.seats.SeatAnswer.{SeatAnswer}
 use Rattle.epochs.specs.declared.faults.PinFault.{PinFault}
 use Rattle.session.specs.SeatSteps.{HoldsInSome}
 use Rattle.epochs.specs.Seats.{SeatValue, PinStep, ReleaseStep, JoinStep, pinned}
@@ -22,7 +22,7 @@ pub record IsPinned (number : ℕ) (a m : SeatValue) (version : ℕ) (image : Im
   pub shown : Snapshot ImageValue
   pub image_is : shown.value ≡ image
   pub empty : a.held ≡ None
-  pub step : AnswerStep number a (Answer.Pinned version shown) m
+  pub step : AnswerStep number a (SeatAnswer.Pinned version shown) m
 
 pinned_as : (number : ℕ) (a m : SeatValue) (version v : ℕ) (shown : Snapshot ImageValue) (image : ImageValue)
     → a.held ≡ None → a.seen ≤ version → m ≡ pinned a version shown → HoldsInSome number m.held → version ≡ v
@@ -35,7 +35,7 @@ pinned_as number a m version v shown image empty newer is known same same_image 
       shown = shown;
       image_is = same_image;
       empty = empty;
-      step = subst (λ (n : ℕ). AnswerStep number a (Answer.Pinned n shown) m) same (empty, newer, is, holds);
+      step = subst (λ (n : ℕ). AnswerStep number a (SeatAnswer.Pinned n shown) m) same (empty, newer, is, holds);
     }
 
 pub is_pinned : (number : ℕ) (a m : SeatValue) (v : ℕ) (image : ImageValue) → PinStep a (Ok tt) m
@@ -46,16 +46,16 @@ is_pinned number a m v image pin known held =
 
 -- what is held is given back, whatever the release answered
 pub record IsReleased (number : ℕ) (m b : SeatValue) : Type 0 where
-  pub last : Answer
+  pub last : SeatAnswer
   pub given_back : IsGivenBack last
   pub step : AnswerStep number m last b
   pub empty : b.held ≡ None
 
 pub is_released : (number : ℕ) (m b : SeatValue) (r : Result (Unit {0}) PinFault) → m.held ≢ None → ReleaseStep m r b → IsReleased number m b
-is_released number m b (Ok u) some back = record { last = Answer.Released; given_back = tt; step = back; empty = ap (λ (s : SeatValue). s.held) back.1 }
+is_released number m b (Ok u) some back = record { last = SeatAnswer.Released; given_back = tt; step = back; empty = ap (λ (s : SeatValue). s.held) back.1 }
 is_released number m b (Err PinFault.SeatLost) some back =
     record {
-      last = Answer.ReleaseRefused PinFault.SeatLost;
+      last = SeatAnswer.ReleaseRefused PinFault.SeatLost;
       given_back = tt;
       step = back;
       empty =
@@ -71,37 +71,37 @@ some_is_held v i h some none = nothing_is_held v i h none some
 
 -- a pin and what gives it back
 pub pins_once : (number : ℕ) (a m b : SeatValue) (v : ℕ) (image : ImageValue) → (pin : IsPinned number a m v image) → (release : IsReleased number m b)
-    → PinsOnce (answered (Answer.Pinned v pin.shown) ∷ answered release.last ∷ []) v image
-    × Follows number a (answered (Answer.Pinned v pin.shown) ∷ answered release.last ∷ []) b
+    → PinsOnce (answered (SeatAnswer.Pinned v pin.shown) ∷ answered release.last ∷ []) v image
+    × Follows number a (answered (SeatAnswer.Pinned v pin.shown) ∷ answered release.last ∷ []) b
 pins_once number a m b v image pin release =
-    let moves : List SeatMove = answered (Answer.Pinned v pin.shown) ∷ answered release.last ∷ [] in
+    let moves : List SeatMove = answered (SeatAnswer.Pinned v pin.shown) ∷ answered release.last ∷ [] in
     let once : PinsOnce moves v image =
     record { shown = pin.shown; last = release.last; image_is = pin.image_is; given_back = release.given_back; moves_are = refl } in
     (once, (m, pin.step, (b, release.step, refl)))
 
 -- each answer is the last of the list after its step, and what was seen never falls
-pub step_grows : (number : ℕ) (a b : SeatValue) (answer : Answer) → AnswerStep number a answer b → b.answers ≡ a.answers ++ answer ∷ []
-step_grows number a b (Answer.Pinned version image) step = ap (λ (s : SeatValue). s.answers) step.2
-step_grows number a b (Answer.PinRefused (PinFault.Moved newest)) step = ap (λ (s : SeatValue). s.answers) step.2
-step_grows number a b (Answer.PinRefused PinFault.AlreadyPinned) step = ap (λ (s : SeatValue). s.answers) step.1
-step_grows number a b (Answer.PinRefused PinFault.SeatLost) step = ap (λ (s : SeatValue). s.answers) step.1
-step_grows number a b (Answer.PinRefused PinFault.OutOfMemory) step = ap (λ (s : SeatValue). s.answers) step.1
-step_grows number a b (Answer.PinRefused PinFault.NotPinned) step = absurd step
-step_grows number a b Answer.Released step = ap (λ (s : SeatValue). s.answers) step.1
-step_grows number a b (Answer.ReleaseRefused PinFault.NotPinned) step = ap (λ (s : SeatValue). s.answers) step.1
-step_grows number a b (Answer.ReleaseRefused PinFault.SeatLost) step = ap (λ (s : SeatValue). s.answers) step.1
-step_grows number a b (Answer.ReleaseRefused PinFault.AlreadyPinned) step = absurd step
-step_grows number a b (Answer.ReleaseRefused PinFault.OutOfMemory) step = absurd step
-step_grows number a b (Answer.ReleaseRefused (PinFault.Moved n)) step = absurd step
+pub step_grows : (number : ℕ) (a b : SeatValue) (answer : SeatAnswer) → AnswerStep number a answer b → b.answers ≡ a.answers ++ answer ∷ []
+step_grows number a b (SeatAnswer.Pinned version image) step = ap (λ (s : SeatValue). s.answers) step.2
+step_grows number a b (SeatAnswer.PinRefused (PinFault.Moved newest)) step = ap (λ (s : SeatValue). s.answers) step.2
+step_grows number a b (SeatAnswer.PinRefused PinFault.AlreadyPinned) step = ap (λ (s : SeatValue). s.answers) step.1
+step_grows number a b (SeatAnswer.PinRefused PinFault.SeatLost) step = ap (λ (s : SeatValue). s.answers) step.1
+step_grows number a b (SeatAnswer.PinRefused PinFault.OutOfMemory) step = ap (λ (s : SeatValue). s.answers) step.1
+step_grows number a b (SeatAnswer.PinRefused PinFault.NotPinned) step = absurd step
+step_grows number a b SeatAnswer.Released step = ap (λ (s : SeatValue). s.answers) step.1
+step_grows number a b (SeatAnswer.ReleaseRefused PinFault.NotPinned) step = ap (λ (s : SeatValue). s.answers) step.1
+step_grows number a b (SeatAnswer.ReleaseRefused PinFault.SeatLost) step = ap (λ (s : SeatValue). s.answers) step.1
+step_grows number a b (SeatAnswer.ReleaseRefused PinFault.AlreadyPinned) step = absurd step
+step_grows number a b (SeatAnswer.ReleaseRefused PinFault.OutOfMemory) step = absurd step
+step_grows number a b (SeatAnswer.ReleaseRefused (PinFault.Moved n)) step = absurd step
 
-joined_grows : (a m b : SeatValue) (version : ℕ) (answers : List Answer) → JoinStep a version m → b.answers ≡ m.answers ++ answers
+joined_grows : (a m b : SeatValue) (version : ℕ) (answers : List SeatAnswer) → JoinStep a version m → b.answers ≡ m.answers ++ answers
     → b.answers ≡ a.answers ++ answers
 joined_grows a m b version answers step grown = grown ∙ ap (λ (s : SeatValue). s.answers ++ answers) step
 
 pub answers_grow : (number : ℕ) (a b : SeatValue) (moves : List SeatMove) → Follows number a moves b → b.answers ≡ a.answers ++ answers_in moves
 answers_grow number a b [] same = ap (λ (s : SeatValue). s.answers) same ∙ sym (append-nil a.answers)
 answers_grow number a b (answered answer ∷ moves) (m, step, rest) =
-    answers_grow number m b moves rest ∙ ap (λ (xs : List Answer). xs ++ answers_in moves) (step_grows number a m answer step)
+    answers_grow number m b moves rest ∙ ap (λ (xs : List SeatAnswer). xs ++ answers_in moves) (step_grows number a m answer step)
     ∙ append_assoc a.answers (answer ∷ []) (answers_in moves)
 answers_grow number a b (joined version ∷ moves) (m, step, rest) = joined_grows a m b version (answers_in moves) step (answers_grow number m b moves rest)
 
@@ -131,14 +131,14 @@ refused_release_stays least a m (PinFault.Moved n) low step = absurd step
 
 pub never_falls : (number least : ℕ) (a b : SeatValue) (moves : List SeatMove) → least ≤ a.seen → Follows number a moves b → NeverFalls least moves
 never_falls number least a b [] low same = tt
-never_falls number least a b (answered (Answer.Pinned version image) ∷ moves) low (m, step, rest) =
+never_falls number least a b (answered (SeatAnswer.Pinned version image) ∷ moves) low (m, step, rest) =
     let seen : m.seen ≡ version = ap seen_in step.2 in
     (omega (arith, low, step.1), never_falls number version m b moves (omega (arith, seen)) rest)
-never_falls number least a b (answered (Answer.PinRefused fault) ∷ moves) low (m, step, rest) =
+never_falls number least a b (answered (SeatAnswer.PinRefused fault) ∷ moves) low (m, step, rest) =
     never_falls number least m b moves (refused_pin_rises least a m fault low step) rest
-never_falls number least a b (answered Answer.Released ∷ moves) low (m, step, rest) =
+never_falls number least a b (answered SeatAnswer.Released ∷ moves) low (m, step, rest) =
     never_falls number least m b moves (stays least a m low (ap seen_in step.1)) rest
-never_falls number least a b (answered (Answer.ReleaseRefused fault) ∷ moves) low (m, step, rest) =
+never_falls number least a b (answered (SeatAnswer.ReleaseRefused fault) ∷ moves) low (m, step, rest) =
     never_falls number least m b moves (refused_release_stays least a m fault low step) rest
 never_falls number least a b (joined version ∷ moves) low (m, step, rest) =
     let seen : m.seen ≡ max a.seen version = ap seen_in step in

@@ -33,13 +33,13 @@ idle_turn {form} number a asked line reply is = has_turn number a a asked asked 
 
 pub memory_turn : {form : ReplyForm} (number : ℕ) (a : SeatValue) (asked : List OrderValue) (line reply : List ℕ) → reply ≡ memory_line
     → HasTurn form number line reply a asked a asked
-memory_turn {form} number a asked line reply told = idle_turn number a asked line reply (inl (told, refl, refl))
+memory_turn {form} number a asked line reply fact = idle_turn number a asked line reply (inl (fact, refl, refl))
 
 pub too_long_turn : {form : ReplyForm} (number : ℕ) (a : SeatValue) (asked : List OrderValue) (shown : Line) (line reply : List ℕ) → shown ≡ TooLong
     → ShowsLine shown line → reply ≡ refusal_line Refusal.LineTooLong → HasTurn form number line reply a asked a asked
-too_long_turn {form} number a asked shown line reply is shows told =
+too_long_turn {form} number a asked shown line reply is shows fact =
     let long : ShowsLine TooLong line = subst (λ (x : Line). ShowsLine x line) is shows in
-    idle_turn number a asked line reply (inr (too_long, long, inr (refl, refl, told)))
+    idle_turn number a asked line reply (inr (too_long, long, inr (refl, refl, fact)))
 
 -- the whole line is there
 pub whole : (shown : Line) (bytes : _) (line : List ℕ) → shown ≡ Whole bytes → ShowsLine shown line → (bytes.now ≡ line) × (length line ≤ 65_536)
@@ -47,15 +47,15 @@ whole shown bytes line is shows = subst (λ (x : Line). ShowsLine x line) is sho
 
 pub bad_json_turn : {form : ReplyForm} (number : ℕ) (a : SeatValue) (asked : List OrderValue) (bytes line reply : List ℕ)
     → (bytes ≡ line) × (length line ≤ 65_536) → IsNoJson bytes → reply ≡ refusal_line Refusal.BadJson → HasTurn form number line reply a asked a asked
-bad_json_turn {form} number a asked bytes line reply here bad told =
-    idle_turn number a asked line reply (inr (no_json, (here.1, subst IsNoJson here.0 bad), inr (refl, refl, told)))
+bad_json_turn {form} number a asked bytes line reply here bad fact =
+    idle_turn number a asked line reply (inr (no_json, (here.1, subst IsNoJson here.0 bad), inr (refl, refl, fact)))
 
 pub bad_request_turn : {form : ReplyForm} (number : ℕ) (a : SeatValue) (asked : List OrderValue) (bytes line reply : List ℕ) (d : Data)
     → (bytes ≡ line) × (length line ≤ 65_536) → IsJson bytes d → ((request : RequestValue) → ¬ Asks d request)
     → reply ≡ refusal_line Refusal.BadRequest → HasTurn form number line reply a asked a asked
-bad_request_turn {form} number a asked bytes line reply d here json none told =
+bad_request_turn {form} number a asked bytes line reply d here json none fact =
     let is : IsAsked line no_request = (here.1, (d, subst (λ (xs : List ℕ). IsJson xs d) here.0 json, none)) in
-    idle_turn number a asked line reply (inr (no_request, is, inr (refl, refl, told)))
+    idle_turn number a asked line reply (inr (no_request, is, inr (refl, refl, fact)))
 
 -- a request is one of these
 pub asks_known : (d : Data) (shown known : Request) → shown ≡ known → Asks d (request_value shown) → Asks d (request_value known)

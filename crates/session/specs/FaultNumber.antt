@@ -2,7 +2,7 @@
 use Rattle.std.specs.Prelude.{ℕ, List, codes}
 use Rattle.session.specs.declared.fault.SessionFault.{SessionFault}
 
-abbrev pub told_as : SessionFault → ℕ × List ℕ
-told_as SessionFault.ReadFailed = (117, codes "ReadFailed")
-told_as SessionFault.WriteFailed = (118, codes "WriteFailed")
-told_as SessionFault.TooManyRequests = (119, codes "TooManyRequests")
+abbrev pub numbered_session_fault : SessionFault → ℕ × List ℕ
+numbered_session_fault SessionFault.ReadFailed = (117, codes "ReadFailed")
+numbered_session_fault SessionFault.WriteFailed = (118, codes "WriteFailed")
+numbered_session_fault SessionFault.TooManyRequests = (119, codes "TooManyRequests")

@@ -18,15 +18,15 @@ pub record SoloOrdersValue : Type 0 where
   pub asked : List OrderValue  -- all orders that were asked for, refused ones too
 
 -- where the first feed of the name stands
-abbrev pub place_of : List ℕ → List FeedImage → Option ℕ
-place_of name feeds = position (λ one. bytes_eq (string_bytes one.name) name) feeds
+abbrev pub index_of : List ℕ → List FeedImage → Option ℕ
+index_of name feeds = position (λ one. bytes_eq (string_bytes one.name) name) feeds
 
 -- the first feed of the name leaves the list
 pub record Leaves (name : List ℕ) (feeds : List FeedImage) (found : FeedImage) (others : List FeedImage) : Type 0 where
-  pub place : ℕ
-  pub first : place_of name feeds ≡ Some place
-  pub is_there : slice_get feeds place ≡ Some found
-  pub others_are : others ≡ remove feeds place
+  pub index : ℕ
+  pub first : index_of name feeds ≡ Some index
+  pub is_there : slice_get feeds index ≡ Some found
+  pub others_are : others ≡ remove feeds index
 
 -- its image is published as this version, and then the shelves are collected
 pub record IsLoadedAs (name : List ℕ) (feeds : List FeedImage) (answers : List LoaderAnswer) (version : ℕ) (others : List FeedImage)
@@ -48,7 +48,7 @@ pub record IsRefusedSo (name : List ℕ) (feeds : List FeedImage) (answers : Lis
 -- or no feed has the name, and nothing changes
 pub record IsUnknown (name : List ℕ) (feeds : List FeedImage) (answers : List LoaderAnswer) (others : List FeedImage)
     (answers_then : List LoaderAnswer) : Type 0 where
-  pub none : place_of name feeds ≡ None
+  pub none : index_of name feeds ≡ None
   pub feeds_are : others ≡ feeds
   pub answers_are : answers_then ≡ answers
 
@@ -59,20 +59,20 @@ LoadStep name feeds answers (Err NotLoaded.UnknownFeed) others answers_then = Is
 LoadStep name feeds answers (Err (NotLoaded.Refused fault)) others answers_then = IsRefusedSo name feeds answers fault others answers_then
 
 -- what a load answers to whoever doesn't wait for its version: a refused publish is answered as a full queue
-abbrev pub order_told : {N : Type 0} → Result (ℕ × Option N) NotLoaded → Result (Unit {0}) OrderFault
-order_told (Ok loaded) = Ok tt
-order_told (Err NotLoaded.UnknownFeed) = Err OrderFault.UnknownFeed
-order_told (Err (NotLoaded.Refused fault)) = Err OrderFault.OrdersFull
+abbrev pub order_answer : {N : Type 0} → Result (ℕ × Option N) NotLoaded → Result (Unit {0}) OrderFault
+order_answer (Ok loaded) = Ok tt
+order_answer (Err NotLoaded.UnknownFeed) = Err OrderFault.UnknownFeed
+order_answer (Err (NotLoaded.Refused fault)) = Err OrderFault.OrdersFull
 
 -- what a published version answers to whoever waits for it: the version with its notice, or want of memory if there is no notice
-abbrev pub notice_told : {N : Type 0} → ℕ → Option N → Result (ℕ × N) OrderFault
-notice_told version (Some notice) = Ok (version, notice)
-notice_told version None = Err OrderFault.OutOfMemory
+abbrev pub notice_answer : {N : Type 0} → ℕ → Option N → Result (ℕ × N) OrderFault
+notice_answer version (Some notice) = Ok (version, notice)
+notice_answer version None = Err OrderFault.OutOfMemory
 
-abbrev pub wait_told : {N : Type 0} → Result (ℕ × Option N) NotLoaded → Result (ℕ × N) OrderFault
-wait_told (Ok loaded) = notice_told loaded.0 loaded.1
-wait_told (Err NotLoaded.UnknownFeed) = Err OrderFault.UnknownFeed
-wait_told (Err (NotLoaded.Refused fault)) = Err (OrderFault.LoadRefused (publish_fault_number fault))
+abbrev pub wait_answer : {N : Type 0} → Result (ℕ × Option N) NotLoaded → Result (ℕ × N) OrderFault
+wait_answer (Ok loaded) = notice_answer loaded.0 loaded.1
+wait_answer (Err NotLoaded.UnknownFeed) = Err OrderFault.UnknownFeed
+wait_answer (Err (NotLoaded.Refused fault)) = Err (OrderFault.LoadRefused (publish_fault_number fault))
 
 -- what an order does that nobody waits for, by its outcome
 abbrev pub OrderStep : List ℕ → List FeedImage → List LoaderAnswer → Result (Unit {0}) OrderFault → List FeedImage → List LoaderAnswer → Type 0
@@ -83,7 +83,7 @@ OrderStep name feeds answers (Err _) others answers_then = ⊥
 
 -- what an order does that is waited for, by its outcome
 abbrev pub WaitStep : {N : Type 0} → List ℕ → List FeedImage → List LoaderAnswer → Result (ℕ × N) OrderFault → List FeedImage → List LoaderAnswer → Type 0
-WaitStep name feeds answers (Ok told) others answers_then = IsLoadedAs name feeds answers told.0 others answers_then
+WaitStep name feeds answers (Ok published) others answers_then = IsLoadedAs name feeds answers published.0 others answers_then
 WaitStep name feeds answers (Err OrderFault.UnknownFeed) others answers_then = IsUnknown name feeds answers others answers_then
 WaitStep name feeds answers (Err (OrderFault.LoadRefused refusal)) others answers_then =
     (fault : PublishFault) × (refusal ≡ publish_fault_number fault) × IsRefusedSo name feeds answers fault others answers_then

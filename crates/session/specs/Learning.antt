@@ -1,9 +1,9 @@
 -- What a seat comes to know of the history of its shelves, and what is told of it.
 use Rattle.std.specs.Prelude.{◌≡◌, ◌⊎◌, ℕ, List, [], ◌∷◌, ◌++◌, Option, IfSome}
 use Rattle.image_layout.specs.Image.{ImageValue}
-use Rattle.shelf_steps.specs.declared.views.Known.{Known}
+use Rattle.shelf_steps.specs.declared.views.KnownHistory.{KnownHistory}
 use Rattle.epochs.specs.declared.faults.PinFault.{PinFault}
-use Rattle.epochs.specs.declared.seats.Answer.{Answer}
+use Rattle.epochs.specs.declared.seats.SeatAnswer.{SeatAnswer}
 use Rattle.epochs.specs.SeatHistory.{Grows, IsPublished}
 use Rattle.epochs.specs.Seats.{SeatValue}
 use Rattle.orders.specs.Ordering.{OrderValue}
@@ -15,41 +15,41 @@ use Rattle.session.specs.Sessions.{AreTurns, LastRelease}
 use Rattle.session.specs.Turns.{Turn}
 
 -- each version among these answers was published with that image in this history
-abbrev pub ArePublished : Known → List Answer → Type 0
+abbrev pub ArePublished : KnownHistory → List SeatAnswer → Type 0
 ArePublished known [] = Unit {0}
-ArePublished known (Answer.Pinned version image ∷ answers) = IsPublished known version image.value × ArePublished known answers
-ArePublished known (Answer.PinRefused fault ∷ answers) = ArePublished known answers
-ArePublished known (Answer.Released ∷ answers) = ArePublished known answers
-ArePublished known (Answer.ReleaseRefused fault ∷ answers) = ArePublished known answers
+ArePublished known (SeatAnswer.Pinned version image ∷ answers) = IsPublished known version image.value × ArePublished known answers
+ArePublished known (SeatAnswer.PinRefused fault ∷ answers) = ArePublished known answers
+ArePublished known (SeatAnswer.Released ∷ answers) = ArePublished known answers
+ArePublished known (SeatAnswer.ReleaseRefused fault ∷ answers) = ArePublished known answers
 
 -- what is held, if anything, was published as that version with that image in this history
-abbrev pub IsPublishedIfHeld : Known → Option (ℕ × ImageValue) → Type 0
+abbrev pub IsPublishedIfHeld : KnownHistory → Option (ℕ × ImageValue) → Type 0
 IsPublishedIfHeld known held = IfSome held (λ h. IsPublished known h.0 h.1)
 
 -- the history that the seat knows has grown, and each version that it pinned meanwhile was published, with the image that it was pinned with, in
 -- the history that the seat knows now
-pub record Learns (known : Known) (a : SeatValue) (known_then : Known) (b : SeatValue) : Type 0 where
+pub record Learns (known : KnownHistory) (a : SeatValue) (known_then : KnownHistory) (b : SeatValue) : Type 0 where
   pub grows : Grows known known_then
-  pub answers : List Answer
+  pub answers : List SeatAnswer
   pub answers_are : b.answers ≡ a.answers ++ answers
   pub published : ArePublished known_then answers
 
 -- a profile is answered over the image that this history published as the version that is told; or no version could be pinned
-abbrev pub IsFromPublished : Known → ReplyForm → Asked → List ℕ → Type 0
+abbrev pub IsFromPublished : KnownHistory → ReplyForm → Asked → List ℕ → Type 0
 IsFromPublished known form (asks (profile ask)) reply =
     ((version : ℕ) × (image : ImageValue) × IsPublished known version image × IsProfileReply form image version ask reply)
     ⊎ ((fault : PinFault) × (reply ≡ pin_fault_line fault))
 IsFromPublished known form _ reply = Unit {0}
 
 -- each profile that is asked for in these turns is answered so, or want of memory is replied
-abbrev pub AreFromPublished : Known → ReplyForm → List Turn → Type 0
+abbrev pub AreFromPublished : KnownHistory → ReplyForm → List Turn → Type 0
 AreFromPublished known form [] = Unit {0}
 AreFromPublished known form (t ∷ turns) =
     ((t.reply ≡ memory_line) ⊎ ((asked : Asked) × IsAsked t.line asked × IsFromPublished known form asked t.reply)) × AreFromPublished known form turns
 
 -- for all turns that, with the last release after them, lead the seat from `a` to `b`: each profile in them is answered from what this history
 -- published, if what the seat held before them was published in it
-abbrev pub TellPublished : Known → SeatValue → SeatValue → Type 0
+abbrev pub TellPublished : KnownHistory → SeatValue → SeatValue → Type 0
 TellPublished known a b =
     (form : ReplyForm) (number : ℕ) (asked asked_then : List OrderValue) (turns : List Turn) (last : SeatValue)
     → AreTurns form number a asked turns last asked_then → LastRelease number last b → IsPublishedIfHeld known a.held
@@ -57,4 +57,4 @@ TellPublished known a b =
 
 -- a seat that learns from `a` to `b` what `Learns` says answers profiles from what was published in the history that it knows at `b`
 abbrev pub LearningTells : Type 0
-LearningTells = (known known_then : Known) (a b : SeatValue) → Learns known a known_then b → TellPublished known_then a b
+LearningTells = (known known_then : KnownHistory) (a b : SeatValue) → Learns known a known_then b → TellPublished known_then a b

@@ -2,7 +2,7 @@
 use Rattle.std.specs.Prelude.{◌<◌, ◌≤◌, ℕ, List, length, string_bytes}
 use Rattle.serde_json.specs.Data.{Data}
 use Rattle.timetable.specs.declared.query.QueryFault.{QueryFault}
-use Rattle.timetable.specs.Queries.{fault_told}
+use Rattle.timetable.specs.Queries.{numbered_fault}
 use Rattle.epochs.specs.declared.faults.PinFault.{PinFault}
 use Rattle.epochs.specs.FaultNumber.{pin_fault_name, pin_fault_number}
 use Rattle.orders.specs.declared.fault.OrderFault.{OrderFault}
@@ -11,7 +11,7 @@ use Rattle.session_texts.specs.Judging.{IsJson, IsNoJson}
 use Rattle.session_texts.specs.Refusals.{error_line, load_refused_text, moved_text, refusal_name, refusal_number}
 use Rattle.session_texts.specs.Requests.{Asks, RequestValue}
 use Rattle.session_texts.specs.declared.refusals.Refusal.{Refusal}
-use Rattle.session.specs.declared.reply.Reply.{Reply}
+use Rattle.session.specs.declared.reply.SessionReply.{SessionReply}
 use Rattle.session.specs.declared.reply.ReplyLine.{ReplyLine}
 
 pub data Asked : Type 0 where
@@ -42,7 +42,7 @@ pin_fault_line PinFault.SeatLost = error_line (pin_fault_number PinFault.SeatLos
 pin_fault_line PinFault.OutOfMemory = memory_line
 
 abbrev pub query_fault_line : QueryFault → List ℕ
-query_fault_line fault = error_line (fault_told fault).0 (fault_told fault).1
+query_fault_line fault = error_line (numbered_fault fault).0 (numbered_fault fault).1
 
 abbrev pub order_fault_line : OrderFault → List ℕ
 order_fault_line (OrderFault.LoadRefused refusal) = load_refused_text refusal
@@ -57,5 +57,5 @@ line_bytes (ReplyLine.Fixed line) = line.now
 line_bytes (ReplyLine.Short line) = line.bytes
 line_bytes (ReplyLine.Made line) = string_bytes line
 
-abbrev pub text_of_reply : Reply → List ℕ
+abbrev pub text_of_reply : SessionReply → List ℕ
 text_of_reply reply = line_bytes reply.line

@@ -39,4 +39,4 @@ pub record AnswersQuery (form : ReplyForm) (image : ImageValue) (version : ℕ) 
 -- the reply to a request for a profile over this image. The image is one that was accepted: of a legal timetable and names that fit it
 pub record IsProfileReply (form : ReplyForm) (image : ImageValue) (version : ℕ) (ask : AskValue) (reply : List ℕ) : Type 0 where
   pub accepted : HasImage image.timetable image.names
-  pub told : (IsNoQuery image ask reply ⊎ IsTooLong form image ask reply) ⊎ AnswersQuery form image version ask reply
+  pub replied : (IsNoQuery image ask reply ⊎ IsTooLong form image ask reply) ⊎ AnswersQuery form image version ask reply

@@ -2,29 +2,29 @@
 use Rattle.std.specs.Prelude.{◌≡◌, ◌≤◌, ℕ, max, List, [], ◌∷◌, Option, Some, None, Ok, Err}
 use Rattle.std.specs.declared.snapshot.Snapshot.{Snapshot}
 use Rattle.image_layout.specs.Image.{ImageValue}
-use Rattle.shelf_steps.specs.declared.views.Known.{Known}
-use Rattle.epochs.specs.declared.seats.Answer.{Answer}
+use Rattle.shelf_steps.specs.declared.views.KnownHistory.{KnownHistory}
+use Rattle.epochs.specs.declared.seats.SeatAnswer.{SeatAnswer}
 use Rattle.epochs.specs.declared.faults.PinFault.{PinFault}
 use Rattle.epochs.specs.SeatHistory.{HoldsAsKnown}
 use Rattle.epochs.specs.Seats.{SeatValue, PinStep, ReleaseStep, JoinStep, pinned}
 
 -- a call is answered, or a notice of this version is joined
 pub data SeatMove : Type 0 where
-  answered : Answer → SeatMove
+  answered : SeatAnswer → SeatMove
   joined : ℕ → SeatMove
 
 -- in some history of versions the worker with this number holds this
 abbrev pub HoldsInSome : ℕ → Option (ℕ × ImageValue) → Type 0
-HoldsInSome number held = (known : Known) × HoldsAsKnown known number held
+HoldsInSome number held = (known : KnownHistory) × HoldsAsKnown known number held
 
 -- from one value of a worker's seat to the next, by one answer. In some history the worker holds what is pinned; that the history which the seat
 -- knows published it, `Learns` says
-abbrev pub AnswerStep : ℕ → SeatValue → Answer → SeatValue → Type 0
-AnswerStep number a (Answer.Pinned version image) b =
+abbrev pub AnswerStep : ℕ → SeatValue → SeatAnswer → SeatValue → Type 0
+AnswerStep number a (SeatAnswer.Pinned version image) b =
     (a.held ≡ None) × (a.seen ≤ version) × (b ≡ pinned a version image) × HoldsInSome number (Some (version, image.value))
-AnswerStep number a (Answer.PinRefused fault) b = PinStep a (Err fault) b
-AnswerStep number a Answer.Released b = ReleaseStep a (Ok tt) b
-AnswerStep number a (Answer.ReleaseRefused fault) b = ReleaseStep a (Err fault) b
+AnswerStep number a (SeatAnswer.PinRefused fault) b = PinStep a (Err fault) b
+AnswerStep number a SeatAnswer.Released b = ReleaseStep a (Ok tt) b
+AnswerStep number a (SeatAnswer.ReleaseRefused fault) b = ReleaseStep a (Err fault) b
 
 -- from one value of a worker's seat to the next, by an answer, or by a notice, after which the seat has seen that version
 abbrev pub MoveStep : ℕ → SeatValue → SeatMove → SeatValue → Type 0
@@ -36,28 +36,28 @@ abbrev pub Follows : ℕ → SeatValue → List SeatMove → SeatValue → Type 
 Follows number a [] b = b ≡ a
 Follows number a (first ∷ moves) b = (m : SeatValue) × MoveStep number a first m × Follows number m moves b
 
-abbrev pub answers_in : List SeatMove → List Answer
+abbrev pub answers_in : List SeatMove → List SeatAnswer
 answers_in [] = []
 answers_in (answered answer ∷ moves) = answer ∷ answers_in moves
 answers_in (joined version ∷ moves) = answers_in moves
 
 -- by this answer what was held is given back: also by a release that is refused because the seat is lost, which empties the seat too
-abbrev pub IsGivenBack : Answer → Type 0
-IsGivenBack Answer.Released = Unit {0}
-IsGivenBack (Answer.ReleaseRefused PinFault.SeatLost) = Unit {0}
+abbrev pub IsGivenBack : SeatAnswer → Type 0
+IsGivenBack SeatAnswer.Released = Unit {0}
+IsGivenBack (SeatAnswer.ReleaseRefused PinFault.SeatLost) = Unit {0}
 IsGivenBack _ = ⊥
 
 -- a version is pinned and given back
 pub record PinsOnce (moves : List SeatMove) (version : ℕ) (image : ImageValue) : Type 0 where
   pub shown : Snapshot ImageValue
-  pub last : Answer
+  pub last : SeatAnswer
   pub image_is : shown.value ≡ image
   pub given_back : IsGivenBack last
-  pub moves_are : moves ≡ answered (Answer.Pinned version shown) ∷ answered last ∷ []
+  pub moves_are : moves ≡ answered (SeatAnswer.Pinned version shown) ∷ answered last ∷ []
 
 -- no version that is pinned is older than `least`, than one that was pinned before, or than that of a notice that was joined before
 abbrev pub NeverFalls : ℕ → List SeatMove → Type 0
 NeverFalls least [] = Unit {0}
-NeverFalls least (answered (Answer.Pinned version image) ∷ moves) = (least ≤ version) × NeverFalls version moves
+NeverFalls least (answered (SeatAnswer.Pinned version image) ∷ moves) = (least ≤ version) × NeverFalls version moves
 NeverFalls least (answered answer ∷ moves) = NeverFalls least moves
 NeverFalls least (joined version ∷ moves) = NeverFalls (max least version) moves

@@ -1,7 +1,7 @@
 -- A session: turns one after the other, one for each line that was read.
 use Rattle.std.specs.Prelude.{◌≡◌, ◌≢◌, ◌<◌, ◌≤◌, ◌⊎◌, ◌++◌, ◌∷◌, ℕ, List, [], None, length, take, Option, Result, Ok, Err}
 use Rattle.std.specs.Io.KnownBytes.{Appends, Consumes, IsAtEnd}
-use Rattle.epochs.specs.declared.seats.Answer.{Answer}
+use Rattle.epochs.specs.declared.seats.SeatAnswer.{SeatAnswer}
 use Rattle.epochs.specs.Seats.{SeatValue}
 use Rattle.orders.specs.Ordering.{OrderValue}
 use Rattle.lines.specs.Cutting.{lines_of, rest_of, whole_lines}
@@ -54,7 +54,7 @@ AnswerLines turns read at_end = ((n : ℕ) × (lines_in turns ≡ take n (whole_
 
 -- at the end what is held is given back
 abbrev pub LastRelease : ℕ → SeatValue → SeatValue → Type 0
-LastRelease number a b = ((a.held ≡ None) × (b ≡ a)) ⊎ ((a.held ≢ None) × ((last : Answer) × IsGivenBack last × AnswerStep number a last b))
+LastRelease number a b = ((a.held ≡ None) × (b ≡ a)) ⊎ ((a.held ≢ None) × ((last : SeatAnswer) × IsGivenBack last × AnswerStep number a last b))
 
 -- how the turns agree with what was read and written, by how the session ended
 abbrev pub EndsSo : Result Ended SessionFault → List ℕ → List ℕ → List Turn → Type 0 → Type 0 → Type 0 → Type 0

@@ -2,7 +2,7 @@
 use Rattle.std.specs.Prelude.{◌≡◌, ◌⊎◌, ◌++◌, ◌∷◌, ℕ, Bool, true, false, List, [], Option, Some, None, Ok, Err}
 use Rattle.std.specs.declared.snapshot.Snapshot.{Snapshot}
 use Rattle.image_layout.specs.Image.{ImageValue}
-use Rattle.epochs.specs.declared.seats.Answer.{Answer}
+use Rattle.epochs.specs.declared.seats.SeatAnswer.{SeatAnswer}
 use Rattle.epochs.specs.declared.faults.PinFault.{PinFault}
 use Rattle.epochs.specs.Seats.{SeatValue}
 use Rattle.orders.specs.declared.fault.OrderFault.{OrderFault}
@@ -24,19 +24,19 @@ pub record Turn : Type 0 where
 -- a pin is refused
 pub record PinIsRefused (moves : List SeatMove) (reply : List ℕ) : Type 0 where
   pub fault : PinFault
-  pub moves_are : moves ≡ answered (Answer.PinRefused fault) ∷ []
+  pub moves_are : moves ≡ answered (SeatAnswer.PinRefused fault) ∷ []
   pub reply_is : reply ≡ pin_fault_line fault
 
 -- a version is pinned, and told with the base from which its clock texts count
 pub record PinIsMet (moves : List SeatMove) (reply : List ℕ) : Type 0 where
   pub version : ℕ
   pub image : Snapshot ImageValue
-  pub moves_are : moves ≡ answered (Answer.Pinned version image) ∷ []
+  pub moves_are : moves ≡ answered (SeatAnswer.Pinned version image) ∷ []
   pub reply_is : reply ≡ pin_text image.value.names.base version ++ 10 ∷ []
 
 pub record ReleaseIsRefused (moves : List SeatMove) (reply : List ℕ) : Type 0 where
   pub fault : PinFault
-  pub moves_are : moves ≡ answered (Answer.ReleaseRefused fault) ∷ []
+  pub moves_are : moves ≡ answered (SeatAnswer.ReleaseRefused fault) ∷ []
   pub reply_is : reply ≡ pin_fault_line fault
 
 -- the feed is ordered, or the order is refused
@@ -69,7 +69,7 @@ pub record ProfileIsMetOnce (form : ReplyForm) (ask : AskValue) (moves : List Se
   pub version : ℕ
   pub image : ImageValue
   pub once : PinsOnce moves version image
-  pub told : IsProfileReply form image version ask reply
+  pub replied : IsProfileReply form image version ask reply
 
 -- a profile is answered from what is held; or, if nothing is, from a version that is pinned for it, unless the pin is refused
 abbrev pub ProfileIsMet : ReplyForm → Option (ℕ × ImageValue) → AskValue → List SeatMove → List ℕ → Type 0
@@ -87,7 +87,7 @@ Meets form held no_json moves orders reply = IsRefused Refusal.BadJson moves ord
 Meets form held no_request moves orders reply = IsRefused Refusal.BadRequest moves orders reply
 Meets form held (asks pin) moves orders reply = (orders ≡ []) × (PinIsMet moves reply ⊎ PinIsRefused moves reply)
 Meets form held (asks release) moves orders reply =
-    (orders ≡ []) × (((moves ≡ answered Answer.Released ∷ []) × (reply ≡ release_text)) ⊎ ReleaseIsRefused moves reply)
+    (orders ≡ []) × (((moves ≡ answered SeatAnswer.Released ∷ []) × (reply ≡ release_text)) ⊎ ReleaseIsRefused moves reply)
 Meets form held (asks (load feed waits)) moves orders reply = LoadIsMet waits feed moves orders reply
 Meets form held (asks (profile ask)) moves orders reply = (orders ≡ []) × ProfileIsMet form held ask moves reply
 
@@ -117,7 +117,7 @@ pub record IsLoaded (number : ℕ) (a : SeatValue) (feed : List ℕ) (put : List
 
 -- both functions give the same version for each notice
 abbrev pub AgreeOnNotices : {N : Type 0} → (N → ℕ) → (N → ℕ) → Type 0
-AgreeOnNotices {N} told noted = (notice : N) → told notice ≡ noted notice
+AgreeOnNotices {N} published_as noted = (notice : N) → published_as notice ≡ noted notice
 
 -- what the line asks is met, or there was no memory for that; or there was none even to find out what it asks, and nothing is done
 abbrev pub IsTurn : ReplyForm → Option (ℕ × ImageValue) → Turn → Type 0

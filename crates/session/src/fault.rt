@@ -1,7 +1,7 @@
 //! How a session ends.
 
 ghost use Rattle.std.specs.Prelude.{◌≡◌};
-ghost use Rattle.session.specs.FaultNumber.{told_as};
+ghost use Rattle.session.specs.FaultNumber.{numbered_session_fault};
 
 use reasoning::variant_name;
 use thiserror::Error;
@@ -27,14 +27,14 @@ pub enum SessionFault {
 impl SessionFault {
     /// The number by which the fault is told, from 117 to 119.
     pub fn number(self) -> u8
-        ensures { result ≡ (told_as self).0 }
+        ensures { result ≡ (numbered_session_fault self).0 }
     {
         self as u8
     }
 
     /// The name by which the fault is told, as `ReadFailed`.
     pub fn name(self) -> &'static str
-        ensures { result.now ≡ (told_as self).1 }
+        ensures { result.now ≡ (numbered_session_fault self).1 }
     {
         variant_name!(self, SessionFault: ReadFailed, WriteFailed, TooManyRequests)
     }

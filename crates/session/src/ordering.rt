@@ -8,25 +8,25 @@ ghost use Rattle.session.specs.Lines.{memory_line, text_of_reply};
 ghost use Rattle.session.specs.Turns.{AgreeOnNotices, IsLoaded, OrderIsMet};
 
 use crate::desk::Desk;
-use crate::reply::Reply;
+use crate::reply::SessionReply;
 use epochs::Versions;
 use orders::Orders;
 use session_texts::{Refusal, load_line, loaded_line};
 
 impl<'a, N: Drop, T: Versions<Notice = N>, G> Desk<'a, T, G> {
     /// Orders the feed. The reply is made first, so that no order is put for whose reply there is no memory.
-    pub(crate) fn order_feed<O: Orders>(&self, orders: &mut O, feed: &str) -> Reply
+    pub(crate) fn order_feed<O: Orders>(&self, orders: &mut O, feed: &str) -> SessionReply
         ensures route { O.route orders.new ≡ O.route orders.old }
         ensures put { (put : List OrderValue) × (O.asked orders.new ≡ O.asked orders.old ++ put)
             × (OrderIsMet feed.now put (text_of_reply result)
             ⊎ ((put ≡ []) × (text_of_reply result ≡ memory_line))) }
     {
         let Ok(line) = load_line(self.alloc, feed) else {
-            return Reply::refusal(Refusal::OutOfMemory);
+            return SessionReply::refusal(Refusal::OutOfMemory);
         };
         match orders.order(feed) {
-            Ok(()) => Reply::made(line),
-            Err(fault) => Reply::order_fault(fault),
+            Ok(()) => SessionReply::made(line),
+            Err(fault) => SessionReply::order_fault(fault),
         }
     }
 
@@ -37,9 +37,9 @@ impl<'a, N: Drop, T: Versions<Notice = N>, G> Desk<'a, T, G> {
         seat: &mut T::Seat,
         orders: &mut O,
         feed: &str,
-    ) -> Reply
+    ) -> SessionReply
         requires fits { T.fits self.now.shelves.now seat.old }
-        requires notices { AgreeOnNotices O.told T.noted }
+        requires notices { AgreeOnNotices O.notice_version T.noted }
         ensures fits { T.fits self.now.shelves.now seat.new }
         ensures number { T.number seat.new ≡ T.number seat.old }
         ensures route { O.route orders.new ≡ O.route orders.old }
@@ -51,11 +51,11 @@ impl<'a, N: Drop, T: Versions<Notice = N>, G> Desk<'a, T, G> {
             Ok((version, notice)) => {
                 self.take_notice(seat, notice);
                 match loaded_line(self.alloc, feed, version) {
-                    Ok(line) => Reply::made(line),
-                    Err(_) => Reply::refusal(Refusal::OutOfMemory),
+                    Ok(line) => SessionReply::made(line),
+                    Err(_) => SessionReply::refusal(Refusal::OutOfMemory),
                 }
             }
-            Err(refused) => Reply::order_fault(refused),
+            Err(refused) => SessionReply::order_fault(refused),
         }
     }
 

@@ -7,14 +7,14 @@ ghost use Rattle.session.specs.Lines.{asks, text_of_reply};
 ghost use Rattle.session.specs.Turns.{IsMet};
 
 use crate::desk::Desk;
-use crate::reply::Reply;
+use crate::reply::SessionReply;
 use epochs::Versions;
 use session_texts::{Refusal, pin_line, release_line};
 
 impl<'a, T: Versions, G> Desk<'a, T, G> {
     /// Pins the current version, and tells it in the reply. If there is no memory for the reply, the version is given
     /// back.
-    pub(crate) fn pin(&self, seat: &mut T::Seat) -> Reply
+    pub(crate) fn pin(&self, seat: &mut T::Seat) -> SessionReply
         requires { T.fits self.now.shelves.now seat.old }
         ensures fits { T.fits self.now.shelves.now seat.new }
         ensures number { T.number seat.new ≡ T.number seat.old }
@@ -23,23 +23,23 @@ impl<'a, T: Versions, G> Desk<'a, T, G> {
             (T.value seat.new) }
     {
         if let Err(fault) = self.shelves.pin(seat) {
-            return Reply::pin_fault(fault);
+            return SessionReply::pin_fault(fault);
         }
-        let told = match T::edition(seat) {
+        let reply_made = match T::edition(seat) {
             Some(edition) => pin_line(self.alloc, edition.image.base(), edition.version),
             None => unreachable!(),
         };
-        match told {
-            Ok(line) => Reply::made(line),
+        match reply_made {
+            Ok(line) => SessionReply::made(line),
             Err(_) => {
                 let _ = self.shelves.release(seat);
-                Reply::refusal(Refusal::OutOfMemory)
+                SessionReply::refusal(Refusal::OutOfMemory)
             }
         }
     }
 
     /// Gives back what the seat holds.
-    pub(crate) fn release(&self, seat: &mut T::Seat) -> Reply
+    pub(crate) fn release(&self, seat: &mut T::Seat) -> SessionReply
         requires { T.fits self.now.shelves.now seat.old }
         ensures fits { T.fits self.now.shelves.now seat.new }
         ensures number { T.number seat.new ≡ T.number seat.old }
@@ -48,8 +48,8 @@ impl<'a, T: Versions, G> Desk<'a, T, G> {
             (text_of_reply result) (T.value seat.new) }
     {
         match self.shelves.release(seat) {
-            Ok(()) => Reply::fixed(release_line()),
-            Err(fault) => Reply::pin_fault(fault),
+            Ok(()) => SessionReply::fixed(release_line()),
+            Err(fault) => SessionReply::pin_fault(fault),
         }
     }
 }

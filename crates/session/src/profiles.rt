@@ -9,7 +9,7 @@ ghost use Rattle.session.specs.Profiles.{IsProfileReply};
 ghost use Rattle.session.specs.Turns.{IsMet};
 
 use crate::desk::Desk;
-use crate::reply::Reply;
+use crate::reply::SessionReply;
 use crate::reply_form::ReplyForm;
 use answer_replies::reply_by_name;
 use epochs::{Edition, Versions};
@@ -23,7 +23,7 @@ use timetable::QueryFault;
 impl<'a, T: Versions, G: Gate> Desk<'a, T, G> {
     /// Answers from the version that the seat holds. If it holds none, the current one is pinned for this answer, and
     /// released after it.
-    pub(crate) fn answer_profile(&self, seat: &mut T::Seat, ask: &Ask<'_>) -> Reply
+    pub(crate) fn answer_profile(&self, seat: &mut T::Seat, ask: &Ask<'_>) -> SessionReply
         requires { T.fits self.now.shelves.now seat.old }
         ensures fits { T.fits self.now.shelves.now seat.new }
         ensures number { T.number seat.new ≡ T.number seat.old }
@@ -38,7 +38,7 @@ impl<'a, T: Versions, G: Gate> Desk<'a, T, G> {
     }
 
     // Answers from the current version, which is pinned for this answer, and released after it.
-    fn answer_once(&self, seat: &mut T::Seat, ask: &Ask<'_>) -> Reply
+    fn answer_once(&self, seat: &mut T::Seat, ask: &Ask<'_>) -> SessionReply
         requires fits { T.fits self.now.shelves.now seat.old }
         requires idle { (T.value seat.old).held ≡ None }
         ensures fits { T.fits self.now.shelves.now seat.new }
@@ -48,7 +48,7 @@ impl<'a, T: Versions, G: Gate> Desk<'a, T, G> {
             (asks (profile (ask_value ask.now))) (text_of_reply result) (T.value seat.new) }
     {
         if let Err(fault) = self.shelves.pin(seat) {
-            return Reply::pin_fault(fault);
+            return SessionReply::pin_fault(fault);
         }
         let reply = match T::edition(seat) {
             Some(edition) => answer_from(self.alloc, self.form, edition, self.gate, ask),
@@ -67,7 +67,7 @@ fn answer_from<G: Gate>(
     edition: &Edition,
     gate: &G,
     ask: &Ask<'_>,
-) -> Reply
+) -> SessionReply
     ensures { IsProfileReply form (arc_value edition.now.image) edition.now.version (ask_value ask.now)
         (text_of_reply result)
         ⊎ (text_of_reply result ≡ memory_line) }
@@ -82,10 +82,10 @@ fn answer_from<G: Gate>(
     };
     let query = match query_of(image, ask.from.as_bytes(), ask.to.as_bytes(), window) {
         Ok(query) => query,
-        Err(fault) => return Reply::query_fault(fault),
+        Err(fault) => return SessionReply::query_fault(fault),
     };
     if form.excludes(ask.after, ask.by) {
-        return Reply::query_fault(QueryFault::BadWindow);
+        return SessionReply::query_fault(QueryFault::BadWindow);
     }
     gate.enter();
     match reply_by_name(
@@ -96,7 +96,7 @@ fn answer_from<G: Gate>(
         &query,
         edition.version,
     ) {
-        Ok(line) => Reply::made(line).after_scan(),
-        Err(_) => Reply::refusal(Refusal::OutOfMemory).after_scan(),
+        Ok(line) => SessionReply::made(line).after_scan(),
+        Err(_) => SessionReply::refusal(Refusal::OutOfMemory).after_scan(),
     }
 }

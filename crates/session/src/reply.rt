@@ -19,12 +19,12 @@ enum ReplyLine {
 
 /// A reply, and whether a scan was made for it.
 #[derive(Drop)]
-pub(crate) struct Reply {
+pub(crate) struct SessionReply {
     line: ReplyLine,
     has_scanned: bool,
 }
 
-impl Reply {
+impl SessionReply {
     /// The reply with its LF.
     pub(crate) fn bytes(&self) -> &[u8]
         ensures { result.now ≡ text_of_reply self.now }
@@ -41,75 +41,75 @@ impl Reply {
     }
 
     /// The same reply, for which a scan was made.
-    pub(crate) fn after_scan(self) -> Reply
+    pub(crate) fn after_scan(self) -> SessionReply
         ensures { text_of_reply result ≡ text_of_reply self }
     {
-        Reply {
+        SessionReply {
             line: self.line,
             has_scanned: true,
         }
     }
 
-    fn of(line: ReplyLine) -> Reply
+    fn of(line: ReplyLine) -> SessionReply
         ensures { result.line ≡ line }
     {
-        Reply {
+        SessionReply {
             line,
             has_scanned: false,
         }
     }
 
-    pub(crate) fn fixed(line: &'static str) -> Reply
+    pub(crate) fn fixed(line: &'static str) -> SessionReply
         ensures { text_of_reply result ≡ line.now }
     {
-        Reply::of(ReplyLine::Fixed(line))
+        SessionReply::of(ReplyLine::Fixed(line))
     }
 
-    pub(crate) fn made(line: String) -> Reply
+    pub(crate) fn made(line: String) -> SessionReply
         ensures { text_of_reply result ≡ string_bytes line }
     {
-        Reply::of(ReplyLine::Made(line))
+        SessionReply::of(ReplyLine::Made(line))
     }
 
-    pub(crate) fn refusal(refusal: Refusal) -> Reply
+    pub(crate) fn refusal(refusal: Refusal) -> SessionReply
         ensures { text_of_reply result ≡ refusal_line refusal }
     {
-        Reply::fixed(refusal.line())
+        SessionReply::fixed(refusal.line())
     }
 
-    pub(crate) fn pin_fault(fault: PinFault) -> Reply
+    pub(crate) fn pin_fault(fault: PinFault) -> SessionReply
         ensures { text_of_reply result ≡ pin_fault_line fault }
     {
         match fault {
-            PinFault::Moved { newest } => Reply::of(ReplyLine::Short(moved_line(newest))),
-            PinFault::AlreadyPinned => Reply::refusal(Refusal::AlreadyPinned),
-            PinFault::NotPinned => Reply::refusal(Refusal::NotPinned),
-            PinFault::SeatLost => Reply::refusal(Refusal::SeatLost),
-            PinFault::OutOfMemory => Reply::refusal(Refusal::OutOfMemory),
+            PinFault::Moved { newest } => SessionReply::of(ReplyLine::Short(moved_line(newest))),
+            PinFault::AlreadyPinned => SessionReply::refusal(Refusal::AlreadyPinned),
+            PinFault::NotPinned => SessionReply::refusal(Refusal::NotPinned),
+            PinFault::SeatLost => SessionReply::refusal(Refusal::SeatLost),
+            PinFault::OutOfMemory => SessionReply::refusal(Refusal::OutOfMemory),
         }
     }
 
-    pub(crate) fn query_fault(fault: QueryFault) -> Reply
+    pub(crate) fn query_fault(fault: QueryFault) -> SessionReply
         ensures { text_of_reply result ≡ query_fault_line fault }
     {
         match fault {
-            QueryFault::UnknownStop => Reply::refusal(Refusal::UnknownStop),
-            QueryFault::SameStop => Reply::refusal(Refusal::SameStop),
-            QueryFault::BadWindow => Reply::refusal(Refusal::BadWindow),
+            QueryFault::UnknownStop => SessionReply::refusal(Refusal::UnknownStop),
+            QueryFault::SameStop => SessionReply::refusal(Refusal::SameStop),
+            QueryFault::BadWindow => SessionReply::refusal(Refusal::BadWindow),
         }
     }
 
-    pub(crate) fn order_fault(fault: OrderFault) -> Reply
+    pub(crate) fn order_fault(fault: OrderFault) -> SessionReply
         ensures { text_of_reply result ≡ order_fault_line fault }
     {
         match fault {
-            OrderFault::UnknownFeed => Reply::refusal(Refusal::UnknownFeed),
-            OrderFault::OrdersFull => Reply::refusal(Refusal::OrdersFull),
-            OrderFault::OutOfMemory => Reply::refusal(Refusal::OutOfMemory),
+            OrderFault::UnknownFeed => SessionReply::refusal(Refusal::UnknownFeed),
+            OrderFault::OrdersFull => SessionReply::refusal(Refusal::OrdersFull),
+            OrderFault::OutOfMemory => SessionReply::refusal(Refusal::OutOfMemory),
             OrderFault::LoadRefused { refusal } => {
-                Reply::of(ReplyLine::Short(load_refused_line(refusal)))
+                SessionReply::of(ReplyLine::Short(load_refused_line(refusal)))
             }
-            OrderFault::LoaderGone => Reply::refusal(Refusal::LoaderGone),
+            OrderFault::LoaderGone => SessionReply::refusal(Refusal::LoaderGone),
         }
     }
 }

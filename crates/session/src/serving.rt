@@ -13,7 +13,7 @@ ghost use Rattle.session.specs.Turns.{AgreeOnNotices, Turn, TurnsTo};
 use crate::desk::{Desk, Streams};
 use crate::fault::{Ended, SessionFault};
 use epochs::Versions;
-use lines::{Counted, Given, Line, LineReader, WriteFailed};
+use lines::{Counted, Line, LineReader, NextLine, WriteFailed};
 use orders::{Gate, Orders};
 use std::alloc::Global;
 use std::io::{Read, Write};
@@ -40,7 +40,7 @@ pub fn serve<
     gate: &G,
 ) -> Result<Ended, SessionFault>
     requires fits { T.fits shelves.now seat.old }
-    requires notices { AgreeOnNotices O.told T.noted }
+    requires notices { AgreeOnNotices O.notice_version T.noted }
     requires reads { failures_of reader.old < 2 ^ 64 - 1 }
     requires writes { failures_of writer.old < 2 ^ 64 - 1 }
     ensures fits { T.fits shelves.now seat.new }
@@ -72,7 +72,7 @@ impl<'a, N: Drop, T: Versions<Notice = N>, G: Gate> Desk<'a, T, G> {
         orders: &mut O,
     ) -> Result<Ended, SessionFault>
         requires fits { T.fits self.now.shelves.now seat.old }
-        requires notices { AgreeOnNotices O.told T.noted }
+        requires notices { AgreeOnNotices O.notice_version T.noted }
         requires reads { failures_of streams.old.reader < 2 ^ 64 - 1 }
         requires writes { failures_of streams.old.writer < 2 ^ 64 - 1 }
         ensures fits { T.fits self.now.shelves.now seat.new }
@@ -117,7 +117,7 @@ impl<'a, N: Drop, T: Versions<Notice = N>, G: Gate> Desk<'a, T, G> {
         orders: &mut O,
     ) -> Result<Ended, SessionFault>
         requires fits { T.fits self.now.shelves.now seat.old }
-        requires notices { AgreeOnNotices O.told T.noted }
+        requires notices { AgreeOnNotices O.notice_version T.noted }
         requires counts { (failures_of reader.old < 2 ^ 64 - 1) × (failures_of writer.old < 2 ^ 64 - 1) }
         ensures fits { T.fits self.now.shelves.now seat.new }
         ensures number { T.number seat.new ≡ T.number seat.old }
@@ -133,15 +133,15 @@ impl<'a, N: Drop, T: Versions<Notice = N>, G: Gate> Desk<'a, T, G> {
         for _ in 0..MOST_REQUESTS {
             match lines.next(reader) {
                 Err(_) => return Err(SessionFault::ReadFailed),
-                Ok(Given::Nothing) => return Ok(Ended),
-                Ok(Given::Rest) => {
+                Ok(NextLine::Nothing) => return Ok(Ended),
+                Ok(NextLine::Rest) => {
                     let line = lines.line();
                     match self.answer_line(line, writer, seat, orders) {
                         Ok(()) => return Ok(Ended),
                         Err(_) => return Err(SessionFault::WriteFailed),
                     }
                 }
-                Ok(Given::Ended) => {
+                Ok(NextLine::Ended) => {
                     let line = lines.line();
                     match self.answer_line(line, writer, seat, orders) {
                         Ok(()) => {}
@@ -166,7 +166,7 @@ impl<'a, N: Drop, T: Versions<Notice = N>, G: Gate> Desk<'a, T, G> {
         orders: &mut O,
     ) -> Result<(), WriteFailed>
         requires fits { T.fits self.now.shelves.now seat.old }
-        requires notices { AgreeOnNotices O.told T.noted }
+        requires notices { AgreeOnNotices O.notice_version T.noted }
         ensures fits { T.fits self.now.shelves.now seat.new }
         ensures number { T.number seat.new ≡ T.number seat.old }
         ensures route { O.route orders.new ≡ O.route orders.old }

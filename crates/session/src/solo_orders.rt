@@ -1,12 +1,12 @@
 //! Orders that are carried out at once, through the loader's seat of some shelves.
 
 ghost use Rattle.std.specs.Prelude.{◌≡◌, ◌++◌, ◌∷◌, [], IfErr, IfOk, MatchOption};
-ghost use Rattle.orders.specs.Ordering.{IsNotTaken, order_value, version_told, waited_value};
-ghost use Rattle.session.specs.Feeds.{LoadStep, OrderStep, WaitStep, order_told, place_of, wait_told};
+ghost use Rattle.orders.specs.Ordering.{IsNotTaken, order_value, version_alone, waited_value};
+ghost use Rattle.session.specs.Feeds.{LoadStep, OrderStep, WaitStep, order_answer, index_of, wait_answer};
 
 use epochs::{Loads, PublishFault, Versions};
 use image_verifier::Verified;
-use orders::{OrderFault, Ordered, Orders};
+use orders::{OrderFault, OrderRecord, Orders};
 use std::alloc::Global;
 use std::marker::Model;
 use std::sync::Arc;
@@ -36,7 +36,7 @@ pub struct SoloOrders<'a, N: Drop, L: Drop, T: Versions<Notice = N> + Loads<Load
     shelves: &'a T,
     loader: L,
     feeds: Vec<FeedImage>,
-    asked: Trace<Ordered>,
+    asked: Trace<OrderRecord>,
 }
 
 impl<'a, N: Drop, L: Drop, T: Versions<Notice = N> + Loads<Loader = L>> Model
@@ -88,10 +88,10 @@ fn publish_first<N: Drop, T: Versions<Notice = N> + Loads>(
     ensures notice { IfOk result (λ loaded. MatchOption loaded.1 ⊥ (λ notice. T.Versions.noted notice
         ≡ loaded.0)) }
 {
-    let Some(place) = place_in(feeds, feed) else {
+    let Some(index) = index_in(feeds, feed) else {
         return Err(NotLoaded::UnknownFeed);
     };
-    let found = feeds.remove(place);
+    let found = feeds.remove(index);
     match shelves.publish(loader, found.image) {
         Ok(loaded) => {
             let _collected = shelves.collect(loader);
@@ -102,14 +102,14 @@ fn publish_first<N: Drop, T: Versions<Notice = N> + Loads>(
 }
 
 // Where the first feed of the name stands.
-fn place_in(feeds: &[FeedImage], feed: &str) -> Option<usize>
-    ensures { result ≡ place_of feed.now feeds.now }
+fn index_in(feeds: &[FeedImage], feed: &str) -> Option<usize>
+    ensures { result ≡ index_of feed.now feeds.now }
 {
     feeds.iter().position(|one| one.name.as_str() == feed)
 }
 
-fn told_of_order<N: Drop>(loaded: Result<(u64, Option<N>), NotLoaded>) -> Result<(), OrderFault>
-    ensures { result ≡ order_told loaded }
+fn answer_to_order<N: Drop>(loaded: Result<(u64, Option<N>), NotLoaded>) -> Result<(), OrderFault>
+    ensures { result ≡ order_answer loaded }
 {
     match loaded {
         Ok(_) => Ok(()),
@@ -118,10 +118,10 @@ fn told_of_order<N: Drop>(loaded: Result<(u64, Option<N>), NotLoaded>) -> Result
     }
 }
 
-fn told_of_wait<N: Drop>(
+fn answer_to_wait<N: Drop>(
     loaded: Result<(u64, Option<N>), NotLoaded>,
 ) -> Result<(u64, N), OrderFault>
-    ensures { result ≡ wait_told loaded }
+    ensures { result ≡ wait_answer loaded }
 {
     match loaded {
         Ok((version, Some(notice))) => Ok((version, notice)),
@@ -141,7 +141,7 @@ impl<'a, N: Drop, L: Drop, T: Versions<Notice = N> + Loads<Loader = L>> Orders
 
     ghost asked = { λ orders. orders.asked };
 
-    ghost told = { T.Versions.noted };
+    ghost notice_version = { T.Versions.noted };
 
     fn order(&mut self, feed: &str) -> Result<(), OrderFault>
         ensures asked { self.new.asked ≡ self.old.asked ++ order_value feed.now result ∷ [] }
@@ -149,19 +149,19 @@ impl<'a, N: Drop, L: Drop, T: Versions<Notice = N> + Loads<Loader = L>> Orders
         ensures step { OrderStep feed.now self.old.feeds self.old.answers result self.new.feeds self.new.answers }
     {
         let loaded = self.load(feed);
-        let outcome = told_of_order(loaded);
-        self.asked.note(&Ordered::put(feed, outcome));
+        let outcome = answer_to_order(loaded);
+        self.asked.note(&OrderRecord::put(feed, outcome));
         outcome
     }
 
     fn order_wait(&mut self, feed: &str) -> Result<(u64, N), OrderFault>
-        ensures asked { self.new.asked ≡ self.old.asked ++ waited_value feed.now (version_told result) ∷ [] }
-        ensures notice { IfOk result (λ told. T.Versions.noted told.1 ≡ told.0) }
+        ensures asked { self.new.asked ≡ self.old.asked ++ waited_value feed.now (version_alone result) ∷ [] }
+        ensures notice { IfOk result (λ published. T.Versions.noted published.1 ≡ published.0) }
         ensures step { WaitStep feed.now self.old.feeds self.old.answers result self.new.feeds self.new.answers }
     {
         let loaded = self.load(feed);
-        let outcome = told_of_wait(loaded);
-        self.asked.note(&Ordered::waited(feed, &outcome));
+        let outcome = answer_to_wait(loaded);
+        self.asked.note(&OrderRecord::waited(feed, &outcome));
         outcome
     }
 }

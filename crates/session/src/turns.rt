@@ -7,7 +7,7 @@ ghost use Rattle.session.specs.Lines.{text_of_reply};
 ghost use Rattle.session.specs.Turns.{AgreeOnNotices, HasTurn};
 
 use crate::desk::Desk;
-use crate::reply::Reply;
+use crate::reply::SessionReply;
 use epochs::Versions;
 use lines::Line;
 use orders::{Gate, Orders};
@@ -20,9 +20,9 @@ impl<'a, N: Drop, T: Versions<Notice = N>, G: Gate> Desk<'a, T, G> {
         line: Line<'_>,
         seat: &mut T::Seat,
         orders: &mut O,
-    ) -> Reply
+    ) -> SessionReply
         requires fits { T.fits self.now.shelves.now seat.old }
-        requires notices { AgreeOnNotices O.told T.noted }
+        requires notices { AgreeOnNotices O.notice_version T.noted }
         ensures fits { T.fits self.now.shelves.now seat.new }
         ensures number { T.number seat.new ≡ T.number seat.old }
         ensures route { O.route orders.new ≡ O.route orders.old }
@@ -33,16 +33,16 @@ impl<'a, N: Drop, T: Versions<Notice = N>, G: Gate> Desk<'a, T, G> {
     {
         let bytes = match line {
             Line::Whole(bytes) => bytes,
-            Line::TooLong => return Reply::refusal(Refusal::LineTooLong),
-            Line::NoRoom => return Reply::refusal(Refusal::OutOfMemory),
+            Line::TooLong => return SessionReply::refusal(Refusal::LineTooLong),
+            Line::NoRoom => return SessionReply::refusal(Refusal::OutOfMemory),
         };
         let value = match read_line(self.alloc, bytes) {
             Ok(value) => value,
-            Err(LineFault::BadJson) => return Reply::refusal(Refusal::BadJson),
-            Err(LineFault::OutOfMemory) => return Reply::refusal(Refusal::OutOfMemory),
+            Err(LineFault::BadJson) => return SessionReply::refusal(Refusal::BadJson),
+            Err(LineFault::OutOfMemory) => return SessionReply::refusal(Refusal::OutOfMemory),
         };
         match request_of(&value) {
-            None => Reply::refusal(Refusal::BadRequest),
+            None => SessionReply::refusal(Refusal::BadRequest),
             Some(Request::Pin) => self.pin(seat),
             Some(Request::Release) => self.release(seat),
             Some(Request::Profile(ask)) => self.answer_profile(seat, &ask),

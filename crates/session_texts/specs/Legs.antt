@@ -2,8 +2,8 @@
 use Rattle.std.specs.Prelude.{ℕ, List, Option, Some, None, codes, if◌then◌else◌, nat_lt, string_bytes}
 use Rattle.serde_json.specs.Data.{Data, number, unsigned, string, object, Members, member, no_members}
 use Rattle.timetable.specs.Clocks.{clock_bytes}
-use Rattle.session_texts.specs.declared.legs.RideTold.{RideTold}
-use Rattle.session_texts.specs.declared.legs.WalkTold.{WalkTold}
+use Rattle.session_texts.specs.declared.legs.RideLeg.{RideLeg}
+use Rattle.session_texts.specs.declared.legs.WalkLeg.{WalkLeg}
 
 -- a ride: the trip, its service day and which of that day's repeats it is; the stop where it is boarded, and when it departs there;
 -- the stop where it is left, and when it arrives there
@@ -28,10 +28,10 @@ ridden trip day repeat from dep to arr = record { trip = trip; day = day; repeat
 abbrev pub walked : List ℕ → List ℕ → ℕ → WalkValue
 walked from to secs = record { from = from; to = to; secs = secs }
 
-abbrev pub ride_value : RideTold → RideValue
+abbrev pub ride_value : RideLeg → RideValue
 ride_value r = ridden (string_bytes r.trip) r.day r.repeat (string_bytes r.from) r.dep (string_bytes r.to) r.arr
 
-abbrev pub walk_value : WalkTold → WalkValue
+abbrev pub walk_value : WalkLeg → WalkValue
 walk_value w = walked (string_bytes w.from) (string_bytes w.to) w.secs
 
 -- the repeat, unless it is 0, the first

@@ -13,7 +13,7 @@ use timetable::clock_text;
 /// A ride: the trip, its service day and which of that day's repeats it is; where and when it is boarded, and where and
 /// when it is left. Times are seconds after the base.
 #[derive(Drop)]
-pub struct RideTold {
+pub struct RideLeg {
     pub trip: String,
     pub day: u32,
     pub repeat: u32,
@@ -25,7 +25,7 @@ pub struct RideTold {
 
 /// A walk from a stop to a stop, and its seconds.
 #[derive(Drop)]
-pub struct WalkTold {
+pub struct WalkLeg {
     pub from: String,
     pub to: String,
     pub secs: u32,
@@ -51,28 +51,28 @@ impl JourneyLegs {
     }
 
     /// Adds a ride at the end. If memory runs out, nothing changes.
-    pub fn add_ride(&mut self, alloc: Global, ride: RideTold) -> Result<(), AllocError>
+    pub fn add_ride(&mut self, alloc: Global, ride: RideLeg) -> Result<(), AllocError>
         ensures added { OnOk result (legs_of self.new ≡ legs_of self.old ++ ride_data (ride_value ride) ∷ []) }
         ensures refused { OnErr result (legs_of self.new ≡ legs_of self.old) }
     {
-        let told = ride_told(alloc, ride)?;
-        self.values.push(told)?;
+        let object = ride_object(alloc, ride)?;
+        self.values.push(object)?;
         Ok(())
     }
 
     /// Adds a walk at the end. If memory runs out, nothing changes.
-    pub fn add_walk(&mut self, alloc: Global, walk: WalkTold) -> Result<(), AllocError>
+    pub fn add_walk(&mut self, alloc: Global, walk: WalkLeg) -> Result<(), AllocError>
         ensures added { OnOk result (legs_of self.new ≡ legs_of self.old ++ walk_data (walk_value walk) ∷ []) }
         ensures refused { OnErr result (legs_of self.new ≡ legs_of self.old) }
     {
-        let told = walk_told(alloc, walk)?;
-        self.values.push(told)?;
+        let object = walk_object(alloc, walk)?;
+        self.values.push(object)?;
         Ok(())
     }
 }
 
-fn ride_told(alloc: Global, ride: RideTold) -> Result<Value, AllocError>
-    ensures { IfOk result (λ told. view told ≡ ride_data (ride_value ride)) }
+fn ride_object(alloc: Global, ride: RideLeg) -> Result<Value, AllocError>
+    ensures { IfOk result (λ object. view object ≡ ride_data (ride_value ride)) }
 {
     let dep = clock_text(alloc, ride.dep)?;
     let arr = clock_text(alloc, ride.arr)?;
@@ -94,8 +94,8 @@ fn later_repeat(repeat: u32) -> Option<u32>
     if repeat > 0 { Some(repeat) } else { None }
 }
 
-fn walk_told(alloc: Global, walk: WalkTold) -> Result<Value, AllocError>
-    ensures { IfOk result (λ told. view told ≡ walk_data (walk_value walk)) }
+fn walk_object(alloc: Global, walk: WalkLeg) -> Result<Value, AllocError>
+    ensures { IfOk result (λ object. view object ≡ walk_data (walk_value walk)) }
 {
     let mut members = Map::new(alloc);
     put(&mut members, alloc, "from", Value::String(walk.from))?;

@@ -10,7 +10,7 @@ mod replies;
 mod requests;
 
 pub use judging::{LineFault, read_line};
-pub use legs::{JourneyLegs, RideTold, WalkTold};
+pub use legs::{JourneyLegs, RideLeg, WalkLeg};
 pub use refusals::{Refusal, load_refused_line, moved_line};
 pub use replies::{Points, load_line, loaded_line, pin_line, release_line};
 pub use requests::{Ask, Request, request_of};

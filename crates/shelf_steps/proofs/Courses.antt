@@ -1,6 +1,6 @@
 -- Courses with one more event.
 use Rattle.reasoning.proofs.ListLemmas.{slice_get-append}
-use Rattle.version_core.specs.Actors.{nobody, actor, NoneOf}
+use Rattle.version_core.specs.Actors.{no_actor, actor, NoneOf}
 use Rattle.image_layout.specs.Image.{ImageValue}
 use Rattle.std.proofs.Common.{◌≡◌, ◌≢◌, ℕ, zero, suc, ◌+◌, ◌<◌, ◌≤◌, true, List, [], ◌∷◌, ◌++◌, length, Option, Some, None, slice_get, get_or, refl, ap}
 use Rattle.std.proofs.Common.{sym, ◌∙◌, subst, arith, append_assoc}
@@ -11,10 +11,10 @@ use Rattle.version_core.specs.declared.event.Reply.{Reply}
 use Rattle.version_core.specs.declared.state.Worker.{Worker}
 use Rattle.version_core.specs.State.{State, start, newest}
 use Rattle.version_core.specs.Steps.{Step}
-use Rattle.version_core.specs.Kept.{Kept}
+use Rattle.version_core.specs.Kept.{KeepsInvariants}
 use Rattle.version_core.proofs.Runs.{reached_kept, list_grows_with_replies}
 use Rattle.shelf_steps.specs.declared.edition.Edition.{Edition}
-use Rattle.shelf_steps.specs.declared.views.Known.{Known}
+use Rattle.shelf_steps.specs.declared.views.KnownHistory.{KnownHistory}
 use Rattle.shelf_steps.specs.declared.views.WorkerView.{WorkerView}
 use Rattle.shelf_steps.specs.declared.views.LoaderView.{LoaderView}
 use Rattle.version_core.specs.Shown.{WorkerShows}
@@ -22,7 +22,7 @@ use Rattle.shelf_steps.specs.Course.{Course, Goes, extended, all_of, Begins, Hap
 use Rattle.shelf_steps.specs.Course.{note_of, notes_in, join_of, joined_by, HasDoneNothing, IsOfSixteen, AreOfSixteen}
 use Rattle.shelf_steps.specs.Seats.{HasEdition, WorkerFits, LoaderFits}
 
-pub kept_of : (c : Course) → Goes c → Kept c.state
+pub kept_of : (c : Course) → Goes c → KeepsInvariants c.state
 kept_of c g = reached_kept c.state (c.events, record { replies = c.replies; run = g.run })
 
 pub none_snoc : (a : Option ℕ) (es : List Event) (e : Event) → actor e ≢ a → NoneOf a es → NoneOf a (es ++ e ∷ [])
@@ -78,7 +78,7 @@ pub joined_same : (w : ℕ) (es : List Event) (e : Event) → join_of w e ≡ []
 joined_same w es e none = joined_snoc w es e ∙ (ap (λ (l : List ℕ). joined_by w es ++ l) none ∙ append-nil (joined_by w es))
 
 -- an event that is somebody's is no notice's
-pub no_note : (e : Event) → actor e ≢ nobody → note_of e ≡ 0
+pub no_note : (e : Event) → actor e ≢ no_actor → note_of e ≡ 0
 no_note (Event.Look w) other = refl
 no_note (Event.Take w) other = refl
 no_note (Event.Drop w) other = refl
@@ -90,7 +90,7 @@ no_note (Event.Ask w) other = refl
 no_note Event.Note other = absurd (other refl)
 no_note (Event.Join w v) other = absurd (other refl)
 
-pub no_join : (u : ℕ) (e : Event) → actor e ≢ nobody → join_of u e ≡ []
+pub no_join : (u : ℕ) (e : Event) → actor e ≢ no_actor → join_of u e ≡ []
 no_join u (Event.Look w) other = refl
 no_join u (Event.Take w) other = refl
 no_join u (Event.Drop w) other = refl
@@ -116,7 +116,7 @@ module _ {A : Type 0} where
   prefix_snoc xs ys a p = prefix_trans xs ys (ys ++ a ∷ []) p (a ∷ [], refl)
 
 module _ (c : Course) (e : Event) (r : Reply) (t : State) (images : List ImageValue) where
-  pub begins_longer : (k : Known) (a : Option ℕ) → actor e ≢ a → IsPrefix c.images images → Begins k a c → Begins k a (extended c e r t images)
+  pub begins_longer : (k : KnownHistory) (a : Option ℕ) → actor e ≢ a → IsPrefix c.images images → Begins k a c → Begins k a (extended c e r t images)
   begins_longer k a other more b = record {
     events = (
       b.events.0 ++ e ∷ [],
@@ -128,7 +128,7 @@ module _ (c : Course) (e : Event) (r : Reply) (t : State) (images : List ImageVa
     images = prefix_trans k.images c.images images b.images more;
   }
 
-  pub happened : (k : Known) → Begins k (actor e) c → Goes (extended c e r t images) → IsPrefix c.images images
+  pub happened : (k : KnownHistory) → Begins k (actor e) c → Goes (extended c e r t images) → IsPrefix c.images images
       → Happened k e r (all_of (extended c e r t images))
   happened k b g more = record {
     state = t;
@@ -196,7 +196,7 @@ worker_next c d e v v' f more none known kept shows last passed edition = record
   last = last;
   passed = passed;
   edition = edition;
-  known = subst (λ (x : Known). Begins x (Some v'.number) d) (sym known) (begins_all d (Some v'.number));
+  known = subst (λ (x : KnownHistory). Begins x (Some v'.number) d) (sym known) (begins_all d (Some v'.number));
   joined = kept.1 ∙ (f.joined ∙ (sym (ap (λ (es : List Event). joined_by v.number es) more ∙ joined_same v.number c.events e none)
       ∙ ap (λ (n : ℕ). joined_by n d.events) (sym kept.0)));
 }
@@ -206,9 +206,15 @@ pub loader_next : (c d : Course) (e : Event) (l l' : LoaderView) → LoaderFits 
     → l'.notes ≡ l.notes → length d.images ≡ newest d.state
     → l'.current ≡ d.state.current → l'.current_shelf ≡ d.state.current_shelf → l'.shelves ≡ d.state.shelves → LoaderFits d l'
 loader_next c d e l l' f more none known notes as_many current current_shelf shelves = record {
-  shows = record { current = current; current_shelf = current_shelf; shelves = shelves; newest_is = ap (λ (x : Known). length x.images) known ∙ as_many };
-  images = ap (λ (x : Known). x.images) known;
-  known = subst (λ (x : Known). Begins x None d) (sym known) (begins_all d None);
+  shows = record {
+    current = current;
+    current_shelf = current_shelf;
+    shelves = shelves;
+    newest_is = ap (λ (x : KnownHistory). length x.images) known
+        ∙ as_many;
+  };
+  images = ap (λ (x : KnownHistory). x.images) known;
+  known = subst (λ (x : KnownHistory). Begins x None d) (sym known) (begins_all d None);
   notes = notes ∙ (f.notes ∙ sym (ap (λ (es : List Event). notes_in es) more ∙ notes_same c.events e none));
 }
 

@@ -12,7 +12,7 @@ use Rattle.version_core.specs.Actors.{actor, NoneOf}
 use Rattle.version_core.specs.State.{State, start}
 use Rattle.version_core.specs.Steps.{Step, Holds, LookStep, TakeStep, DropStep, OpenStep, PublishStep, CloseStep, CollectStep, AskStep, NoteStep, JoinStep}
 use Rattle.version_core.specs.Runs.{Run}
-use Rattle.version_core.specs.Kept.{Kept, version_of}
+use Rattle.version_core.specs.Kept.{KeepsInvariants, version_of}
 use Rattle.version_core.specs.Shown.{shelf_word}
 use Rattle.version_core.proofs.Keeps.{start_kept, step_kept, held_known, stays_fits}
 use Rattle.version_core.proofs.Runs.{run_kept, runs_part}
@@ -57,7 +57,7 @@ module _ (table : Shelved) (i k v : ℕ) (w : WorkerView) (r : Ruled table)
   fits : WorkerFits r.course w
   fits = (r.seats.each i (View.Working w) at).2
 
-  kept : Kept r.course.state
+  kept : KeepsInvariants r.course.state
   kept = kept_of r.course r.goes
 
   here : slice_get r.course.state.workers w.number ≡ Some (Worker.Holding k v)
@@ -171,7 +171,7 @@ step_others s t Event.Note r w ne h = note_others s t w r h
 step_others s t (Event.Join u v) r w ne h = join_others s t u v w r h
 
 -- one event more in front, which frees no shelf that a worker holds
-held_busy : (s t : State) (j k v w : ℕ) (r : Reply) (es : List Event) (rs : List Reply) → Kept s → Holds s w k v
+held_busy : (s t : State) (j k v w : ℕ) (r : Reply) (es : List Event) (rs : List Reply) → KeepsInvariants s → Holds s w k v
     → CollectStep s j r t → NeverFreed k es rs → NeverFreed k (Event.Collect j ∷ es) (r ∷ rs)
 held_busy s t j k v w Reply.Freed es rs fit holds h never = (
   (λ e. let a = (stays_fits s w k fit (inr (v, holds))).2 in let b = h.2 in
@@ -182,7 +182,7 @@ held_busy s t j k v w (Reply.Busy count) es rs fit holds h never = never
 held_busy s t j k v w Reply.NotNow es rs fit holds h never = never
 held_busy s t j k v w _ es rs fit holds h never = absurd h
 
-step_busy : (s t : State) (e : Event) (k v w : ℕ) (r : Reply) (es : List Event) (rs : List Reply) → Kept s → Holds s w k v
+step_busy : (s t : State) (e : Event) (k v w : ℕ) (r : Reply) (es : List Event) (rs : List Reply) → KeepsInvariants s → Holds s w k v
     → Step s e r t → NeverFreed k es rs → NeverFreed k (e ∷ es) (r ∷ rs)
 step_busy s t (Event.Look u) k v w r es rs fit holds h never = never
 step_busy s t (Event.Take u) k v w r es rs fit holds h never = never
@@ -196,7 +196,7 @@ step_busy s t Event.Note k v w r es rs fit holds h never = never
 step_busy s t (Event.Join u x) k v w r es rs fit holds h never = never
 
 -- who holds a shelf at the end of events of others held it all along, and nothing freed it
-held_along : (s t : State) (es : List Event) (rs : List Reply) (w k v : ℕ) → Kept s → Run s es rs t → NoneOf (Some w) es → Holds t w k v
+held_along : (s t : State) (es : List Event) (rs : List Reply) (w k v : ℕ) → KeepsInvariants s → Run s es rs t → NoneOf (Some w) es → Holds t w k v
     → Holds s w k v × NeverFreed k es rs × (length rs ≡ length es)
 held_along s t [] [] w k v fit run apart' holds = (ap (λ (x : State). slice_get x.workers w) (sym run) ∙ holds, tt, refl)
 held_along s t (e ∷ es) (r ∷ rs) w k v fit run apart' holds =

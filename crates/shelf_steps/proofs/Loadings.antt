@@ -9,7 +9,7 @@ use Rattle.version_core.specs.declared.event.Event.{Event}
 use Rattle.version_core.specs.declared.event.Reply.{Reply}
 use Rattle.version_core.specs.declared.state.Shelf.{Shelf}
 use Rattle.shelf_steps.specs.declared.edition.Edition.{Edition}
-use Rattle.shelf_steps.specs.declared.views.Known.{Known}
+use Rattle.shelf_steps.specs.declared.views.KnownHistory.{KnownHistory}
 use Rattle.shelf_steps.specs.declared.views.LoaderView.{LoaderView}
 use Rattle.shelf_steps.specs.declared.views.View.{View}
 use Rattle.shelf_steps.specs.Course.{Happened}
@@ -68,7 +68,7 @@ module _ (shelf version before : ℕ) (l : LoaderView) (image : ImageValue) (f :
   )
 
   opened_so : (m3 : Mine) → OpensOn shelf m2 m3
-      → (known : Known) × (m3 ≡ (View.Loading (with_open (with_hand l (Some shelf) g.0) shelf version known), []))
+      → (known : KnownHistory) × (m3 ≡ (View.Loading (with_open (with_hand l (Some shelf) g.0) shelf version known), []))
       × Happened g.0 (Event.Open (newest_of l)) (Reply.Opened version shelf) known
       × (known.images ≡ l.known.images ++ image ∷ [])
   opened_so m3 o =

@@ -1,6 +1,6 @@
 -- Each step of the loader keeps the rule, and is one event.
 use Rattle.reasoning.proofs.ListLemmas.{slice_get-append, slice_get-last, slice_get-set_same, slice_get-set_other}
-use Rattle.version_core.specs.Actors.{nobody, actor}
+use Rattle.version_core.specs.Actors.{no_actor, actor}
 use Rattle.image_layout.specs.Image.{ImageValue}
 use Rattle.std.proofs.Common.{◌≡◌, ◌≢◌, ℕ, zero, suc, ◌+◌, ◌-◌, ◌*◌, ◌%◌, ◌<◌, ◌≤◌, ◌==◌, ◌⊎◌, Bool, true, false, cond, List}
 use Rattle.std.proofs.Common.{[], ◌∷◌, ◌++◌, length, set, get_or, Option, Some, None, slice_get, refl, ap, sym, ◌∙◌}
@@ -18,12 +18,12 @@ use Rattle.version_core.specs.declared.state.Shelf.{Shelf}
 use Rattle.version_core.specs.declared.state.Worker.{Worker}
 use Rattle.version_core.specs.State.{State, newest, opened, published, shelved}
 use Rattle.version_core.specs.Steps.{IsFree, IsOpen, IsClosing, IsOutdated, MayOpen, Step}
-use Rattle.version_core.specs.Kept.{Kept, is_at}
+use Rattle.version_core.specs.Kept.{KeepsInvariants, is_at}
 use Rattle.version_core.proofs.Keeps.{none_waits, held_known}
 use Rattle.version_core.proofs.Shelves.{version_at}
 use Rattle.version_core.proofs.Counts.{no_one_at}
 use Rattle.shelf_steps.specs.declared.edition.Edition.{Edition}
-use Rattle.shelf_steps.specs.declared.views.Known.{Known}
+use Rattle.shelf_steps.specs.declared.views.KnownHistory.{KnownHistory}
 use Rattle.shelf_steps.specs.declared.views.WorkerView.{WorkerView}
 use Rattle.shelf_steps.specs.declared.views.LoaderView.{LoaderView}
 use Rattle.shelf_steps.specs.declared.views.View.{View}
@@ -33,7 +33,7 @@ use Rattle.shelf_steps.specs.Seats.{WorkerFits, LoaderFits}
 use Rattle.shelf_steps.specs.Slots.{SlotsFit, SlotFits, down_from, nothings}
 use Rattle.shelf_steps.specs.Ruled.{Ruled}
 use Rattle.shelf_steps.specs.Plays.{OfLoader, Mine, newest_of, with_open, with_current, with_closing, with_free}
-use Rattle.shelf_steps.specs.Plays.{with_hand, AllHave, Noted, Opens, Publishes, Closes, CollectsFound, Collects}
+use Rattle.shelf_steps.specs.Plays.{with_hand, AllHave, IsLastEvent, Opens, Publishes, Closes, CollectsFound, Collects}
 use Rattle.shelf_steps.specs.Plays.{Gathers, PutsBack, MayOpenOn, MayPublish, MayClose, MayCollect, MayGather}
 use Rattle.shelf_steps.specs.Plays.{MayPutBack}
 use Rattle.shelf_steps.specs.Events.{known_of}
@@ -74,7 +74,7 @@ module _ (table : Table (Option Edition) View) (r : Ruled table) (id : ℕ) (l l
   not_of : (u : ℕ) → actor e ≢ Some u
   not_of u q = let z : None ≡ Some u = sym whose ∙ q in cc
 
-  not_nobodys : actor e ≢ nobody
+  not_nobodys : actor e ≢ no_actor
   not_nobodys q = let z : None ≡ Some 16 = sym whose ∙ q in cc
 
   others : (u : WorkerView) → WorkerFits r.course u → WorkerFits (extended r.course e reply t images) u
@@ -151,7 +151,7 @@ close_word : (n count version : ℕ) → n ≡ count + 256 + 65536 * version →
 close_word n count version is few small = omega arith
 
 -- nobody holds a shelf that is free
-none_hold : (s : State) (k v u : ℕ) → Kept s → IsFree s k → slice_get s.workers u ≢ Some (Worker.Holding k v)
+none_hold : (s : State) (k v u : ℕ) → KeepsInvariants s → IsFree s k → slice_get s.workers u ≢ Some (Worker.Holding k v)
 none_hold s k v u kept free h = let z : None ≡ Some v = sym (version_at s.shelves k Shelf.Free free) ∙ (held_known s u k v kept h).0 in cc
 
 opens_as : (slots id k version : ℕ) (l : LoaderView) (image : ImageValue) (f : ℕ → Option Edition) → slots ≡ 128 → k < 8
@@ -164,7 +164,7 @@ opens_as : (slots id k version : ℕ) (l : LoaderView) (image : ImageValue) (f :
     (Opens (step slots (k + 1) (256 + 65536 * version) 0 none) (View.Loading l, down_from f (16 * k) 16 []))
 opens_as slots id k version l image f many small free hand current next few all table r full at fits =
     let s = r.course.state in let n = get_or table.words (k + 1) 0 in let top = newest_of l in
-    let kept : Kept s = kept_of r.course r.goes in
+    let kept : KeepsInvariants s = kept_of r.course r.goes in
     let knows = loader_knows table r id l at in
     let is_free : IsFree s k = shelf_is table r id l at k Shelf.Free free in
     let is_newest : top ≡ newest s = newest_is table r id l at in
@@ -281,7 +281,7 @@ module _ (table : Table (Option Edition) View) (r : Ruled table) (id : ℕ) (l l
       loader_ruled table r id l l' at as_many e reply t r.course.images whose goes'
       (prefix_same r.course.images) workers seen notices up words' homes' is_step known fits words slots
 
-  pub noted : Noted l e reply (all_of (extended r.course e reply t r.course.images))
+  pub noted : IsLastEvent l e reply (all_of (extended r.course e reply t r.course.images))
   noted = (
     loader_happened table r id l l' at as_many e reply t r.course.images whose goes'
         (prefix_same r.course.images) workers seen notices up,
@@ -328,7 +328,7 @@ publishings slots id k version me small may = publishings_as slots id k version 
 pub closes_add : ClosesAdd
 closes_add slots id k l c small may table r full at fits =
     let s = r.course.state in let version = may.0 in let n = get_or table.words (k + 1) 0 in
-    let kept : Kept s = kept_of r.course r.goes in
+    let kept : KeepsInvariants s = kept_of r.course r.goes in
     let knows = loader_knows table r id l at in
     let stands : IsOpen s k version = shelf_is table r id l at k (Shelf.Open version) may.1 in
     let old : version < s.current = let a = knows.shows.current in let b = may.2 in omega arith in
@@ -429,25 +429,25 @@ collects_found : (id k version : ℕ) (l : LoaderView) (table : Table (Option Ed
     × (known_of w ≡ all_of after.course)
     × CollectsFound l k version (get_or table.words (k + 1) 0) b (w, carried_after [] a)
 collects_found id k version l table r at many small shelf hand true found =
-    let s = r.course.state in let kept : Kept s = kept_of r.course r.goes in
+    let s = r.course.state in let kept : KeepsInvariants s = kept_of r.course r.goes in
     let knows = loader_knows table r id l at in
-    let here = closing_at id k version l table r at small shelf true found in let nobody = here.1 in
+    let here = closing_at id k version l table r at small shelf true found in let no_actor = here.1 in
     let t : State = shelved s k Shelf.Free in
     let e : Event = Event.Collect k in let reply : Reply = Reply.Freed in
-    let is_step : Step s e reply t = (version, here.0, nobody, refl) in
+    let is_step : Step s e reply t = (version, here.0, no_actor, refl) in
     let d : Course = extended r.course e reply t r.course.images in
     let l' : LoaderView = with_free l k (all_of d) in
     let eight = kept.shelves.eight in
     let f : ℕ → Option Edition = λ j. value_at (get_elem? table.homes j) in
     let home : IsHome table.homes f (16 * k) 16 =
     all_home table.homes s.shelves s.counts s.workers r.course.images l.hand k version
-    (no_one_at s.counts s.workers k kept.counts small nobody) here.0 (loader_slots table r id l at) in
+    (no_one_at s.counts s.workers k kept.counts small no_actor) here.0 (loader_slots table r id l at) in
     let fits' : LoaderFits d l' = loader_next r.course d e l l' knows refl refl refl refl r.goes.as_many knows.shows.current knows.shows.current_shelf
     (λ i. set (knows.shows.shelves i) k Shelf.Free) in
     let after =
     noted_ruled table r id l l' at refl e reply t refl is_step refl refl refl refl (omega arith) (set table.words (k + 1) 0) (homes_after table.homes []
     (take_block f (16 * k) 16)) refl fits'
-    (words_shelved table.words k 0 Shelf.Free s t r.words small eight refl refl refl refl (sym nobody))
+    (words_shelved table.words k 0 Shelf.Free s t r.words small eight refl refl refl refl (sym no_actor))
     (slots_block table.homes (homes_after table.homes [] (take_block f (16 * k) 16)) s.shelves t.shelves s.workers
     r.course.images r.course.images l.hand (Some k) k Shelf.Free
     (slice_get-set_same s.shelves k Shelf.Free (omega arith)) (λ j ne. slice_get-set_other s.shelves k j Shelf.Free ne)
@@ -544,11 +544,11 @@ tries_free : (id k : ℕ) (l : LoaderView) (c : List (ℕ
     → slice_get l.shelves k ≡ Some Shelf.Free
     → SlotsFit (homes_after table.homes c a) r.course.state.shelves r.course.state.workers r.course.images hand'
     → (b : Bool) → (get_or table.words (k + 1) 0 == 512) ≡ b
-    → (known : Known) × (after : Ruled (stepped table (k + 1) (either b 0 (get_or table.words (k + 1) 0)) id c
+    → (known : KnownHistory) × (after : Ruled (stepped table (k + 1) (either b 0 (get_or table.words (k + 1) 0)) id c
     (View.Loading (with_hand l hand' known)) a)) × IsLonger r.course (Event.Collect k) Reply.NotNow after.course
-    × (known ≡ all_of after.course) × Noted l (Event.Collect k) Reply.NotNow known
+    × (known ≡ all_of after.course) × IsLastEvent l (Event.Collect k) Reply.NotNow known
 tries_free id k l c hand' a table r at small free slots true found =
-    let s = r.course.state in let n = get_or table.words (k + 1) 0 in let kept : Kept s = kept_of r.course r.goes in
+    let s = r.course.state in let n = get_or table.words (k + 1) 0 in let kept : KeepsInvariants s = kept_of r.course r.goes in
     let word = r.words.each k Shelf.Free (shelf_is table r id l at k Shelf.Free free) in let few =
     few_counted s k kept
     small in let is =
@@ -585,7 +585,8 @@ of_loader P Q View.Spent each h = absurd h
 
 -- after such a try the loader has this in its hand, and these slots
 abbrev SparedOn : LoaderView → (ℕ → Option ℕ) → (ℕ → List (ℕ × Option Edition)) → ℕ → Mine → Type 0
-SparedOn l hand after j m' = (known : Known) × (m' ≡ (View.Loading (with_hand l (hand j) known), after j)) × Noted l (Event.Collect j) Reply.NotNow known
+SparedOn l hand after j m' = (known : KnownHistory) × (m' ≡ (View.Loading (with_hand l (hand j) known), after j)) × IsLastEvent l
+    (Event.Collect j) Reply.NotNow known
 
 -- the loader may try a free shelf, where an act moves the shelf's empty slots
 spare_tries : (slots id k : ℕ) (l : LoaderView) (c was : List (ℕ × Option Edition)) (hand : ℕ → Option ℕ) (after : ℕ

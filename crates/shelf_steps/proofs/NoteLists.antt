@@ -29,19 +29,19 @@ notices_more [] u = append-nil (notice_of u)
 notices_more (x ∷ xs) u = ap (λ (l : List ℕ). notice_of x ++ l) (notices_more xs u) ∙ sym (append_assoc (notice_of x) (notices_of xs) (notice_of u))
 
 -- a notice has its place among those that are spelled, and is taken out there
-abbrev Place : List View → ℕ → List View → Type 0
-Place views n after = (place : ℕ) × (slice_get (notices_of views) place ≡ Some n) × (notices_of after ≡ remove (notices_of views) place)
+abbrev NoticeAt : List View → ℕ → List View → Type 0
+NoticeAt views n after = (index : ℕ) × (slice_get (notices_of views) index ≡ Some n) × (notices_of after ≡ remove (notices_of views) index)
 
-behind : (x : View) (xs : List View) (n : ℕ) (after : List View) → Place xs n after → Place (x ∷ xs) n (x ∷ after)
+behind : (x : View) (xs : List View) (n : ℕ) (after : List View) → NoticeAt xs n after → NoticeAt (x ∷ xs) n (x ∷ after)
 behind (View.Noting m) xs n after r = (suc r.0, r.1, ap (λ (l : List ℕ). m ∷ l) r.2)
 behind (View.Loading l) xs n after r = r
 behind (View.Working v) xs n after r = r
 behind View.Spent xs n after r = r
 
-pub notices_less : (views : List View) (id n : ℕ) → get_elem? views id ≡ some (View.Noting n) → Place views n (set views id View.Spent)
+pub notices_less : (views : List View) (id n : ℕ) → get_elem? views id ≡ some (View.Noting n) → NoticeAt views n (set views id View.Spent)
 notices_less [] id n at = absurd (some-ne-none (View.Noting n) (sym at))
-notices_less (x ∷ xs) zero n at = subst (λ (y : View). Place (y ∷ xs) n (View.Spent ∷ xs)) (sym (some-injective x (View.Noting n) at)) (0, refl, refl)
+notices_less (x ∷ xs) zero n at = subst (λ (y : View). NoticeAt (y ∷ xs) n (View.Spent ∷ xs)) (sym (some-injective x (View.Noting n) at)) (0, refl, refl)
 notices_less (x ∷ xs) (suc i) n at = behind x xs n (set xs i View.Spent) (notices_less xs i n at)
 
-pub notices_there : (views : List View) (id n : ℕ) → get_elem? views id ≡ some (View.Noting n) → (place : ℕ) × (slice_get (notices_of views) place ≡ Some n)
+pub notices_there : (views : List View) (id n : ℕ) → get_elem? views id ≡ some (View.Noting n) → (index : ℕ) × (slice_get (notices_of views) index ≡ Some n)
 notices_there views id n at = let r = notices_less views id n at in (r.0, r.1)

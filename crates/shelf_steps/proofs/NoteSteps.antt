@@ -8,13 +8,13 @@ use mathlib.Core.Option.{some}
 use lib.ListN.{get_elem?}
 use Rattle.atomic_table.specs.Table.{Splits, Joins}
 use Rattle.atomic_table.proofs.Lists.{at_set, set_else, at_longer}
-use Rattle.version_core.specs.Actors.{nobody, actor}
+use Rattle.version_core.specs.Actors.{no_actor, actor}
 use Rattle.version_core.specs.declared.event.Event.{Event}
 use Rattle.version_core.specs.declared.event.Reply.{Reply}
 use Rattle.version_core.specs.declared.state.Worker.{Worker}
 use Rattle.version_core.specs.State.{State, noted, joined}
 use Rattle.version_core.specs.Steps.{Step, IsSettled as IsSettledAt}
-use Rattle.version_core.specs.Kept.{Kept}
+use Rattle.version_core.specs.Kept.{KeepsInvariants}
 use Rattle.version_core.proofs.Rising.{most_left}
 use Rattle.shelf_steps.specs.declared.views.WorkerView.{WorkerView}
 use Rattle.shelf_steps.specs.declared.views.LoaderView.{LoaderView}
@@ -32,7 +32,7 @@ use Rattle.shelf_steps.proofs.NoteLists.{notices_worker, notices_loader, notices
 use Rattle.shelf_steps.proofs.Opens.{at_end}
 
 -- an event that is nobody's
-module _ (table : Shelved) (r : Ruled table) (e : Event) (reply : Reply) (t : State) (whose : actor e ≡ nobody)
+module _ (table : Shelved) (r : Ruled table) (e : Event) (reply : Reply) (t : State) (whose : actor e ≡ no_actor)
     (current : t.current ≡ r.course.state.current) (current_shelf : t.current_shelf ≡ r.course.state.current_shelf)
     (shelves : t.shelves ≡ r.course.state.shelves) (editions : t.editions ≡ r.course.state.editions) where
   not_loaders : actor e ≢ None
@@ -146,7 +146,7 @@ others_join w u n ne = let t : (w == u) ≡ false = grind (arith, nat_tests) in 
 pub joins_events : JoinsAreEvents
 joins_events table id other n v r at settled at' =
     let s : State = r.course.state in let w = v.number in
-    let kept : Kept s = kept_of r.course r.goes in
+    let kept : KeepsInvariants s = kept_of r.course r.goes in
     let f : WorkerFits r.course v = (r.seats.each id (View.Working v) at).2 in
     let v' : WorkerView = with_seen v n in
     let views : List View = set table.views id (View.Working v') in

@@ -14,7 +14,7 @@ use Rattle.atomic_table.proofs.Lists.{at_map, at_set, set_here, set_else, at_las
 use Rattle.version_core.specs.declared.state.Shelf.{Shelf}
 use Rattle.version_core.specs.declared.state.Worker.{Worker}
 use Rattle.version_core.specs.State.{start}
-use Rattle.version_core.specs.Kept.{Kept}
+use Rattle.version_core.specs.Kept.{KeepsInvariants}
 use Rattle.shelf_steps.specs.declared.edition.Edition.{Edition}
 use Rattle.shelf_steps.specs.declared.views.LoaderView.{LoaderView}
 use Rattle.shelf_steps.specs.declared.views.View.{View}
@@ -153,7 +153,7 @@ old_seat c l owner new seat (View.Working v) apart o = let a = o.0 in (omega ari
 
 -- the loader hands out one more seat: nothing happens
 split_seats : (c : Course) (views : List View) (l : LoaderView) (fit : SeatsFit c views l) (id : ℕ) → id ≡ 0
-    → get_elem? views id ≡ some (View.Loading l) → Kept c.state → l.handed < 16
+    → get_elem? views id ≡ some (View.Loading l) → KeepsInvariants c.state → l.handed < 16
     → SeatsFit c (set views id (View.Loading (one_more l)) ++ View.Working (newcomer l.handed) ∷ []) (one_more l)
 split_seats c views l fit id first at kept room =
     let long = there views id (View.Loading l) at in

@@ -1,18 +1,18 @@
 -- What a step on a shelf's word requires of a place, and what it tells of that place.
 use Rattle.std.proofs.Common.{◌≡◌, ℕ, ◌+◌, ◌<◌, arith, ap, sym, ◌∙◌, subst}
 use Rattle.atomic_table.specs.Seated.{TableId}
-use Rattle.shelf_steps.specs.Plays.{Mine, PlaceValue}
+use Rattle.shelf_steps.specs.Plays.{Mine, TableSeatValue}
 
 -- the seat is at the table, the word is one of its nine, and what follows from what the place may do follows from what its seat may
-pub at_word : (inside place : PlaceValue) (inner table : TableId) (shelf : ℕ) (May : PlaceValue
+pub at_word : (inside place : TableSeatValue) (inner table : TableId) (shelf : ℕ) (May : TableSeatValue
     → Type 0) (Then : Type 0) → inside ≡ place → place.table ≡ table → inner ≡ table → inner.words ≡ 9 → shelf < 8
     → May place → (May inside → Then) → (inside.table ≡ inner) × (shelf + 1 < inner.words) × Then
 at_word inside place inner table shelf May Then is at same nine small may then =
-    (ap (λ (p : PlaceValue). p.table) is ∙ (at ∙ sym same), omega arith, then (subst May (sym is) may))
+    (ap (λ (p : TableSeatValue). p.table) is ∙ (at ∙ sym same), omega arith, then (subst May (sym is) may))
 
 -- what was done at the word was done at its shelf
-pub at_shelf : (inside place : PlaceValue) (shelf : ℕ) (Does : ℕ → Mine → Mine → Type 0) (m' : Mine) → inside ≡ place
+pub at_shelf : (inside place : TableSeatValue) (shelf : ℕ) (Does : ℕ → Mine → Mine → Type 0) (m' : Mine) → inside ≡ place
     → ((k : ℕ) × (shelf + 1 ≡ k + 1) × Does k inside.me m') → Does shelf place.me m'
 at_shelf inside place shelf Does m' is h =
     let e = h.1 in let same : h.0 ≡ shelf = omega arith in
-    subst (λ (p : PlaceValue). Does shelf p.me m') is (subst (λ k. Does k inside.me m') same h.2)
+    subst (λ (p : TableSeatValue). Does shelf p.me m') is (subst (λ k. Does k inside.me m') same h.2)

@@ -9,7 +9,7 @@ use Rattle.std.proofs.lemmas.Option.{slice_get_within}
 use Rattle.version_core.specs.declared.state.Shelf.{Shelf}
 use Rattle.version_core.specs.declared.state.Worker.{Worker}
 use Rattle.version_core.specs.State.{State}
-use Rattle.version_core.specs.Kept.{Kept, Fits, version_of, version_on}
+use Rattle.version_core.specs.Kept.{KeepsInvariants, Fits, version_of, version_on}
 use Rattle.version_core.proofs.Keeps.{held_known, looked_fits}
 use Rattle.shelf_steps.specs.declared.edition.Edition.{Edition}
 use Rattle.shelf_steps.specs.declared.views.LoaderView.{LoaderView}
@@ -39,7 +39,7 @@ module _ (table : Shelved) (l : LoaderView) (r : Ruled table) (at : IsLoader tab
 
 pub words_are : WordsAreTheLoaders
 words_are table l r at =
-    let k = knows table l r at in let kept : Kept r.course.state = kept_of r.course r.goes in (
+    let k = knows table l r at in let kept : KeepsInvariants r.course.state = kept_of r.course r.goes in (
       r.words.cur ∙ (λ i. 8 * sym k.shows.current i + sym k.shows.current_shelf i),
       (λ i. slice_get (k.shows.shelves i) (k.shows.current_shelf i)) ∙ (kept.shelves.current_open ∙ ap (λ n. Some (Shelf.Open n)) (sym k.shows.current)),
       λ j x e. let s = same_shelf table l r at j x e in let within = slice_get_within r.course.state.shelves j _ s in let eight = kept.shelves.eight in
@@ -48,7 +48,7 @@ words_are table l r at =
 
 pub counts_are : CountsAreWorkers
 counts_are table l r at =
-    let kept : Kept r.course.state = kept_of r.course r.goes in let is = is_loader table l r at in
+    let kept : KeepsInvariants r.course.state = kept_of r.course r.goes in let is = is_loader table l r at in
     let same : l.handed ≡ r.loader.handed = ap (λ (x : LoaderView). x.handed) is in (
       r.course.state.workers,
       kept.workers.sixteen,
@@ -67,7 +67,7 @@ numbers_differ table i j v w r at at' =
 pub held_have : HeldHaveEditions
 held_have table l i k v w r loads at now =
     let a = r.seats.each i (View.Working w) at in let f : WorkerFits r.course w = a.2 in let kn = knows table l r loads in
-    let kept : Kept r.course.state = kept_of r.course r.goes in
+    let kept : KeepsInvariants r.course.state = kept_of r.course r.goes in
     let here : slice_get r.course.state.workers w.number ≡ Some (Worker.Holding k v) = f.shows.now ∙ ap (λ (x : Worker). Some x) now in (
       ap (λ (xs : List Shelf). version_on xs k) kn.shows.shelves ∙ (held_known r.course.state w.number k v kept here).0,
       subst (λ (x : List ImageValue). IsEdition x v w.edition) (sym kn.images) (subst (λ (x : Worker). HasEdition r.course.images x w.edition) now f.edition),
@@ -125,7 +125,7 @@ seen_fits current shelf seen shelves (Worker.Late k) f = let a = f.1 in omega ar
 seen_fits current shelf seen shelves (Worker.Holding k v) f = f.3
 
 -- nobody has seen a version newer than the current one
-seen_small : (s : State) (w : ℕ) (worker : Worker) → Kept s → slice_get s.workers w ≡ Some worker → get_or s.seen w 0 ≤ s.current
+seen_small : (s : State) (w : ℕ) (worker : Worker) → KeepsInvariants s → slice_get s.workers w ≡ Some worker → get_or s.seen w 0 ≤ s.current
 seen_small s w worker kept here = seen_fits s.current s.current_shelf (get_or s.seen w 0) s.shelves worker (kept.workers.each w worker here)
 
 pub one_loads : OneSeatLoads
@@ -135,7 +135,7 @@ pub looks_are : LooksAreSo
 looks_are table l i w r loads at =
     let f : WorkerFits r.course w = (r.seats.each i (View.Working w) at).2 in let kn =
     knows table l r loads in
-    let kept : Kept r.course.state =
+    let kept : KeepsInvariants r.course.state =
     kept_of r.course r.goes in
     let c = kn.shows.current in (
       (let a = seen_small r.course.state w.number w.now kept f.shows.now in let b = f.shows.seen in omega arith),
@@ -147,7 +147,7 @@ looks_are table l i w r loads at =
 
 pub notices_old : NoticesAreOfTheirTime
 notices_old table l i v r loads at =
-    let kept : Kept r.course.state = kept_of r.course r.goes in let c = (knows table l r loads).shows.current in
+    let kept : KeepsInvariants r.course.state = kept_of r.course r.goes in let c = (knows table l r loads).shows.current in
     let n = notices_there table.views i v at in
     let most = rise_at 0 r.course.state.notices r.course.state.current n.0 v kept.notices (ap (λ (xs : List ℕ). slice_get xs n.0) (sym r.notices) ∙ n.1) in
     let m = most.1 in omega arith

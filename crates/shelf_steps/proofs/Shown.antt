@@ -6,7 +6,7 @@ use native.Mathlib.Decide.{dec_le}
 use Rattle.version_core.specs.declared.state.Shelf.{Shelf}
 use Rattle.version_core.specs.declared.state.Worker.{Worker}
 use Rattle.version_core.specs.State.{State}
-use Rattle.version_core.specs.Kept.{Kept}
+use Rattle.version_core.specs.Kept.{KeepsInvariants}
 use Rattle.version_core.specs.Shown.{shelf_word}
 use Rattle.shelf_steps.specs.declared.views.LoaderView.{LoaderView}
 use Rattle.shelf_steps.specs.declared.views.View.{View}
@@ -41,7 +41,7 @@ module _ (table : Shelved) (l : LoaderView) (r : Ruled table) (at : IsLoader tab
     unseated = λ w past small. let u = r.seats.unseated w (subst (λ n. n ≤ w) same_handed past) small in (u.0, u.1);
   }
 
-  module _ (s t : State) (kept_s : Kept s) (kept : Kept t) (a : TableShows table l s) (b : TableShows table l t) where
+  module _ (s t : State) (kept_s : KeepsInvariants s) (kept : KeepsInvariants t) (a : TableShows table l s) (b : TableShows table l t) where
     worker_at : (w : ℕ) → w < 16 → ((x : Worker) × (slice_get s.workers w ≡ Some x) × (slice_get t.workers w ≡ Some x))
         × (get_or s.seen w 0 ≡ get_or t.seen w 0)
     worker_at w small = dite (dec_le l.handed w)
@@ -97,7 +97,7 @@ module _ (table : Shelved) (l : LoaderView) (r : Ruled table) (at : IsLoader tab
 
 pub one_state : OneStateIsShown
 one_state table l r at =
-    let kept : Kept r.course.state = kept_of r.course r.goes in
+    let kept : KeepsInvariants r.course.state = kept_of r.course r.goes in
     (r.course.state, kept, shown table l r at, (λ t kept' b. same_state table l r at r.course.state t kept kept' (shown table l r at) b))
 
 pub one_history : OneHistory

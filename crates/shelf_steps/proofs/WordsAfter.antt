@@ -13,7 +13,7 @@ use Rattle.version_core.specs.declared.event.Event.{Event}
 use Rattle.version_core.specs.declared.state.Shelf.{Shelf}
 use Rattle.version_core.specs.State.{State}
 use Rattle.version_core.specs.Steps.{IsOpen}
-use Rattle.version_core.specs.Kept.{Kept, is_at, version_on}
+use Rattle.version_core.specs.Kept.{KeepsInvariants, is_at, version_on}
 use Rattle.version_core.proofs.Shelves.{version_at}
 use Rattle.version_core.specs.Shown.{WordsShow, shelf_word}
 use Rattle.shelf_steps.specs.Course.{Course, Goes, FoundAt, all_of}
@@ -21,7 +21,8 @@ use Rattle.shelf_steps.specs.Plays.{is_open}
 use Rattle.shelf_steps.proofs.Courses.{kept_of}
 
 -- the word that `CUR` was found to be
-pub current_word : (s : State) (n : ℕ) → Kept s → n ≡ 8 * s.current + s.current_shelf → (s.current_shelf < 8) × (n / 8 ≡ s.current) × (n % 8 ≡ s.current_shelf)
+pub current_word : (s : State) (n : ℕ) → KeepsInvariants s → n ≡ 8 * s.current + s.current_shelf → (s.current_shelf < 8) × (n / 8 ≡ s.current) ×
+    (n % 8 ≡ s.current_shelf)
 current_word s n kept e = let l = slice_get_within s.shelves s.current_shelf _ kept.shelves.current_open in let z =
     kept.shelves.eight in (omega arith, omega arith, omega arith)
 
@@ -63,10 +64,10 @@ word_small Shelf.Free count small bound = omega arith
 word_small (Shelf.Open v) count small bound = let b = bound v (inl refl) in omega arith
 word_small (Shelf.Closing v) count small bound = let b = bound v (inr refl) in omega arith
 
-pub few_counted : (s : State) (k : ℕ) → Kept s → k < 8 → get_or s.counts k 0 ≤ 16
+pub few_counted : (s : State) (k : ℕ) → KeepsInvariants s → k < 8 → get_or s.counts k 0 ≤ 16
 few_counted s k kept small = let c = kept.counts.each k small in let l = kept.workers.sixteen in omega (arith, count_by-le-length (is_at k) s.workers)
 
-pub version_bound : (s : State) (k : ℕ) (x : Shelf) → Kept s → slice_get s.shelves k ≡ Some x → (v : ℕ)
+pub version_bound : (s : State) (k : ℕ) (x : Shelf) → KeepsInvariants s → slice_get s.shelves k ≡ Some x → (v : ℕ)
     → (x ≡ Shelf.Open v) ⊎ (x ≡ Shelf.Closing v) → v ≤ 1000000000
 version_bound s k x kept at v is = let r = kept.room in
     let on : version_on s.shelves k ≡ Some v =
@@ -78,7 +79,7 @@ version_bound s k x kept at v is = let r = kept.room in
     let h = kept.shelves.known k v on in let q = h.1 in omega arith
 
 -- a shelf with its word, to which one may be added
-pub found_shelf : (words : List ℕ) (s : State) (k : ℕ) → Kept s → WordsShow words s → k < 8
+pub found_shelf : (words : List ℕ) (s : State) (k : ℕ) → KeepsInvariants s → WordsShow words s → k < 8
     → (x : Shelf) × (slice_get s.shelves k ≡ Some x) × (get_or words (k + 1) 0 ≡ shelf_word x (get_or s.counts k 0))
     × (get_or words (k + 1) 0 + 1 < 18446744073709551616)
 found_shelf words s k kept w small =
@@ -100,14 +101,14 @@ one_less : (n z : ℕ) → n ≡ z + 1 → n < 18446744073709551616 → (n + (18
 one_less n z e small = omega arith
 
 -- the word of a shelf whose count rises
-pub word_rises : (words : List ℕ) (s : State) (k : ℕ) → Kept s → WordsShow words s → k < 8 → (y : Shelf) → slice_get s.shelves k ≡ Some y
+pub word_rises : (words : List ℕ) (s : State) (k : ℕ) → KeepsInvariants s → WordsShow words s → k < 8 → (y : Shelf) → slice_get s.shelves k ≡ Some y
     → (get_or words (k + 1) 0 + 1) % 18446744073709551616 ≡ shelf_word y (get_or s.counts k 0 + 1)
 word_rises words s k kept w small y at =
     let x = found_shelf words s k kept w small in
     one_more (get_or words (k + 1) 0) x.3 ∙ (ap (λ n. n + 1) (w.each k y at) ∙ word_up y (get_or s.counts k 0))
 
 -- and of one whose count falls
-pub word_falls : (words : List ℕ) (s : State) (k : ℕ) → Kept s → WordsShow words s → k < 8 → 1 ≤ get_or s.counts k 0
+pub word_falls : (words : List ℕ) (s : State) (k : ℕ) → KeepsInvariants s → WordsShow words s → k < 8 → 1 ≤ get_or s.counts k 0
     → (y : Shelf) → slice_get s.shelves k ≡ Some y
     → (get_or words (k + 1) 0 + (18446744073709551616 - 1)) % 18446744073709551616 ≡ shelf_word y (get_or s.counts k 0 - 1)
 word_falls words s k kept w small some_one y at =
@@ -127,13 +128,13 @@ is_open_at (Shelf.Open x) n count v e small = let a : n / 256 % 4 ≡ 1 = omega 
         (λ ne. let t : (x == v) ≡ false = grind (arith, nat_tests) in rw t (λ q. ne (cc)))
 
 -- the word says whether the shelf is open with the version
-pub word_tells : (words : List ℕ) (s : State) (k v : ℕ) → Kept s → WordsShow words s → k < 8
+pub word_tells : (words : List ℕ) (s : State) (k v : ℕ) → KeepsInvariants s → WordsShow words s → k < 8
     → MatchBool (is_open (get_or words (k + 1) 0) v) (IsOpen s k v) (¬ (IsOpen s k v))
 word_tells words s k v kept w small =
     let x = found_shelf words s k kept w small in let few = few_counted s k kept small in
-    told x.0 (is_open (get_or words (k + 1) 0) v) x.1 (is_open_at x.0 (get_or words (k + 1) 0) (get_or s.counts k 0) v x.2 (omega arith))
+    fact x.0 (is_open (get_or words (k + 1) 0) v) x.1 (is_open_at x.0 (get_or words (k + 1) 0) (get_or s.counts k 0) v x.2 (omega arith))
   where
-    told : (x : Shelf) (b : Bool) → slice_get s.shelves k ≡ Some x → MatchBool b (x ≡ Shelf.Open v) (x ≢ Shelf.Open v)
+    fact : (x : Shelf) (b : Bool) → slice_get s.shelves k ≡ Some x → MatchBool b (x ≡ Shelf.Open v) (x ≢ Shelf.Open v)
         → MatchBool b (IsOpen s k v) (¬ (IsOpen s k v))
-    told x true at is = at ∙ ap (λ (y : Shelf). Some y) is
-    told x false at is = λ q. is (let z : Some x ≡ Some (Shelf.Open v) = sym at ∙ q in cc)
+    fact x true at is = at ∙ ap (λ (y : Shelf). Some y) is
+    fact x false at is = λ q. is (let z : Some x ≡ Some (Shelf.Open v) = sym at ∙ q in cc)

@@ -1,6 +1,6 @@
 -- Each step of a worker keeps the rule, and is one event.
 use Rattle.reasoning.proofs.ListLemmas.{slice_get-set_same, slice_get-set_other}
-use Rattle.version_core.specs.Actors.{nobody, actor}
+use Rattle.version_core.specs.Actors.{no_actor, actor}
 use Rattle.image_layout.specs.Image.{ImageValue}
 use Rattle.std.proofs.Common.{◌≡◌, ◌≢◌, ℕ, zero, suc, ◌+◌, ◌-◌, ◌*◌, ◌/◌, ◌%◌, ◌<◌, ◌≤◌, Bool, true, false, cond, MatchBool}
 use Rattle.std.proofs.Common.{List, [], ◌∷◌, length, set, get_or, Option, Some, None, slice_get, refl, ap, sym, ◌∙◌}
@@ -15,10 +15,10 @@ use Rattle.version_core.specs.declared.state.Shelf.{Shelf}
 use Rattle.version_core.specs.declared.state.Worker.{Worker}
 use Rattle.version_core.specs.State.{State, looked, arrived, departed}
 use Rattle.version_core.specs.Steps.{IsIdle as IsIdleAt, HasLooked as HasLookedAt, StaysAt, IsOpen, Step}
-use Rattle.version_core.specs.Kept.{Kept, version_of, version_on}
+use Rattle.version_core.specs.Kept.{KeepsInvariants, version_of, version_on}
 use Rattle.version_core.proofs.Keeps.{looked_fits, stays_fits, held_known}
 use Rattle.shelf_steps.specs.declared.edition.Edition.{Edition}
-use Rattle.shelf_steps.specs.declared.views.Known.{Known}
+use Rattle.shelf_steps.specs.declared.views.KnownHistory.{KnownHistory}
 use Rattle.shelf_steps.specs.declared.views.WorkerView.{WorkerView}
 use Rattle.shelf_steps.specs.declared.views.View.{View}
 use Rattle.shelf_steps.specs.Course.{Course, Goes, IsLonger, extended, all_of, Begins, Happened, IsEdition}
@@ -61,7 +61,7 @@ module _ (table : Table (Option Edition) View) (r : Ruled table) (id : ℕ) (v v
   number_small : v.number < 16
   number_small = let a = (r.seats.each id (View.Working v) at).0 in let b = r.seats.few in omega arith
 
-  not_nobodys : actor e ≢ nobody
+  not_nobodys : actor e ≢ no_actor
   not_nobodys q = let z : Some v.number ≡ Some 16 = sym whose ∙ q in let same : v.number ≡ 16 = cc in let less = number_small in omega arith
 
   loads : LoaderFits (extended r.course e reply t r.course.images) r.loader
@@ -110,7 +110,7 @@ allows slots id me i f e reply tells adds table r full at small = let z = adds t
 pub looks_add : LooksAdd
 looks_add slots id v c idle table r full at small =
     let s = r.course.state in let w = v.number in let n = get_or table.words 0 0 in
-    let kept : Kept s = kept_of r.course r.goes in
+    let kept : KeepsInvariants s = kept_of r.course r.goes in
     let f : WorkerFits r.course v = (r.seats.each id (View.Working v) at).2 in
     let is_idle : IsIdleAt s w = f.shows.now ∙ ap (λ (x : Worker). Some x) idle in
     let within = slice_get_within s.workers w _ is_idle in
@@ -168,7 +168,7 @@ pub looks : (slots id : ℕ) (me : Mine) → IsIdle me.0 → Allows Ruled slots 
 looks slots id me idle = looks_as slots id me.0 me.1 idle
 
 -- the count of the shelf k becomes another, and its word with it
-words_counted : (words : List ℕ) (k new count : ℕ) (ws : List Worker) (s : State) → Kept s → WordsShow words s → k < 8
+words_counted : (words : List ℕ) (k new count : ℕ) (ws : List Worker) (s : State) → KeepsInvariants s → WordsShow words s → k < 8
     → ((y : Shelf) → slice_get s.shelves k ≡ Some y → new ≡ shelf_word y count)
     → WordsShow (set words (k + 1) new) (record s { counts = set s.counts k count; workers = ws })
 words_counted words k new count ws s kept shown small is =
@@ -202,7 +202,7 @@ takes_found : (id k : ℕ) (v : WorkerView) (version : ℕ) (c : List (ℕ
     × TakesFound v c version k (get_or table.words (k + 1) 0) b (w, carried_after c a)
 takes_found id k v version c table r at now true stands =
     let s = r.course.state in let w = v.number in let n = get_or table.words (k + 1) 0 in
-    let kept : Kept s = kept_of r.course r.goes in let l = looker id k v version table r at now in
+    let kept : KeepsInvariants s = kept_of r.course r.goes in let l = looker id k v version table r at now in
     let f = l.fits in let has = l.has in let within = l.within in let z = l.shelf in
     let t : State = arrived s w k (Worker.Holding k version) in
     let e : Event = Event.Take w in let reply : Reply = Reply.Holds version in
@@ -248,7 +248,7 @@ takes_found id k v version c table r at now true stands =
     )
 takes_found id k v version c table r at now false shut =
     let s = r.course.state in let w = v.number in let n = get_or table.words (k + 1) 0 in
-    let kept : Kept s = kept_of r.course r.goes in let l = looker id k v version table r at now in
+    let kept : KeepsInvariants s = kept_of r.course r.goes in let l = looker id k v version table r at now in
     let f = l.fits in let has = l.has in let within = l.within in let z = l.shelf in
     let t : State = arrived s w k (Worker.Late k) in
     let e : Event = Event.Take w in let reply : Reply = Reply.Late in
@@ -288,7 +288,7 @@ takes_found id k v version c table r at now false shut =
 pub takes_add : TakesAdd
 takes_add slots id k version v c now table r full at fits =
     let s = r.course.state in let n = get_or table.words (k + 1) 0 in
-    let kept : Kept s = kept_of r.course r.goes in
+    let kept : KeepsInvariants s = kept_of r.course r.goes in
     let f : WorkerFits r.course v = (r.seats.each id (View.Working v) at).2 in
     let z = looked_fits s v.number version k kept (f.shows.now ∙ ap (λ (x : Worker). Some x) now) in
     let t = takes_found id k v version c table r at now (is_open n version) (word_tells table.words s k version kept r.words z.1) in
@@ -312,7 +312,7 @@ leaves_with : (id k : ℕ) (v : WorkerView) (table : Table (Option Edition) View
     × Option Edition)) (a : Act (Option Edition))
     → get_or table.words (k + 1) 0 < 18446744073709551616
     → SlotsFit (homes_after table.homes c a) r.course.state.shelves (set r.course.state.workers v.number Worker.Idle) r.course.images r.loader.hand
-    → (known : Known) × (after : Ruled (stepped table (k + 1)
+    → (known : KnownHistory) × (after : Ruled (stepped table (k + 1)
     ((get_or table.words (k + 1) 0 + (18446744073709551616 - 1)) % 18446744073709551616) id c
     (View.Working (gone v known)) a))
     × IsLonger r.course (Event.Drop v.number) Reply.Dropped after.course × (known ≡ all_of after.course)
@@ -320,7 +320,7 @@ leaves_with : (id k : ℕ) (v : WorkerView) (table : Table (Option Edition) View
     × ShowsIn (gone v known)
 leaves_with id k v table r at stays c a small slots =
     let s = r.course.state in let w = v.number in let n = get_or table.words (k + 1) 0 in
-    let kept : Kept s = kept_of r.course r.goes in
+    let kept : KeepsInvariants s = kept_of r.course r.goes in
     let f : WorkerFits r.course v = (r.seats.each id (View.Working v) at).2 in
     let within = slice_get_within s.workers w _ f.shows.now in
     let z = stays_fits s w k kept stays in
@@ -378,7 +378,7 @@ held_on [] k version e = absurd (cc)
 held_on (y ∷ ys) zero version e = (y, refl, e)
 held_on (y ∷ ys) (suc k) version e = held_on ys k version e
 
-held_shelf : (s : State) (w k version : ℕ) → Kept s → slice_get s.workers w ≡ Some (Worker.Holding k version)
+held_shelf : (s : State) (w k version : ℕ) → KeepsInvariants s → slice_get s.workers w ≡ Some (Worker.Holding k version)
     → (y : Shelf) × (slice_get s.shelves k ≡ Some y) × (version_of y ≡ Some version)
 held_shelf s w k version kept here = held_on s.shelves k version (held_known s w k version kept here).0
 
@@ -397,7 +397,7 @@ fills (Shelf.Closing v) images before ws hand k w version slot edition e its awa
 
 pub gives_add : GivingsAdd
 gives_add slots id k version v many now table r full at small =
-    let s = r.course.state in let w = v.number in let kept : Kept s = kept_of r.course r.goes in
+    let s = r.course.state in let w = v.number in let kept : KeepsInvariants s = kept_of r.course r.goes in
     let f : WorkerFits r.course v = (r.seats.each id (View.Working v) at).2 in
     let here : slice_get s.workers w ≡ Some (Worker.Holding k version) = f.shows.now ∙ ap (λ (x : Worker). Some x) now in
     let z = stays_fits s w k kept (inr (version, here)) in

@@ -12,7 +12,7 @@ use Rattle.version_core.specs.Steps.{Step}
 use Rattle.version_core.specs.Runs.{Run}
 use Rattle.version_core.specs.Actors.{actor, NoneOf}
 use Rattle.shelf_steps.specs.declared.edition.Edition.{Edition}
-use Rattle.shelf_steps.specs.declared.views.Known.{Known}
+use Rattle.shelf_steps.specs.declared.views.KnownHistory.{KnownHistory}
 
 -- a state, the events with their replies that led to it, and the image of each version
 pub record Course : Type 0 where
@@ -55,15 +55,15 @@ pub record IsLonger (c : Course) (e : Event) (r : Reply) (d : Course) : Type 0 w
   pub images : IsPrefix c.images d.images
 
 -- all of the course, in the form in which a seat knows it
-abbrev pub all_of : Course → Known
+abbrev pub all_of : Course → KnownHistory
 all_of c = record { events = c.events; replies = c.replies; images = c.images }
 
 -- what is known, as a course that leads to the state
-abbrev pub leading_to : State → Known → Course
+abbrev pub leading_to : State → KnownHistory → Course
 leading_to s k = record { state = s; events = k.events; replies = k.replies; images = k.images }
 
 -- what is known is a beginning of the course, after which there is no event of this actor
-pub record Begins (k : Known) (a : Option ℕ) (c : Course) : Type 0 where
+pub record Begins (k : KnownHistory) (a : Option ℕ) (c : Course) : Type 0 where
   pub events : (rest : List Event) × (k.events ++ rest ≡ c.events) × NoneOf a rest
   pub replies : IsPrefix k.replies c.replies
   pub images : IsPrefix k.images c.images
@@ -91,7 +91,7 @@ abbrev pub HasDoneNothing : ℕ → List Event → Type 0
 HasDoneNothing w events = NoneOf (Some w) events × (joined_by w events ≡ [])
 
 -- from what was known before to what is known after: the event with this reply is the last that happened, and no event of its actor lies between
-pub record Happened (before : Known) (e : Event) (r : Reply) (after : Known) : Type 0 where
+pub record Happened (before : KnownHistory) (e : Event) (r : Reply) (after : KnownHistory) : Type 0 where
   pub state : State
   pub goes : Goes (leading_to state after)
   pub events : (rest : List Event) × (after.events ≡ (before.events ++ rest) ++ e ∷ []) × NoneOf (actor e) rest
@@ -105,7 +105,7 @@ NeverFreed k (e ∷ es) (r ∷ rs) = NeverFreed k es rs
 NeverFreed k _ _ = Unit {0}
 
 -- no event after what is known has freed the shelf
-pub record NeverFreedSince (k : ℕ) (known : Known) (c : Course) : Type 0 where
+pub record NeverFreedSince (k : ℕ) (known : KnownHistory) (c : Course) : Type 0 where
   pub events : List Event
   pub replies : List Reply
   pub first : List Reply
@@ -116,7 +116,7 @@ pub record NeverFreedSince (k : ℕ) (known : Known) (c : Course) : Type 0 where
 
 -- the word that this event, the last that is known, found on the shelf k: the events before it lead to a state in which the shelf and its count make
 -- this word
-pub record FoundAt (known : Known) (e : Event) (k word : ℕ) : Type 0 where
+pub record FoundAt (known : KnownHistory) (e : Event) (k word : ℕ) : Type 0 where
   pub before : Course
   pub goes : Goes before
   pub events : known.events ≡ before.events ++ e ∷ []

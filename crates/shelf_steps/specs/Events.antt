@@ -5,7 +5,7 @@ use lib.ListN.{get_elem?}
 use Rattle.version_core.specs.declared.event.Event.{Event}
 use Rattle.version_core.specs.declared.event.Reply.{Reply}
 use Rattle.version_core.specs.State.{noted, joined}
-use Rattle.shelf_steps.specs.declared.views.Known.{Known}
+use Rattle.shelf_steps.specs.declared.views.KnownHistory.{KnownHistory}
 use Rattle.shelf_steps.specs.declared.views.WorkerView.{WorkerView}
 use Rattle.shelf_steps.specs.declared.views.LoaderView.{LoaderView}
 use Rattle.shelf_steps.specs.declared.views.View.{View}
@@ -16,7 +16,7 @@ use Rattle.shelf_steps.specs.Plays.{IsLate, IsSettled, with_seen, with_note}
 use Rattle.shelf_steps.specs.Laws.{Shelved, IsLoader}
 
 -- what a seat knows of the past
-abbrev pub known_of : View → Known
+abbrev pub known_of : View → KnownHistory
 known_of (View.Loading l) = l.known
 known_of (View.Working v) = v.known
 known_of _ = record { events = []; replies = []; images = [] }

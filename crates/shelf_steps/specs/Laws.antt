@@ -6,7 +6,7 @@ use Rattle.atomic_table.specs.Table.{State as Table}
 use Rattle.version_core.specs.declared.state.Shelf.{Shelf}
 use Rattle.version_core.specs.declared.state.Worker.{Worker}
 use Rattle.version_core.specs.State.{State}
-use Rattle.version_core.specs.Kept.{Kept, version_on, is_at}
+use Rattle.version_core.specs.Kept.{KeepsInvariants, version_on, is_at}
 use Rattle.shelf_steps.specs.declared.edition.Edition.{Edition}
 use Rattle.shelf_steps.specs.declared.views.WorkerView.{WorkerView}
 use Rattle.shelf_steps.specs.declared.views.LoaderView.{LoaderView}
@@ -138,8 +138,8 @@ OneHistory =
     × ((i : ℕ) (v : WorkerView) → get_elem? table.views i ≡ some (View.Working v) → Begins v.known (Some v.number) c × (v.joined ≡ joined_by v.number c.events))
     × ((l : LoaderView) → IsLoader table l → Begins l.known None c × (l.known.images ≡ c.images) × TableShows table l c.state × (l.notes ≡ notes_in c.events))
 
--- words and seats show exactly one state of which `Kept` holds, and with it every law of the table of versions
+-- words and seats show exactly one state of which `KeepsInvariants` holds, and with it every law of the table of versions
 abbrev pub OneStateIsShown : Type 0
 OneStateIsShown =
     (table : Shelved) (l : LoaderView) → Ruled table → IsLoader table l
-    → (s : State) × Kept s × TableShows table l s × ((t : State) → Kept t → TableShows table l t → t ≡ s)
+    → (s : State) × KeepsInvariants s × TableShows table l s × ((t : State) → KeepsInvariants t → TableShows table l t → t ≡ s)

@@ -4,7 +4,7 @@ use Rattle.std.specs.Prelude.{◌≡◌, ℕ, ◌+◌, ◌<◌, [], ◌∷◌, �
 use Rattle.version_core.specs.declared.event.Event.{Event}
 use Rattle.version_core.specs.declared.event.Reply.{Reply}
 use Rattle.version_core.specs.declared.state.Shelf.{Shelf}
-use Rattle.shelf_steps.specs.declared.views.Known.{Known}
+use Rattle.shelf_steps.specs.declared.views.KnownHistory.{KnownHistory}
 use Rattle.shelf_steps.specs.declared.views.LoaderView.{LoaderView}
 use Rattle.shelf_steps.specs.declared.views.View.{View}
 use Rattle.shelf_steps.specs.Course.{Happened}
@@ -21,9 +21,9 @@ pub record MayLoad (shelf version before : ℕ) (l : LoaderView) : Type 0 where
 
 -- the slots were gathered, the shelf opened with the image, its version made current, and the shelf before closed
 pub record Loaded (a : LoaderView) (image : ImageValue) (version shelf before : ℕ) (b : LoaderView) : Type 0 where
-  pub gathered : Known
-  pub opened : Known
-  pub published : Known
+  pub gathered : KnownHistory
+  pub opened : KnownHistory
+  pub published : KnownHistory
   pub gather : Happened a.known (Event.Collect shelf) Reply.NotNow gathered
   pub opening : Happened gathered (Event.Open (newest_of a)) (Reply.Opened version shelf) opened
   pub publish : Happened opened Event.Publish (Reply.Published version) published
@@ -40,7 +40,7 @@ Loads shelf version before image u u' = OfLoader u (λ a. OfLoader u' (λ b. Loa
 
 -- the closing shelf is free, with its slots at home and empty (Freed), or its count was above 0 (FoundBusy)
 pub record Freed (a : LoaderView) (shelf : ℕ) (b : LoaderView) : Type 0 where
-  pub freed : Known
+  pub freed : KnownHistory
   pub collect : Happened a.known (Event.Collect shelf) Reply.Freed freed
   pub put_back : Happened freed (Event.Collect shelf) Reply.NotNow b.known
   pub images : b.known.images ≡ a.known.images

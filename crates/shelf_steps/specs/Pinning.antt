@@ -4,14 +4,14 @@ use Rattle.version_core.specs.declared.event.Event.{Event}
 use Rattle.version_core.specs.declared.event.Reply.{Reply}
 use Rattle.version_core.specs.declared.state.Worker.{Worker}
 use Rattle.shelf_steps.specs.declared.edition.Edition.{Edition}
-use Rattle.shelf_steps.specs.declared.views.Known.{Known}
+use Rattle.shelf_steps.specs.declared.views.KnownHistory.{KnownHistory}
 use Rattle.shelf_steps.specs.declared.views.WorkerView.{WorkerView}
 use Rattle.shelf_steps.specs.declared.views.View.{View}
 use Rattle.shelf_steps.specs.Course.{Happened, IsEdition}
 use Rattle.shelf_steps.specs.Plays.{OfWorker, Mine, ShowsIn}
 
 -- a look finds the version n: no older than any that was seen, and greater than the one last looked at if the take of that came late
-pub record LookedOnce (a : WorkerView) (n shelf : ℕ) (looked : Known) : Type 0 where
+pub record LookedOnce (a : WorkerView) (n shelf : ℕ) (looked : KnownHistory) : Type 0 where
   pub from : a.seen ≤ n
   pub above : a.passed ≡ true → a.last < n
   pub happened : Happened a.known (Event.Look a.number) (Reply.Looked n shelf) looked
@@ -19,8 +19,8 @@ pub record LookedOnce (a : WorkerView) (n shelf : ℕ) (looked : Known) : Type 0
 -- a look, a take that comes late, and a drop
 pub record TriedLate (a : WorkerView) (n : ℕ) (b : WorkerView) : Type 0 where
   pub shelf : ℕ
-  pub looked : Known
-  pub taken : Known
+  pub looked : KnownHistory
+  pub taken : KnownHistory
   pub look : LookedOnce a n shelf looked
   pub take : Happened looked (Event.Take a.number) Reply.Late taken
   pub drop : Happened taken (Event.Drop a.number) Reply.Dropped b.known
@@ -33,7 +33,7 @@ pub record TriedLate (a : WorkerView) (n : ℕ) (b : WorkerView) : Type 0 where
 
 -- a look, and a take that finds the version still there: the worker holds e, which is the edition of that version in what the worker now knows
 pub record TriedWell (a : WorkerView) (n shelf : ℕ) (e : Edition) (b : WorkerView) : Type 0 where
-  pub looked : Known
+  pub looked : KnownHistory
   pub look : LookedOnce a n shelf looked
   pub take : Happened looked (Event.Take a.number) (Reply.Holds n) b.known
   pub number : b.number ≡ a.number

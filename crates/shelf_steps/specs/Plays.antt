@@ -15,7 +15,7 @@ use Rattle.version_core.specs.declared.event.Reply.{Reply}
 use Rattle.version_core.specs.declared.state.Worker.{Worker}
 use Rattle.version_core.specs.declared.state.Shelf.{Shelf}
 use Rattle.shelf_steps.specs.declared.edition.Edition.{Edition}
-use Rattle.shelf_steps.specs.declared.views.Known.{Known}
+use Rattle.shelf_steps.specs.declared.views.KnownHistory.{KnownHistory}
 use Rattle.shelf_steps.specs.declared.views.WorkerView.{WorkerView}
 use Rattle.shelf_steps.specs.declared.views.LoaderView.{LoaderView}
 use Rattle.shelf_steps.specs.declared.views.View.{View}
@@ -32,12 +32,12 @@ abbrev pub Mine : Type 0
 Mine = Me (Option Edition) View
 
 -- a seat, and the table that it is at
-pub record PlaceValue : Type 0 where
+pub record TableSeatValue : Type 0 where
   pub table : TableId
   pub me : Mine
 
 -- the view after a look that found this word
-abbrev pub looked_at : WorkerView → ℕ → Known → WorkerView
+abbrev pub looked_at : WorkerView → ℕ → KnownHistory → WorkerView
 looked_at v n known = record v { now = Worker.Looked (n / 8) (n % 8); seen = n / 8; last = n / 8; passed = false; edition = None; known = known }
 
 -- the shelf's word says that it is open with the version
@@ -45,15 +45,15 @@ abbrev pub is_open : ℕ → ℕ → Bool
 is_open n version = (n / 256 % 4 == 1) && (n / 65536 == version)
 
 -- the view after a take that found the version: the worker holds it on the shelf k, with its edition
-abbrev pub holding : WorkerView → ℕ → ℕ → Edition → Known → WorkerView
+abbrev pub holding : WorkerView → ℕ → ℕ → Edition → KnownHistory → WorkerView
 holding v k version e known = record v { now = Worker.Holding k version; edition = Some e; known = known }
 
 -- the view after a take that came late: the version last looked at is no longer current
-abbrev pub come_late : WorkerView → ℕ → Known → WorkerView
+abbrev pub come_late : WorkerView → ℕ → KnownHistory → WorkerView
 come_late v k known = record v { now = Worker.Late k; passed = true; edition = None; known = known }
 
 -- the view after a drop: the worker is idle
-abbrev pub gone : WorkerView → Known → WorkerView
+abbrev pub gone : WorkerView → KnownHistory → WorkerView
 gone v known = record v { now = Worker.Idle; edition = None; known = known }
 
 -- the history that is known leads to a state in which the worker is doing and has seen what its view says
@@ -64,7 +64,7 @@ ShowsIn v = (s : State) × Goes (leading_to s v.known) × WorkerShows v.number v
 -- late
 abbrev pub Looks : Mine → ℕ → Mine → Type 0
 Looks m n m' = OfWorker m.0 (λ v.
-    (known : Known) × (m' ≡ (View.Working (looked_at v n known), m.1))
+    (known : KnownHistory) × (m' ≡ (View.Working (looked_at v n known), m.1))
     × Happened v.known (Event.Look v.number) (Reply.Looked (n / 8) (n % 8)) known
     × (v.seen ≤ n / 8) × (v.passed ≡ true → v.last < n / 8) × ShowsIn (looked_at v n known))
 
@@ -72,11 +72,12 @@ Looks m n m' = OfWorker m.0 (λ v.
 -- otherwise (false) the worker is late
 abbrev pub TakesFound : WorkerView → List (ℕ × Option Edition) → ℕ → ℕ → ℕ → Bool → Mine → Type 0
 TakesFound v c version k n true m' =
-    (e : Edition) × (known : Known) × (m' ≡ (View.Working (holding v k version e known), (16 * k + v.number, Some e) ∷ c))
+    (e : Edition) × (known : KnownHistory) × (m' ≡ (View.Working (holding v k version e known), (16 * k + v.number, Some e) ∷ c))
     × Happened v.known (Event.Take v.number) (Reply.Holds version) known × IsEdition known.images version (Some e) × ShowsIn (holding v k version e known)
     × FoundAt known (Event.Take v.number) k n
 TakesFound v c version k n false m' =
-    (known : Known) × (m' ≡ (View.Working (come_late v k known), c)) × Happened v.known (Event.Take v.number) Reply.Late known × ShowsIn (come_late v k known)
+    (known : KnownHistory) × (m' ≡ (View.Working (come_late v k known), c)) × Happened v.known (Event.Take v.number) Reply.Late known × ShowsIn
+    (come_late v k known)
     × FoundAt known (Event.Take v.number) k n
 
 -- the same of a worker that has looked; no other takes a shelf
@@ -90,12 +91,12 @@ Takes m n m' = OfWorker m.0 (λ v. TakesAs v m.1 v.now n m')
 
 -- the step `Leaving`: the worker is idle again, and the slots that are out stay out
 abbrev pub Leaves : Mine → Mine → Type 0
-Leaves m m' = OfWorker m.0 (λ v. (known : Known) × (m' ≡ (View.Working (gone v known), m.1))
+Leaves m m' = OfWorker m.0 (λ v. (known : KnownHistory) × (m' ≡ (View.Working (gone v known), m.1))
     × Happened v.known (Event.Drop v.number) Reply.Dropped known × ShowsIn (gone v known))
 
 -- the step `GivingBack`: the worker is idle again, and its slot is no longer out
 abbrev pub GivesBack : Mine → Mine → Type 0
-GivesBack m m' = OfWorker m.0 (λ v. (known : Known) × (m' ≡ (View.Working (gone v known), []))
+GivesBack m m' = OfWorker m.0 (λ v. (known : KnownHistory) × (m' ≡ (View.Working (gone v known), []))
     × Happened v.known (Event.Drop v.number) Reply.Dropped known × ShowsIn (gone v known))
 
 -- the view is that of an idle worker
@@ -124,23 +125,23 @@ abbrev pub newest_of : LoaderView → ℕ
 newest_of l = length l.known.images
 
 -- the shelf is open with the version, and no shelf's slots are out with the loader
-abbrev pub with_open : LoaderView → ℕ → ℕ → Known → LoaderView
+abbrev pub with_open : LoaderView → ℕ → ℕ → KnownHistory → LoaderView
 with_open l k version known = record l { shelves = slice_set l.shelves k (Shelf.Open version); hand = None; known = known }
 
 -- the version is current, on the shelf k
-abbrev pub with_current : LoaderView → ℕ → ℕ → Known → LoaderView
+abbrev pub with_current : LoaderView → ℕ → ℕ → KnownHistory → LoaderView
 with_current l version k known = record l { current = version; current_shelf = k; known = known }
 
 -- the shelf is closing with the version
-abbrev pub with_closing : LoaderView → ℕ → ℕ → Known → LoaderView
+abbrev pub with_closing : LoaderView → ℕ → ℕ → KnownHistory → LoaderView
 with_closing l k version known = record l { shelves = slice_set l.shelves k (Shelf.Closing version); known = known }
 
 -- the shelf is free, and its slots are out with the loader
-abbrev pub with_free : LoaderView → ℕ → Known → LoaderView
+abbrev pub with_free : LoaderView → ℕ → KnownHistory → LoaderView
 with_free l k known = record l { shelves = slice_set l.shelves k Shelf.Free; hand = Some k; known = known }
 
 -- the slots of the free shelf `hand` are out with the loader, or no slots if `hand` is None
-abbrev pub with_hand : LoaderView → Option ℕ → Known → LoaderView
+abbrev pub with_hand : LoaderView → Option ℕ → KnownHistory → LoaderView
 with_hand l hand known = record l { hand = hand; known = known }
 
 -- the slot has this version with this image
@@ -156,13 +157,13 @@ abbrev pub AllHave : ℕ → ImageValue → ℕ → (ℕ → Option Edition) →
 AllHave version image k f = (j : ℕ) → 16 * k ≤ j → j < 16 * k + 16 → HasImage version image (f j)
 
 -- the event is the loader's last, and no image is new
-abbrev pub Noted : LoaderView → Event → Reply → Known → Type 0
-Noted l e r known = Happened l.known e r known × (known.images ≡ l.known.images)
+abbrev pub IsLastEvent : LoaderView → Event → Reply → KnownHistory → Type 0
+IsLastEvent l e r known = Happened l.known e r known × (known.images ≡ l.known.images)
 
 -- the image in the slots of the block becomes the next version
 abbrev pub OpensOn : ℕ → Mine → Mine → Type 0
 OpensOn k m m' = OfLoader m.0 (λ l.
-    (image : ImageValue) × (f : ℕ → Option Edition) × (known : Known) × IsBlock f k m.1 × AllHave (newest_of l + 1) image k f
+    (image : ImageValue) × (f : ℕ → Option Edition) × (known : KnownHistory) × IsBlock f k m.1 × AllHave (newest_of l + 1) image k f
     × (m' ≡ (View.Loading (with_open l k (newest_of l + 1) known), []))
     × Happened l.known (Event.Open (newest_of l)) (Reply.Opened (newest_of l + 1) k) known × (known.images ≡ l.known.images ++ image ∷ []))
 
@@ -172,9 +173,9 @@ Opens st m n m' = (k : ℕ) × (st.word ≡ k + 1) × OpensOn k m m'
 
 -- the version on the shelf k becomes the current one, and the slots that are out stay out
 abbrev pub PublishesOn : ℕ → ℕ → Mine → Mine → Type 0
-PublishesOn version k m m' = OfLoader m.0 (λ l. (known : Known)
+PublishesOn version k m m' = OfLoader m.0 (λ l. (known : KnownHistory)
     × (m' ≡ (View.Loading (with_current l version k known), m.1))
-    × Noted l Event.Publish (Reply.Published version) known)
+    × IsLastEvent l Event.Publish (Reply.Published version) known)
 
 -- the step `Publishing`, which stores eight times the version plus its shelf
 abbrev pub Publishes : Step (Option Edition) → Mine → ℕ → Mine → Type 0
@@ -183,8 +184,8 @@ Publishes st m n m' = (version k : ℕ) × (st.first ≡ 8 * version + k) × (k 
 -- the shelf k, which is open, is closing with its version
 abbrev pub ClosesOn : ℕ → Mine → Mine → Type 0
 ClosesOn k m m' = OfLoader m.0 (λ l.
-    (version : ℕ) × (known : Known) × (slice_get l.shelves k ≡ Some (Shelf.Open version))
-    × (m' ≡ (View.Loading (with_closing l k version known), m.1)) × Noted l (Event.Close k) Reply.Closing known)
+    (version : ℕ) × (known : KnownHistory) × (slice_get l.shelves k ≡ Some (Shelf.Open version))
+    × (m' ≡ (View.Loading (with_closing l k version known), m.1)) × IsLastEvent l (Event.Close k) Reply.Closing known)
 
 -- the step `Closing`, on the word of a shelf
 abbrev pub Closes : Step (Option Edition) → Mine → ℕ → Mine → Type 0
@@ -193,10 +194,10 @@ Closes st m n m' = (k : ℕ) × (st.word ≡ k + 1) × ClosesOn k m m'
 -- a collection that found the word n: the shelf is free and its slots are out with the loader (true), or its count was above 0 (false)
 abbrev pub CollectsFound : LoaderView → ℕ → ℕ → ℕ → Bool → Mine → Type 0
 CollectsFound l k version n true m' =
-    (f : ℕ → Option Edition) × (known : Known) × (m' ≡ (View.Loading (with_free l k known), down_from f (16 * k) 16 []))
-    × Noted l (Event.Collect k) Reply.Freed known × FoundAt known (Event.Collect k) k n
+    (f : ℕ → Option Edition) × (known : KnownHistory) × (m' ≡ (View.Loading (with_free l k known), down_from f (16 * k) 16 []))
+    × IsLastEvent l (Event.Collect k) Reply.Freed known × FoundAt known (Event.Collect k) k n
 CollectsFound l k version n false m' =
-    (known : Known) × (m' ≡ (View.Loading (with_hand l None known), [])) × Noted l (Event.Collect k) (Reply.Busy (n % 256)) known × (0 < n % 256)
+    (known : KnownHistory) × (m' ≡ (View.Loading (with_hand l None known), [])) × IsLastEvent l (Event.Collect k) (Reply.Busy (n % 256)) known × (0 < n % 256)
     × FoundAt known (Event.Collect k) k n
 
 -- the shelf is free if the word n says that it was closing with the version and that its count was 0
@@ -209,9 +210,9 @@ Collects st m n m' = (k version : ℕ) × (st.word ≡ k + 1) × (st.first ≡ 5
 
 -- the empty slots of a free shelf go out with the loader
 abbrev pub GathersOn : ℕ → Mine → Mine → Type 0
-GathersOn k m m' = OfLoader m.0 (λ l. (known : Known)
+GathersOn k m m' = OfLoader m.0 (λ l. (known : KnownHistory)
     × (m' ≡ (View.Loading (with_hand l (Some k) known), down_from nothings (16 * k) 16 []))
-    × Noted l (Event.Collect k) Reply.NotNow known)
+    × IsLastEvent l (Event.Collect k) Reply.NotNow known)
 
 -- the step `Gathering`, on the word of a shelf
 abbrev pub Gathers : Step (Option Edition) → Mine → ℕ → Mine → Type 0
@@ -219,7 +220,8 @@ Gathers st m n m' = (k : ℕ) × (st.word ≡ k + 1) × GathersOn k m m'
 
 -- the empty slots of a free shelf come home, and none are out with the loader
 abbrev pub PutsBackOn : ℕ → Mine → Mine → Type 0
-PutsBackOn k m m' = OfLoader m.0 (λ l. (known : Known) × (m' ≡ (View.Loading (with_hand l None known), [])) × Noted l (Event.Collect k) Reply.NotNow known)
+PutsBackOn k m m' = OfLoader m.0 (λ l. (known : KnownHistory) × (m' ≡ (View.Loading (with_hand l None known), [])) × IsLastEvent l
+    (Event.Collect k) Reply.NotNow known)
 
 -- the step `PuttingBack`, on the word of a shelf
 abbrev pub PutsBack : Step (Option Edition) → Mine → ℕ → Mine → Type 0

@@ -7,7 +7,7 @@ ghost use Rattle.shelf_steps.specs.Blocks.{laid, EachHas};
 ghost use Rattle.shelf_steps.specs.declared.edition.Edition.{Edition};
 
 use crate::edition::Edition;
-use crate::places::{Place, ShelfTable};
+use crate::table_seats::{ShelfTable, TableSeat};
 use image_verifier::Verified;
 use std::alloc::{AllocError, Global};
 use std::sync::Arc;
@@ -29,7 +29,7 @@ pub fn editions_of(
 }
 
 /// Empties the slots of the shelf, and drops their editions.
-pub fn empty_block(shelves: &ShelfTable, loader: &mut Place, shelf: usize)
+pub fn empty_block(shelves: &ShelfTable, loader: &mut TableSeat, shelf: usize)
     requires table { loader.old.table ≡ shelves.now }
     requires shelf { shelf < 8 }
     requires block { (f : ℕ → Option Edition) × IsBlock f shelf loader.old.me.1 }
@@ -46,7 +46,7 @@ pub fn empty_block(shelves: &ShelfTable, loader: &mut Place, shelf: usize)
 /// Puts an edition into each slot of the shelf.
 pub fn fill_block(
     shelves: &ShelfTable,
-    loader: &mut Place,
+    loader: &mut TableSeat,
     shelf: usize,
     mut editions: Vec<Edition>,
 )

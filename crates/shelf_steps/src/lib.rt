@@ -15,8 +15,8 @@ mod loading;
 mod noting;
 mod opening;
 mod pinning;
-mod places;
 mod rule;
+mod table_seats;
 mod views;
 mod worker_steps;
 
@@ -25,5 +25,5 @@ pub use edition::Edition;
 pub use loading::{load, try_shelf};
 pub use noting::{join, note};
 pub use pinning::{pin, release};
-pub use places::{Place, ShelfTable};
-pub use views::{Known, LoaderView, View, WorkerView};
+pub use table_seats::{ShelfTable, TableSeat};
+pub use views::{KnownHistory, LoaderView, View, WorkerView};

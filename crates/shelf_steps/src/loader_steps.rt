@@ -3,11 +3,11 @@ ghost use Rattle.std.specs.Prelude.{◌≡◌, ◌<◌, ◌≤◌};
 ghost use Rattle.shelf_steps.specs.Plays.{OpensOn, PublishesOn, ClosesOn, CollectsOn, GathersOn, PutsBackOn};
 ghost use Rattle.shelf_steps.specs.Plays.{MayOpenOn, MayPublish, MayClose, MayCollect, MayGather, MayPutBack};
 
-use crate::places::{Place, ShelfTable};
 use crate::rule::{Closing, Collecting, Gathering, Opening, Publishing, PuttingBack};
+use crate::table_seats::{ShelfTable, TableSeat};
 
 /// Opens a free shelf with the next version, and puts its filled slots back.
-pub fn open(shelves: &ShelfTable, loader: &mut Place, shelf: usize, version: u64)
+pub fn open(shelves: &ShelfTable, loader: &mut TableSeat, shelf: usize, version: u64)
     requires table { loader.old.table ≡ shelves.now }
     requires numbers { (shelf < 8) × (version ≤ 1000000000) }
     requires ready { MayOpenOn shelf version loader.old.me.0 loader.old.me.1 }
@@ -21,7 +21,7 @@ pub fn open(shelves: &ShelfTable, loader: &mut Place, shelf: usize, version: u64
 }
 
 /// Makes the version, which is open on this shelf, the current one.
-pub fn publish(shelves: &ShelfTable, loader: &mut Place, version: u64, shelf: usize)
+pub fn publish(shelves: &ShelfTable, loader: &mut TableSeat, version: u64, shelf: usize)
     requires table { loader.old.table ≡ shelves.now }
     requires numbers { (shelf < 8) × (version ≤ 1000000000) }
     requires ready { MayPublish version shelf loader.old.me.0 }
@@ -35,7 +35,7 @@ pub fn publish(shelves: &ShelfTable, loader: &mut Place, version: u64, shelf: us
 }
 
 /// Closes a shelf whose version is no longer current.
-pub fn close(shelves: &ShelfTable, loader: &mut Place, shelf: usize)
+pub fn close(shelves: &ShelfTable, loader: &mut TableSeat, shelf: usize)
     requires table { loader.old.table ≡ shelves.now }
     requires numbers { shelf < 8 }
     requires ready { MayClose shelf loader.old.me.0 }
@@ -50,7 +50,7 @@ pub fn close(shelves: &ShelfTable, loader: &mut Place, shelf: usize)
 
 /// Frees a closing shelf if no worker is at it, and returns the word that was found. If the shelf was freed, its slots
 /// are out with the loader.
-pub fn collect(shelves: &ShelfTable, loader: &mut Place, shelf: usize, version: u64) -> u64
+pub fn collect(shelves: &ShelfTable, loader: &mut TableSeat, shelf: usize, version: u64) -> u64
     requires table { loader.old.table ≡ shelves.now }
     requires numbers { (shelf < 8) × (version ≤ 1000000000) }
     requires ready { MayCollect shelf version loader.old.me.0 loader.old.me.1 }
@@ -64,7 +64,7 @@ pub fn collect(shelves: &ShelfTable, loader: &mut Place, shelf: usize, version: 
 }
 
 /// Takes out the empty slots of a free shelf, by a try at it that fails, since the shelf isn't closing.
-pub fn gather(shelves: &ShelfTable, loader: &mut Place, shelf: usize)
+pub fn gather(shelves: &ShelfTable, loader: &mut TableSeat, shelf: usize)
     requires table { loader.old.table ≡ shelves.now }
     requires numbers { shelf < 8 }
     requires ready { MayGather shelf loader.old.me.0 loader.old.me.1 }
@@ -78,7 +78,7 @@ pub fn gather(shelves: &ShelfTable, loader: &mut Place, shelf: usize)
 }
 
 /// Puts back the empty slots of a free shelf, by a try at it that fails, since the shelf isn't closing.
-pub fn put_back(shelves: &ShelfTable, loader: &mut Place, shelf: usize)
+pub fn put_back(shelves: &ShelfTable, loader: &mut TableSeat, shelf: usize)
     requires table { loader.old.table ≡ shelves.now }
     requires numbers { shelf < 8 }
     requires ready { MayPutBack shelf loader.old.me.0 loader.old.me.1 }

@@ -9,7 +9,7 @@ ghost use Rattle.shelf_steps.specs.Loading.{MayLoad, Loads, Frees, FindsBusy};
 use crate::blocks::{editions_of, empty_block, fill_block};
 use crate::edition::Edition;
 use crate::loader_steps::{close, collect, gather, open, publish, put_back};
-use crate::places::{Place, ShelfTable};
+use crate::table_seats::{ShelfTable, TableSeat};
 use image_verifier::Verified;
 use std::alloc::{AllocError, Global};
 use std::sync::Arc;
@@ -18,7 +18,7 @@ use std::sync::Arc;
 /// memory is refused, no step was made.
 pub fn load(
     shelves: &ShelfTable,
-    loader: &mut Place,
+    loader: &mut TableSeat,
     alloc: Global,
     shelf: usize,
     version: u64,
@@ -42,7 +42,7 @@ pub fn load(
 // A load with an edition for each worker at hand.
 fn load_editions(
     shelves: &ShelfTable,
-    loader: &mut Place,
+    loader: &mut TableSeat,
     shelf: usize,
     version: u64,
     before: usize,
@@ -67,7 +67,12 @@ fn load_editions(
 
 /// Tries a closing shelf. `None` says that it is free, and its slots are empty and at home; otherwise the result is how
 /// many workers are still there.
-pub fn try_shelf(shelves: &ShelfTable, loader: &mut Place, shelf: usize, version: u64) -> Option<u8>
+pub fn try_shelf(
+    shelves: &ShelfTable,
+    loader: &mut TableSeat,
+    shelf: usize,
+    version: u64,
+) -> Option<u8>
     requires table { loader.old.table ≡ shelves.now }
     requires numbers { (shelf < 8) × (version ≤ 1000000000) }
     requires closing { MayCollect shelf version loader.old.me.0 loader.old.me.1 }

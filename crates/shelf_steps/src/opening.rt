@@ -7,8 +7,8 @@ ghost use Rattle.shelf_steps.specs.Splits.{IsSplit};
 ghost use Rattle.shelf_steps.specs.declared.views.View.{View};
 
 use crate::edition::Edition;
-use crate::places::{Place, ShelfTable};
 use crate::rule::HandingOut;
+use crate::table_seats::{ShelfTable, TableSeat};
 use atomic_table::Table;
 use image_verifier::Verified;
 use std::alloc::{AllocError, Global};
@@ -19,13 +19,13 @@ use std::sync::Arc;
 pub fn new_shelves(
     alloc: Global,
     first: &Arc<Verified, Global>,
-) -> Result<(ShelfTable, Place), AllocError>
+) -> Result<(ShelfTable, TableSeat), AllocError>
     ensures table { IfOk result (λ t. t.1.table ≡ t.0) }
     ensures loader { IfOk result (λ t. t.1.me ≡ (View.Loading (first_loader (arc_value first.now)), [])) }
 {
     let slots = first_slots(alloc, first)?;
     match Table::new(alloc, &[8, 65792, 0, 0, 0, 0, 0, 0, 0], slots, first) {
-        Ok((table, seat)) => Ok((ShelfTable { table }, Place { seat })),
+        Ok((table, seat)) => Ok((ShelfTable { table }, TableSeat { seat })),
         Err(_) => Err(AllocError),
     }
 }
@@ -37,16 +37,16 @@ fn first_slots(
     ensures { IfOk result (λ v. FirstSlots (arc_value first.now) 128 v.items) }
 {
     let mut slots = Vec::with_capacity(alloc, 128)?;
-    for place in 0..128usize {
-        slots.push(first_slot(place, first)?)?;
+    for index in 0..128usize {
+        slots.push(first_slot(index, first)?)?;
     }
     Ok(slots)
 }
 
-fn first_slot(place: usize, first: &Arc<Verified, Global>) -> Result<Option<Edition>, AllocError>
-    ensures { IfOk result (λ x. FirstSlot (arc_value first.now) place x) }
+fn first_slot(index: usize, first: &Arc<Verified, Global>) -> Result<Option<Edition>, AllocError>
+    ensures { IfOk result (λ x. FirstSlot (arc_value first.now) index x) }
 {
-    if place < 16 {
+    if index < 16 {
         let image = Arc::try_clone(first)?;
         Ok(Some(Edition { version: 1, image }))
     } else {
@@ -55,7 +55,7 @@ fn first_slot(place: usize, first: &Arc<Verified, Global>) -> Result<Option<Edit
 }
 
 /// Splits the seat of an idle worker, with the next number, from the loader's seat.
-pub fn new_worker(shelves: &ShelfTable, loader: &mut Place) -> Place
+pub fn new_worker(shelves: &ShelfTable, loader: &mut TableSeat) -> TableSeat
     requires table { loader.old.table ≡ shelves.now }
     requires room { MayHandOut loader.old.me.0 }
     ensures { IsSplit keeps_loading new_worker_view loader.old loader.new result }
@@ -64,5 +64,5 @@ pub fn new_worker(shelves: &ShelfTable, loader: &mut Place) -> Place
         .table
         .shared
         .split_seat::<HandingOut>(&mut loader.seat);
-    Place { seat }
+    TableSeat { seat }
 }

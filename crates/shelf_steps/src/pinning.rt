@@ -4,7 +4,7 @@ ghost use Rattle.shelf_steps.specs.Plays.{is_open};
 ghost use Rattle.shelf_steps.specs.Pinning.{Late, Well, Pins, Moves, IsIdleAs, IsHoldingAs, Releases};
 
 use crate::edition::Edition;
-use crate::places::{Place, ShelfTable};
+use crate::table_seats::{ShelfTable, TableSeat};
 use crate::worker_steps::{give_back, leave_late, look, take};
 
 fn says_open(word: u64, version: u64) -> bool
@@ -17,7 +17,7 @@ fn says_open(word: u64, version: u64) -> bool
 /// and returns that version as the error.
 pub fn try_once(
     shelves: &ShelfTable,
-    worker: &mut Place,
+    worker: &mut TableSeat,
     number: usize,
 ) -> Result<(usize, Edition), u64>
     requires table { worker.old.table ≡ shelves.now }
@@ -43,7 +43,11 @@ pub fn try_once(
 
 /// Tries up to four times, and returns the shelf and the edition that is held, or as the error the last version found,
 /// which was gone.
-pub fn pin(shelves: &ShelfTable, worker: &mut Place, number: usize) -> Result<(usize, Edition), u64>
+pub fn pin(
+    shelves: &ShelfTable,
+    worker: &mut TableSeat,
+    number: usize,
+) -> Result<(usize, Edition), u64>
     requires table { worker.old.table ≡ shelves.now }
     requires worker { (number < 16) × IsIdleAs number worker.old.me }
     ensures table { worker.new.table ≡ worker.old.table }
@@ -66,7 +70,7 @@ pub fn pin(shelves: &ShelfTable, worker: &mut Place, number: usize) -> Result<(u
 /// Gives back the edition that a pin returned, and leaves its shelf.
 pub fn release(
     shelves: &ShelfTable,
-    worker: &mut Place,
+    worker: &mut TableSeat,
     number: usize,
     shelf: usize,
     edition: Edition,

@@ -6,7 +6,7 @@ use std::collections::LinkedList;
 use version_core::{Event, Reply, Shelf, Worker};
 
 /// A beginning of what happened, with the images so far. No value of it is made.
-pub struct Known {
+pub struct KnownHistory {
     pub events: LinkedList<Event>,
     pub replies: LinkedList<Reply>,
     pub images: LinkedList<Verified>,
@@ -29,7 +29,7 @@ pub struct WorkerView {
     /// The versions of the notices that were taken in, from the first to the last.
     pub joined: LinkedList<u64>,
     /// What happened, up to the worker's last step on a word.
-    pub known: Known,
+    pub known: KnownHistory,
 }
 
 /// What the loader's seat knows. No value of it is made.
@@ -47,7 +47,7 @@ pub struct LoaderView {
     /// The free shelf whose slots are out with the loader.
     pub hand: Option<u64>,
     /// What happened, up to the loader's last step on a word.
-    pub known: Known,
+    pub known: KnownHistory,
 }
 
 /// What a seat knows. No value of it is made.

@@ -2,11 +2,11 @@
 ghost use Rattle.std.specs.Prelude.{◌≡◌, ℕ, ◌<◌};
 ghost use Rattle.shelf_steps.specs.Plays.{Looks, Takes, Leaves, GivesBack, IsIdle, HasLooked, IsLate, HoldsOut};
 
-use crate::places::{Place, ShelfTable};
 use crate::rule::{GivingBack, Leaving, Looking, Taking};
+use crate::table_seats::{ShelfTable, TableSeat};
 
 /// Looks at the current version, and returns its word: eight times the version, plus its shelf.
-pub fn look(shelves: &ShelfTable, worker: &mut Place) -> u64
+pub fn look(shelves: &ShelfTable, worker: &mut TableSeat) -> u64
     requires table { worker.old.table ≡ shelves.now }
     requires idle { IsIdle worker.old.me.0 }
     ensures table { worker.new.table ≡ worker.old.table }
@@ -18,7 +18,7 @@ pub fn look(shelves: &ShelfTable, worker: &mut Place) -> u64
 /// Takes the shelf that the worker saw, and returns the shelf's word as it was found. If the shelf was open with the
 /// version that the worker looked at, the worker holds that version, and its slot is out with it; otherwise the worker
 /// is late.
-pub fn take(shelves: &ShelfTable, worker: &mut Place, shelf: usize) -> u64
+pub fn take(shelves: &ShelfTable, worker: &mut TableSeat, shelf: usize) -> u64
     requires table { worker.old.table ≡ shelves.now }
     requires looked { (shelf < 8) × HasLooked shelf worker.old.me.0 }
     ensures table { worker.new.table ≡ worker.old.table }
@@ -31,7 +31,7 @@ pub fn take(shelves: &ShelfTable, worker: &mut Place, shelf: usize) -> u64
 }
 
 /// Leaves the shelf at which the worker is late: the event `Drop`.
-pub fn leave_late(shelves: &ShelfTable, worker: &mut Place, shelf: usize)
+pub fn leave_late(shelves: &ShelfTable, worker: &mut TableSeat, shelf: usize)
     requires table { worker.old.table ≡ shelves.now }
     requires late { (shelf < 8) × IsLate shelf worker.old.me.0 }
     ensures table { worker.new.table ≡ worker.old.table }
@@ -44,7 +44,7 @@ pub fn leave_late(shelves: &ShelfTable, worker: &mut Place, shelf: usize)
 }
 
 /// Leaves the shelf that the worker holds, and puts its slot back, with the edition in it: the event `Drop`.
-pub fn give_back(shelves: &ShelfTable, worker: &mut Place, shelf: usize)
+pub fn give_back(shelves: &ShelfTable, worker: &mut TableSeat, shelf: usize)
     requires table { worker.old.table ≡ shelves.now }
     requires holds { (shelf < 8) × HoldsOut shelf worker.old.me.0 worker.old.me.1 }
     ensures table { worker.new.table ≡ worker.old.table }

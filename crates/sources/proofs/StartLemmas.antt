@@ -13,7 +13,7 @@ use Rattle.timetable.specs.Legal.{At, IsLegal}
 use Rattle.timetable.specs.LegalProp.{in_order_later}
 use Rattle.timetable.specs.Journeys.{connection_at}
 use Rattle.timetable.proofs.LegalLemmas.{connection_at-stands, departures_rise}
-use Rattle.sources.specs.FootStarts.{IsStartPlace, HoldsBelow}
+use Rattle.sources.specs.FootStarts.{IsStartIndex, HoldsBelow}
 
 no_path : Footpath
 no_path = record { from = 0; to = 0; secs = 0 }
@@ -28,13 +28,13 @@ pub record AreInto (t : TimetableValue) (stop first end : ℕ) : Type 0 where
   pub exact : (k : ℕ) (f : Footpath) → At t.footpaths k f → (f.to ≡ stop) ↔ ((first ≤ k) × (k < end))
 
 -- the next ones start at that end
-pub start_next : (t : TimetableValue) (stop first end : ℕ) → IsLegal t → stop < t.stops → AreInto t stop first end → IsStartPlace t (stop + 1) end
+pub start_next : (t : TimetableValue) (stop first end : ℕ) → IsLegal t → stop < t.stops → AreInto t stop first end → IsStartIndex t (stop + 1) end
 start_next t stop first end legal lt into =
     let loop = legal.loops stop lt in
-    let place = loop.1.0 in
+    let index = loop.1.0 in
     let at_place = loop.1.1 in
     let f : Footpath = record { from = stop; to = stop; secs = loop.0 } in
-    let among = (into.exact place f at_place).0 refl in
+    let among = (into.exact index f at_place).0 refl in
     record {
       within = into.within;
       exact = λ k g at. (
@@ -43,14 +43,14 @@ start_next t stop first end legal lt into =
           | inr (inl less) ↦ elim (cases_lt k end) [
             | inl before ↦ before
             | inr past ↦
-                let later = in_order_later t.footpaths legal.in_order k place f g (omega (arith, among, past)) at_place at in
+                let later = in_order_later t.footpaths legal.in_order k index f g (omega (arith, among, past)) at_place at in
                 absurd (omega (arith, later.0, less))
           ]
           | inr (inr more) ↦ absurd (omega (arith, more, below))
         ],
         λ before. elim (cases_lt k first) [
           | inl early ↦
-              let later = in_order_later t.footpaths legal.in_order place k g f (omega (arith, among, early)) at at_place in
+              let later = in_order_later t.footpaths legal.in_order index k g f (omega (arith, among, early)) at at_place in
               omega (arith, later.0)
           | inr late ↦
               let same = (into.exact k g at).1 (late, before) in
@@ -60,7 +60,7 @@ start_next t stop first end legal lt into =
     }
 
 -- starts rise from stop to stop
-pub start_order : (t : TimetableValue) (stop first end : ℕ) → IsStartPlace t stop first → IsStartPlace t (stop + 1) end → first ≤ end
+pub start_order : (t : TimetableValue) (stop first end : ℕ) → IsStartIndex t stop first → IsStartIndex t (stop + 1) end → first ≤ end
 start_order t stop first end at_first at_end =
     elim (cases_lt end first) [
       | inl less ↦
@@ -72,17 +72,17 @@ start_order t stop first end at_first at_end =
     ]
 
 -- between two starts stand footpaths into the stop
-pub between_starts : (t : TimetableValue) (stop first end place : ℕ) → IsStartPlace t stop first
-    → IsStartPlace t (stop + 1) end → first ≤ place → place < end → (f : Footpath) → At t.footpaths place f
+pub between_starts : (t : TimetableValue) (stop first end index : ℕ) → IsStartIndex t stop first
+    → IsStartIndex t (stop + 1) end → first ≤ index → index < end → (f : Footpath) → At t.footpaths index f
     → f.to ≡ stop
-between_starts t stop first end place at_first at_end low high f at =
-    let below = (at_end.exact place f at).1 high in
+between_starts t stop first end index at_first at_end low high f at =
+    let below = (at_end.exact index f at).1 high in
     elim (cases_lt f.to stop) [
-      | inl less ↦ absurd (omega (arith, (at_first.exact place f at).0 less, low))
+      | inl less ↦ absurd (omega (arith, (at_first.exact index f at).0 less, low))
       | inr more ↦ omega (arith, below, more)
     ]
 
-pub start_of_first : (t : TimetableValue) → IsStartPlace t 0 0
+pub start_of_first : (t : TimetableValue) → IsStartIndex t 0 0
 start_of_first t = record { within = omega arith; exact = λ k f at. (λ lt. absurd (omega (arith, lt)), λ lt. absurd (omega (arith, lt))) }
 
 pub none_below : (t : TimetableValue) → HoldsBelow t 0 []
@@ -104,20 +104,20 @@ all_held t paths legal holds =
 
 -- a start for each stop below a stop
 abbrev pub AreStartsBelow : TimetableValue → ℕ → List ℕ → Type 0
-AreStartsBelow t stop places = (s : ℕ) → s < stop → IsStartPlace t s (slice_index places s)
+AreStartsBelow t stop indices = (s : ℕ) → s < stop → IsStartIndex t s (slice_index indices s)
 
-pub starts_more : (t : TimetableValue) (stop place : ℕ) (places : List ℕ) → length places ≡ stop
-    → AreStartsBelow t stop places → IsStartPlace t stop place → AreStartsBelow t (stop + 1) (places ++ place ∷ [])
-starts_more t stop place places long starts next s lt =
+pub starts_more : (t : TimetableValue) (stop index : ℕ) (indices : List ℕ) → length indices ≡ stop
+    → AreStartsBelow t stop indices → IsStartIndex t stop index → AreStartsBelow t (stop + 1) (indices ++ index ∷ [])
+starts_more t stop index indices long starts next s lt =
     elim (cases_eq s stop) [
       | inl same ↦
-          let here : get_or (places ++ place ∷ []) (length places) 0 ≡ place = get_or-append_seam places place [] 0 in
-          let at : get_or (places ++ place ∷ []) s 0 ≡ place = ap (λ (i : ℕ). get_or (places ++ place ∷ []) i 0) (same ∙ sym long) ∙ here in
-          subst (λ (x : ℕ). IsStartPlace t s x) (sym at) (subst (λ (x : ℕ). IsStartPlace t x place) (sym same) next)
+          let here : get_or (indices ++ index ∷ []) (length indices) 0 ≡ index = get_or-append_seam indices index [] 0 in
+          let at : get_or (indices ++ index ∷ []) s 0 ≡ index = ap (λ (i : ℕ). get_or (indices ++ index ∷ []) i 0) (same ∙ sym long) ∙ here in
+          subst (λ (x : ℕ). IsStartIndex t s x) (sym at) (subst (λ (x : ℕ). IsStartIndex t x index) (sym same) next)
       | inr other ↦
           let below : s < stop = omega (arith, lt, other) in
-          let at : get_or (places ++ place ∷ []) s 0 ≡ get_or places s 0 = get_or_append_left places (place ∷ []) 0 s (omega (arith, below, long)) in
-          subst (λ (x : ℕ). IsStartPlace t s x) (sym at) (starts s below)
+          let at : get_or (indices ++ index ∷ []) s 0 ≡ get_or indices s 0 = get_or_append_left indices (index ∷ []) 0 s (omega (arith, below, long)) in
+          subst (λ (x : ℕ). IsStartIndex t s x) (sym at) (starts s below)
     ]
 
 -- departures never fall

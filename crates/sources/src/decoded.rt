@@ -53,8 +53,8 @@ fn decode_walks_into(
     ensures { OnOk result (HoldsBelow image.now.timetable (stop + 1) footpaths.new.items) }
 {
     let (_, end) = image.walks_into(stop);
-    for place in footpaths.len()..end {
-        footpaths.push(image.footpath_into(stop, place))?;
+    for index in footpaths.len()..end {
+        footpaths.push(image.footpath_into(stop, index))?;
     }
     Ok(())
 }
@@ -138,12 +138,12 @@ impl ConnSource for Decoded {
         (self.starts[stop], self.starts[stop + 1])
     }
 
-    fn footpath(&self, place: usize) -> Footpath {
-        self.footpaths[place]
+    fn footpath(&self, index: usize) -> Footpath {
+        self.footpaths[index]
     }
 
-    fn footpath_into(&self, _stop: usize, place: usize) -> Footpath {
-        self.footpaths[place]
+    fn footpath_into(&self, _stop: usize, index: usize) -> Footpath {
+        self.footpaths[index]
     }
 
     ghost legal = { λ source. source.legal };

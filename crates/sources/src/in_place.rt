@@ -64,12 +64,12 @@ impl<'a> ConnSource for InPlace<'a> {
         self.image.walks_into(stop)
     }
 
-    fn footpath(&self, place: usize) -> Footpath {
-        self.image.footpath(place)
+    fn footpath(&self, index: usize) -> Footpath {
+        self.image.footpath(index)
     }
 
-    fn footpath_into(&self, stop: usize, place: usize) -> Footpath {
-        self.image.footpath_into(stop, place)
+    fn footpath_into(&self, stop: usize, index: usize) -> Footpath {
+        self.image.footpath_into(stop, index)
     }
 
     ghost legal = { λ source. source.legal };

@@ -54,19 +54,19 @@ pub trait ConnSource {
         ensures exact { (k : ℕ) (f : Footpath) → At (timetable self.now).footpaths k f → (f.to ≡ stop)
             ↔ ((result.0 ≤ k) × (k < result.1)) };
 
-    /// The footpath at index `place`. The stop that it leads into may be searched for; `footpath_into` is
+    /// The footpath at index `index`. The stop that it leads into may be searched for; `footpath_into` is
     /// faster if that is known.
-    fn footpath(&self, place: usize) -> Footpath
-        requires { place < length (timetable self.now).footpaths }
-        ensures { At (timetable self.now).footpaths place result };
+    fn footpath(&self, index: usize) -> Footpath
+        requires { index < length (timetable self.now).footpaths }
+        ensures { At (timetable self.now).footpaths index result };
 
-    /// The footpath at index `place`, which is in the range that `walks_into` returns for `stop`. Nothing is
+    /// The footpath at index `index`, which is in the range that `walks_into` returns for `stop`. Nothing is
     /// searched.
-    fn footpath_into(&self, stop: usize, place: usize) -> Footpath
+    fn footpath_into(&self, stop: usize, index: usize) -> Footpath
         requires stop { stop < (timetable self.now).stops }
-        requires place { place < length (timetable self.now).footpaths }
-        requires into { (f : Footpath) → At (timetable self.now).footpaths place f → f.to ≡ stop }
-        ensures { At (timetable self.now).footpaths place result };
+        requires index { index < length (timetable self.now).footpaths }
+        requires into { (f : Footpath) → At (timetable self.now).footpaths index f → f.to ≡ stop }
+        ensures { At (timetable self.now).footpaths index result };
 
     ghost legal: { (source : Self) → IsLegal (timetable source) };
 

@@ -27,8 +27,8 @@ use Rattle.journeys.specs.Extracted.{Attains}
 use Rattle.station_answers.specs.Asking.{IsToTarget, destination_to}
 use Rattle.station_answers.specs.Attaining.{AttainsPair}
 use Rattle.station_answers.specs.Merging.{MergesFirst, TakesFound, IsOfFounds, AnswersPair, IsMerged, CoversQuery, CoversAll, KeepsCovered}
-use Rattle.station_answers.specs.declared.merging.Merged.{Merged}
-use Rattle.station_answers.specs.declared.merging.Origin.{Origin}
+use Rattle.station_answers.specs.declared.merging.MergedAnswers.{MergedAnswers}
+use Rattle.station_answers.specs.declared.merging.PointSource.{PointSource}
 use Rattle.station_answers.proofs.SetLemmas.{found_is_answer}
 
 dominated : {V : Type 0} (rules : Rules V) (p q : Point V) → Dominates rules p q → (q.departure ≤ p.departure) × NoWorse rules p.value q.value
@@ -64,7 +64,7 @@ inserted_takes {V} rules laws old new p false bag admitted above is = record {
       subst (λ xs. Covers rules xs p.departure p.value) (sym is) (above.0, above.1, h.0, h.1);
 }
 
-pub merges_none : {V : Type 0} (rules : Rules V) (points : List (Point V)) (number : ℕ) (old : List (Point V)) (origins : List Origin)
+pub merges_none : {V : Type 0} (rules : Rules V) (points : List (Point V)) (number : ℕ) (old : List (Point V)) (origins : List PointSource)
     → MergesFirst rules points number 0 old origins old origins
 merges_none rules points number old origins = record {
   only = λ p h. inl h;
@@ -75,9 +75,10 @@ merges_none rules points number old origins = record {
 
 -- one point more
 pub merges_one : {V : Type 0} (rules : Rules V) → Laws rules → (points : List (Point V)) (number n : ℕ) (p : Point V) (tag : ℕ) (stands : Bool)
-    (was : List (Point V)) (was_origins : List Origin) (old : List (Point V)) (origins : List Origin) (new : List (Point V)) (new_origins : List Origin)
+    (was : List (Point V)) (was_origins : List PointSource) (old : List (Point V)) (origins : List PointSource) (new : List (Point V))
+    (new_origins : List PointSource)
     → IsBag rules old → slice_get points n ≡ Some p → ((q : Point V) → Contains points q → Admits rules q.value) → tag ≡ length origins
-    → new_origins ≡ origins ++ record { found = number; place = n } ∷ []
+    → new_origins ≡ origins ++ record { found = number; index = n } ∷ []
     → Stands rules old (record { departure = p.departure; value = p.value; tag = tag }) stands
     → Inserted rules old (record { departure = p.departure; value = p.value; tag = tag }) stands new
     → MergesFirst rules points number n was was_origins old origins
@@ -90,21 +91,21 @@ merges_one {V} rules laws points number n p tag stands was was_origins old origi
         | inl in_old ↦ elim (before.only q in_old) [
           | inl in_was ↦ inl in_was
           | inr of ↦ inr (record {
-            place = of.place;
+            index = of.index;
             point = of.point;
             within = let below = of.within in omega (arith, below);
             stands = of.stands;
-            noted = still_noted q.tag (record { found = number; place = of.place }) of.noted;
+            noted = still_noted q.tag (record { found = number; index = of.index }) of.noted;
             departs = of.departs;
             worth = of.worth;
           })
         ]
         | inr same ↦ inr (record {
-          place = n;
+          index = n;
           point = p;
           within = omega arith;
           stands = at;
-          noted = subst (λ (k : ℕ). slice_get new_origins k ≡ Some (record { found = number; place = n })) (sym (ap (λ (y : Point V). y.tag) same)) last_noted;
+          noted = subst (λ (k : ℕ). slice_get new_origins k ≡ Some (record { found = number; index = n })) (sym (ap (λ (y : Point V). y.tag) same)) last_noted;
           departs = sym (ap (λ (y : Point V). y.departure) same);
           worth = sym (ap (λ (y : Point V). y.value) same);
         })
@@ -120,20 +121,20 @@ merges_one {V} rules laws points number n p tag stands was was_origins old origi
       noted = grown before.noted;
     }
   where
-    still_noted : (k : ℕ) (o : Origin) → slice_get origins k ≡ Some o → slice_get new_origins k ≡ Some o
-    still_noted k o is = subst (λ (os : List Origin). slice_get os k ≡ Some o) (sym pushed)
-        (slice_get-append origins (record { found = number; place = n } ∷ []) k o is)
+    still_noted : (k : ℕ) (o : PointSource) → slice_get origins k ≡ Some o → slice_get new_origins k ≡ Some o
+    still_noted k o is = subst (λ (os : List PointSource). slice_get os k ≡ Some o) (sym pushed)
+        (slice_get-append origins (record { found = number; index = n } ∷ []) k o is)
 
-    last_noted : slice_get new_origins tag ≡ Some (record { found = number; place = n })
-    last_noted = subst (λ (os : List Origin). slice_get os tag ≡ Some (record { found = number; place = n })) (sym pushed)
-        (subst (λ (k : ℕ). slice_get (origins ++ record { found = number; place = n } ∷ []) k ≡ Some (record { found = number; place = n })) (sym is_tag)
-        (slice_get-last origins (record { found = number; place = n })))
+    last_noted : slice_get new_origins tag ≡ Some (record { found = number; index = n })
+    last_noted = subst (λ (os : List PointSource). slice_get os tag ≡ Some (record { found = number; index = n })) (sym pushed)
+        (subst (λ (k : ℕ). slice_get (origins ++ record { found = number; index = n } ∷ []) k ≡ Some (record { found = number; index = n })) (sym is_tag)
+        (slice_get-last origins (record { found = number; index = n })))
 
     grown : Extends was_origins origins → Extends was_origins new_origins
     grown more = (
-      more.0 ++ record { found = number; place = n } ∷ [],
-      pushed ∙ (ap (λ (os : List Origin). os ++ record { found = number; place = n } ∷ []) more.1
-          ∙ append_assoc was_origins more.0 (record { found = number; place = n } ∷ [])),
+      more.0 ++ record { found = number; index = n } ∷ [],
+      pushed ∙ (ap (λ (os : List PointSource). os ++ record { found = number; index = n } ∷ []) more.1
+          ∙ append_assoc was_origins more.0 (record { found = number; index = n } ∷ [])),
     )
 
 -- what is behind a list, or in it
@@ -144,7 +145,7 @@ pushed_cases (z ∷ xs) x zero y e = inl e
 pushed_cases (z ∷ xs) x (suc k) y e = pushed_cases xs x k y e
 
 -- an answer's points are merged, and it is put behind the others
-pub took_in : {K V : Type 0} {c : _} (rules : Rules V) (found : Found K V c) (old new : Merged K V c) (points : List (Point V)) (number : ℕ)
+pub took_in : {K V : Type 0} {c : _} (rules : Rules V) (found : Found K V c) (old new : MergedAnswers K V c) (points : List (Point V)) (number : ℕ)
     → points ≡ listed found → number ≡ length old.founds.items → criterion_of new.best ≡ criterion_of old.best
     → MergesFirst rules points number (length points) (points_of old.best) old.origins.items (points_of new.best) new.origins.items
     → new.founds.items ≡ old.founds.items ++ found ∷ [] → TakesFound rules found old new
@@ -160,8 +161,8 @@ took_in {K} {V} {c} rules found old new points number are is same merges pushed 
 }
 
 -- a journey of the point that an answer has is one of the point that is kept
-pub attained_between : {K V : Type 0} {c : _} (rules_of : K → Rules V) (criterion : K) (t : TimetableValue) (b : BetweenValue) (merged : Merged K V c)
-    (p : Point V) (origin : Origin) (found : Found K V c) (point : Point V) (j : JourneyValue) → IsMerged rules_of criterion t b merged
+pub attained_between : {K V : Type 0} {c : _} (rules_of : K → Rules V) (criterion : K) (t : TimetableValue) (b : BetweenValue) (merged : MergedAnswers K V c)
+    (p : Point V) (origin : PointSource) (found : Found K V c) (point : Point V) (j : JourneyValue) → IsMerged rules_of criterion t b merged
     → slice_get merged.founds.items origin.found ≡ Some found → point.departure ≡ p.departure → point.value ≡ p.value
     → ((q : Query) → Answers criterion (rules_of criterion) t q found → Attains (rules_of criterion) t q point j)
     → AttainsPair (rules_of criterion) t b p j
@@ -192,25 +193,25 @@ answers_pair rules t b d stop criterion found to is answers = record {
 }
 
 -- the journey that was extracted for a point that is kept
-pub journey_attains : {K V : Type 0} {c : _} (rules_of : K → Rules V) (merged : Merged K V c) (p : Point V) → (of : IsOfFounds merged p)
-    → (o : Origin) (f : Found K V c) → o ≡ get_or merged.origins.items p.tag o → f ≡ get_or merged.founds.items o.found f → (j : JourneyValue)
+pub journey_attains : {K V : Type 0} {c : _} (rules_of : K → Rules V) (merged : MergedAnswers K V c) (p : Point V) → (of : IsOfFounds merged p)
+    → (o : PointSource) (f : Found K V c) → o ≡ get_or merged.origins.items p.tag o → f ≡ get_or merged.founds.items o.found f → (j : JourneyValue)
     → ((criterion : K) (t : TimetableValue) (q : Query) (x : Point V) → Answers criterion (rules_of criterion) t q f
-    → slice_get (listed f) o.place ≡ Some x → Attains (rules_of criterion) t q x j)
+    → slice_get (listed f) o.index ≡ Some x → Attains (rules_of criterion) t q x j)
     → (criterion : K) (t : TimetableValue) (b : BetweenValue) → IsMerged rules_of criterion t b merged → AttainsPair (rules_of criterion) t b p j
 journey_attains {K} {V} {c} rules_of merged p of o f origin_read found_read j attains criterion t b is =
     let origin_is : o ≡ of.origin = origin_read ∙ get_or_from_slice_get merged.origins.items p.tag of.origin o of.noted in
     let there : slice_get merged.founds.items o.found ≡ Some of.found =
-    subst (λ (x : Origin). slice_get merged.founds.items x.found ≡ Some of.found) (sym origin_is) of.kept in
+    subst (λ (x : PointSource). slice_get merged.founds.items x.found ≡ Some of.found) (sym origin_is) of.kept in
     let found_is : f ≡ of.found = found_read ∙ get_or_from_slice_get merged.founds.items o.found of.found f there in
-    let stands : slice_get (listed f) o.place ≡ Some of.point =
-    subst (λ (y : Found K V c). slice_get (listed y) o.place ≡ Some of.point) (sym found_is)
-    (subst (λ (x : Origin). slice_get (listed of.found) x.place ≡ Some of.point) (sym origin_is) of.stands) in
+    let stands : slice_get (listed f) o.index ≡ Some of.point =
+    subst (λ (y : Found K V c). slice_get (listed y) o.index ≡ Some of.point) (sym found_is)
+    (subst (λ (x : PointSource). slice_get (listed of.found) x.index ≡ Some of.point) (sym origin_is) of.stands) in
     attained_between rules_of criterion t b merged p of.origin of.found of.point j is of.kept of.departs of.worth
     (λ q answers. attains criterion t q of.point (subst (λ (y : Found K V c). Answers criterion (rules_of criterion) t q y) (sym found_is) answers) stands)
 
 module _ {K V : Type 0} {c : _} (rules_of : K → Rules V) (criterion : K) (t : TimetableValue) (b : BetweenValue) where
   -- an answer more
-  pub take_merged : (rules : Rules V) (found : Found K V c) (old new : Merged K V c) → IsMerged rules_of criterion t b old
+  pub take_merged : (rules : Rules V) (found : Found K V c) (old new : MergedAnswers K V c) → IsMerged rules_of criterion t b old
       → AnswersPair criterion (rules_of criterion) t b found → TakesFound rules found old new → IsMerged rules_of criterion t b new
   take_merged rules found old new is answers takes = record {
     under = takes.under ∙ is.under;
@@ -221,7 +222,7 @@ module _ {K V : Type 0} {c : _} (rules_of : K → Rules V) (criterion : K) (t : 
     points = λ p h. elim (takes.merges.only p h) [
       | inl was ↦ still p (is.points p was)
       | inr of ↦ record {
-        origin = record { found = length old.founds.items; place = of.place };
+        origin = record { found = length old.founds.items; index = of.index };
         found = found;
         point = of.point;
         noted = of.noted;
@@ -239,7 +240,7 @@ module _ {K V : Type 0} {c : _} (rules_of : K → Rules V) (criterion : K) (t : 
         found = of.found;
         point = of.point;
         noted = let more = takes.merges.noted in
-            subst (λ (os : List Origin). slice_get os p.tag ≡ Some of.origin) (sym more.1) (slice_get-append old.origins.items more.0 p.tag of.origin
+            subst (λ (os : List PointSource). slice_get os p.tag ≡ Some of.origin) (sym more.1) (slice_get-append old.origins.items more.0 p.tag of.origin
             of.noted);
         kept = takes.founds of.origin.found of.found of.kept;
         stands = of.stands;
@@ -255,14 +256,14 @@ plain_admits rules laws t q can departure v point =
 
 -- the points of an answer that is taken in are covered
 pub take_covers : {K V : Type 0} {c : _} (rules : Rules V) → Laws rules → (t : TimetableValue) (q : Query) → CanScan t (between_one q)
-    → (criterion : K) (found : Found K V c) (old new : Merged K V c) → IsBag rules (points_of new.best)
+    → (criterion : K) (found : Found K V c) (old new : MergedAnswers K V c) → IsBag rules (points_of new.best)
     → ((p : Point V) → Contains (listed found) p → Admits rules p.value)
     → Answers criterion rules t q found → TakesFound rules found old new → CoversQuery rules t new q
 take_covers {K} {V} rules laws t q can criterion found old new bag admits answers takes departure v point =
     let first = answers.answer.unbeaten departure v point in
     let r = first.0 in
-    let place = at_contains (listed found) r first.1 in
-    let then = takes.merges.each place.0 r (slice_get_within (listed found) place.0 r place.1) place.1 in
+    let index = at_contains (listed found) r first.1 in
+    let then = takes.merges.each index.0 r (slice_get_within (listed found) index.0 r index.1) index.1 in
     let s = then.0 in (
       s,
       then.1,
@@ -280,14 +281,14 @@ listed_admitted rules laws t q can criterion found answers p h =
 
 -- what was covered of a query stays covered
 pub still_covers : {K V : Type 0} {c : _} (rules : Rules V) → Laws rules → (t : TimetableValue) (q : Query) → CanScan t (between_one q)
-    → (old new : Merged K V c) → KeepsCovered rules old new → CoversQuery rules t old q → CoversQuery rules t new q
+    → (old new : MergedAnswers K V c) → KeepsCovered rules old new → CoversQuery rules t old q → CoversQuery rules t new q
 still_covers rules laws t q can old new keeps covers departure v point =
     keeps departure v (plain_admits rules laws t q can departure v point) (covers departure v point)
 
 -- the best points of all pairs, in order, are the answer
 pub merged_answers : {K V : Type 0} {c : _} (rules_of : K → Rules V) (criterion : K) → Laws (rules_of criterion)
     → (t : TimetableValue) (b : BetweenValue) → CanScan t b
-    → (merged : Merged K V c) (points : List (Point V)) → IsMerged rules_of criterion t b merged → CoversAll (rules_of criterion) t b merged
+    → (merged : MergedAnswers K V c) (points : List (Point V)) → IsMerged rules_of criterion t b merged → CoversAll (rules_of criterion) t b merged
     → IsBag (rules_of criterion) points → AllPairs (Before (rules_of criterion)) points
     → ((p : Point V) → Contains points p → Contains (points_of merged.best) p) → ((p : Point V) → Contains (points_of merged.best) p → Contains points p)
     → IsAnswerBetween (rules_of criterion) t b points
@@ -305,7 +306,7 @@ merged_answers {K} {V} rules_of criterion laws t b can merged points is covers b
         let of = is.points p (only p h) in
         let a = is.founds of.origin.found of.found of.kept in
         let x = of.point in
-        let at_x = ((a.answers.answer.exactly x.departure x.value).0 (x, contains_at (listed of.found) of.origin.place x of.stands, refl, refl)).is_point in
+        let at_x = ((a.answers.answer.exactly x.departure x.value).0 (x, contains_at (listed of.found) of.origin.index x of.stands, refl, refl)).is_point in
         let at_p : IsPoint rules t (query_of_pair b a.pair) p.departure p.value =
         subst (λ (n : ℕ). IsPoint rules t (query_of_pair b a.pair) n p.value) of.departs
         (subst (λ (w : V). IsPoint rules t (query_of_pair b a.pair) x.departure w) of.worth at_x) in
@@ -318,7 +319,7 @@ merged_answers {K} {V} rules_of criterion laws t b can merged points is covers b
 
 -- one target more
 pub next_target : {K V : Type 0} {c : _} (rules_of : K → Rules V) (criterion used : K) → Laws (rules_of criterion) → (t now : TimetableValue) (b : BetweenValue)
-    → ((s g : ℕ) → CanScan t (between_one (pair_of b s g))) → (d dest : Destination) (n target : ℕ) (old new : Merged K V c)
+    → ((s g : ℕ) → CanScan t (between_one (pair_of b s g))) → (d dest : Destination) (n target : ℕ) (old new : MergedAnswers K V c)
     → now ≡ t → used ≡ criterion → d ≡ dest → dest ≡ destination_to b target → slice_get b.targets n ≡ Some target
     → KeepsCovered (rules_of used) old new → ((s : ℕ) → Contains b.sources s → CoversQuery (rules_of used) now new (query_from d s))
     → ((k g s : ℕ) → k < n → slice_get b.targets k ≡ Some g → Contains b.sources s → CoversQuery (rules_of criterion) t old (pair_of b s g))

@@ -18,36 +18,37 @@ use Rattle.station_answers.specs.Attaining.{AttainsPair}
 use Rattle.station_answers.proofs.SetLemmas.{retagged_answer}
 
 -- the first points of a list, each with a journey that attains it, in whichever sense
-pub record AreTold {V : Type 0} (Attained : Point V → JourneyValue → Type 0) (points : List (Point V)) (n : ℕ) (told : List (Departure V)) : Type 0 where
-  pub first : map untagged (map point_of told) ≡ map untagged (take n points)
-  pub each : (departure : Departure V) → Contains told departure → Attained (point_of departure) departure.journey
+pub record HaveJourneys {V : Type 0} (Attained : Point V → JourneyValue → Type 0) (points : List (Point V)) (n : ℕ)
+    (departures : List (Departure V)) : Type 0 where
+  pub first : map untagged (map point_of departures) ≡ map untagged (take n points)
+  pub each : (departure : Departure V) → Contains departures departure → Attained (point_of departure) departure.journey
 
-pub none_told : {V : Type 0} (Attained : Point V → JourneyValue → Type 0) (points : List (Point V)) (told : List (Departure V))
-    → told ≡ [] → AreTold Attained points 0 told
-none_told Attained points told none =
-    subst (AreTold Attained points 0) (sym none)
+pub no_journeys : {V : Type 0} (Attained : Point V → JourneyValue → Type 0) (points : List (Point V)) (departures : List (Departure V))
+    → departures ≡ [] → HaveJourneys Attained points 0 departures
+no_journeys Attained points departures none =
+    subst (HaveJourneys Attained points 0) (sym none)
     (record { first = refl; each = λ departure h. let lt = h.1 in absurd (omega (arith, lt)) })
 
 -- a point that has lost its tag
 abbrev pub tagless : {V : Type 0} → Point V → Point V
 tagless p = record { departure = p.departure; value = p.value; tag = 0 }
 
-pub one_more : {V : Type 0} (Attained : Point V → JourneyValue → Type 0) (points : List (Point V)) (n : ℕ) (told : List (Departure V))
+pub one_more : {V : Type 0} (Attained : Point V → JourneyValue → Type 0) (points : List (Point V)) (n : ℕ) (departures : List (Departure V))
     (p : Point V) (j : JourneyValue)
-    → AreTold Attained points n told → slice_get points n ≡ Some p → Attained (tagless p) j
-    → AreTold Attained points (n + 1) (told ++ record { time = p.departure; value = p.value; journey = j } ∷ [])
-one_more {V} Attained points n told p j are at here =
+    → HaveJourneys Attained points n departures → slice_get points n ≡ Some p → Attained (tagless p) j
+    → HaveJourneys Attained points (n + 1) (departures ++ record { time = p.departure; value = p.value; journey = j } ∷ [])
+one_more {V} Attained points n departures p j are at here =
     let new : Departure V = record { time = p.departure; value = p.value; journey = j } in
     let next : n + 1 ≡ suc n = omega arith in
     let taken : take n points ++ p ∷ [] ≡ take (n + 1) points =
     ap (λ (x : Point V). take n points ++ x ∷ []) (sym (get_or_from_slice_get points n p p at))
     ∙ (sym (take-suc points n p (slice_get_within points n p at)) ∙ ap (λ (k : ℕ). take k points) (sym next)) in
     record {
-      first = ap (map untagged) (map-append point_of told (new ∷ []))
-          ∙ (map-append untagged (map point_of told) (point_of new ∷ [])
+      first = ap (map untagged) (map-append point_of departures (new ∷ []))
+          ∙ (map-append untagged (map point_of departures) (point_of new ∷ [])
           ∙ (ap (λ (xs : List (ℕ × V)). xs ++ untagged p ∷ []) are.first
           ∙ (sym (map-append untagged (take n points) (p ∷ [])) ∙ ap (map untagged) taken)));
-      each = λ departure h. elim (Contains-push_cases told new departure h) [
+      each = λ departure h. elim (Contains-push_cases departures new departure h) [
         | inl before ↦ are.each departure before
         | inr same ↦ subst (λ (d : Departure V). Attained (point_of d) d.journey) same here
       ];
@@ -71,7 +72,7 @@ between_tagless rules t b p j a = record {
 
 -- all points told are the answer
 pub all_told : {V : Type 0} (rules : Rules V) (There : ℕ → V → Type 0) (Attained : Point V → JourneyValue → Type 0) (points : List (Point V)) (n : ℕ)
-    (told : List (Departure V)) → AreTold Attained points n told → length points ≤ n → IsAnswerOf rules There points
-    → IsAnswerOf rules There (map point_of told)
-all_told rules There Attained points n told are past =
-    retagged_answer rules There points (map point_of told) (are.first ∙ ap (map untagged) (take_all n points past))
+    (departures : List (Departure V)) → HaveJourneys Attained points n departures → length points ≤ n → IsAnswerOf rules There points
+    → IsAnswerOf rules There (map point_of departures)
+all_told rules There Attained points n departures are past =
+    retagged_answer rules There points (map point_of departures) (are.first ∙ ap (map untagged) (take_all n points past))

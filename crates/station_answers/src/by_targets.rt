@@ -12,7 +12,7 @@ ghost use Rattle.station_answers.specs.Reading.{ReadsPart, ReadsWindow, window_b
 ghost use Rattle.station_answers.specs.Walks.{IsDirectTime};
 
 use crate::answering::{secs_of, window_size};
-use crate::merging::Merged;
+use crate::merging::MergedAnswers;
 use crate::walking::direct_walk;
 use criteria::Criterion;
 use journeys::{Answer, Departure};
@@ -64,7 +64,7 @@ fn merged_between<S: ConnSource, C: Criterion>(
     source: &mut S,
     criterion: &C,
     query: &Between,
-) -> Result<Merged<C>, AllocError>
+) -> Result<MergedAnswers<C>, AllocError>
     requires { IsAskableBetween (S.timetable source.old).stops (question query.now) }
     ensures timetable { S.timetable source.new ≡ S.timetable source.old }
     ensures merged { IfOk result (IsMerged C.rules criterion.now (S.timetable source.old) (question query.now)) }
@@ -75,9 +75,9 @@ fn merged_between<S: ConnSource, C: Criterion>(
     ensures err { OnErr result (ReadsPart (S.timetable source.old) (question query.now)
         (S.log source.old) (S.log source.new)) }
 {
-    let mut merged = Merged::new(alloc, *criterion);
-    for place in 0..query.targets.len() {
-        let target = query.targets[place];
+    let mut merged = MergedAnswers::new(alloc, *criterion);
+    for index in 0..query.targets.len() {
+        let target = query.targets[index];
         let destination = destination_to(query, target);
         let profiles = profiles_to(alloc, source, criterion, &destination)?;
         take_from_sources(alloc, source, query, &profiles, &mut merged)?;
@@ -103,7 +103,7 @@ fn take_from_sources<S: ConnSource, C: Criterion>(
     source: &S,
     query: &Between,
     profiles: &Profiles<C>,
-    merged: &mut Merged<C>,
+    merged: &mut MergedAnswers<C>,
 ) -> Result<(), AllocError>
     requires askable { IsAskableBetween (S.timetable source.now).stops (question query.now) }
     requires answered { AnswerAll C.rules (S.timetable source.now) profiles.now }
@@ -118,8 +118,8 @@ fn take_from_sources<S: ConnSource, C: Criterion>(
         → CoversQuery (C.rules (criterion_of_profiles profiles.now)) (S.timetable source.now) merged.new
         (query_from (destination_of profiles.now) stop)) }
 {
-    for place in 0..query.sources.len() {
-        let stop = query.sources[place];
+    for index in 0..query.sources.len() {
+        let stop = query.sources[index];
         let found = profiles.found_from(alloc, source, stop)?;
         merged.take_in(found)?;
     }
@@ -132,7 +132,7 @@ fn departures_of<S: ConnSource, C: Criterion>(
     source: &S,
     criterion: &C,
     query: &Between,
-    merged: &Merged<C>,
+    merged: &MergedAnswers<C>,
 ) -> Result<Vec<Departure<C::V>>, AllocError>
     requires askable { IsAskableBetween (S.timetable source.now).stops (question query.now) }
     requires merged { IsMerged C.rules criterion.now (S.timetable source.now) (question query.now) merged.now }
@@ -145,8 +145,8 @@ fn departures_of<S: ConnSource, C: Criterion>(
 {
     let points = in_order(alloc, criterion, &merged.best)?;
     let mut departures = Vec::with_capacity(alloc, points.len())?;
-    for place in 0..points.len() {
-        let point = points[place];
+    for index in 0..points.len() {
+        let point = points[index];
         let journey = merged.journey_of(alloc, &point)?;
         departures.push(Departure {
             time: point.departure,

@@ -14,21 +14,21 @@ use timetable::Journey;
 
 /// Where a point comes from: which answer, and which of its points.
 #[derive(Clone, Copy, Drop)]
-pub struct Origin {
+pub struct PointSource {
     pub found: usize,
-    pub place: usize,
+    pub index: usize,
 }
 
 /// Answers of some pairs, and of all their points those that no other of them dominates. The tag of such a point is an
 /// index of `origins`.
 #[derive(Drop)]
-pub struct Merged<C: Criterion> {
+pub struct MergedAnswers<C: Criterion> {
     pub best: Bag<C>,
-    pub origins: Vec<Origin>,
+    pub origins: Vec<PointSource>,
     pub founds: Vec<Found<C>>,
 }
 
-impl<C: Criterion> Merged<C> {
+impl<C: Criterion> MergedAnswers<C> {
     ghost use Rattle.std.specs.Prelude.{◌≡◌, [], Contains, IfOk, OnOk};
     ghost use Rattle.criteria.specs.Laws.{Admits};
     ghost use Rattle.bags.specs.Bag.{criterion_of, points_of};
@@ -43,7 +43,7 @@ impl<C: Criterion> Merged<C> {
         ensures under { criterion_of result.best ≡ criterion }
         ensures none { (points_of result.best ≡ []) × (result.founds.items ≡ []) }
     {
-        Merged {
+        MergedAnswers {
             best: Bag::new(alloc, criterion),
             origins: Vec::new(alloc),
             founds: Vec::new(alloc),
@@ -70,7 +70,7 @@ impl<C: Criterion> Merged<C> {
     {
         let origin = self.origins[point.tag];
         let found = &self.founds[origin.found];
-        extract(alloc, found, origin.place)
+        extract(alloc, found, origin.index)
     }
 }
 
@@ -80,19 +80,19 @@ fn merge_points<C: Criterion>(
     points: &[Point<C::V>],
     number: usize,
     best: &mut Bag<C>,
-    origins: &mut Vec<Origin>,
+    origins: &mut Vec<PointSource>,
 ) -> Result<(), AllocError>
     requires { (p : _) → Contains points.now p → Admits (C.rules (criterion_of best.old)) p.value }
     ensures under { OnOk result (criterion_of best.new ≡ criterion_of best.old) }
     ensures merges { OnOk result (MergesFirst (C.rules (criterion_of best.old)) points.now number (length points.now)
         (points_of best.old) origins.old.items (points_of best.new) origins.new.items) }
 {
-    for place in 0..points.len() {
-        let point = points[place];
+    for index in 0..points.len() {
+        let point = points[index];
         let tag = origins.len();
-        origins.push(Origin {
+        origins.push(PointSource {
             found: number,
-            place,
+            index,
         })?;
         best.insert(point.departure, point.value, tag)?;
     }

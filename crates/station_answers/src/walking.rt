@@ -15,8 +15,8 @@ pub fn direct_walk<S: ConnSource>(source: &S, query: &Between) -> Option<Footpat
     ensures { IsDirectWalk (S.timetable source.now) (question query.now) result }
 {
     let mut best = None;
-    for place in 0..query.sources.len() {
-        let next = shorter_from(source, query, place, best);
+    for index in 0..query.sources.len() {
+        let next = shorter_from(source, query, index, best);
         best = next;
     }
     best
@@ -26,17 +26,17 @@ pub fn direct_walk<S: ConnSource>(source: &S, query: &Between) -> Option<Footpat
 fn shorter_from<S: ConnSource>(
     source: &S,
     query: &Between,
-    place: usize,
+    index: usize,
     before: Option<Footpath>,
 ) -> Option<Footpath>
     requires askable { IsAskableBetween (S.timetable source.now).stops (question query.now) }
-    requires place { place < length (question query.now).sources }
-    requires before { IsLeastBefore (S.timetable source.now) (question query.now) place 0 before }
-    ensures { IsLeastBefore (S.timetable source.now) (question query.now) (place + 1) 0 result }
+    requires index { index < length (question query.now).sources }
+    requires before { IsLeastBefore (S.timetable source.now) (question query.now) index 0 before }
+    ensures { IsLeastBefore (S.timetable source.now) (question query.now) (index + 1) 0 result }
 {
     let mut best = before;
     for other in 0..query.targets.len() {
-        let from = query.sources[place];
+        let from = query.sources[index];
         let to = query.targets[other];
         let footpath = footpath_between(source, from, to);
         let next = shorter_of(best, footpath);
@@ -77,8 +77,8 @@ fn footpath_between<S: ConnSource>(source: &S, from: u32, to: u32) -> Option<Foo
     ensures { IsFootpathBetween (S.timetable source.now) from to result }
 {
     let (start, end) = source.walks_into(to as usize);
-    for place in start..end {
-        let footpath = source.footpath_into(to as usize, place);
+    for index in start..end {
+        let footpath = source.footpath_into(to as usize, index);
         if footpath.from == from {
             return Some(footpath);
         }

@@ -4,12 +4,12 @@ ghost use Rattle.std.specs.Prelude.{◌≡◌};
 
 use crate::sessions::{Solo, image, image_of, lines_of, solo_of};
 use crate::streams::{taker_of, whole};
-use criteria::ToldValue;
-use epochs::{Named, SoloShelves};
+use criteria::Figures;
+use epochs::{ShelvesName, SoloShelves};
 use image_layout::second_sample_words;
 use image_verifier::Verified;
 use session::{Desk, OpenGate, PointForm, ReplyForm, SoloOrders, Streams};
-use session_texts::{JourneyLegs, Points, RideTold, WalkTold};
+use session_texts::{JourneyLegs, Points, RideLeg, WalkLeg};
 use std::alloc::{AllocError, Global};
 use std::marker::Brand;
 use std::process::Abort;
@@ -25,7 +25,12 @@ const BY_ARRIVAL: &str =
     "{\"do\":\"profile\",\"from\":\"A\",\"to\":\"C\",\"after\":\"07:00:00\",\"until\":\"09:00:00\",\"by\":\"10:00:00\",\"criterion\":\"arrival\"}";
 
 // Serves a session whose profiles are replied to in this form, and returns what was written.
-fn replied_at<B: Named>(alloc: Global, solo: Solo, form: PointForm, requests: &[u8]) -> Vec<u8>
+fn replied_at<B: ShelvesName>(
+    alloc: Global,
+    solo: Solo,
+    form: PointForm,
+    requests: &[u8],
+) -> Vec<u8>
     requires { (solo.shelves ≡ B.table) × (solo.loader.table ≡ B.table) × (solo.seat.table ≡ B.table) }
 {
     let (shelves, loader, mut seat) = SoloShelves::<B>::of(solo.shelves, solo.loader, solo.seat);
@@ -107,8 +112,8 @@ fn a_walk_a_quote_and_a_repeat(rt: HostRuntime) -> Result<(), Fail> {
     Ok(())
 }
 
-fn ride_of(alloc: Global, trip: &str, from: &str, to: &str) -> Result<RideTold, AllocError> {
-    Ok(RideTold {
+fn ride_of(alloc: Global, trip: &str, from: &str, to: &str) -> Result<RideLeg, AllocError> {
+    Ok(RideLeg {
         trip: String::from_str(alloc, trip)?,
         day: 20_240_115,
         repeat: 0,
@@ -119,8 +124,8 @@ fn ride_of(alloc: Global, trip: &str, from: &str, to: &str) -> Result<RideTold, 
     })
 }
 
-fn walk_of(alloc: Global, from: &str, to: &str) -> Result<WalkTold, AllocError> {
-    Ok(WalkTold {
+fn walk_of(alloc: Global, from: &str, to: &str) -> Result<WalkLeg, AllocError> {
+    Ok(WalkLeg {
         from: String::from_str(alloc, from)?,
         to: String::from_str(alloc, to)?,
         secs: 7,
@@ -129,13 +134,13 @@ fn walk_of(alloc: Global, from: &str, to: &str) -> Result<WalkTold, AllocError> 
 
 // The reply of one point with these legs.
 fn line_of(alloc: Global, legs: JourneyLegs) -> Result<String, AllocError> {
-    let told = ToldValue {
+    let figures = Figures {
         arrival: 86_400,
         trips: None,
         walked: None,
     };
     let mut points = Points::new(alloc);
-    points.add_with_legs(alloc, 28_800, told, String::new(alloc), legs)?;
+    points.add_with_legs(alloc, 28_800, figures, String::new(alloc), legs)?;
     points.profile_line(alloc, 1, None)
 }
 
@@ -170,7 +175,7 @@ fn line_to(alloc: Global, name: &str) -> Result<String, AllocError> {
 
 /// A name of 60,000 bytes is told whole.
 #[test]
-fn a_long_name_is_told_whole(rt: HostRuntime) -> Result<(), AllocError> {
+fn a_long_name_is_reported_whole(rt: HostRuntime) -> Result<(), AllocError> {
     let name = "n".repeat(rt.alloc(), 60_000)?;
     let line = line_to(rt.alloc(), name.as_str())?;
     assert!(rt; line.as_str().contains(name.as_str()));

@@ -1,9 +1,9 @@
 //! Small pictures, part by part.
 
 use answer_pictures::{
-    Axis, Heading, JourneyLine, Stretch, Way, heading_of, journey_line, picture,
+    Axis, Heading, JourneyLine, Stretch, StretchKind, heading_of, journey_line, picture,
 };
-use criteria::{CriterionName, ToldValue};
+use criteria::{CriterionName, Figures};
 use image_layout::sample_words;
 use image_verifier::{Verified, verify};
 use std::alloc::{AllocError, Global};
@@ -13,7 +13,7 @@ use timetable::{Footpath, Journey, Leg, Query, Ride};
 
 fn stretch(
     alloc: Global,
-    way: Way,
+    way: StretchKind,
     times: (u32, u32),
     trip: &str,
     to: &str,
@@ -39,9 +39,9 @@ fn heading(alloc: Global, from: &str) -> Result<Heading, AllocError> {
 /// A ride from 08:00 to 08:10, and a walk until 08:12.
 fn small_line(alloc: Global, note: &str) -> Result<JourneyLine, AllocError> {
     let mut stretches = Vec::new(alloc);
-    let ride = stretch(alloc, Way::Ride, (28800, 29400), "T1 & T2", "B")?;
+    let ride = stretch(alloc, StretchKind::Ride, (28800, 29400), "T1 & T2", "B")?;
     stretches.push(ride)?;
-    let walk = stretch(alloc, Way::Walk, (29400, 29520), "", "<B>\u{1}")?;
+    let walk = stretch(alloc, StretchKind::Walk, (29400, 29520), "", "<B>\u{1}")?;
     stretches.push(walk)?;
     Ok(JourneyLine {
         departure: 28800,
@@ -144,7 +144,7 @@ fn what_is_left_out_is_counted(rt: HostRuntime) -> Result<(), Fail> {
 
 /// Whichever growth is refused, the test ends with `AllocError`.
 #[test]
-fn refused_growth_is_told(rt: HostRuntime) -> Result<(), Fail> {
+fn refused_growth_is_reported(rt: HostRuntime) -> Result<(), Fail> {
     let text = small_picture(rt.alloc(), "A", "B")?;
     assert!(rt; text.ends_with("</svg>\n"));
     Ok(())
@@ -189,12 +189,12 @@ fn changing(alloc: Global) -> Result<Journey, AllocError> {
 
 /// The line of that journey.
 fn changing_line(alloc: Global, image: &Verified) -> Result<JourneyLine, Fail> {
-    let told = ToldValue {
+    let figures = Figures {
         arrival: 30000,
         trips: Some(2),
         walked: None,
     };
-    Ok(journey_line(alloc, image, 28800, told, &changing(alloc)?)?)
+    Ok(journey_line(alloc, image, 28800, figures, &changing(alloc)?)?)
 }
 
 /// From A to C, departing between 08:00 and 09:00, by 10:00.

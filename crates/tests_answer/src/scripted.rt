@@ -4,8 +4,8 @@ ghost use Rattle.std.specs.Prelude.{◌≡◌};
 
 use crate::sessions::{Solo, feed_of, image, solo_of, talked};
 use crate::streams::{Pieces, Taker, taker_of};
-use epochs::{Loads, Named, NamedNotice, SoloShelves};
-use orders::{Gate, OrderFault, Ordered, Orders};
+use epochs::{Loads, NamedNotice, ShelvesName, SoloShelves};
+use orders::{Gate, OrderFault, OrderRecord, Orders};
 use session::{Desk, Ended, FeedImage, OpenGate, SessionFault, Streams};
 use std::alloc::{AllocError, Global};
 use std::io;
@@ -18,7 +18,7 @@ use timetable::Trace;
 
 // What a line asks.
 #[derive(Clone, Copy, PartialEq, Eq)]
-enum Asked {
+enum LineRequest {
     Pin,
     Release,
     Profile,
@@ -29,37 +29,37 @@ enum Asked {
     Long,
 }
 
-const KINDS: [Asked; 12] = [
-    Asked::Pin,
-    Asked::Profile,
-    Asked::Load("slow"),
-    Asked::Release,
-    Asked::Profile,
-    Asked::Pin,
-    Asked::Load("fast"),
-    Asked::NoJson,
-    Asked::Load("none"),
-    Asked::NoRequest,
-    Asked::Wait("slow"),
-    Asked::Wait("fast"),
+const KINDS: [LineRequest; 12] = [
+    LineRequest::Pin,
+    LineRequest::Profile,
+    LineRequest::Load("slow"),
+    LineRequest::Release,
+    LineRequest::Profile,
+    LineRequest::Pin,
+    LineRequest::Load("fast"),
+    LineRequest::NoJson,
+    LineRequest::Load("none"),
+    LineRequest::NoRequest,
+    LineRequest::Wait("slow"),
+    LineRequest::Wait("fast"),
 ];
 
-const SHORT: [Asked; 11] = [
-    Asked::Pin,
-    Asked::Load("slow"),
-    Asked::Profile,
-    Asked::Release,
-    Asked::Profile,
-    Asked::NoJson,
-    Asked::Pin,
-    Asked::Pin,
-    Asked::Load("none"),
-    Asked::Release,
-    Asked::Release,
+const SHORT: [LineRequest; 11] = [
+    LineRequest::Pin,
+    LineRequest::Load("slow"),
+    LineRequest::Profile,
+    LineRequest::Release,
+    LineRequest::Profile,
+    LineRequest::NoJson,
+    LineRequest::Pin,
+    LineRequest::Pin,
+    LineRequest::Load("none"),
+    LineRequest::Release,
+    LineRequest::Release,
 ];
 
 /// A line that is too long, between two pins.
-const LONG: [Asked; 3] = [Asked::Pin, Asked::Long, Asked::Pin];
+const LONG: [LineRequest; 3] = [LineRequest::Pin, LineRequest::Long, LineRequest::Pin];
 
 // The feeds that may be ordered, each entry once, in this order.
 const FEEDS: [&str; 3] = ["slow", "fast", "slow"];
@@ -95,16 +95,16 @@ impl Shown {
     }
 
     // Adds the reply to a line.
-    fn answer(&mut self, asked: Asked, replies: &mut String) -> Result<(), AllocError> {
+    fn answer(&mut self, asked: LineRequest, replies: &mut String) -> Result<(), AllocError> {
         match asked {
-            Asked::Pin => self.pin(replies),
-            Asked::Release => self.release(replies),
-            Asked::Profile => self.profile(replies),
-            Asked::Load(feed) => self.load(feed, false, replies),
-            Asked::Wait(feed) => self.load(feed, true, replies),
-            Asked::NoJson => refuse(111, "BadJson", replies),
-            Asked::NoRequest => refuse(112, "BadRequest", replies),
-            Asked::Long => refuse(113, "LineTooLong", replies),
+            LineRequest::Pin => self.pin(replies),
+            LineRequest::Release => self.release(replies),
+            LineRequest::Profile => self.profile(replies),
+            LineRequest::Load(feed) => self.load(feed, false, replies),
+            LineRequest::Wait(feed) => self.load(feed, true, replies),
+            LineRequest::NoJson => refuse(111, "BadJson", replies),
+            LineRequest::NoRequest => refuse(112, "BadRequest", replies),
+            LineRequest::Long => refuse(113, "LineTooLong", replies),
         }
     }
 
@@ -145,11 +145,11 @@ impl Shown {
         waits: bool,
         replies: &mut String,
     ) -> Result<(), AllocError> {
-        let Some(place) = self.left.iter().position(|one| *one == feed) else {
+        let Some(index) = self.left.iter().position(|one| *one == feed) else {
             return refuse(114, "UnknownFeed", replies);
         };
         if self.is_publishing {
-            self.left.remove(place);
+            self.left.remove(index);
             self.published.push(feed)?;
         }
         if !waits {
@@ -168,19 +168,19 @@ fn refuse(number: u32, name: &str, replies: &mut String) -> Result<(), AllocErro
 }
 
 // Adds the line that asks this.
-fn ask(asked: Asked, requests: &mut String) -> Result<(), AllocError> {
+fn ask(asked: LineRequest, requests: &mut String) -> Result<(), AllocError> {
     match asked {
-        Asked::Pin => requests.push_str("{\"do\":\"pin\"}\n"),
-        Asked::Release => requests.push_str("{\"do\":\"release\"}\n"),
-        Asked::Profile => requests.push_str(PROFILE),
-        Asked::Load(feed) => write!(requests, "{{\"do\":\"load\",\"feed\":\"{feed}\"}}\n"),
-        Asked::Wait(feed) => write!(
+        LineRequest::Pin => requests.push_str("{\"do\":\"pin\"}\n"),
+        LineRequest::Release => requests.push_str("{\"do\":\"release\"}\n"),
+        LineRequest::Profile => requests.push_str(PROFILE),
+        LineRequest::Load(feed) => write!(requests, "{{\"do\":\"load\",\"feed\":\"{feed}\"}}\n"),
+        LineRequest::Wait(feed) => write!(
             requests,
             "{{\"do\":\"load\",\"feed\":\"{feed}\",\"wait\":true}}\n"
         ),
-        Asked::NoJson => requests.push_str("{\"do\":\"pi\n"),
-        Asked::NoRequest => requests.push_str("{\"do\":\"pie\"}\n"),
-        Asked::Long => add_long(requests),
+        LineRequest::NoJson => requests.push_str("{\"do\":\"pi\n"),
+        LineRequest::NoRequest => requests.push_str("{\"do\":\"pie\"}\n"),
+        LineRequest::Long => add_long(requests),
     }
 }
 
@@ -209,13 +209,13 @@ impl Script {
         })
     }
 
-    fn add(&mut self, asked: Asked) -> Result<(), AllocError> {
+    fn add(&mut self, asked: LineRequest) -> Result<(), AllocError> {
         ask(asked, &mut self.requests)?;
         self.shown.answer(asked, &mut self.replies)
     }
 }
 
-fn script_of(alloc: Global, lines: &[Asked]) -> Result<Script, AllocError> {
+fn script_of(alloc: Global, lines: &[LineRequest]) -> Result<Script, AllocError> {
     let mut script = Script::new(alloc)?;
     for asked in lines {
         script.add(*asked)?;
@@ -234,7 +234,7 @@ fn feeds(alloc: Global) -> Result<Vec<FeedImage>, Fail> {
 }
 
 // The outcome of a session over new shelves, and what is written.
-fn told<In: Read + Drop>(
+fn reported<In: Read + Drop>(
     alloc: Global,
     reader: In,
 ) -> Result<(Result<Ended, SessionFault>, Taker), Fail> {
@@ -271,8 +271,8 @@ fn drawn(alloc: Global, dice: &mut Dice) -> Result<Script, AllocError> {
 }
 
 // Whether a session ended, and wrote the replies that the model predicts.
-fn is_answered(script: &Script, told: &(Result<Ended, SessionFault>, Taker)) -> bool {
-    let (ended, taker) = told;
+fn is_answered(script: &Script, reported: &(Result<Ended, SessionFault>, Taker)) -> bool {
+    let (ended, taker) = reported;
     *ended == Ok(Ended) && taker.taken.as_slice() == script.replies.as_bytes()
 }
 
@@ -286,7 +286,7 @@ fn drawn_sessions_are_answered(rt: HostRuntime) -> Result<(), Fail> {
             most: 100,
             is_failing: false,
         };
-        assert!(rt; is_answered(&script, &told(rt.alloc(), reader)?));
+        assert!(rt; is_answered(&script, &reported(rt.alloc(), reader)?));
     }
     Ok(())
 }
@@ -313,12 +313,12 @@ impl Read for Halves<'_> {
 }
 
 // Asserts that the requests are answered if they come in two reads, the first of which ends at this byte.
-fn cut_at<R: Abort>(rt: &R, alloc: Global, script: &Script, place: usize) -> Result<(), Fail> {
+fn cut_at<R: Abort>(rt: &R, alloc: Global, script: &Script, index: usize) -> Result<(), Fail> {
     let bytes = script.requests.as_bytes();
-    let (front, back) = bytes.split_at(bytes.len().min(place));
+    let (front, back) = bytes.split_at(bytes.len().min(index));
     assert!(rt;
-        is_answered(script, &told(alloc, Halves { front, back })?),
-        "at {place}"
+        is_answered(script, &reported(alloc, Halves { front, back })?),
+        "at {index}"
     );
     Ok(())
 }
@@ -326,8 +326,8 @@ fn cut_at<R: Abort>(rt: &R, alloc: Global, script: &Script, place: usize) -> Res
 #[test]
 fn lines_may_be_cut_anywhere(rt: HostRuntime) -> Result<(), Fail> {
     let script = script_of(rt.alloc(), &SHORT)?;
-    for place in 0..script.requests.len() {
-        cut_at(&rt, rt.alloc(), &script, place)?;
+    for index in 0..script.requests.len() {
+        cut_at(&rt, rt.alloc(), &script, index)?;
     }
     Ok(())
 }
@@ -336,8 +336,8 @@ fn lines_may_be_cut_anywhere(rt: HostRuntime) -> Result<(), Fail> {
 #[test]
 fn a_long_line_may_be_cut(rt: HostRuntime) -> Result<(), Fail> {
     let script = script_of(rt.alloc(), &LONG)?;
-    for place in [13, 14, 65_548, 65_549, 65_550, 65_551] {
-        cut_at(&rt, rt.alloc(), &script, place)?;
+    for index in [13, 14, 65_548, 65_549, 65_550, 65_551] {
+        cut_at(&rt, rt.alloc(), &script, index)?;
     }
     Ok(())
 }
@@ -355,19 +355,19 @@ fn answers_whole_lines(script: &Script, taken: &[u8], read: &[u8]) -> bool {
 }
 
 /// The reader of a session fails after so many bytes: each whole line before is answered, and the session fails.
-fn fails_at<R: Abort>(rt: &R, alloc: Global, script: &Script, place: usize) -> Result<(), Fail> {
+fn fails_at<R: Abort>(rt: &R, alloc: Global, script: &Script, index: usize) -> Result<(), Fail> {
     let bytes = script.requests.as_bytes();
-    let (front, _) = bytes.split_at(bytes.len().min(place));
+    let (front, _) = bytes.split_at(bytes.len().min(index));
     let reader = Pieces {
         rest: front,
         most: 7,
         is_failing: true,
     };
-    let (ended, taker) = told(alloc, reader)?;
+    let (ended, taker) = reported(alloc, reader)?;
     assert!(rt; ended == Err(SessionFault::ReadFailed));
     assert!(rt;
         answers_whole_lines(script, &taker.taken, front),
-        "at {place}"
+        "at {index}"
     );
     Ok(())
 }
@@ -375,8 +375,8 @@ fn fails_at<R: Abort>(rt: &R, alloc: Global, script: &Script, place: usize) -> R
 #[test]
 fn a_read_may_fail_anywhere(rt: HostRuntime) -> Result<(), Fail> {
     let script = script_of(rt.alloc(), &SHORT)?;
-    for place in 0..script.requests.len() {
-        fails_at(&rt, rt.alloc(), &script, place)?;
+    for index in 0..script.requests.len() {
+        fails_at(&rt, rt.alloc(), &script, index)?;
     }
     Ok(())
 }
@@ -386,8 +386,8 @@ fn a_read_may_fail_anywhere(rt: HostRuntime) -> Result<(), Fail> {
 #[test]
 fn a_read_may_fail_in_a_long_line(rt: HostRuntime) -> Result<(), Fail> {
     let script = script_of(rt.alloc(), &LONG)?;
-    for place in [13, 14, 4_096, 65_548, 65_549, 65_550, 65_551, 65_560] {
-        fails_at(&rt, rt.alloc(), &script, place)?;
+    for index in [13, 14, 4_096, 65_548, 65_549, 65_550, 65_551, 65_560] {
+        fails_at(&rt, rt.alloc(), &script, index)?;
     }
     Ok(())
 }
@@ -462,13 +462,13 @@ fn scans_are_left_behind_their_replies(rt: HostRuntime) -> Result<(), Fail> {
     Ok(())
 }
 
-const GROWING: [Asked; 6] = [
-    Asked::Profile,
-    Asked::Load("slow"),
-    Asked::Pin,
-    Asked::Wait("slow"),
-    Asked::Profile,
-    Asked::Release,
+const GROWING: [LineRequest; 6] = [
+    LineRequest::Profile,
+    LineRequest::Load("slow"),
+    LineRequest::Pin,
+    LineRequest::Wait("slow"),
+    LineRequest::Profile,
+    LineRequest::Release,
 ];
 
 // The script in which memory is wanting for this line, so that the line has no effect. A second version is there from
@@ -477,8 +477,8 @@ fn wanting_at(alloc: Global, line: usize) -> Result<Script, AllocError> {
     let mut script = Script::new(alloc)?;
     script.shown.published.push("slow")?;
     script.shown.is_publishing = false;
-    for (place, asked) in GROWING.iter().enumerate() {
-        if place == line {
+    for (index, asked) in GROWING.iter().enumerate() {
+        if index == line {
             ask(*asked, &mut script.requests)?;
             refuse(116, "OutOfMemory", &mut script.replies)?;
         } else {
@@ -488,7 +488,7 @@ fn wanting_at(alloc: Global, line: usize) -> Result<Script, AllocError> {
     Ok(script)
 }
 
-fn is_told_by_one(scripts: &[Script], replies: &[u8]) -> bool {
+fn is_reported_by_one(scripts: &[Script], replies: &[u8]) -> bool {
     scripts
         .iter()
         .any(|script| script.replies.as_bytes() == replies)
@@ -497,40 +497,40 @@ fn is_told_by_one(scripts: &[Script], replies: &[u8]) -> bool {
 // Orders that take no memory. Those that nobody waits for are counted; an order that is waited for is answered with a
 // version that was there before.
 #[derive(Drop)]
-struct OrderCount<B: Named> {
+struct OrderCount<B: ShelvesName> {
     count: usize,
     notice: Option<NamedNotice<B>>,
-    asked: Trace<Ordered>,
+    asked: Trace<OrderRecord>,
 }
 
-impl<B: Named> Orders for OrderCount<B> {
+impl<B: ShelvesName> Orders for OrderCount<B> {
     type Notice = NamedNotice<B>;
 
     ghost route = { λ _. tt };
 
     ghost asked = { λ orders. orders.asked };
 
-    ghost told = { λ notice. notice.version };
+    ghost notice_version = { λ notice. notice.version };
 
     fn order(&mut self, feed: &str) -> Result<(), OrderFault> {
         self.count = self.count.saturating_add(1);
-        self.asked.note(&Ordered::put(feed, Ok(())));
+        self.asked.note(&OrderRecord::put(feed, Ok(())));
         Ok(())
     }
 
     fn order_wait(&mut self, feed: &str) -> Result<(u64, NamedNotice<B>), OrderFault> {
-        let told = match self.notice.take() {
+        let reported = match self.notice.take() {
             Some(notice) => Ok((notice.version(), notice)),
             None => Err(OrderFault::UnknownFeed),
         };
-        self.asked.note(&Ordered::waited(feed, &told));
-        told
+        self.asked.note(&OrderRecord::waited(feed, &reported));
+        reported
     }
 }
 
 // Publishes a second version at these shelves and serves the requests: the outcome, what was written, and how many
 // orders nobody waited for.
-fn counting_at<B: Named>(
+fn counting_at<B: ShelvesName>(
     alloc: Global,
     solo: Solo,
     requests: &[u8],
@@ -569,7 +569,7 @@ fn counting(
 }
 
 // How many replies tell of a load for which nobody waits.
-fn loads_told(replies: &[u8]) -> usize {
+fn loads_reported(replies: &[u8]) -> usize {
     str::from_utf8(replies)
         .unwrap_or("?")
         .lines()
@@ -594,8 +594,8 @@ fn answers_or_wants<R: Abort>(
     wanting: &[Script],
 ) -> Result<(), Fail> {
     let (ended, taker, ordered) = counting(alloc, whole.requests.as_bytes())?;
-    assert!(rt; ended == Ok(Ended) && ordered == loads_told(&taker.taken));
-    if is_told_by_one(wanting, &taker.taken) {
+    assert!(rt; ended == Ok(Ended) && ordered == loads_reported(&taker.taken));
+    if is_reported_by_one(wanting, &taker.taken) {
         return Err(AllocError.into());
     }
     assert!(rt; taker.taken.as_slice() == whole.replies.as_bytes());
@@ -606,7 +606,7 @@ fn answers_or_wants<R: Abort>(
 /// ever, a pin that can't be told is given back, and a load that can't be told isn't ordered. A refused growth ends the
 /// test with `AllocError`.
 #[test]
-fn refused_growth_is_told_by_a_reply(rt: HostRuntime) -> Result<(), Fail> {
+fn refused_growth_is_reported_by_a_reply(rt: HostRuntime) -> Result<(), Fail> {
     let whole = wanting_at(rt.alloc(), GROWING.len())?;
     let wanting = all_wanting(rt.alloc())?;
     answers_or_wants(&rt, rt.alloc(), &whole, &wanting)

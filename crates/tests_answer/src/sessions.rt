@@ -5,10 +5,10 @@ mod cuts;
 ghost use Rattle.std.specs.Prelude.{◌≡◌, IfOk, Ok};
 
 use crate::streams::{Answers, Asker, Endless, Pieces, Taker, failing_at, taker_of, whole};
-use epochs::{Named, ShelfLoader, ShelfSeat, Shelves, SoloShelves};
+use epochs::{ShelfLoader, ShelfSeat, Shelves, ShelvesName, SoloShelves};
 use image_layout::sample_words;
 use image_verifier::{Verified, verify};
-use orders::{Gate, OrderFault, Ordered, Orders};
+use orders::{Gate, OrderFault, OrderRecord, Orders};
 use session::{
     Counted, Desk, Ended, FeedImage, OpenGate, SessionFault, SoloOrders, Streams, serve,
 };
@@ -76,8 +76,8 @@ fn image_with_a_footpath(alloc: Global) -> Result<Arc<Verified, Global>, Fail> {
     let mut words = front.to_vec(alloc)?;
     words.extend_from_slice(&[1, 900])?;
     words.extend_from_slice(back)?;
-    for place in [5, 30] {
-        if let Some(word) = words.get_mut(place) {
+    for index in [5, 30] {
+        if let Some(word) = words.get_mut(index) {
             *word = 4;
         }
     }
@@ -210,7 +210,7 @@ pub(crate) fn talked<In: Read + Drop, Out: Write + Drop, G: Gate>(
 }
 
 // The same over these shelves.
-fn talked_at<B: Named, In: Read + Drop, Out: Write + Drop, G: Gate>(
+fn talked_at<B: ShelvesName, In: Read + Drop, Out: Write + Drop, G: Gate>(
     alloc: Global,
     solo: Solo,
     feeds: Vec<FeedImage>,
@@ -229,8 +229,12 @@ fn talked_at<B: Named, In: Read + Drop, Out: Write + Drop, G: Gate>(
 }
 
 // Asserts that the session ended, and wrote these replies.
-fn assert_replies(rt: &impl Abort, told: &(Result<Ended, SessionFault>, Vec<u8>), replies: &str) {
-    let (ended, written) = told;
+fn assert_replies(
+    rt: &impl Abort,
+    reported: &(Result<Ended, SessionFault>, Vec<u8>),
+    replies: &str,
+) {
+    let (ended, written) = reported;
     assert!(rt; *ended == Ok(Ended));
     assert_eq!(rt; str::from_utf8(written).unwrap_or("?"), replies);
 }
@@ -250,8 +254,8 @@ fn any_reads_give_the_same_replies(rt: HostRuntime) -> Result<(), Fail> {
 }
 
 // Whether the session failed at a write after so many bytes of the replies.
-fn is_cut(told: &(Result<Ended, SessionFault>, Vec<u8>), room: usize) -> bool {
-    let (ended, written) = told;
+fn is_cut(reported: &(Result<Ended, SessionFault>, Vec<u8>), room: usize) -> bool {
+    let (ended, written) = reported;
     let is_front = REPLIES.as_bytes().starts_with(written) && written.len() == room;
     is_front && *ended == Err(SessionFault::WriteFailed)
 }
@@ -262,8 +266,8 @@ fn a_writer_that_fails_ends_the_session(rt: HostRuntime) -> Result<(), Fail> {
     let bytes = requests(rt.alloc())?;
     for number in 0..2 * REPLIES.len() {
         let room = number / 2;
-        let told = served(rt.alloc(), whole(&bytes), room, number % 2 == 1)?;
-        assert!(rt; is_cut(&told, room), "{room} bytes");
+        let reported = served(rt.alloc(), whole(&bytes), room, number % 2 == 1)?;
+        assert!(rt; is_cut(&reported, room), "{room} bytes");
     }
     Ok(())
 }
@@ -371,7 +375,7 @@ fn walked(alloc: Global, bytes: &[u8]) -> Result<(Result<Ended, SessionFault>, V
 
 /// Walked seconds are told if the criterion counts them: after the last ride, and for a loop on the way.
 #[test]
-fn walked_seconds_are_told(rt: HostRuntime) -> Result<(), Fail> {
+fn walked_seconds_are_reported(rt: HostRuntime) -> Result<(), Fail> {
     let alloc: Global = rt.alloc();
     let bytes = lines_of(alloc, &[BY_WALKING, LOAD, BY_WALKING])?;
     assert_replies(&rt, &walked(alloc, &bytes)?, WALKED_REPLIES);
@@ -404,7 +408,7 @@ fn a_load_is_waited_for(rt: HostRuntime) -> Result<(), Fail> {
 struct Overtaken<O> {
     orders: O,
     fault: Option<OrderFault>,
-    asked: Trace<Ordered>,
+    asked: Trace<OrderRecord>,
 }
 
 impl<N: Drop, O: Orders<Notice = N>> Orders for Overtaken<O> {
@@ -414,38 +418,38 @@ impl<N: Drop, O: Orders<Notice = N>> Orders for Overtaken<O> {
 
     ghost asked = { λ orders. orders.asked };
 
-    ghost told = { O.told };
+    ghost notice_version = { O.notice_version };
 
     fn order(&mut self, feed: &str) -> Result<(), OrderFault> {
         let taken = self.orders.order(feed);
-        self.asked.note(&Ordered::put(feed, taken));
+        self.asked.note(&OrderRecord::put(feed, taken));
         taken
     }
 
     fn order_wait(&mut self, feed: &str) -> Result<(u64, N), OrderFault> {
-        let told = self.orders.order_wait(feed);
+        let reported = self.orders.order_wait(feed);
         let _ = self.orders.order(feed);
         let _ = self.orders.order(feed);
-        let told = kept_back(told, self.fault);
-        self.asked.note(&Ordered::waited(feed, &told));
-        told
+        let reported = kept_back(reported, self.fault);
+        self.asked.note(&OrderRecord::waited(feed, &reported));
+        reported
     }
 }
 
 // What is told; or instead this fault, if there is one.
 fn kept_back<N: Drop>(
-    told: Result<(u64, N), OrderFault>,
+    reported: Result<(u64, N), OrderFault>,
     fault: Option<OrderFault>,
 ) -> Result<(u64, N), OrderFault>
-    ensures { IfOk result (λ r. told ≡ Ok r) }
+    ensures { IfOk result (λ r. reported ≡ Ok r) }
 {
     match fault {
         Some(fault) => Err(fault),
-        None => told,
+        None => reported,
     }
 }
 
-fn overtaken_at<B: Named>(
+fn overtaken_at<B: ShelvesName>(
     alloc: Global,
     solo: Solo,
     feeds: Vec<FeedImage>,
@@ -535,7 +539,7 @@ const FAULTS: [(OrderFault, &str); 5] = [
 
 /// Each fault is told. A version may still have been published, and is pinned then.
 #[test]
-fn faults_are_told_to_who_waits(rt: HostRuntime) -> Result<(), Fail> {
+fn faults_are_reported_to_who_waits(rt: HostRuntime) -> Result<(), Fail> {
     for (fault, line) in FAULTS.iter() {
         let replies = waited_and_pinned(rt.alloc(), 1, Some(*fault))?;
         assert!(rt; tells_and_pins(&replies, *line), "{line}");

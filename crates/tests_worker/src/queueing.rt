@@ -3,7 +3,7 @@
 ghost use Rattle.std.specs.Prelude.{◌≡◌, []};
 ghost use Rattle.load_orders.specs.Telling.{AllAnswered};
 
-use epochs::{Answer, Edition, PinFault, Versions};
+use epochs::{Edition, PinFault, SeatAnswer, Versions};
 use load_orders::{
     LoadAnswer, LoaderOrders, OrderFault, OrderKeeper, Orders, WorkerOrders, order_queue,
 };
@@ -19,7 +19,7 @@ use timetable::Trace;
 /// A seat at which nobody pins.
 #[derive(Drop)]
 struct Listener {
-    answers: Trace<Answer>,
+    answers: Trace<SeatAnswer>,
     seen: u64,
 }
 
@@ -57,7 +57,7 @@ impl<'a, R: Wait> Versions for Numbers<'a, R> {
     }
 
     fn release(&self, seat: &mut Listener) -> Result<(), PinFault> {
-        seat.answers.note(&Answer::ReleaseRefused {
+        seat.answers.note(&SeatAnswer::ReleaseRefused {
             fault: PinFault::NotPinned,
         });
         Err(PinFault::NotPinned)
@@ -145,7 +145,7 @@ fn take_and_answer<R: Wait>(rt: &R, orders: &mut LoaderOrders<u64>) -> &'static 
 
 /// The end that keeps a queue, two workers' ends and the loader's, while they are there.
 #[derive(Drop)]
-struct Ends<'a, R: Wait> {
+struct QueueEnds<'a, R: Wait> {
     keeper: Option<OrderKeeper<u64>>,
     workers: Vec<Worker<'a, R>>,
     loader: Option<Loader>,
@@ -156,7 +156,7 @@ fn new_ends<'a, R: Wait>(
     alloc: Global,
     names: &'a [String],
     shelves: &'a Numbers<'a, R>,
-) -> Result<Ends<'a, R>, AllocError> {
+) -> Result<QueueEnds<'a, R>, AllocError> {
     let rt = shelves.rt;
     let (mut keeper, loader) = order_queue(alloc)?;
     let one = keeper.another_end()?;
@@ -164,7 +164,7 @@ fn new_ends<'a, R: Wait>(
     let mut workers = Vec::with_capacity(alloc, 2)?;
     workers.push(WorkerOrders::new(rt, alloc, names, shelves, one))?;
     workers.push(WorkerOrders::new(rt, alloc, names, shelves, other))?;
-    Ok(Ends {
+    Ok(QueueEnds {
         keeper: Some(keeper),
         workers,
         loader: Some(Loader::new(loader)),
@@ -191,7 +191,7 @@ fn awaits<R: Wait>(worker: &mut Worker<'_, R>, feed: &str) -> Result<(), OrderFa
     }
 }
 
-impl<'a, R: Wait> Ends<'a, R> {
+impl<'a, R: Wait> QueueEnds<'a, R> {
     /// Does what a line of a script says, and tells the answer.
     ///
     /// | line | what is done |
@@ -225,23 +225,23 @@ impl<'a, R: Wait> Ends<'a, R> {
 
     fn order(&mut self, deed: &str) -> &'static str {
         let (who, order) = deed.split_once(' ').unwrap_or((deed, ""));
-        let place = match who {
+        let index = match who {
             "one" => 0,
             _ => 1,
         };
-        match self.workers.get_mut(place) {
+        match self.workers.get_mut(index) {
             Some(worker) => order_words(worker, order),
             None => "no worker",
         }
     }
 }
 
-fn play_line<R: Wait + Abort>(rt: &R, ends: &mut Ends<'_, R>, line: &str) {
+fn play_line<R: Wait + Abort>(rt: &R, ends: &mut QueueEnds<'_, R>, line: &str) {
     let (deed, expected) = line.split_once(": ").unwrap_or((line, ""));
     assert_eq!(rt; ends.answer(rt, deed), expected, "{line}");
 }
 
-fn play<R: Wait + Abort>(rt: &R, ends: &mut Ends<'_, R>, script: &str) {
+fn play<R: Wait + Abort>(rt: &R, ends: &mut QueueEnds<'_, R>, script: &str) {
     for line in script.split('\n') {
         play_line(rt, ends, line);
     }
@@ -296,7 +296,7 @@ fn play_at_new_ends<R: Wait + Abort>(
 }
 
 /// What a client that waits for the feed `fast` is told if the loader answers this, and which feed the loader was told.
-fn told<R: Threads + Wait + Sync>(
+fn reported<R: Threads + Wait + Sync>(
     rt: &R,
     worker: &mut Worker<'_, R>,
     loader: Loader,
@@ -321,7 +321,7 @@ fn tells<'a, R: Threads + Wait + Sync + Abort>(
     let (mut keeper, loader) = order_queue(alloc)?;
     let end = keeper.another_end()?;
     let mut worker = WorkerOrders::new(rt, alloc, names, shelves, end);
-    let (version, feed) = told(rt, &mut worker, Loader::new(loader), answer);
+    let (version, feed) = reported(rt, &mut worker, Loader::new(loader), answer);
     assert!(rt; version == expected && feed == Some(1));
     Ok(())
 }
@@ -351,7 +351,7 @@ fn each_answer<R: Threads + Wait + Sync + Abort>(
 /// Each answer of the loader reaches the client that waits for it; if there is none, the client is told that the loader
 /// is gone.
 #[test]
-fn answers_are_told(rt: HostRuntime) -> Result<(), Fail> {
+fn answers_are_reported(rt: HostRuntime) -> Result<(), Fail> {
     let names = two_names(rt.alloc())?;
     each_answer(&rt, rt.alloc(), &names)
 }
@@ -408,7 +408,10 @@ loader takes: nothing";
 
 /// An order for which its worker would wait isn't put, since the queue is full, or there is no memory for a way back.
 /// Neither changes the queue.
-fn awaits_at_a_full_queue<R: Wait + Abort>(rt: &R, ends: &mut Ends<'_, R>) -> Result<(), Fail> {
+fn awaits_at_a_full_queue<R: Wait + Abort>(
+    rt: &R,
+    ends: &mut QueueEnds<'_, R>,
+) -> Result<(), Fail> {
     play(rt, ends, FILLED);
     let answer = ends.answer(rt, "other awaits slow");
     play(rt, ends, STILL_FILLED);

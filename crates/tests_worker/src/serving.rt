@@ -10,7 +10,7 @@ ghost use Rattle.epochs.specs.ShelfSeats.{ShelfSeatValue};
 ghost use Rattle.shelf_steps.specs.Events.{known_of};
 ghost use Rattle.workers.specs.Sessions.{MayClose};
 
-use epochs::{Named, PublishFault, ShelfLoader, ShelfSeat, Shelves};
+use epochs::{PublishFault, ShelfLoader, ShelfSeat, Shelves, ShelvesName};
 use feed_files::MemoryFiles;
 use feed_loader::Plan;
 use gtfs_tables::Day;
@@ -123,8 +123,8 @@ impl<'a, R: Wait + Sync> Client for Visitor<'a, R> {
         }
     }
 
-    fn close(_reader: &'static [u8], mut writer: Shared<'a, R>, end: End) {
-        if end == End::Spent {
+    fn close(_reader: &'static [u8], mut writer: Shared<'a, R>, end: SessionEnd) {
+        if end == SessionEnd::Spent {
             let _ = writer.write_all(b"spent\n");
         }
     }
@@ -183,31 +183,31 @@ impl Feeds for TwoFeeds {
         })
     }
 
-    fn files(&self, place: usize) -> Option<MemoryFiles<'static>> {
-        if place == 1 {
+    fn files(&self, index: usize) -> Option<MemoryFiles<'static>> {
+        if index == 1 {
             return Some(MemoryFiles::of(&BAD_FILES));
         }
         Some(MemoryFiles::of(&FILES))
     }
 
-    fn begin(&self, _place: usize) -> Option<Instant> {
+    fn begin(&self, _index: usize) -> Option<Instant> {
         None
     }
 
     fn finish<E: Write>(
         &self,
         errors: &mut E,
-        place: usize,
+        index: usize,
         _begun: Option<Instant>,
-        outcome: Result<Loaded, LoadRefusal>,
+        outcome: Result<LoadedVersion, LoadRefusal>,
     ) {
         let _ = match outcome {
-            Ok(Loaded { version, report }) => write!(
+            Ok(LoadedVersion { version, report }) => write!(
                 errors,
-                "{place}: {version} {} {} {}\n",
+                "{index}: {version} {} {} {}\n",
                 report.stops, report.runs, report.connections
             ),
-            Err(refusal) => write!(errors, "{place}: {}\n", refusal.number()),
+            Err(refusal) => write!(errors, "{index}: {}\n", refusal.number()),
         };
     }
 }
@@ -272,7 +272,7 @@ fn shelves_for(alloc: Global, two: bool) -> Result<(Shelves, ShelfLoader, Vec<Sh
 
 /// How many sessions ended in each way.
 #[derive(Clone, Copy, Debug, PartialEq, Eq)]
-struct Counts {
+struct EndCounts {
     ended: u64,
     failed: u64,
     spent: u64,
@@ -280,7 +280,7 @@ struct Counts {
 
 /// Serves clients over these shelves, under a name, with the two feeds: how their sessions ended.
 fn count_ends<
-    B: Named + Send + Sync,
+    B: ShelvesName + Send + Sync,
     C: Client + Drop + Send,
     K: Clients<C> + Drop,
     G: Gate + Sync,
@@ -296,7 +296,7 @@ fn count_ends<
     gate: &G,
     form: ReplyForm,
     errors: E,
-) -> Result<Counts, AllocError>
+) -> Result<EndCounts, AllocError>
     requires shelves { shelves ≡ B.table }
     requires seats { All (λ seat. seat.table ≡ B.table) seats.items }
     requires loader { loader.table ≡ B.table }
@@ -312,7 +312,7 @@ fn count_ends<
     ) else {
         return Err(AllocError);
     };
-    Ok(Counts {
+    Ok(EndCounts {
         ended: ran.served.ended(),
         failed: ran.served.failed(),
         spent: ran.served.spent(),
@@ -327,22 +327,22 @@ fn serve_all<R: Threads + Wait + Sync + Abort, G: Gate + Sync>(
     two: bool,
     gate: &G,
     form: ReplyForm,
-) -> Result<(Counts, Vec<u8>), Fail> {
+) -> Result<(EndCounts, Vec<u8>), Fail> {
     let (shelves, loader, seats) = shelves_for(alloc, two)?;
-    let told = Mutex::new(Vec::new(alloc));
+    let reported = Mutex::new(Vec::new(alloc));
     let row = Row {
         visitors,
         came: Notes::none(),
     };
     let errors = Shared {
         rt,
-        bytes: &told,
+        bytes: &reported,
         is_gone: false,
     };
     let counts = count_ends::<Brand, _, _, _, _, _>(
         rt, alloc, row, shelves, seats, loader, gate, form, errors,
     )?;
-    Ok((counts, told.into_inner()))
+    Ok((counts, reported.into_inner()))
 }
 
 /// What a visitor does with the replies.
@@ -362,7 +362,7 @@ fn serve_asking<R: Threads + Wait + Sync + Abort, G: Gate + Sync>(
     asking: &[(&'static str, Manner)],
     two: bool,
     gate: &G,
-) -> Result<(Counts, Vec<u8>, Vec<u8>), Fail> {
+) -> Result<(EndCounts, Vec<u8>, Vec<u8>), Fail> {
     serve_in(rt, alloc, asking, two, gate, ReplyForm::of(PointForm::Bare))
 }
 
@@ -374,14 +374,14 @@ fn serve_in<R: Threads + Wait + Sync + Abort, G: Gate + Sync>(
     two: bool,
     gate: &G,
     form: ReplyForm,
-) -> Result<(Counts, Vec<u8>, Vec<u8>), Fail> {
+) -> Result<(EndCounts, Vec<u8>, Vec<u8>), Fail> {
     let bytes = Mutex::new(Vec::new(alloc));
     let mut visitors = Vec::new(alloc);
     for (requests, manner) in asking {
         visitors.push(visitor_of(rt, *requests, *manner, &bytes))?;
     }
-    let (counts, told) = serve_all(rt, alloc, visitors, two, gate, form)?;
-    Ok((counts, bytes.into_inner(), told))
+    let (counts, reported) = serve_all(rt, alloc, visitors, two, gate, form)?;
+    Ok((counts, bytes.into_inner(), reported))
 }
 
 /// A visitor whose replies go to these bytes.
@@ -408,22 +408,22 @@ fn visitor_of<'a, R>(
 /// Asserts how sessions ended, the replies, and what was written to the errors.
 fn assert_served(
     rt: &impl Abort,
-    served: &(Counts, Vec<u8>, Vec<u8>),
+    served: &(EndCounts, Vec<u8>, Vec<u8>),
     ended: u64,
     failed: u64,
     replies: &str,
     errors: &str,
 ) {
-    let (counts, replied, told) = served;
+    let (counts, replied, reported) = served;
     let spent = 0;
-    let wanted = Counts {
+    let wanted = EndCounts {
         ended,
         failed,
         spent,
     };
     assert_eq!(rt; *counts, wanted);
     assert_eq!(rt; str::from_utf8(replied).unwrap_or("?"), replies);
-    assert_eq!(rt; str::from_utf8(told).unwrap_or("?"), errors);
+    assert_eq!(rt; str::from_utf8(reported).unwrap_or("?"), errors);
 }
 
 /// What the loader tells about one load.

@@ -25,7 +25,7 @@ IsFirstFault stops q SameStop = (q.source < stops) × (q.target < stops) × (q.s
 IsFirstFault stops q BadWindow = (q.source < stops) × (q.target < stops) × (q.source ≢ q.target) × HasBadWindow q
 
 -- the number and the name of a fault
-abbrev pub fault_told : QueryFault → ℕ × List ℕ
-fault_told UnknownStop = (31, codes "UnknownStop")
-fault_told SameStop = (32, codes "SameStop")
-fault_told BadWindow = (33, codes "BadWindow")
+abbrev pub numbered_fault : QueryFault → ℕ × List ℕ
+numbered_fault UnknownStop = (31, codes "UnknownStop")
+numbered_fault SameStop = (32, codes "SameStop")
+numbered_fault BadWindow = (33, codes "BadWindow")

@@ -14,4 +14,4 @@ pub use journey::{Journey, Leg, Ride, Times};
 pub use names::{Names, TripName};
 pub use network::{Connection, Footpath, Timetable};
 pub use query::{Query, QueryFault};
-pub use reasoning::{Kept, Trace};
+pub use reasoning::{GhostValue, Trace};

@@ -34,18 +34,18 @@ pub enum QueryFault {
 
 impl QueryFault {
     ghost use Rattle.std.specs.Prelude.{◌≡◌};
-    ghost use Rattle.timetable.specs.Queries.{fault_told};
+    ghost use Rattle.timetable.specs.Queries.{numbered_fault};
 
     /// The fault's number, from 31 to 33.
     pub fn number(self) -> u8
-        ensures { result ≡ (fault_told self).0 }
+        ensures { result ≡ (numbered_fault self).0 }
     {
         self as u8
     }
 
     /// The fault's name, as `UnknownStop`.
     pub fn name(self) -> &'static str
-        ensures { result.now ≡ (fault_told self).1 }
+        ensures { result.now ≡ (numbered_fault self).1 }
     {
         variant_name!(self, QueryFault: UnknownStop, SameStop, BadWindow)
     }

@@ -16,8 +16,8 @@ use Rattle.reasoning.proofs.OrderLemmas.{nat_equal}
 use Rattle.gtfs_rows.specs.declared.rows.TransferKind.{TransferKind}
 use Rattle.gtfs_rows.specs.declared.rows.TransferKind.TheVariants.{Recommended, Timed, Minimum, Impossible, Skipped}
 use Rattle.gtfs_tables.specs.declared.tables.Transfer.{Transfer}
-use Rattle.gtfs_tables.specs.declared.tables.Place.{Place}
-use Rattle.gtfs_tables.specs.declared.tables.Place.TheVariants.{Stop as TheStop, Station as TheStation}
+use Rattle.gtfs_tables.specs.declared.tables.TransferEnd.{TransferEnd}
+use Rattle.gtfs_tables.specs.declared.tables.TransferEnd.TheVariants.{Stop as TheStop, Station as TheStation}
 use Rattle.transfers.specs.declared.bans.Ban.{Ban}
 use Rattle.transfers.specs.Lookup.{station_named}
 use Rattle.transfers.specs.Bans.{AreBans, HasBans, IsBan, IsVoid, ban_cmp, ban_between, bans_by, bans_in, listed_ban}
@@ -36,20 +36,20 @@ forbids Impossible = 1
 forbids Skipped = 0
 
 -- a transfer forbids all between two stations
-abbrev IsBanBy : TransferKind → Place → Place → ℕ → ℕ → Type 0
+abbrev IsBanBy : TransferKind → TransferEnd → TransferEnd → ℕ → ℕ → Type 0
 IsBanBy kind p q from to = (kind ≡ Impossible) × (p ≡ TheStation from) × (q ≡ TheStation to)
 
-other_kind : (kind : TransferKind) (p q : Place) (from to : ℕ) → forbids kind ≡ 0 → ¬ IsBanBy kind p q from to
+other_kind : (kind : TransferKind) (p q : TransferEnd) (from to : ℕ) → forbids kind ≡ 0 → ¬ IsBanBy kind p q from to
 other_kind kind p q from to e h = let one : forbids kind ≡ 1 = ap (λ (k : TransferKind). forbids k) h.0 in omega (arith, e, one)
 
 no_station : (stop station : ℕ) → TheStop stop ≡ TheStation station → ⊥
-no_station stop station e = none-some station (ap (λ (p : Place). station_named p) e)
+no_station stop station e = none-some station (ap (λ (p : TransferEnd). station_named p) e)
 
 same_station : (a b : ℕ) → TheStation a ≡ TheStation b → a ≡ b
-same_station a b e = same_Some a b (ap (λ (p : Place). station_named p) e)
+same_station a b e = same_Some a b (ap (λ (p : TransferEnd). station_named p) e)
 
 -- whether a transfer does
-decide_by : (kind : TransferKind) (p q : Place) (from to : ℕ) → IsBanBy kind p q from to ⊎ ¬ IsBanBy kind p q from to
+decide_by : (kind : TransferKind) (p q : TransferEnd) (from to : ℕ) → IsBanBy kind p q from to ⊎ ¬ IsBanBy kind p q from to
 decide_by Recommended p q from to = inr (other_kind Recommended p q from to refl)
 decide_by Timed p q from to = inr (other_kind Timed p q from to refl)
 decide_by Minimum p q from to = inr (other_kind Minimum p q from to refl)
@@ -84,7 +84,7 @@ decide_void rows (Some from) None = inr (λ h. h)
 decide_void rows (Some from) (Some to) = decide_ban rows from to
 
 -- what one transfer forbids is listed
-has_by : (kind : TransferKind) (p q : Place) (b : Ban) → Contains (bans_by kind p q) b → IsBanBy kind p q b.from b.to
+has_by : (kind : TransferKind) (p q : TransferEnd) (b : Ban) → Contains (bans_by kind p q) b → IsBanBy kind p q b.from b.to
 has_by Recommended p q b h = absurd (not_in_nil b h)
 has_by Timed p q b h = absurd (not_in_nil b h)
 has_by Minimum p q b h = absurd (not_in_nil b h)
@@ -96,11 +96,11 @@ has_by Impossible (TheStation a) (TheStation c) b h = elim (contains_cases b (ba
   | inr none ↦ absurd (not_in_nil b none)
 ]
 
-each_by : (kind : TransferKind) (p q : Place) (b : Ban) → IsBanBy kind p q b.from b.to → Contains (bans_by kind p q) b
+each_by : (kind : TransferKind) (p q : TransferEnd) (b : Ban) → IsBanBy kind p q b.from b.to → Contains (bans_by kind p q) b
 each_by kind p q b (k, f, t) =
     subst (λ (x : TransferKind). Contains (bans_by x p q) b) (sym k)
-    (subst (λ (x : Place). Contains (listed_ban (ban_between x q)) b) (sym f)
-    (subst (λ (x : Place). Contains (listed_ban (ban_between (TheStation b.from) x)) b) (sym t) (contains_first b [])))
+    (subst (λ (x : TransferEnd). Contains (listed_ban (ban_between x q)) b) (sym f)
+    (subst (λ (x : TransferEnd). Contains (listed_ban (ban_between (TheStation b.from) x)) b) (sym t) (contains_first b [])))
 
 pub bans_none : (rows : List Transfer) → HasBans (take 0 rows) []
 bans_none rows = record { has = λ b h. absurd (not_in_nil b h); each = λ b h. absurd (not_in_nil h.0 h.1) }

@@ -8,23 +8,23 @@ use Rattle.std.proofs.lemmas.Option.{same_Some, slice_get-get_or}
 use Rattle.transfers.specs.Groups.{HasKey, AreGroups, IsGroup}
 
 -- the keys below a place are less than one, and those from there on aren't
-pub record IsBorder (keys : List ℕ) (limit place : ℕ) : Type 0 where
-  pub within : place ≤ length keys
-  pub less : (k : ℕ) → k < place → slice_index keys k < limit
-  pub more : (k : ℕ) → place ≤ k → k < length keys → limit ≤ slice_index keys k
+pub record IsBorder (keys : List ℕ) (limit index : ℕ) : Type 0 where
+  pub within : index ≤ length keys
+  pub less : (k : ℕ) → k < index → slice_index keys k < limit
+  pub more : (k : ℕ) → index ≤ k → k < length keys → limit ≤ slice_index keys k
 
 -- a border from what a search tells
-pub border_lt : (keys : List ℕ) (key place : ℕ) → place ≤ length keys → AllWithin (λ y. ltb y key ≡ true) keys 0 place
-    → AllWithin (λ y. ltb y key ≡ false) keys place (length keys) → IsBorder keys key place
-border_lt keys key place within less more = record {
+pub border_lt : (keys : List ℕ) (key index : ℕ) → index ≤ length keys → AllWithin (λ y. ltb y key ≡ true) keys 0 index
+    → AllWithin (λ y. ltb y key ≡ false) keys index (length keys) → IsBorder keys key index
+border_lt keys key index within less more = record {
   within = within;
   less = λ k below. ltb-true (slice_index keys k) key (less k 0 (omega arith) below);
   more = λ k from below. ltb-false (slice_index keys k) key (more k 0 from below);
 }
 
-pub border_le : (keys : List ℕ) (key place : ℕ) → place ≤ length keys → AllWithin (λ y. leb y key ≡ true) keys 0 place
-    → AllWithin (λ y. leb y key ≡ false) keys place (length keys) → IsBorder keys (key + 1) place
-border_le keys key place within less more = record {
+pub border_le : (keys : List ℕ) (key index : ℕ) → index ≤ length keys → AllWithin (λ y. leb y key ≡ true) keys 0 index
+    → AllWithin (λ y. leb y key ≡ false) keys index (length keys) → IsBorder keys (key + 1) index
+border_le keys key index within less more = record {
   within = within;
   less = λ k below. let h = leb-true (slice_index keys k) key (less k 0 (omega arith) below) in omega (arith, h);
   more = λ k from below. let h = leb-false (slice_index keys k) key (more k 0 from below) in omega (arith, h);

@@ -8,8 +8,8 @@ use Rattle.reasoning.proofs.OrderLemmas.{own_equal}
 use Rattle.timetable.specs.Legal.{At}
 use Rattle.gtfs_tables.specs.declared.tables.Stop.{Stop}
 use Rattle.gtfs_tables.specs.declared.tables.Transfer.{Transfer}
-use Rattle.gtfs_tables.specs.declared.tables.Place.{Place}
-use Rattle.gtfs_tables.specs.declared.tables.Place.TheVariants.{Stop as TheStop, Station as TheStation}
+use Rattle.gtfs_tables.specs.declared.tables.TransferEnd.{TransferEnd}
+use Rattle.gtfs_tables.specs.declared.tables.TransferEnd.TheVariants.{Stop as TheStop, Station as TheStation}
 use Rattle.transfers.specs.declared.claims.Source.{Source}
 use Rattle.transfers.specs.declared.claims.Source.TheVariants.{Default}
 use Rattle.transfers.specs.declared.claims.Verdict.{Verdict}
@@ -59,11 +59,11 @@ children_are all station stops group = record {
     keyed stop (Some x) at is = at_map (λ (stop : Stop). stop.station) all stop x at ∙ ap (λ (o : Option ℕ). Some o) is
 
 -- a place that names a stop, or a station, is that one
-stop_is : (place : Place) (stop : ℕ) → stop_named place ≡ Some stop → place ≡ TheStop stop
+stop_is : (index : TransferEnd) (stop : ℕ) → stop_named index ≡ Some stop → index ≡ TheStop stop
 stop_is (TheStop named) stop e = ap (λ (n : ℕ). TheStop n) (same_Some named stop e)
 stop_is (TheStation named) stop e = absurd (none-some stop e)
 
-named_station : (place : Place) (station : ℕ) → station_named place ≡ Some station → place ≡ TheStation station
+named_station : (index : TransferEnd) (station : ℕ) → station_named index ≡ Some station → index ≡ TheStation station
 named_station (TheStop named) station e = absurd (none-some station e)
 named_station (TheStation named) station e = ap (λ (n : ℕ). TheStation n) (same_Some named station e)
 
@@ -95,12 +95,12 @@ adds_no_row all rows to number claims none = adds_nothing claims (Unbanned all r
     (λ c m. none-some m.0.0 (sym none ∙ m.0.1))
 
 -- the transfers in a group are those that lead to its place
-module _ (all : List Stop) (rows : List Transfer) (to key : ℕ) (named : Place
-    → Option ℕ) (place : Place) (numbers : List ℕ) (group : IsGroup (map (λ (row : Transfer). named row.to) rows) key numbers)
-    (there : (p : Place) → named p ≡ Some key → p ≡ place) (back : named place ≡ Some key) where
+module _ (all : List Stop) (rows : List Transfer) (to key : ℕ) (named : TransferEnd
+    → Option ℕ) (index : TransferEnd) (numbers : List ℕ) (group : IsGroup (map (λ (row : Transfer). named row.to) rows) key numbers)
+    (there : (p : TransferEnd) → named p ≡ Some key → p ≡ index) (back : named index ≡ Some key) where
   pub adds_group : (old new : List Claim) → Adds old new (Unbanned all rows (ForOneOf numbers (IsNumberedClaim all rows to)))
-      → Adds old new (Unbanned all rows (IsClaimBy all rows place to))
-  adds_group old new h = unbanned_same (IsBannedClaim all rows) old new (ForOneOf numbers (IsNumberedClaim all rows to)) (IsClaimBy all rows place to)
+      → Adds old new (Unbanned all rows (IsClaimBy all rows index to))
+  adds_group old new h = unbanned_same (IsBannedClaim all rows) old new (ForOneOf numbers (IsNumberedClaim all rows to)) (IsClaimBy all rows index to)
       (λ c (number, is_in, (row, at, is)).
       let (other, at_other, key_is) = from_map (λ (row : Transfer). named row.to) rows number (Some key) (group.has number is_in) in
       let own : named row.to ≡ Some key = subst (λ (r : Transfer). named r.to ≡ Some key) (same_at rows number other row at_other at) key_is in
@@ -108,7 +108,7 @@ module _ (all : List Stop) (rows : List Transfer) (to key : ℕ) (named : Place
       (λ c (row, is_in, to_is, is).
       let (number, at) = at_contains rows row is_in in
       let keyed : At (map (λ (row : Transfer). named row.to) rows) number (Some key) = at_map (λ (row : Transfer). named row.to) rows number row at
-      ∙ ap (λ (o : Option ℕ). Some o) (ap (λ (p : Place). named p) to_is ∙ back) in
+      ∙ ap (λ (o : Option ℕ). Some o) (ap (λ (p : TransferEnd). named p) to_is ∙ back) in
       (number, group.each number keyed, (row, at, is)))
       h
 
@@ -175,14 +175,15 @@ adds_stop all rows station to old mid new first second = unbanned_then (IsBanned
     (λ c h. inl h) (λ c h. inr h) (λ c h. h) first second
 
 module _ (all : List Stop) (rows : List Transfer) (to : ℕ) where
-  by_there : (place : Place) (c : Claim) → stands_for all place to ≡ true → IsClaimBy all rows place to c → IsClaimInto all rows to c
-  by_there place c stands (row, is_in, place_is, h) = (
+  by_there : (index : TransferEnd) (c : Claim) → stands_for all index to ≡ true → IsClaimBy all rows index to c → IsClaimInto all rows to c
+  by_there index c stands (row, is_in, place_is, h) = (
     inl (
       row,
       is_in,
       record {
         from_stands = h.from_stands;
-        to_stands = subst (λ (p : Place). stands_for all p c.to ≡ true) (sym place_is) (subst (λ (n : ℕ). stands_for all place n ≡ true) (sym h.to_is) stands);
+        to_stands = subst (λ (p : TransferEnd). stands_for all p c.to ≡ true) (sym place_is)
+            (subst (λ (n : ℕ). stands_for all index n ≡ true) (sym h.to_is) stands);
         source_is = h.source_is;
         verdict_is = h.verdict_is;
       },
@@ -190,9 +191,9 @@ module _ (all : List Stop) (rows : List Transfer) (to : ℕ) where
     h.to_is,
   )
 
-  by_back : (c : Claim) (row : Transfer) → Contains rows row → IsRowClaim all row c → c.to ≡ to → (place : Place) → row.to ≡ place
-      → IsClaimBy all rows place to c
-  by_back c row is_in h to_is place place_is =
+  by_back : (c : Claim) (row : Transfer) → Contains rows row → IsRowClaim all row c → c.to ≡ to → (index : TransferEnd) → row.to ≡ index
+      → IsClaimBy all rows index to c
+  by_back c row is_in h to_is index place_is =
       (row, is_in, place_is, record { from_stands = h.from_stands; to_is = to_is; source_is = h.source_is; verdict_is = h.verdict_is })
 
   loop_there : (stop : Stop) → At all to stop → (c : Claim) → IsLoopOf to c → IsClaimInto all rows to c
@@ -229,21 +230,21 @@ module _ (all : List Stop) (rows : List Transfer) (to : ℕ) where
   -- a way into a stop of the feed is claimed by a transfer to that stop, or beside these
   stop_cases : (stop : Stop) → At all to stop → (o : Option ℕ) → stop.station ≡ o → (c : Claim) → IsClaimInto all rows to c
       → IsClaimBy all rows (TheStop to) to c ⊎ IsStopClaim all rows o to c
-  stop_cases stop at o is c (inl (row, is_in, h), to_is) = by_place row.to refl
+  stop_cases stop at o is c (inl (row, is_in, h), to_is) = by_index row.to refl
     where
       own : (station : ℕ) → station_of all to ≡ Some station → (o : Option ℕ) → stop.station ≡ o → row.to ≡ TheStation station → IsStopClaim all rows o to c
-      own station its None is place = absurd (none-some station (sym is ∙ sym (ap (λ (o : Option Stop). station_in o) at) ∙ its))
-      own station its (Some other) is place =
+      own station its None is index = absurd (none-some station (sym is ∙ sym (ap (λ (o : Option Stop). station_in o) at) ∙ its))
+      own station its (Some other) is index =
           let same : other ≡ station = same_Some other station (sym is ∙ sym (ap (λ (o : Option Stop). station_in o) at) ∙ its) in
-          inl (inl (by_back c row is_in h to_is (TheStation other) (place ∙ ap (λ (n : ℕ). TheStation n) (sym same))))
+          inl (inl (by_back c row is_in h to_is (TheStation other) (index ∙ ap (λ (n : ℕ). TheStation n) (sym same))))
 
-      by_place : (place : Place) → row.to ≡ place → IsClaimBy all rows (TheStop to) to c ⊎ IsStopClaim all rows o to c
-      by_place (TheStop named) place =
-          let stands : (named == c.to) ≡ true = subst (λ (p : Place). stands_for all p c.to ≡ true) place h.to_stands in
-          inl (by_back c row is_in h to_is (TheStop to) (place ∙ ap (λ (n : ℕ). TheStop n) (eqb-true named c.to stands ∙ to_is)))
-      by_place (TheStation station) place =
-          let stands : is_child all station c.to ≡ true = subst (λ (p : Place). stands_for all p c.to ≡ true) place h.to_stands in
-          inr (own station (subst (λ (n : ℕ). station_of all n ≡ Some station) to_is (station_is (station_of all c.to) station stands)) o is place)
+      by_index : (index : TransferEnd) → row.to ≡ index → IsClaimBy all rows (TheStop to) to c ⊎ IsStopClaim all rows o to c
+      by_index (TheStop named) index =
+          let stands : (named == c.to) ≡ true = subst (λ (p : TransferEnd). stands_for all p c.to ≡ true) index h.to_stands in
+          inl (by_back c row is_in h to_is (TheStop to) (index ∙ ap (λ (n : ℕ). TheStop n) (eqb-true named c.to stands ∙ to_is)))
+      by_index (TheStation station) index =
+          let stands : is_child all station c.to ≡ true = subst (λ (p : TransferEnd). stands_for all p c.to ≡ true) index h.to_stands in
+          inr (own station (subst (λ (n : ℕ). station_of all n ≡ Some station) to_is (station_is (station_of all c.to) station stands)) o is index)
   stop_cases stop at None is c (inr (inl h), to_is) =
       let none : station_of all c.to ≡ None = ap (λ (n : ℕ). station_of all n) to_is ∙ ap (λ (o : Option Stop). station_in o) at ∙ is in
       absurd (false≢true (subst (λ (o : Option ℕ). is_of all o c.from ≡ true) none h.siblings))
@@ -289,14 +290,14 @@ module _ (all : List Stop) (rows : List Transfer) (to : ℕ) where
       no_station c to_is = ap (λ (n : ℕ). station_of all n) to_is ∙ ap (λ (o : Option Stop). station_in o) none
 
       back : (c : Claim) → IsClaimInto all rows to c → IsClaimBy all rows (TheStop to) to c
-      back c (inl (row, is_in, h), to_is) = by_place row.to refl
+      back c (inl (row, is_in, h), to_is) = by_index row.to refl
         where
-          by_place : (place : Place) → row.to ≡ place → IsClaimBy all rows (TheStop to) to c
-          by_place (TheStop named) place =
-              let stands : (named == c.to) ≡ true = subst (λ (p : Place). stands_for all p c.to ≡ true) place h.to_stands in
-              by_back c row is_in h to_is (TheStop to) (place ∙ ap (λ (n : ℕ). TheStop n) (eqb-true named c.to stands ∙ to_is))
-          by_place (TheStation station) place =
-              let stands : is_child all station c.to ≡ true = subst (λ (p : Place). stands_for all p c.to ≡ true) place h.to_stands in
+          by_index : (index : TransferEnd) → row.to ≡ index → IsClaimBy all rows (TheStop to) to c
+          by_index (TheStop named) index =
+              let stands : (named == c.to) ≡ true = subst (λ (p : TransferEnd). stands_for all p c.to ≡ true) index h.to_stands in
+              by_back c row is_in h to_is (TheStop to) (index ∙ ap (λ (n : ℕ). TheStop n) (eqb-true named c.to stands ∙ to_is))
+          by_index (TheStation station) index =
+              let stands : is_child all station c.to ≡ true = subst (λ (p : TransferEnd). stands_for all p c.to ≡ true) index h.to_stands in
               absurd (none-some station (sym (no_station c to_is) ∙ station_is (station_of all c.to) station stands))
       back c (inr (inl h), to_is) = absurd (false≢true (subst (λ (o : Option ℕ). is_of all o c.from ≡ true) (no_station c to_is) h.siblings))
       back c (inr (inr h), to_is) =

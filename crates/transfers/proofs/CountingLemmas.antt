@@ -13,7 +13,7 @@ use Rattle.gtfs_tables.specs.Joined.{NameStopsBelow, NamesBelow}
 use Rattle.gtfs_tables.specs.declared.tables.Stop.{Stop}
 use Rattle.gtfs_tables.specs.declared.tables.Transfer.{Transfer}
 use Rattle.gtfs_tables.specs.declared.tables.Feed.{Feed}
-use Rattle.gtfs_tables.specs.declared.tables.Place.{Place}
+use Rattle.gtfs_tables.specs.declared.tables.TransferEnd.{TransferEnd}
 use Rattle.transfers.specs.declared.claims.Source.{Source}
 use Rattle.transfers.specs.declared.claims.Source.TheVariants.{Stops, Station}
 use Rattle.transfers.specs.declared.claims.Verdict.{Verdict}
@@ -72,8 +72,8 @@ of_pair row other h true = h.at_one
 of_pair row other h false = h.apart
 
 -- two transfers of the same places have one source
-same_source : (p q r s : Place) → p ≡ r → q ≡ s → source_by r s ≡ source_by p q
-same_source p q r s e f = sym (ap (λ (x : Place). source_by x q) e ∙ ap (λ (x : Place). source_by r x) f)
+same_source : (p q r s : TransferEnd) → p ≡ r → q ≡ s → source_by r s ≡ source_by p q
+same_source p q r s e f = sym (ap (λ (x : TransferEnd). source_by x q) e ∙ ap (λ (x : TransferEnd). source_by r x) f)
 
 module _ (stops : List Stop) (source : Source) (from to : ℕ) where
   -- the first says something of each pair of which the second does, that counts before it or is the same
@@ -84,8 +84,8 @@ module _ (stops : List Stop) (source : Source) (from to : ℕ) where
       let (v, is, before) = claimed_before (verdict_of row (from == to)) (verdict_of other (from == to))
       (of_pair row other h (from == to)) w claim.verdict_is in
       let own : IsRowClaim stops row (claim_of to from source v) = record {
-        from_stands = subst (λ (p : Place). stands_for stops p from ≡ true) (sym h.from_is) claim.from_stands;
-        to_stands = subst (λ (p : Place). stands_for stops p to ≡ true) (sym h.to_is) claim.to_stands;
+        from_stands = subst (λ (p : TransferEnd). stands_for stops p from ≡ true) (sym h.from_is) claim.from_stands;
+        to_stands = subst (λ (p : TransferEnd). stands_for stops p to ≡ true) (sym h.to_is) claim.to_stands;
         source_is = claim.source_is ∙ same_source row.from row.to other.from other.to h.from_is h.to_is;
         verdict_is = is;
       } in

@@ -37,15 +37,15 @@ first_behind claims j b d at_b at_d differ b' d' at_b' at_d' below same =
     )
 
 -- some claim is the first on its pair
-first_place : (claims : List Claim) (j : ℕ) (d : Claim) → At claims j d
+first_index : (claims : List Claim) (j : ℕ) (d : Claim) → At claims j d
     → (k : ℕ) × (c : Claim) × At claims k c × IsFirstAt claims k × (c.to ≡ d.to) × (c.from ≡ d.from)
-first_place claims zero d at = (zero, d, at, (λ b c at_b at_c below. absurd (omega (arith, below))), refl, refl)
-first_place claims (suc j) d at =
+first_index claims zero d at = (zero, d, at, (λ b c at_b at_c below. absurd (omega (arith, below))), refl, refl)
+first_index claims (suc j) d at =
     let b : Claim = get_or claims j d in
     let at_b : At claims j b = slice_get-get_or claims j d (omega (arith, slice_get_within claims (suc j) d at)) in
     elim (cases_eq b.to d.to) [
       | inl to ↦ elim (cases_eq b.from d.from) [
-        | inl from ↦ let (k, c, at_c, first, c_to, c_from) = first_place claims j b at_b in (k, c, at_c, first, c_to ∙ to, c_from ∙ from)
+        | inl from ↦ let (k, c, at_c, first, c_to, c_from) = first_index claims j b at_b in (k, c, at_c, first, c_to ∙ to, c_from ∙ from)
         | inr differ ↦ (suc j, d, at, first_behind claims j b d at_b at (λ same. differ same.1), refl, refl)
       ]
       | inr differ ↦ (suc j, d, at, first_behind claims j b d at_b at (λ same. differ same.0), refl, refl)
@@ -140,7 +140,7 @@ module _ (feed : Feed) (into : ℕ) (claims : List Claim) (paths : List Footpath
       let says : verdict_between feed from to ≡ Some (Takes secs) = secs_given (verdict_between feed from to) secs e in
       let (d, claim, unbanned, d_to, d_from) = unbanned_between feed from to secs says in
       let (j, at_d) = at_contains claims d ((all d).1 ((claim, d_to ∙ meant), unbanned)) in
-      let (k, c, at_c, first, c_to, c_from) = first_place claims j d at_d in
+      let (k, c, at_c, first, c_to, c_from) = first_index claims j d at_d in
       let to_is : c.to ≡ to = c_to ∙ d_to in
       let from_is : c.from ≡ from = c_from ∙ d_from in
       let is : verdict_between feed c.from c.to ≡ Some c.verdict = verdict_at k c at_c first in

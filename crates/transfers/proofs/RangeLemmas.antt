@@ -12,8 +12,8 @@ use Rattle.gtfs_rows.specs.declared.rows.TransferKind.TheVariants.{Recommended, 
 use Rattle.gtfs_tables.specs.declared.tables.Feed.{Feed}
 use Rattle.gtfs_tables.specs.declared.tables.Stop.{Stop}
 use Rattle.gtfs_tables.specs.declared.tables.Transfer.{Transfer}
-use Rattle.gtfs_tables.specs.declared.tables.Place.{Place}
-use Rattle.gtfs_tables.specs.declared.tables.Place.TheVariants.{Stop as TheStop, Station as TheStation}
+use Rattle.gtfs_tables.specs.declared.tables.TransferEnd.{TransferEnd}
+use Rattle.gtfs_tables.specs.declared.tables.TransferEnd.TheVariants.{Stop as TheStop, Station as TheStation}
 use Rattle.transfers.specs.declared.claims.Source.TheVariants.{Stops, Station}
 use Rattle.transfers.specs.declared.claims.Verdict.{Verdict}
 use Rattle.transfers.specs.declared.claims.Verdict.TheVariants.{Never, Takes}
@@ -38,7 +38,7 @@ child_below : (stops : List Stop) (station stop : ℕ) → is_child stops statio
 child_below stops station stop e = has_stop stops stop station (station_is (station_of stops stop) station e)
 
 -- so is a stop that a place stands for, or it is one that the place names
-stood_below : (stops : List Stop) (end : ℕ) → length stops ≤ end → (place : Place) (stop : ℕ) → NamesBelow end place → stands_for stops place stop ≡ true
+stood_below : (stops : List Stop) (end : ℕ) → length stops ≤ end → (index : TransferEnd) (stop : ℕ) → NamesBelow end index → stands_for stops index stop ≡ true
     → stop < end
 stood_below stops end fits (TheStop named) stop below e = let same : named ≡ stop = eqb-true named stop e in subst (λ (n : ℕ). n < end) same below
 stood_below stops end fits (TheStation station) stop below e = let inside : stop < length stops = child_below stops station stop e in omega
@@ -115,7 +115,7 @@ loop_listed feed stop below = by_stops (claimed_by feed.stops.items Stops stop s
     by_stops None is = by_station (claimed_by feed.stops.items Station stop stop feed.transfers.items) refl
 
 -- a greater number is above a stop that a place names too
-names_more : (place : Place) (end more : ℕ) → end ≤ more → NamesBelow end place → NamesBelow more place
+names_more : (index : TransferEnd) (end more : ℕ) → end ≤ more → NamesBelow end index → NamesBelow more index
 names_more (TheStop stop) end more le below = omega (arith, le, below)
 names_more (TheStation station) end more le below = tt
 

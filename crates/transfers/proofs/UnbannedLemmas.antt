@@ -5,8 +5,8 @@ use Rattle.reasoning.proofs.ListLemmas.{same_at}
 use Rattle.timetable.specs.Legal.{At}
 use Rattle.gtfs_tables.specs.declared.tables.Stop.{Stop}
 use Rattle.gtfs_tables.specs.declared.tables.Transfer.{Transfer}
-use Rattle.gtfs_tables.specs.declared.tables.Place.{Place}
-use Rattle.gtfs_tables.specs.declared.tables.Place.TheVariants.{Stop as TheStop, Station as TheStation}
+use Rattle.gtfs_tables.specs.declared.tables.TransferEnd.{TransferEnd}
+use Rattle.gtfs_tables.specs.declared.tables.TransferEnd.TheVariants.{Stop as TheStop, Station as TheStation}
 use Rattle.transfers.specs.declared.claims.Source.{Source}
 use Rattle.transfers.specs.declared.claims.Source.TheVariants.{Stops, Station, Default}
 use Rattle.transfers.specs.declared.claims.Claim.{Claim}
@@ -18,7 +18,7 @@ use Rattle.transfers.proofs.BanLemmas.{decide_void}
 use Rattle.transfers.proofs.ClaimLemmas.{into_back, into_there, station_is}
 
 -- a place that stands for a stop is of the stop's station
-stands_station : (all : List Stop) (place : Place) (stop : ℕ) → stands_for all place stop ≡ true → station_at all place ≡ station_of all stop
+stands_station : (all : List Stop) (index : TransferEnd) (stop : ℕ) → stands_for all index stop ≡ true → station_at all index ≡ station_of all stop
 stands_station all (TheStop named) stop e = ap (λ (n : ℕ). station_of all n) (eqb-true named stop e)
 stands_station all (TheStation station) stop e = sym (station_is (station_of all stop) station e)
 

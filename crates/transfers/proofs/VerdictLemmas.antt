@@ -13,8 +13,8 @@ use Rattle.transfers.specs.declared.claims.Claim.{Claim}
 use Rattle.gtfs_tables.specs.declared.tables.Stop.{Stop}
 use Rattle.gtfs_tables.specs.declared.tables.Transfer.{Transfer}
 use Rattle.gtfs_tables.specs.declared.tables.Feed.{Feed}
-use Rattle.gtfs_tables.specs.declared.tables.Place.{Place}
-use Rattle.gtfs_tables.specs.declared.tables.Place.TheVariants.{Stop as TheStop, Station as TheStation}
+use Rattle.gtfs_tables.specs.declared.tables.TransferEnd.{TransferEnd}
+use Rattle.gtfs_tables.specs.declared.tables.TransferEnd.TheVariants.{Stop as TheStop, Station as TheStation}
 use Rattle.transfers.specs.Listed.{verdict_for, least_verdict, least_of_both, claimed_by, is_source, source_of, source_by}
 use Rattle.transfers.specs.Listed.{stands_for, verdict_of, default_verdict, is_of, station_of}
 use Rattle.transfers.specs.Listed.{verdict_between}
@@ -154,7 +154,7 @@ verdict_of_claim stops row c h =
     ap (λ (b : Bool). if b then verdict_of row (c.from == c.to) else None) all ∙ h.verdict_is
 
 -- no row speaks by default
-row_source : (p q : Place) → source_by p q ≡ Default → ⊥
+row_source : (p q : TransferEnd) → source_by p q ≡ Default → ⊥
 row_source (TheStop a) (TheStop b) e = let h : source_number Stops ≡ source_number Default = ap (λ (s : Source). source_number s) e in omega (arith, h)
 row_source (TheStop a) (TheStation b) e = let h : source_number Station ≡ source_number Default = ap (λ (s : Source). source_number s) e in omega (arith, h)
 row_source (TheStation a) (TheStop b) e = let h : source_number Station ≡ source_number Default = ap (λ (s : Source). source_number s) e in omega (arith, h)

@@ -6,8 +6,8 @@ use Rattle.timetable.specs.First.{or_else}
 use Rattle.gtfs_rows.specs.declared.rows.TransferKind.{TransferKind}
 use Rattle.gtfs_tables.specs.declared.tables.Stop.{Stop}
 use Rattle.gtfs_tables.specs.declared.tables.Transfer.{Transfer}
-use Rattle.gtfs_tables.specs.declared.tables.Place.{Place}
-use Rattle.gtfs_tables.specs.declared.tables.Place.TheVariants.{Station as TheStation}
+use Rattle.gtfs_tables.specs.declared.tables.TransferEnd.{TransferEnd}
+use Rattle.gtfs_tables.specs.declared.tables.TransferEnd.TheVariants.{Station as TheStation}
 use Rattle.gtfs_tables.specs.declared.tables.Feed.{Feed}
 use Rattle.transfers.specs.declared.claims.Source.{Source}
 use Rattle.transfers.specs.declared.claims.Source.TheVariants.{Stops, Station, Default}
@@ -34,9 +34,9 @@ module _ (feed : Feed) (from to : ℕ) where
       → IsClaimed stops Station from to rows Never
   forbidden differ a b from_is to_is (row, is_in, kind, at_from, at_to) =
       let claim : IsRowClaim stops row (claim_of to from Station Never) = record {
-        from_stands = subst (λ (p : Place). stands_for stops p from ≡ true) (sym at_from) (is_its_station (station_of stops from) a from_is);
-        to_stands = subst (λ (p : Place). stands_for stops p to ≡ true) (sym at_to) (is_its_station (station_of stops to) b to_is);
-        source_is = sym (ap (λ (p : Place). source_by p row.to) at_from ∙ ap (λ (p : Place). source_by (TheStation a) p) at_to);
+        from_stands = subst (λ (p : TransferEnd). stands_for stops p from ≡ true) (sym at_from) (is_its_station (station_of stops from) a from_is);
+        to_stands = subst (λ (p : TransferEnd). stands_for stops p to ≡ true) (sym at_to) (is_its_station (station_of stops to) b to_is);
+        source_is = sym (ap (λ (p : TransferEnd). source_by p row.to) at_from ∙ ap (λ (p : TransferEnd). source_by (TheStation a) p) at_to);
         verdict_is = ap (λ (l : Bool). verdict_of row l) differ ∙ ap (λ (k : TransferKind). verdict_by k row.seconds false) kind;
       } in
       (row, is_in, verdict_of_claim stops row (claim_of to from Station Never) claim)

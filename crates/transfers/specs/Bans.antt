@@ -7,8 +7,8 @@ use Rattle.gtfs_rows.specs.declared.rows.TransferKind.{TransferKind}
 use Rattle.gtfs_rows.specs.declared.rows.TransferKind.TheVariants.{Recommended, Timed, Minimum, Impossible, Skipped}
 use Rattle.gtfs_tables.specs.declared.tables.Stop.{Stop}
 use Rattle.gtfs_tables.specs.declared.tables.Transfer.{Transfer}
-use Rattle.gtfs_tables.specs.declared.tables.Place.{Place}
-use Rattle.gtfs_tables.specs.declared.tables.Place.TheVariants.{Stop as TheStop, Station as TheStation}
+use Rattle.gtfs_tables.specs.declared.tables.TransferEnd.{TransferEnd}
+use Rattle.gtfs_tables.specs.declared.tables.TransferEnd.TheVariants.{Stop as TheStop, Station as TheStation}
 use Rattle.transfers.specs.declared.bans.Ban.{Ban}
 use Rattle.transfers.specs.declared.claims.Claim.{Claim}
 use Rattle.transfers.specs.declared.claims.Source.{Source}
@@ -27,7 +27,7 @@ IsVoid rows (Some from) None = ⊥
 IsVoid rows (Some from) (Some to) = IsBan rows from to
 
 -- the ban between two ends, if both are stations; then the bans that a kind of transfer states, and those of a transfer
-abbrev pub ban_between : Place → Place → Option Ban
+abbrev pub ban_between : TransferEnd → TransferEnd → Option Ban
 ban_between (TheStop from) to = None
 ban_between (TheStation from) (TheStop to) = None
 ban_between (TheStation from) (TheStation to) = Some (record { to = to; from = from })
@@ -36,7 +36,7 @@ abbrev pub listed_ban : Option Ban → List Ban
 listed_ban None = []
 listed_ban (Some ban) = ban ∷ []
 
-abbrev pub bans_by : TransferKind → Place → Place → List Ban
+abbrev pub bans_by : TransferKind → TransferEnd → TransferEnd → List Ban
 bans_by Recommended from to = []
 bans_by Timed from to = []
 bans_by Minimum from to = []
@@ -60,7 +60,7 @@ pub record AreBans (rows : List Transfer) (bans : List Ban) : Type 0 where
   pub sorted : IsSorted ban_cmp bans
 
 -- the station that an end is, or the station of the stop that it is
-abbrev pub station_at : List Stop → Place → Option ℕ
+abbrev pub station_at : List Stop → TransferEnd → Option ℕ
 station_at stops (TheStop stop) = station_of stops stop
 station_at stops (TheStation station) = Some station
 

@@ -4,8 +4,8 @@ use Rattle.timetable.specs.Legal.{At}
 use Rattle.timetable.specs.declared.network.Footpath.{Footpath}
 use Rattle.gtfs_tables.specs.declared.tables.Stop.{Stop}
 use Rattle.gtfs_tables.specs.declared.tables.Transfer.{Transfer}
-use Rattle.gtfs_tables.specs.declared.tables.Place.{Place}
-use Rattle.gtfs_tables.specs.declared.tables.Place.TheVariants.{Station as TheStation}
+use Rattle.gtfs_tables.specs.declared.tables.TransferEnd.{TransferEnd}
+use Rattle.gtfs_tables.specs.declared.tables.TransferEnd.TheVariants.{Station as TheStation}
 use Rattle.transfers.specs.declared.claims.Source.{Source}
 use Rattle.transfers.specs.declared.claims.Source.TheVariants.{Stops, Station, Default}
 use Rattle.transfers.specs.declared.claims.Verdict.{Verdict}
@@ -83,7 +83,7 @@ abbrev pub IsNumberedClaim : List Stop → List Transfer → ℕ → ℕ → Cla
 IsNumberedClaim stops rows to number c = (row : Transfer) × At rows number row × IsRowInto stops to row c
 
 -- a transfer that leads to this end makes this claim about a way into a stop
-abbrev pub IsClaimBy : List Stop → List Transfer → Place → ℕ → Claim → Type 0
+abbrev pub IsClaimBy : List Stop → List Transfer → TransferEnd → ℕ → Claim → Type 0
 IsClaimBy stops rows place to c = (row : Transfer) × Contains rows row × (row.to ≡ place) × IsRowInto stops to row c
 
 -- the claim about a way into a stop that the stop has as one of a station: by a transfer to the station, or by default
@@ -107,7 +107,7 @@ abbrev pub IsClaimInto : List Stop → List Transfer → ℕ → Claim → Type 
 IsClaimInto stops rows to c = IsClaim stops rows c × (c.to ≡ to)
 
 -- these are the stops that an end stands for
-pub record AreStoodFor (all : List Stop) (place : Place) (stops : List ℕ) : Type 0 where
+pub record AreStoodFor (all : List Stop) (place : TransferEnd) (stops : List ℕ) : Type 0 where
   pub stand : (stop : ℕ) → Contains stops stop → stands_for all place stop ≡ true
   pub each : (stop : ℕ) → stands_for all place stop ≡ true → Contains stops stop
 

@@ -10,8 +10,8 @@ use Rattle.gtfs_rows.specs.declared.rows.TransferKind.TheVariants.{Recommended, 
 use Rattle.gtfs_tables.specs.declared.tables.Feed.{Feed}
 use Rattle.gtfs_tables.specs.declared.tables.Stop.{Stop}
 use Rattle.gtfs_tables.specs.declared.tables.Transfer.{Transfer}
-use Rattle.gtfs_tables.specs.declared.tables.Place.{Place}
-use Rattle.gtfs_tables.specs.declared.tables.Place.TheVariants.{Stop as TheStop, Station as TheStation}
+use Rattle.gtfs_tables.specs.declared.tables.TransferEnd.{TransferEnd}
+use Rattle.gtfs_tables.specs.declared.tables.TransferEnd.TheVariants.{Stop as TheStop, Station as TheStation}
 use Rattle.transfers.specs.declared.claims.Source.{Source}
 use Rattle.transfers.specs.declared.claims.Source.TheVariants.{Stops, Station, Default}
 use Rattle.transfers.specs.declared.claims.Verdict.{Verdict}
@@ -31,12 +31,12 @@ abbrev pub is_child : List Stop → ℕ → ℕ → Bool
 is_child stops station stop = is_station (station_of stops stop) station
 
 -- the end stands for a stop: it is that stop, or its station
-abbrev pub stands_for : List Stop → Place → ℕ → Bool
+abbrev pub stands_for : List Stop → TransferEnd → ℕ → Bool
 stands_for stops (TheStop named) stop = named == stop
 stands_for stops (TheStation station) stop = is_child stops station stop
 
 -- the source of a transfer's claims: it names both stops themselves, or a station
-abbrev pub source_by : Place → Place → Source
+abbrev pub source_by : TransferEnd → TransferEnd → Source
 source_by (TheStop from) (TheStop to) = Stops
 source_by (TheStop from) (TheStation to) = Station
 source_by (TheStation from) (TheStop to) = Station

@@ -3,21 +3,21 @@ use Rattle.std.specs.Prelude.{ℕ, ◌≤◌, List, length, map, All, Option, So
 use Rattle.gtfs_tables.specs.declared.tables.Feed.{Feed}
 use Rattle.gtfs_tables.specs.declared.tables.Stop.{Stop}
 use Rattle.gtfs_tables.specs.declared.tables.Transfer.{Transfer}
-use Rattle.gtfs_tables.specs.declared.tables.Place.{Place}
-use Rattle.gtfs_tables.specs.declared.tables.Place.TheVariants.{Stop as TheStop, Station as TheStation}
+use Rattle.gtfs_tables.specs.declared.tables.TransferEnd.{TransferEnd}
+use Rattle.gtfs_tables.specs.declared.tables.TransferEnd.TheVariants.{Stop as TheStop, Station as TheStation}
 use Rattle.transfers.specs.declared.lookup.Lookup.{Lookup}
-use Rattle.transfers.specs.declared.lookup.Known.{Known}
+use Rattle.transfers.specs.declared.lookup.FeedLookup.{FeedLookup}
 use Rattle.transfers.specs.Bans.{AreBans}
 use Rattle.transfers.specs.Groups.{AreGroups}
 use Rattle.transfers.specs.Counting.{KeepsWhatCounts}
 use Rattle.transfers.specs.Listed.{NamesBelow}
 
 -- the stop, or the station, that an end is
-abbrev pub stop_named : Place → Option ℕ
+abbrev pub stop_named : TransferEnd → Option ℕ
 stop_named (TheStop stop) = Some stop
 stop_named (TheStation station) = None
 
-abbrev pub station_named : Place → Option ℕ
+abbrev pub station_named : TransferEnd → Option ℕ
 station_named (TheStop stop) = None
 station_named (TheStation station) = Some station
 
@@ -29,17 +29,17 @@ pub record IsLookup (stops : List Stop) (rows : List Transfer) (l : Lookup) : Ty
   pub into_stations : AreGroups (map (λ row. station_named row.to) rows) l.into_stations.keys.items l.into_stations.numbers.items
 
 -- the stops of the feed, and the transfers that are left of it; the lookup is made from these
-abbrev pub stops_in : Known → List Stop
+abbrev pub stops_in : FeedLookup → List Stop
 stops_in known = known.feed.now.stops.items
 
-abbrev pub transfers_in : Known → List Transfer
+abbrev pub transfers_in : FeedLookup → List Transfer
 transfers_in known = known.lookup.now.transfers.items
 
-abbrev pub IsKnown : Known → Type 0
+abbrev pub IsKnown : FeedLookup → Type 0
 IsKnown known = IsLookup (stops_in known) (transfers_in known) known.lookup.now
 
 -- the transfers that are left say all that counts
-abbrev pub HasWhatCounts : Known → Type 0
+abbrev pub HasWhatCounts : FeedLookup → Type 0
 HasWhatCounts known = KeepsWhatCounts known.feed.now.transfers.items (transfers_in known)
 
 -- the number is above those of all stops that the feed has or that its transfers name

@@ -4,7 +4,7 @@ ghost use Rattle.std.specs.Prelude.{◌≡◌, ◌++◌, true, false, List, IfOk
 ghost use Rattle.gtfs_tables.specs.declared.tables.Transfer.{Transfer as TheTransfer};
 ghost use Rattle.transfers.specs.Bans.{AreBans, HasBans, IsBan, ban_between, bans_in};
 
-use gtfs_tables::{Place, Transfer, TransferKind};
+use gtfs_tables::{Transfer, TransferEnd, TransferKind};
 use std::alloc::{AllocError, Global};
 
 /// No transfer is possible from the stops of one station to those of another (or the same), except by transfers
@@ -16,13 +16,13 @@ pub(crate) struct Ban {
 }
 
 // Returns the ban between two ends, if both are stations.
-fn ban_between(from: Place, to: Place) -> Option<Ban>
+fn ban_between(from: TransferEnd, to: TransferEnd) -> Option<Ban>
     ensures { result ≡ ban_between from to }
 {
     match (from, to) {
-        (Place::Station(from), Place::Station(to)) => Some(Ban { to, from }),
-        (Place::Station(_), Place::Stop(_)) => None,
-        (Place::Stop(_), _) => None,
+        (TransferEnd::Station(from), TransferEnd::Station(to)) => Some(Ban { to, from }),
+        (TransferEnd::Station(_), TransferEnd::Stop(_)) => None,
+        (TransferEnd::Stop(_), _) => None,
     }
 }
 

@@ -9,8 +9,8 @@ ghost use Rattle.transfers.specs.Claims.{IsSiblingInto};
 ghost use Rattle.transfers.specs.Claims.{IsStationClaim, IsLoopOf, IsStopClaim, IsClaimInto};
 ghost use Rattle.transfers.specs.Lookup.{IsKnown, stops_in, transfers_in};
 
-use crate::lookup::Known;
-use gtfs_tables::{Place, Transfer, TransferKind};
+use crate::lookup::FeedLookup;
+use gtfs_tables::{Transfer, TransferEnd, TransferKind};
 use std::alloc::AllocError;
 
 /// The time of a transfer that gives none, in seconds.
@@ -62,7 +62,7 @@ pub(crate) fn source_of(row: &Transfer) -> Source
     ensures { result ≡ source_of row.now }
 {
     match (row.from, row.to) {
-        (Place::Stop(_), Place::Stop(_)) => Source::Stops,
+        (TransferEnd::Stop(_), TransferEnd::Stop(_)) => Source::Stops,
         _ => Source::Station,
     }
 }
@@ -153,7 +153,7 @@ fn claim_siblings_of(claims: &mut Vec<Claim>, children: &[u32], to: u32) -> Resu
 
 impl Claims {
     // Adds the claim of a transfer about a stop's loop, if the transfer begins at the stop or its station.
-    fn add_own(&mut self, known: &Known, row: &Transfer, to: u32) -> Result<(), AllocError>
+    fn add_own(&mut self, known: &FeedLookup, row: &Transfer, to: u32) -> Result<(), AllocError>
         requires { IsKnown known.now }
         ensures { OnOk result (Adds self.old.made.items self.new.made.items
             (IsOwnInto (stops_in known.now) to row.now)) }
@@ -166,7 +166,12 @@ impl Claims {
     }
 
     // Adds the claims of a transfer about the ways into a stop, except those that don't count.
-    fn add_claims_of(&mut self, known: &Known, row: &Transfer, to: u32) -> Result<(), AllocError>
+    fn add_claims_of(
+        &mut self,
+        known: &FeedLookup,
+        row: &Transfer,
+        to: u32,
+    ) -> Result<(), AllocError>
         requires { IsKnown known.now }
         ensures { OnOk result (Adds self.old.made.items self.new.made.items
             (Unbanned (stops_in known.now) (transfers_in known.now) (IsRowInto (stops_in known.now) to row.now))) }
@@ -179,7 +184,7 @@ impl Claims {
     }
 
     // Adds the claims of the transfer with this number about the ways into a stop.
-    fn add_row(&mut self, known: &Known, number: u32, to: u32) -> Result<(), AllocError>
+    fn add_row(&mut self, known: &FeedLookup, number: u32, to: u32) -> Result<(), AllocError>
         requires { IsKnown known.now }
         ensures { OnOk result (Adds self.old.made.items self.new.made.items
             (Unbanned (stops_in known.now) (transfers_in known.now)
@@ -192,7 +197,7 @@ impl Claims {
     }
 
     // Adds the claims of the transfers with these numbers about the ways into a stop.
-    fn add_rows(&mut self, known: &Known, numbers: &[u32], to: u32) -> Result<(), AllocError>
+    fn add_rows(&mut self, known: &FeedLookup, numbers: &[u32], to: u32) -> Result<(), AllocError>
         requires { IsKnown known.now }
         ensures { OnOk result (Adds self.old.made.items self.new.made.items
             (Unbanned (stops_in known.now) (transfers_in known.now)
@@ -205,7 +210,7 @@ impl Claims {
     }
 
     // Adds the default claims about the ways to a stop from the other stops of its station, unless there is a ban.
-    fn add_siblings(&mut self, known: &Known, station: u32, to: u32) -> Result<(), AllocError>
+    fn add_siblings(&mut self, known: &FeedLookup, station: u32, to: u32) -> Result<(), AllocError>
         requires { IsKnown known.now }
         ensures { OnOk result (Adds self.old.made.items self.new.made.items
             (Unbanned (stops_in known.now) (transfers_in known.now) (IsSiblingInto (stops_in known.now) station to))) }
@@ -218,7 +223,7 @@ impl Claims {
     }
 
     // Adds the claims about the ways into a stop that it has as a stop of a station.
-    fn add_station(&mut self, known: &Known, station: u32, to: u32) -> Result<(), AllocError>
+    fn add_station(&mut self, known: &FeedLookup, station: u32, to: u32) -> Result<(), AllocError>
         requires { IsKnown known.now }
         ensures { OnOk result (Adds self.old.made.items self.new.made.items
             (Unbanned (stops_in known.now) (transfers_in known.now)
@@ -242,7 +247,12 @@ impl Claims {
     }
 
     // Adds the claims about the ways into a stop of the feed, except those of transfers that lead to the stop itself.
-    fn add_stop(&mut self, known: &Known, station: Option<u32>, to: u32) -> Result<(), AllocError>
+    fn add_stop(
+        &mut self,
+        known: &FeedLookup,
+        station: Option<u32>,
+        to: u32,
+    ) -> Result<(), AllocError>
         requires { IsKnown known.now }
         ensures { OnOk result (Adds self.old.made.items self.new.made.items
             (Unbanned (stops_in known.now) (transfers_in known.now)
@@ -259,7 +269,7 @@ impl Claims {
 
     /// Adds all claims about the ways into a stop, except those that don't count because no transfer is possible
     /// between the stations.
-    pub fn add_ways(&mut self, known: &Known, to: u32) -> Result<(), AllocError>
+    pub fn add_ways(&mut self, known: &FeedLookup, to: u32) -> Result<(), AllocError>
         requires { IsKnown known.now }
         ensures { OnOk result (Adds self.old.made.items self.new.made.items
             (Unbanned (stops_in known.now) (transfers_in known.now)

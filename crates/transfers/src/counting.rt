@@ -5,12 +5,12 @@ ghost use Rattle.transfers.specs.Claims.{CountsBefore};
 ghost use Rattle.transfers.specs.Counting.{KeepsWhatCounts, CountsInstead, KeepsOrCovers, Covers};
 
 use crate::claims::{Verdict, verdict_of};
-use gtfs_tables::{Place, Transfer};
+use gtfs_tables::{Transfer, TransferEnd};
 use std::alloc::{AllocError, Global};
 
 // An end of a transfer, as a type with an order.
 #[derive(Clone, Copy, Debug, PartialEq, Eq, PartialOrd, Ord)]
-enum End {
+enum EndKey {
     Stop(u32),
     Station(u32),
 }
@@ -19,16 +19,16 @@ enum End {
 // order transfers between the same two ends follow each other, and those that count come first.
 #[derive(Clone, Copy, Debug, PartialEq, Eq, PartialOrd, Ord)]
 struct RowKey {
-    to: End,
-    from: End,
+    to: EndKey,
+    from: EndKey,
     apart: Option<Verdict>,
     at_one: Option<Verdict>,
 }
 
-fn end_of(place: &Place) -> End {
-    match place {
-        Place::Stop(stop) => End::Stop(*stop),
-        Place::Station(station) => End::Station(*station),
+fn end_of(transfer_end: &TransferEnd) -> EndKey {
+    match transfer_end {
+        TransferEnd::Stop(stop) => EndKey::Stop(*stop),
+        TransferEnd::Station(station) => EndKey::Station(*station),
     }
 }
 

@@ -16,7 +16,7 @@ impl From<AllocError> for ListingFault {
     ghost use Rattle.std.specs.Prelude.{◌≡◌};
     ghost use Rattle.transfers.specs.declared.fault.ListingFault.TheVariants.{OutOfMemory};
 
-    ghost from_gives = { λ _ told. told ≡ OutOfMemory };
+    ghost from_gives = { λ _ outcome. outcome ≡ OutOfMemory };
 
     fn from(_: AllocError) -> ListingFault {
         ListingFault::OutOfMemory

@@ -10,22 +10,22 @@ ghost use Rattle.transfers.specs.declared.fault.ListingFault.TheVariants.{TooMan
 
 use crate::claims::{Claim, Claims, Verdict};
 use crate::fault::ListingFault;
-use crate::lookup::{Known, Lookup, end_of_stops};
+use crate::lookup::{FeedLookup, Lookup, end_of_stops};
 use gtfs_tables::Feed;
 use std::alloc::{AllocError, Global};
 use timetable::Footpath;
 
 // Returns whether the claim at an index is the first about its pair of stops.
-fn is_first(claims: &[Claim], place: usize) -> bool
-    requires { place < length claims.now }
-    ensures first { result ≡ true → IsFirstAt claims.now place }
-    ensures later { result ≡ false → ¬ IsFirstAt claims.now place }
+fn is_first(claims: &[Claim], index: usize) -> bool
+    requires { index < length claims.now }
+    ensures first { result ≡ true → IsFirstAt claims.now index }
+    ensures later { result ≡ false → ¬ IsFirstAt claims.now index }
 {
-    if place == 0 {
+    if index == 0 {
         return true;
     }
-    let before = &claims[place - 1];
-    let claim = &claims[place];
+    let before = &claims[index - 1];
+    let claim = &claims[index];
     before.to != claim.to || before.from != claim.from
 }
 
@@ -44,15 +44,15 @@ fn add_path(paths: &mut Vec<Footpath>, claim: &Claim) -> Result<(), AllocError>
 }
 
 // Adds the footpath of the claim at an index, if the claim is the first about its pair and gives a footpath.
-fn add_first(paths: &mut Vec<Footpath>, claims: &[Claim], place: usize) -> Result<(), AllocError>
-    requires { place < length claims.now }
-    ensures paths { ArePathsBelow claims.now place paths.old.items
-        → OnOk result (ArePathsBelow claims.now (place + 1) paths.new.items) }
-    ensures order { AreSorted claims.now → ArePathsBelow claims.now place paths.old.items → AreInOrder paths.old.items
+fn add_first(paths: &mut Vec<Footpath>, claims: &[Claim], index: usize) -> Result<(), AllocError>
+    requires { index < length claims.now }
+    ensures paths { ArePathsBelow claims.now index paths.old.items
+        → OnOk result (ArePathsBelow claims.now (index + 1) paths.new.items) }
+    ensures order { AreSorted claims.now → ArePathsBelow claims.now index paths.old.items → AreInOrder paths.old.items
         → OnOk result (AreInOrder paths.new.items) }
 {
-    if is_first(claims, place) {
-        add_path(paths, &claims[place])?;
+    if is_first(claims, index) {
+        add_path(paths, &claims[index])?;
     }
     Ok(())
 }
@@ -64,8 +64,8 @@ fn paths_of(alloc: Global, claims: &[Claim]) -> Result<Vec<Footpath>, AllocError
     ensures order { IfOk result (λ v. AreInOrder v.items) }
 {
     let mut paths = Vec::new(alloc);
-    for place in 0..claims.len() {
-        add_first(&mut paths, claims, place)?;
+    for index in 0..claims.len() {
+        add_first(&mut paths, claims, index)?;
     }
     Ok(paths)
 }
@@ -74,7 +74,7 @@ fn paths_of(alloc: Global, claims: &[Claim]) -> Result<Vec<Footpath>, AllocError
 fn add_ways(
     alloc: Global,
     paths: &mut Vec<Footpath>,
-    known: &Known,
+    known: &FeedLookup,
     to: u32,
 ) -> Result<(), AllocError>
     requires lookup { IsKnown known.now }
@@ -95,7 +95,7 @@ fn add_ways(
 fn add_within(
     alloc: Global,
     paths: &mut Vec<Footpath>,
-    known: &Known,
+    known: &FeedLookup,
     to: u32,
     most: usize,
 ) -> Result<(), ListingFault>
@@ -117,7 +117,7 @@ fn add_within(
 // Returns the footpaths into the stops below `end`, or `TooMany` if there are more than `most`.
 fn paths_below(
     alloc: Global,
-    known: &Known,
+    known: &FeedLookup,
     end: usize,
     most: usize,
 ) -> Result<Vec<Footpath>, ListingFault>
@@ -166,7 +166,7 @@ pub fn listed_within(alloc: Global, feed: &Feed, most: usize) -> Result<Vec<Foot
     }
     let lookup = Lookup::new(alloc, feed)?;
     let end = end_of_stops(feed);
-    let known = Known {
+    let known = FeedLookup {
         feed,
         lookup: &lookup,
     };

@@ -14,7 +14,7 @@ use crate::bans::{Ban, bans_of, is_ban};
 use crate::claims::{Source, source_of};
 use crate::counting::rows_that_count;
 use crate::groups::Groups;
-use gtfs_tables::{Feed, Place, Stop, Transfer};
+use gtfs_tables::{Feed, Stop, Transfer, TransferEnd};
 use std::alloc::{AllocError, Global};
 use std::slice;
 
@@ -35,7 +35,7 @@ pub(crate) struct Lookup {
 
 /// A feed with its lookup.
 #[derive(Drop)]
-pub(crate) struct Known<'a> {
+pub(crate) struct FeedLookup<'a> {
     pub feed: &'a Feed,
     pub lookup: &'a Lookup,
 }
@@ -52,22 +52,22 @@ fn stations(alloc: Global, stops: &[Stop]) -> Result<Vec<Option<u32>>, AllocErro
 }
 
 // Returns the stop, if the end is one.
-fn stop_named(place: &Place) -> Option<u32>
-    ensures { result ≡ stop_named place.now }
+fn stop_named(transfer_end: &TransferEnd) -> Option<u32>
+    ensures { result ≡ stop_named transfer_end.now }
 {
-    match place {
-        Place::Stop(stop) => Some(*stop),
-        Place::Station(_) => None,
+    match transfer_end {
+        TransferEnd::Stop(stop) => Some(*stop),
+        TransferEnd::Station(_) => None,
     }
 }
 
 // Returns the station, if the end is one.
-fn station_named(place: &Place) -> Option<u32>
-    ensures { result ≡ station_named place.now }
+fn station_named(transfer_end: &TransferEnd) -> Option<u32>
+    ensures { result ≡ station_named transfer_end.now }
 {
-    match place {
-        Place::Stop(_) => None,
-        Place::Station(station) => Some(*station),
+    match transfer_end {
+        TransferEnd::Stop(_) => None,
+        TransferEnd::Station(station) => Some(*station),
     }
 }
 
@@ -118,18 +118,18 @@ impl Lookup {
     }
 
     /// Returns the stops that an end of a transfer stands for.
-    pub fn stood_for<'a>(&'a self, place: &'a Place) -> &'a [u32]
+    pub fn stood_for<'a>(&'a self, transfer_end: &'a TransferEnd) -> &'a [u32]
         ensures { (all : List TheStop) (rows : List TheTransfer) → IsLookup all rows self.now
-            → AreStoodFor all place.now result.now }
+            → AreStoodFor all transfer_end.now result.now }
     {
-        match place {
-            Place::Stop(stop) => slice::from_ref(stop),
-            Place::Station(station) => self.children_of(*station),
+        match transfer_end {
+            TransferEnd::Stop(stop) => slice::from_ref(stop),
+            TransferEnd::Station(station) => self.children_of(*station),
         }
     }
 }
 
-impl<'a> Known<'a> {
+impl<'a> FeedLookup<'a> {
     /// Returns the station of a stop, if it has one.
     pub fn station_of(&self, stop: u32) -> Option<u32>
         ensures { result ≡ station_of (stops_in self.now) stop }
@@ -141,22 +141,22 @@ impl<'a> Known<'a> {
     }
 
     // Returns the station that an end of a transfer is, or the station of the stop that it is.
-    fn station_at(&self, place: &Place) -> Option<u32>
-        ensures { result ≡ station_at (stops_in self.now) place.now }
+    fn station_at(&self, transfer_end: &TransferEnd) -> Option<u32>
+        ensures { result ≡ station_at (stops_in self.now) transfer_end.now }
     {
-        match place {
-            Place::Stop(stop) => self.station_of(*stop),
-            Place::Station(station) => Some(*station),
+        match transfer_end {
+            TransferEnd::Stop(stop) => self.station_of(*stop),
+            TransferEnd::Station(station) => Some(*station),
         }
     }
 
     /// Returns whether an end of a transfer stands for a stop.
-    pub fn stands_for(&self, place: &Place, stop: u32) -> bool
-        ensures { result ≡ stands_for (stops_in self.now) place.now stop }
+    pub fn stands_for(&self, transfer_end: &TransferEnd, stop: u32) -> bool
+        ensures { result ≡ stands_for (stops_in self.now) transfer_end.now stop }
     {
-        match place {
-            Place::Stop(named) => *named == stop,
-            Place::Station(station) => is_station(self.station_of(stop), *station),
+        match transfer_end {
+            TransferEnd::Stop(named) => *named == stop,
+            TransferEnd::Station(station) => is_station(self.station_of(stop), *station),
         }
     }
 
@@ -199,14 +199,14 @@ fn is_station(station: Option<u32>, wanted: u32) -> bool
 }
 
 // Returns the greater of `end` and the number after the stop, if the end of the transfer is a stop.
-fn end_with(end: usize, place: &Place) -> usize
+fn end_with(end: usize, transfer_end: &TransferEnd) -> usize
     ensures more { end ≤ result }
-    ensures below { NamesBelow result place.now }
+    ensures below { NamesBelow result transfer_end.now }
     ensures small { end ≤ 2 ^ 32 → result ≤ 2 ^ 32 }
 {
-    match place {
-        Place::Stop(stop) => end.max(*stop as usize + 1),
-        Place::Station(_) => end,
+    match transfer_end {
+        TransferEnd::Stop(stop) => end.max(*stop as usize + 1),
+        TransferEnd::Station(_) => end,
     }
 }
 

@@ -8,7 +8,7 @@ use Rattle.version_core.specs.declared.event.Event.{Event}
 use Rattle.version_core.specs.declared.event.Reply.{Reply}
 use Rattle.version_core.specs.State.{State, looked, arrived, departed}
 use Rattle.version_core.specs.Steps.{IsIdle, HasLooked, Holds, StaysAt, Step, LookStep, TakeStep, DropStep}
-use Rattle.version_core.specs.Kept.{Kept}
+use Rattle.version_core.specs.Kept.{KeepsInvariants}
 
 look_is : (s t : State) (w : ℕ) (r : Reply) → IsIdle s w → LookStep s w r t → (r ≡ Reply.Looked s.current s.current_shelf) × (t ≡ looked s w)
 look_is s t w (Reply.Looked v k) idle h = (ap (λ n. Reply.Looked n k) h.1 ∙ ap (λ n. Reply.Looked s.current n) h.2, h.3)
@@ -20,7 +20,7 @@ looked_here : (s : State) (w : ℕ) → IsIdle s w → HasLooked (looked s w) w 
 looked_here s w idle = slice_get-set_same s.workers w (Worker.Looked s.current s.current_shelf) (slice_get_within s.workers w Worker.Idle idle)
 
 -- the current version is open, so that a take right after the look holds it
-take_is : (s t : State) (w : ℕ) (r : Reply) → Kept s → IsIdle s w → TakeStep (looked s w) w r t
+take_is : (s t : State) (w : ℕ) (r : Reply) → KeepsInvariants s → IsIdle s w → TakeStep (looked s w) w r t
     → (r ≡ Reply.Holds s.current) × (t ≡ arrived (looked s w) w s.current_shelf
     (Worker.Holding s.current_shelf s.current))
 take_is s t w (Reply.Holds v) kept idle h =
@@ -42,7 +42,8 @@ take_is s t w _ kept idle h = absurd h
 holds_there : (s : State) (w k v j x : ℕ) → HasLooked s w v k → Holds (arrived s w k (Worker.Holding j x)) w j x
 holds_there s w k v j x has = slice_get-set_same s.workers w (Worker.Holding j x) (slice_get_within s.workers w (Worker.Looked v k) has)
 
-pub look_and_take : (s t u : State) (w : ℕ) (first second : Reply) → Kept s → IsIdle s w → Step s (Event.Look w) first t → Step t (Event.Take w) second u
+pub look_and_take : (s t u : State) (w : ℕ) (first second : Reply) → KeepsInvariants s → IsIdle s w → Step s (Event.Look w) first t → Step t
+    (Event.Take w) second u
     → (first ≡ Reply.Looked s.current s.current_shelf) × (second ≡ Reply.Holds s.current)
     × (u ≡ arrived (looked s w) w s.current_shelf (Worker.Holding s.current_shelf s.current)) × Holds u w s.current_shelf s.current
 look_and_take s t u w first second kept idle look take =
@@ -78,7 +79,7 @@ drop_is s t w k v Reply.Dropped holds h = (refl, h.2 ∙ ap (λ n. departed s w 
 drop_is s t w k v Reply.NotNow holds h = absurd (h.0 k (inr (v, holds)))
 drop_is s t w k v _ holds h = absurd h
 
-pub drop_lets_go : (s t : State) (w k v : ℕ) (r : Reply) → Kept s → Holds s w k v → Step s (Event.Drop w) r t
+pub drop_lets_go : (s t : State) (w k v : ℕ) (r : Reply) → KeepsInvariants s → Holds s w k v → Step s (Event.Drop w) r t
     → (r ≡ Reply.Dropped) × (t ≡ departed s w k) × IsIdle t w
 drop_lets_go s t w k v r kept holds h =
     let is = drop_is s t w k v r holds h in

@@ -7,7 +7,7 @@ use Rattle.version_core.specs.declared.event.Reply.{Reply}
 use Rattle.version_core.specs.State.{State, newest, edition_of, arrived, departed, opened, published, shelved, joined}
 use Rattle.version_core.specs.Steps.{OpensLeast, Step, LookStep, TakeStep, DropStep, OpenStep, PublishStep, CloseStep, CollectStep, AskStep}
 use Rattle.version_core.specs.Steps.{StaysAt, IsUnpublished, IsOutdated, NoteStep, JoinStep}
-use Rattle.version_core.specs.Kept.{Kept}
+use Rattle.version_core.specs.Kept.{KeepsInvariants}
 use Rattle.version_core.proofs.Shelves.{version_at}
 use Rattle.version_core.proofs.Pins.{stays_once}
 use Rattle.version_core.proofs.Rising.{remove_one}
@@ -54,15 +54,15 @@ take_one s t u w _ q a b = absurd a
 
 -- a step that is done in one of these ways, with its reply and its next state, or has no place where there is none
 abbrev DoneOr : State → (Way : Type 0) → (Way → Reply) → (Way → State) → Reply → State → Type 0
-DoneOr s Way told after r t = ((a : Way) × (r ≡ told a) × (t ≡ after a)) ⊎ ((¬ Way) × (r ≡ Reply.NotNow) × (t ≡ s))
+DoneOr s Way shown after r t = ((a : Way) × (r ≡ shown a) × (t ≡ after a)) ⊎ ((¬ Way) × (r ≡ Reply.NotNow) × (t ≡ s))
 
 -- where all ways are told alike and lead to one state, so do two such steps
-done_alike : (s t u : State) (r q : Reply) (Way : Type 0) (told : Way → Reply) (after : Way → State)
-    → ((a b : Way) → (told b ≡ told a) × (after b ≡ after a)) → DoneOr s Way told after r t → DoneOr s Way told after q u → (q ≡ r) × (u ≡ t)
-done_alike s t u r q Way told after alike (inl a) (inl b) = let same = alike a.0 b.0 in (b.1 ∙ (same.0 ∙ sym a.1), b.2 ∙ (same.1 ∙ sym a.2))
-done_alike s t u r q Way told after alike (inl a) (inr b) = absurd (b.0 a.0)
-done_alike s t u r q Way told after alike (inr a) (inl b) = absurd (a.0 b.0)
-done_alike s t u r q Way told after alike (inr a) (inr b) = (b.1 ∙ sym a.1, b.2 ∙ sym a.2)
+done_alike : (s t u : State) (r q : Reply) (Way : Type 0) (shown : Way → Reply) (after : Way → State)
+    → ((a b : Way) → (shown b ≡ shown a) × (after b ≡ after a)) → DoneOr s Way shown after r t → DoneOr s Way shown after q u → (q ≡ r) × (u ≡ t)
+done_alike s t u r q Way shown after alike (inl a) (inl b) = let same = alike a.0 b.0 in (b.1 ∙ (same.0 ∙ sym a.1), b.2 ∙ (same.1 ∙ sym a.2))
+done_alike s t u r q Way shown after alike (inl a) (inr b) = absurd (b.0 a.0)
+done_alike s t u r q Way shown after alike (inr a) (inl b) = absurd (a.0 b.0)
+done_alike s t u r q Way shown after alike (inr a) (inr b) = (b.1 ∙ sym a.1, b.2 ∙ sym a.2)
 
 drops : (s t : State) (w : ℕ) (r : Reply) → DropStep s w r t → DoneOr s ((k : ℕ) × StaysAt s w k) (λ a. Reply.Dropped) (λ a. departed s w a.0) r t
 drops s t w Reply.Dropped h = inl ((h.0, h.1), refl, h.2)
@@ -97,7 +97,7 @@ open_one s t u e Reply.NotNow _ a least b least' = absurd b
 open_one s t u e _ q a least b least' = absurd a
 
 -- what is unpublished is the newest version
-unpublished_is_newest : (s : State) (k v : ℕ) → Kept s → IsUnpublished s k v → v ≡ newest s
+unpublished_is_newest : (s : State) (k v : ℕ) → KeepsInvariants s → IsUnpublished s k v → v ≡ newest s
 unpublished_is_newest s k v kept new =
     let known = kept.shelves.known k v (version_at s.shelves k (Shelf.Open v) new.0) in let most = known.1 in let above = new.1 in
     elim kept.shelves.newest_open [ inl a ↦ (omega arith) | inr b ↦ (let next = b.0 in omega arith) ]
@@ -109,12 +109,12 @@ publishes s t Reply.NotNow h = inr ((λ a. h.0 a.1 a.0 a.2), refl, h.1)
 publishes s t _ h = absurd h
 
 -- no two versions are unpublished
-unpublished_once : (s : State) (v k x j : ℕ) → Kept s → IsUnpublished s k v → IsUnpublished s j x → (x ≡ v) × (j ≡ k)
+unpublished_once : (s : State) (v k x j : ℕ) → KeepsInvariants s → IsUnpublished s k v → IsUnpublished s j x → (x ≡ v) × (j ≡ k)
 unpublished_once s v k x j kept a b =
     let same : x ≡ v = unpublished_is_newest s j x kept b ∙ sym (unpublished_is_newest s k v kept a) in
     (same, kept.shelves.apart j k v (version_at s.shelves j (Shelf.Open x) b.0 ∙ ap (λ n. Some n) same) (version_at s.shelves k (Shelf.Open v) a.0))
 
-publish_one : (s t u : State) (r q : Reply) → Kept s → PublishStep s r t → PublishStep s q u → (q ≡ r) × (u ≡ t)
+publish_one : (s t u : State) (r q : Reply) → KeepsInvariants s → PublishStep s r t → PublishStep s q u → (q ≡ r) × (u ≡ t)
 publish_one s t u r q kept a b = done_alike s t u r q ((v k : ℕ) × IsUnpublished s k v) (λ x. Reply.Published x.0) (λ x. published s x.1 x.0)
     (λ x y.
     let same = unpublished_once s x.0 x.1 y.0 y.1 kept x.2 y.2 in
@@ -168,7 +168,7 @@ note_one s t u (Reply.Noted v) (Reply.Noted x) a b = (ap (λ n. Reply.Noted n) (
 note_one s t u (Reply.Noted v) _ a b = absurd b
 note_one s t u _ q a b = absurd a
 
-join_one : (s t u : State) (w v : ℕ) (r q : Reply) → Kept s → JoinStep s w v r t → JoinStep s w v q u → (q ≡ r) × (u ≡ t)
+join_one : (s t u : State) (w v : ℕ) (r q : Reply) → KeepsInvariants s → JoinStep s w v r t → JoinStep s w v q u → (q ≡ r) × (u ≡ t)
 join_one s t u w v (Reply.Joined n) (Reply.Joined m) kept a b =
     let same = remove_one 0 s.notices s.current a.2.0 b.2.0 v kept.notices a.2.1 b.2.1 in
     (ap (λ x. Reply.Joined x) (b.1 ∙ sym a.1), b.2.2 ∙ (ap (λ l. record (joined s w v a.2.0) { notices = l }) same ∙ sym a.2.2))
@@ -179,7 +179,8 @@ join_one s t u w v Reply.NotNow Reply.NotNow kept a b = (refl, b.1 ∙ sym a.1)
 join_one s t u w v Reply.NotNow _ kept a b = absurd b
 join_one s t u w v _ q kept a b = absurd a
 
-pub one_reply : (s t u : State) (e : Event) (r q : Reply) → Kept s → Step s e r t → OpensLeast s e r → Step s e q u → OpensLeast s e q → (q ≡ r) × (u ≡ t)
+pub one_reply : (s t u : State) (e : Event) (r q : Reply) → KeepsInvariants s → Step s e r t → OpensLeast s e r → Step s e q u → OpensLeast s e q → (q ≡ r) ×
+    (u ≡ t)
 one_reply s t u (Event.Look w) r q kept a least b least' = look_one s t u w r q a b
 one_reply s t u (Event.Take w) r q kept a least b least' = take_one s t u w r q a b
 one_reply s t u (Event.Drop w) r q kept a least b least' = drop_one s t u w r q a b

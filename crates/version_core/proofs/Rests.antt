@@ -12,7 +12,7 @@ use Rattle.version_core.specs.State.{State, start, newest, opened, published, sh
 use Rattle.version_core.specs.Steps.{IsFree, IsOpen, IsClosing, MayOpen, Step, LookStep, TakeStep, DropStep, PublishStep, CloseStep, CollectStep, AskStep}
 use Rattle.version_core.specs.Steps.{NoteStep, JoinStep}
 use Rattle.version_core.specs.Runs.{Run}
-use Rattle.version_core.specs.Kept.{Kept}
+use Rattle.version_core.specs.Kept.{KeepsInvariants}
 use Rattle.version_core.specs.Rest.{IsAtRest, IsNoLoad, loaded}
 use Rattle.version_core.proofs.Lists.{slice_get-set}
 use Rattle.version_core.proofs.Shelves.{version_at}
@@ -92,7 +92,7 @@ opened_is_open : (s : State) (k e : ℕ) → IsFree s k → IsOpen (opened s k e
 opened_is_open s k e free = slice_get-set_same s.shelves k (Shelf.Open (newest s + 1)) (slice_get_within s.shelves k _ free)
 
 -- after an opening at rest, Publish can only publish what was opened
-published_is : (s : State) (k e : ℕ) (r : Reply) (t : State) → Kept s → IsAtRest s → MayOpen s → IsFree s k
+published_is : (s : State) (k e : ℕ) (r : Reply) (t : State) → KeepsInvariants s → IsAtRest s → MayOpen s → IsFree s k
     → PublishStep (opened s k e) r t → (r ≡ Reply.Published (newest s + 1))
     × (t ≡ published (opened s k e) k (newest s + 1))
 published_is s k e (Reply.Published v) t kept rest may free h =
@@ -107,7 +107,7 @@ published_is s k e (Reply.Published v) t kept rest may free h =
 published_is s k e Reply.NotNow t kept rest may free h = let p = rest.published in absurd (h.0 k (newest s + 1) (opened_is_open s k e free, (omega arith)))
 published_is s k e _ t kept rest may free h = absurd h
 
-current_stays : (s : State) (k e : ℕ) → Kept s → IsFree s k → IsOpen (opened s k e) s.current_shelf s.current
+current_stays : (s : State) (k e : ℕ) → KeepsInvariants s → IsFree s k → IsOpen (opened s k e) s.current_shelf s.current
 current_stays s k e kept free =
     slice_get-set_other s.shelves k s.current_shelf (Shelf.Open (newest s + 1))
     (λ q. let two : Some (Shelf.Open s.current) ≡ Some Shelf.Free =
@@ -115,7 +115,7 @@ current_stays s k e kept free =
     ∙ kept.shelves.current_open
 
 -- then Close of the shelf that was current can only close it
-closed_is : (s : State) (k e : ℕ) (r : Reply) (t : State) → Kept s → IsAtRest s → IsFree s k
+closed_is : (s : State) (k e : ℕ) (r : Reply) (t : State) → KeepsInvariants s → IsAtRest s → IsFree s k
     → CloseStep (published (opened s k e) k (newest s + 1)) s.current_shelf r t
     → (r ≡ Reply.Closing) × (t ≡ loaded s k e)
 closed_is s k e Reply.Closing t kept rest free h =
@@ -132,7 +132,7 @@ closed_is s k e Reply.NotNow t kept rest free h = let p =
     ))
 closed_is s k e _ t kept rest free h = absurd h
 
-loaded_rests : (s : State) (k e : ℕ) → Kept s → IsAtRest s → IsFree s k → IsAtRest (loaded s k e)
+loaded_rests : (s : State) (k e : ℕ) → KeepsInvariants s → IsAtRest s → IsFree s k → IsAtRest (loaded s k e)
 loaded_rests s k e kept rest free =
     let n = newest s + 1 in
     let xs = set s.shelves k (Shelf.Open n) in
@@ -150,7 +150,7 @@ loaded_rests s k e kept rest free =
           ];
     }
 
-pub loads_rest : (s t : State) (e v k : ℕ) (second third : Reply) → Kept s → IsAtRest s
+pub loads_rest : (s t : State) (e v k : ℕ) (second third : Reply) → KeepsInvariants s → IsAtRest s
     → Run s (Event.Open e ∷ Event.Publish ∷ Event.Close s.current_shelf ∷ []) (Reply.Opened v k ∷ second ∷ third ∷ []) t
     → (v ≡ newest s + 1) × (second ≡ Reply.Published v) × (third ≡ Reply.Closing) × (t ≡ loaded s k e) × IsAtRest t
 loads_rest s t e v k second third kept rest h =
@@ -160,11 +160,11 @@ loads_rest s t e v k second third kept rest h =
     let last : t ≡ loaded s k e = h.2.2.2 ∙ close.1 in
     (first.2, publish.0 ∙ ap (λ n. Reply.Published n) (sym first.2), close.0, last, subst IsAtRest (sym last) (loaded_rests s k e kept rest first.1))
 
-pub rest_is_spent : (s : State) → Kept s → IsAtRest s → ¬ (MayOpen s) → newest s ≡ 1000000000
+pub rest_is_spent : (s : State) → KeepsInvariants s → IsAtRest s → ¬ (MayOpen s) → newest s ≡ 1000000000
 rest_is_spent s kept rest not =
     dite (ℕ_discrete (newest s) 1000000000) (λ e. e) (λ e. let most = kept.room in absurd (not (none_waits s kept rest.published, (omega arith))))
 
-closing_here : (s : State) (k : ℕ) (shelf : Shelf) → Kept s → IsAtRest s → slice_get s.shelves k ≡ Some shelf
+closing_here : (s : State) (k : ℕ) (shelf : Shelf) → KeepsInvariants s → IsAtRest s → slice_get s.shelves k ≡ Some shelf
     → ¬ (IsFree s k) → k ≢ s.current_shelf → (v : ℕ) × IsClosing s k v
 closing_here s k (Shelf.Closing v) kept rest is not other = (v, is)
 closing_here s k Shelf.Free kept rest is not other = absurd (not is)
@@ -173,6 +173,6 @@ closing_here s k (Shelf.Open v) kept rest is not other =
     (version_at s.shelves s.current_shelf (Shelf.Open s.current) kept.shelves.current_open
     ∙ ap (λ m. Some m) (sym (rest.one_open k v is)))))
 
-pub rest_is_full : (s : State) (k : ℕ) → Kept s → IsAtRest s → ((j : ℕ) → ¬ (IsFree s j)) → k < 8 → k ≢ s.current_shelf → (v : ℕ) × IsClosing s k v
+pub rest_is_full : (s : State) (k : ℕ) → KeepsInvariants s → IsAtRest s → ((j : ℕ) → ¬ (IsFree s j)) → k < 8 → k ≢ s.current_shelf → (v : ℕ) × IsClosing s k v
 rest_is_full s k kept rest none small other =
     closing_here s k _ kept rest (slice_get-get_or s.shelves k Shelf.Free (let e = kept.shelves.eight in omega arith)) (none k) other

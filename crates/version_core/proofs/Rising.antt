@@ -25,8 +25,8 @@ pub rise_more : (low : ℕ) (ns : List ℕ) (high : ℕ) → RiseWithin low ns h
 rise_more low [] high h = (h, omega arith)
 rise_more low (n ∷ ns) high h = (h.0, rise_more n ns high h.1)
 
-pub rise_less : (low : ℕ) (ns : List ℕ) (high place v : ℕ) → RiseWithin low ns high → slice_get ns place ≡ Some v → RiseWithin low (remove ns place) high
-rise_less low [] high place v h is = absurd (cc)
+pub rise_less : (low : ℕ) (ns : List ℕ) (high index v : ℕ) → RiseWithin low ns high → slice_get ns index ≡ Some v → RiseWithin low (remove ns index) high
+rise_less low [] high index v h is = absurd (cc)
 rise_less low (n ∷ ns) high zero v h is = rise_lower low n ns high h.0 h.1
 rise_less low (n ∷ ns) high (suc i) v h is = (h.0, rise_less n ns high i v h.1 is)
 
@@ -34,14 +34,14 @@ rises : (low : ℕ) (ns : List ℕ) (high : ℕ) → RiseWithin low ns high → 
 rises low [] high h = h
 rises low (n ∷ ns) high h = let a = h.0 in let b = rises n ns high h.1 in omega arith
 
-pub rise_at : (low : ℕ) (ns : List ℕ) (high place v : ℕ) → RiseWithin low ns high → slice_get ns place ≡ Some v → (low ≤ v) × (v ≤ high)
-rise_at low [] high place v h is = absurd (cc)
+pub rise_at : (low : ℕ) (ns : List ℕ) (high index v : ℕ) → RiseWithin low ns high → slice_get ns index ≡ Some v → (low ≤ v) × (v ≤ high)
+rise_at low [] high index v h is = absurd (cc)
 rise_at low (n ∷ ns) high zero v h is = let same : n ≡ v = cc in let a = h.0 in let b = rises n ns high h.1 in (omega arith, omega arith)
 rise_at low (n ∷ ns) high (suc i) v h is = let f = rise_at n ns high i v h.1 is in let a = h.0 in let b = f.0 in (omega arith, f.1)
 
 -- where versions rise, all up to one that is as the first are as the first
-same_first : (ns : List ℕ) (high place v : ℕ) → RiseWithin v ns high → slice_get ns place ≡ Some v → v ∷ remove ns place ≡ ns
-same_first [] high place v h is = absurd (cc)
+same_first : (ns : List ℕ) (high index v : ℕ) → RiseWithin v ns high → slice_get ns index ≡ Some v → v ∷ remove ns index ≡ ns
+same_first [] high index v h is = absurd (cc)
 same_first (n ∷ ns) high zero v h is = let same : n ≡ v = cc in ap (λ m. m ∷ ns) (sym same)
 same_first (n ∷ ns) high (suc i) v h is =
     let most = (rise_at n ns high i v h.1 is).0 in let least = h.0 in

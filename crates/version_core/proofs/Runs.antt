@@ -14,18 +14,18 @@ use Rattle.version_core.specs.State.{State, start, newest, edition_of, looked, a
 use Rattle.version_core.specs.Steps.{IsIdle, IsOpen, Holds, IsSettled, Grows, OpensLeast, Step, LookStep, TakeStep, DropStep, OpenStep, PublishStep}
 use Rattle.version_core.specs.Steps.{CloseStep, CollectStep, AskStep, NoteStep, JoinStep}
 use Rattle.version_core.specs.Runs.{Run, LeastRun, IsRun, IsReached, IsLater, IsStopped}
-use Rattle.version_core.specs.Kept.{Kept}
+use Rattle.version_core.specs.Kept.{KeepsInvariants}
 use Rattle.version_core.proofs.Rising.{most_left, most_right}
 use Rattle.version_core.proofs.Keeps.{start_kept, step_kept, held_known, settled_small}
 use Rattle.version_core.proofs.Replies.{one_reply}
 
-pub run_kept : (s : State) (es : List Event) (rs : List Reply) (t : State) → Kept s → Run s es rs t → Kept t
-run_kept s [] [] t kept h = subst Kept (sym h) kept
+pub run_kept : (s : State) (es : List Event) (rs : List Reply) (t : State) → KeepsInvariants s → Run s es rs t → KeepsInvariants t
+run_kept s [] [] t kept h = subst KeepsInvariants (sym h) kept
 run_kept s (e ∷ es) (r ∷ rs) t kept h = run_kept h.0 es rs t (step_kept s e r h.0 kept h.1) h.2
 run_kept s [] (r ∷ rs) t kept h = absurd h
 run_kept s (e ∷ es) [] t kept h = absurd h
 
-pub reached_kept : (s : State) → IsReached s → Kept s
+pub reached_kept : (s : State) → IsReached s → KeepsInvariants s
 reached_kept s h = run_kept start h.0 h.1.replies s start_kept h.1.run
 
 pub runs_join : (s t u : State) (before after : List Event) (first second : List Reply) → Run s before first t
@@ -79,7 +79,7 @@ pub least_take : (s : State) (xs : List Event) (i : ℕ) (d : Event) (rs : List 
 least_take s xs i d rs t u r less h step least =
     rw (take_more xs i d less) (least_join s t u (take i xs) (get_or xs i d ∷ []) rs (r ∷ []) h (u, step, least, refl))
 
-pub one_run : (s t u : State) (es : List Event) (rs qs : List Reply) → Kept s → LeastRun s es rs t → LeastRun s es qs u → (qs ≡ rs) × (u ≡ t)
+pub one_run : (s t u : State) (es : List Event) (rs qs : List Reply) → KeepsInvariants s → LeastRun s es rs t → LeastRun s es qs u → (qs ≡ rs) × (u ≡ t)
 one_run s t u [] [] [] kept a b = (refl, b ∙ sym a)
 one_run s t u (e ∷ es) (r ∷ rs) (q ∷ qs) kept a b =
     let now = one_reply s a.0 b.0 e r q kept a.1 a.2 b.1 b.2 in
@@ -123,7 +123,7 @@ later_later s t u one two = record {
   );
 }
 
-looked_later : (s : State) (w : ℕ) → Kept s → IsIdle s w → IsLater s (looked s w)
+looked_later : (s : State) (w : ℕ) → KeepsInvariants s → IsIdle s w → IsLater s (looked s w)
 looked_later s w kept idle = record {
   current = omega arith;
   seen = λ j. dite (ℕ_discrete j w)
@@ -134,7 +134,7 @@ looked_later s w kept idle = record {
   editions = ([], sym (append-nil s.editions));
 }
 
-look_later : (s : State) (w : ℕ) (r : Reply) (t : State) → Kept s → LookStep s w r t → IsLater s t
+look_later : (s : State) (w : ℕ) (r : Reply) (t : State) → KeepsInvariants s → LookStep s w r t → IsLater s t
 look_later s w (Reply.Looked v k) t kept h = subst (λ x. IsLater s x) (sym h.3) (looked_later s w kept h.0)
 look_later s w Reply.NotNow t kept h = same_later s t h.1
 look_later s w _ t kept h = absurd h
@@ -188,26 +188,26 @@ note_later s (Reply.Noted v) t h = subst (λ x. IsLater s x) (sym h.1) (stays_la
 note_later s _ t h = absurd h
 
 -- what a worker has seen after a join
-pub joined_seen : (s : State) (w v place : ℕ) → Kept s → IsSettled s w → get_or (joined s w v place).seen w 0 ≡ max (get_or s.seen w 0) v
-joined_seen s w v place kept settled = let small = settled_small s w kept settled in let l = kept.workers.sixteen_seen in
+pub joined_seen : (s : State) (w v index : ℕ) → KeepsInvariants s → IsSettled s w → get_or (joined s w v index).seen w 0 ≡ max (get_or s.seen w 0) v
+joined_seen s w v index kept settled = let small = settled_small s w kept settled in let l = kept.workers.sixteen_seen in
     get_or-set_same s.seen w _ 0 (omega arith)
 
-joined_later : (s : State) (w v place : ℕ) → Kept s → IsSettled s w → IsLater s (joined s w v place)
-joined_later s w v place kept settled = record {
+joined_later : (s : State) (w v index : ℕ) → KeepsInvariants s → IsSettled s w → IsLater s (joined s w v index)
+joined_later s w v index kept settled = record {
   current = omega arith;
   seen = λ j. dite (ℕ_discrete j w)
-      (λ e. let g = joined_seen s w v place kept settled in let up = most_left (get_or s.seen w 0) v in
-      subst (λ n. get_or s.seen n 0 ≤ get_or (joined s w v place).seen n 0) (sym e) (omega arith))
+      (λ e. let g = joined_seen s w v index kept settled in let up = most_left (get_or s.seen w 0) v in
+      subst (λ n. get_or s.seen n 0 ≤ get_or (joined s w v index).seen n 0) (sym e) (omega arith))
       (λ e. let g = get_or-set_other s.seen w j (max (get_or s.seen w 0) v) 0 e in omega arith);
   editions = ([], sym (append-nil s.editions));
 }
 
-join_later : (s : State) (w v : ℕ) (r : Reply) (t : State) → Kept s → JoinStep s w v r t → IsLater s t
+join_later : (s : State) (w v : ℕ) (r : Reply) (t : State) → KeepsInvariants s → JoinStep s w v r t → IsLater s t
 join_later s w v (Reply.Joined n) t kept h = subst (λ x. IsLater s x) (sym h.2.2) (joined_later s w v h.2.0 kept h.0)
 join_later s w v Reply.NotNow t kept h = same_later s t h.1
 join_later s w v _ t kept h = absurd h
 
-pub step_later : (s : State) (e : Event) (r : Reply) (t : State) → Kept s → Step s e r t → IsLater s t
+pub step_later : (s : State) (e : Event) (r : Reply) (t : State) → KeepsInvariants s → Step s e r t → IsLater s t
 step_later s (Event.Look w) r t kept h = look_later s w r t kept h
 step_later s (Event.Take w) r t kept h = take_later s w r t h
 step_later s (Event.Drop w) r t kept h = drop_later s w r t h
@@ -219,14 +219,15 @@ step_later s (Event.Ask w) r t kept h = ask_later s w r t h
 step_later s Event.Note r t kept h = note_later s r t h
 step_later s (Event.Join w v) r t kept h = join_later s w v r t kept h
 
-pub run_later : (s : State) (es : List Event) (rs : List Reply) (t : State) → Kept s → Run s es rs t → IsLater s t
+pub run_later : (s : State) (es : List Event) (rs : List Reply) (t : State) → KeepsInvariants s → Run s es rs t → IsLater s t
 run_later s [] [] t kept h = same_later s t h
 run_later s (e ∷ es) (r ∷ rs) t kept h = later_later s h.0 t (step_later s e r h.0 kept h.1) (run_later h.0 es rs t (step_kept s e r h.0 kept h.1) h.2)
 run_later s [] (r ∷ rs) t kept h = absurd h
 run_later s (e ∷ es) [] t kept h = absurd h
 
 -- each look finds what was joined or a newer version
-pub looks_after : (s t u x : State) (w v seen found k : ℕ) (es : List Event) (rs : List Reply) → Kept s → Step s (Event.Join w v) (Reply.Joined seen) t
+pub looks_after : (s t u x : State) (w v seen found k : ℕ) (es : List Event) (rs : List Reply) → KeepsInvariants s → Step s (Event.Join w v)
+    (Reply.Joined seen) t
     → Run t es rs u → Step u (Event.Look w) (Reply.Looked found k) x
     → (v ≤ seen) × (seen ≤ found)
 looks_after s t u x w v seen found k es rs kept join run look =
@@ -242,9 +243,9 @@ edition_later s t zero e later is = absurd (cc)
 edition_later s t (suc n) e later is = subst (λ l. slice_get l n ≡ Some e) (sym later.editions.1) (slice_get-append s.editions later.editions.0 n e is)
 
 -- the edition of a version stands at its place, counted from 1
-pub edition_of-place : (editions : List ℕ) (v e : ℕ) → 0 < v → slice_get editions (v - 1) ≡ Some e → edition_of editions v ≡ Some e
-edition_of-place editions zero e some is = absurd (omega arith)
-edition_of-place editions (suc n) e some is = let place : suc n - 1 ≡ n = omega arith in rw place at is
+pub edition_of-index : (editions : List ℕ) (v e : ℕ) → 0 < v → slice_get editions (v - 1) ≡ Some e → edition_of editions v ≡ Some e
+edition_of-index editions zero e some is = absurd (omega arith)
+edition_of-index editions (suc n) e some is = let index : suc n - 1 ≡ n = omega arith in rw index at is
 
 pub opens_with_edition : (s t : State) (e v k : ℕ) → Step s (Event.Open e) (Reply.Opened v k) t
     → IsOpen t k v × (v ≡ newest t) × (edition_of t.editions v ≡ Some e)
@@ -256,14 +257,14 @@ opens_with_edition s t e v k h =
     let all : IsOpen new k (newest s + 1) × (newest s + 1 ≡ newest new) × (edition_of new.editions (newest s + 1) ≡ Some e) = (
       slice_get-set_same s.shelves k (Shelf.Open (newest s + 1)) (slice_get_within s.shelves k Shelf.Free h.1),
       sym longer,
-      edition_of-place new.editions (newest s + 1) e (omega arith) there,
+      edition_of-index new.editions (newest s + 1) e (omega arith) there,
     ) in
     subst (λ x. IsOpen x k v × (v ≡ newest x)
     × (edition_of x.editions v ≡ Some e)) (sym h.3) (subst (λ n. IsOpen new k n × (n ≡ newest new)
     × (edition_of new.editions n ≡ Some e)) (sym h.2) all)
 
-place_of : (s : State) (v : ℕ) → 0 < v → v ≤ newest s → (e : ℕ) × (edition_of s.editions v ≡ Some e)
-place_of s v some most = (get_or s.editions (v - 1) 0, edition_of-place s.editions v _ some (slice_get-get_or s.editions (v - 1) 0 (omega arith)))
+index_of : (s : State) (v : ℕ) → 0 < v → v ≤ newest s → (e : ℕ) × (edition_of s.editions v ≡ Some e)
+index_of s v some most = (get_or s.editions (v - 1) 0, edition_of-index s.editions v _ some (slice_get-get_or s.editions (v - 1) 0 (omega arith)))
 
 answered : (s : State) (w k v e : ℕ) (r : Reply) (t : State) → Holds s w k v → edition_of s.editions v ≡ Some e
     → AskStep s w r t → (r ≡ Reply.From v e) × (t ≡ s)
@@ -275,10 +276,10 @@ answered s w k v e (Reply.From x y) t holds is h =
 answered s w k v e Reply.NotNow t holds is h = absurd (h.0 k v holds)
 answered s w k v e _ t holds is h = absurd h
 
-pub asked : (s : State) (w k v : ℕ) → Kept s → Holds s w k v
+pub asked : (s : State) (w k v : ℕ) → KeepsInvariants s → Holds s w k v
     → (e : ℕ) × (edition_of s.editions v ≡ Some e)
     × ((reply : Reply) (t : State) → Step s (Event.Ask w) reply t → (reply ≡ Reply.From v e) × (t ≡ s))
 asked s w k v kept holds =
     let known = held_known s w k v kept holds in
-    let place = place_of s v known.1 known.2 in
-    (place.0, place.1, λ r t h. answered s w k v place.0 r t holds place.1 h)
+    let index = index_of s v known.1 known.2 in
+    (index.0, index.1, λ r t h. answered s w k v index.0 r t holds index.1 h)

@@ -3,13 +3,13 @@ use Rattle.std.specs.Prelude.{◌≢◌, ℕ, List, [], ◌∷◌, Option, Some,
 use Rattle.version_core.specs.declared.event.Event.{Event}
 
 -- neither a worker nor the loader
-abbrev pub nobody : Option ℕ
-nobody = Some 16
+abbrev pub no_actor : Option ℕ
+no_actor = Some 16
 
 -- who does an event: Some w is the worker w, None the loader. Note and Join are nobody's, since a seat does them without learning what has happened
 abbrev pub actor : Event → Option ℕ
-actor Event.Note = nobody
-actor (Event.Join w v) = nobody
+actor Event.Note = no_actor
+actor (Event.Join w v) = no_actor
 actor (Event.Look w) = Some w
 actor (Event.Take w) = Some w
 actor (Event.Drop w) = Some w

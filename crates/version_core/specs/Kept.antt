@@ -61,7 +61,7 @@ RiseWithin low (v ∷ vs) high = (low ≤ v) × RiseWithin v vs high
 
 -- what holds in every state: at most 1,000,000,000 versions; shelves, counts and workers that fit one another; and notices whose versions never fall,
 -- none of them above the current one
-pub record Kept (s : State) : Type 0 where
+pub record KeepsInvariants (s : State) : Type 0 where
   pub room : newest s ≤ 1000000000
   pub shelves : ShelvesFit s.current s.current_shelf (newest s) s.shelves
   pub counts : CountsFit s.counts s.workers

@@ -6,7 +6,7 @@ use Rattle.version_core.specs.declared.event.Reply.{Reply}
 use Rattle.version_core.specs.State.{State, newest}
 use Rattle.version_core.specs.Steps.{Step, IsOpen, IsClosing}
 use Rattle.version_core.specs.Runs.{Run}
-use Rattle.version_core.specs.Kept.{Kept}
+use Rattle.version_core.specs.Kept.{KeepsInvariants}
 
 -- nothing is unpublished, and no version but the current one is open
 pub record IsAtRest (s : State) : Type 0 where
@@ -37,16 +37,16 @@ RestStays = (s t : State) (event : Event) (reply : Reply) → IsAtRest s → IsN
 -- a load whose opening finds room publishes the next version, closes the one before, and ends at rest
 abbrev pub LoadsRest : Type 0
 LoadsRest =
-    (s t : State) (e v k : ℕ) (second third : Reply) → Kept s → IsAtRest s
+    (s t : State) (e v k : ℕ) (second third : Reply) → KeepsInvariants s → IsAtRest s
     → Run s (Event.Open e ∷ Event.Publish ∷ Event.Close s.current_shelf ∷ []) (Reply.Opened v k ∷ second ∷ third ∷ []) t
     → (v ≡ newest s + 1) × (second ≡ Reply.Published v) × (third ≡ Reply.Closing) × (t ≡ loaded s k e) × IsAtRest t
 
 -- at rest, an opening is answered with NotNow only if no version number is left
 abbrev pub RestIsSpent : Type 0
-RestIsSpent = (s t : State) (e : ℕ) → Kept s → IsAtRest s → Step s (Event.Open e) Reply.NotNow t → newest s ≡ 1000000000
+RestIsSpent = (s t : State) (e : ℕ) → KeepsInvariants s → IsAtRest s → Step s (Event.Open e) Reply.NotNow t → newest s ≡ 1000000000
 
 -- at rest, an opening finds no room only if all shelves but the current one are closing
 abbrev pub RestIsFull : Type 0
 RestIsFull =
-    (s t : State) (e k : ℕ) (counts : List ℕ) → Kept s → IsAtRest s → Step s (Event.Open e) (Reply.NoRoom counts) t
+    (s t : State) (e k : ℕ) (counts : List ℕ) → KeepsInvariants s → IsAtRest s → Step s (Event.Open e) (Reply.NoRoom counts) t
     → k < 8 → k ≢ s.current_shelf → (v : ℕ) × IsClosing s k v

@@ -67,4 +67,4 @@ noted s = record s { notices = s.notices ++ s.current ∷ [] }
 
 -- the worker has seen the version of the notice at this place, which is no longer out
 abbrev pub joined : State → ℕ → ℕ → ℕ → State
-joined s w v place = record s { seen = slice_set s.seen w (max (slice_index s.seen w) v); notices = remove s.notices place }
+joined s w v index = record s { seen = slice_set s.seen w (max (slice_index s.seen w) v); notices = remove s.notices index }

@@ -110,7 +110,7 @@ IsSettled s w = IsIdle s w ⊎ ((k v : ℕ) × Holds s w k v)
 
 -- a notice of the version is out
 abbrev pub IsNoted : State → ℕ → Type 0
-IsNoted s v = (place : ℕ) × (slice_get s.notices place ≡ Some v)
+IsNoted s v = (index : ℕ) × (slice_get s.notices index ≡ Some v)
 
 -- the worker is settled, and a notice of the version is out
 abbrev pub MayJoin : State → ℕ → ℕ → Type 0
@@ -120,7 +120,7 @@ MayJoin s w v = IsSettled s w × IsNoted s v
 -- out, NotNow
 abbrev pub JoinStep : State → ℕ → ℕ → Reply → State → Type 0
 JoinStep s w v (Reply.Joined seen) t =
-    IsSettled s w × (seen ≡ max (slice_index s.seen w) v) × ((place : ℕ) × (slice_get s.notices place ≡ Some v) × (t ≡ joined s w v place))
+    IsSettled s w × (seen ≡ max (slice_index s.seen w) v) × ((index : ℕ) × (slice_get s.notices index ≡ Some v) × (t ≡ joined s w v index))
 JoinStep s w v Reply.NotNow t = (¬ (MayJoin s w v)) × (t ≡ s)
 JoinStep s w v _ t = ⊥
 

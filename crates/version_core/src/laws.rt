@@ -7,10 +7,11 @@ ghost use Rattle.version_core.specs.Laws.{OpensWithEdition, NoticesAreOfTheirTim
 ghost use Rattle.version_core.specs.Laws.{JoinedVersionsStay, OneReply, OneRun, RunsBegin, RunsGrow};
 ghost use Rattle.version_core.specs.Laws.{RunsGrowByRuns, RunsGrowWithReplies, RunsJoin, RunsPart};
 ghost use Rattle.version_core.specs.State.{start};
-ghost use Rattle.version_core.specs.Kept.{Kept};
+ghost use Rattle.version_core.specs.Kept.{KeepsInvariants};
 ghost use Rattle.version_core.specs.Rest.{IsAtRest, RestStays, LoadsRest, RestIsSpent, RestIsFull};
 
-/// The laws of every run from the start, whatever its events: each state that it reaches satisfies `Kept`, and the
+/// The laws of every run from the start, whatever its events: each state that it reaches satisfies `KeepsInvariants`,
+/// and the
 /// other laws hold of every state that does.
 pub fn every_run()
     ensures kept { EveryRunKeeps }
@@ -22,10 +23,11 @@ pub fn every_run()
     ensures replies { OneRun }
 {}
 
-/// The laws of one step, for a state that satisfies `Kept`, whatever events led there. The start satisfies it, and each
+/// The laws of one step, for a state that satisfies `KeepsInvariants`, whatever events led there. The start satisfies
+/// it, and each
 /// step preserves it. If an opening takes the least free shelf, state and event determine the reply and the next state.
 pub fn every_step()
-    ensures start { Kept start }
+    ensures start { KeepsInvariants start }
     ensures kept { EveryStepKeeps }
     ensures later { NothingFallsInAStep }
     ensures opened { OpensWithEdition }

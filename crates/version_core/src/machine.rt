@@ -8,7 +8,7 @@ ghost use Rattle.version_core.specs.Steps.{IsUnpublished, IsOutdated, IsSettled,
 ghost use Rattle.version_core.specs.Steps.{MayOpen, Grows, OpensLeast, Step, LookStep, TakeStep, DropStep};
 ghost use Rattle.version_core.specs.Steps.{OpenStep, PublishStep, CloseStep, CollectStep};
 ghost use Rattle.version_core.specs.Steps.{AskStep, NoteStep, JoinStep};
-ghost use Rattle.version_core.specs.Kept.{Kept};
+ghost use Rattle.version_core.specs.Kept.{KeepsInvariants};
 ghost use Rattle.version_core.specs.declared.event.Event.{Event};
 ghost use Rattle.version_core.specs.declared.event.Reply.{Reply};
 ghost use Rattle.version_core.specs.declared.state.Worker.{Worker};
@@ -35,7 +35,7 @@ pub struct Core {
 
 impl Model for Core {
     ghost use Rattle.version_core.specs.State.{State};
-    ghost use Rattle.version_core.specs.Kept.{Kept};
+    ghost use Rattle.version_core.specs.Kept.{KeepsInvariants};
 
     ghost Value = { State };
 
@@ -51,7 +51,7 @@ impl Model for Core {
       notices = c.notices.items;
     } };
 
-    ghost invariant = { λ c. Kept (record {
+    ghost invariant = { λ c. KeepsInvariants (record {
       current = c.current;
       current_shelf = c.current_shelf;
       shelves =
@@ -112,7 +112,7 @@ impl Core {
     pub fn current(&self) -> (u64, usize)
         ensures version { result.0 ≡ self.now.current }
         ensures shelf { result.1 ≡ self.now.current_shelf }
-        ensures kept { Kept self.now }
+        ensures kept { KeepsInvariants self.now }
     {
         (self.current, self.current_shelf)
     }
@@ -448,7 +448,7 @@ impl Core {
             return Reply::NotNow;
         }
         match self.notice_of(version) {
-            Some(place) => self.take_in(worker, version, place),
+            Some(index) => self.take_in(worker, version, index),
             None => Reply::NotNow,
         }
     }
@@ -464,27 +464,27 @@ impl Core {
 
     // The place of the first notice of the version.
     fn notice_of(&self, version: u64) -> Option<usize>
-        ensures { MatchOption result (¬ (IsNoted self.now version)) (λ place. slice_get self.now.notices place
+        ensures { MatchOption result (¬ (IsNoted self.now version)) (λ index. slice_get self.now.notices index
             ≡ Some version) }
     {
         let _ = &self.current;
-        for place in 0..self.notices.len() {
-            if self.notices[place] == version {
-                return Some(place);
+        for index in 0..self.notices.len() {
+            if self.notices[index] == version {
+                return Some(index);
             }
         }
         None
     }
 
-    fn take_in(&mut self, worker: usize, version: u64, place: usize) -> Reply
+    fn take_in(&mut self, worker: usize, version: u64, index: usize) -> Reply
         requires settled { IsSettled self.old worker }
-        requires there { slice_get self.old.notices place ≡ Some version }
+        requires there { slice_get self.old.notices index ≡ Some version }
         ensures reply { result ≡ Reply.Joined (max (slice_index self.old.seen worker) version) }
-        ensures state { self.new ≡ joined self.old worker version place }
+        ensures state { self.new ≡ joined self.old worker version index }
     {
         let _ = &self.current;
         let seen = greater(self.seen[worker], version);
-        self.notices.remove(place);
+        self.notices.remove(index);
         self.seen[worker] = seen;
         Reply::Joined { seen }
     }

@@ -4,7 +4,7 @@ use Rattle.epochs.specs.Seats.{SeatValue}
 use Rattle.epochs.specs.declared.seats.LoaderAnswer.{LoaderAnswer}
 use Rattle.lines.specs.Counting.{inner_of}
 use Rattle.orders.specs.Ordering.{OrderValue}
-use Rattle.shelf_steps.specs.declared.views.Known.{Known}
+use Rattle.shelf_steps.specs.declared.views.KnownHistory.{KnownHistory}
 use Rattle.session.specs.Learning.{Learns, TellPublished}
 use Rattle.session.specs.declared.fault.Ended.{Ended}
 use Rattle.session.specs.declared.fault.SessionFault.{SessionFault}
@@ -15,11 +15,11 @@ use Rattle.workers.specs.Loading.{IsEarly, IsNotPublished}
 use Rattle.workers.specs.Sessions.{AreServed, IsServed, IsServedAt, IsSession, MayClose}
 use Rattle.workers.specs.declared.clients.ConnFault.{ConnFault}
 use Rattle.workers.specs.declared.refusal.LoadRefusal.{LoadRefusal}
-use Rattle.workers.specs.declared.served.End.{End}
+use Rattle.workers.specs.declared.served.SessionEnd.{SessionEnd}
 use Rattle.session.specs.declared.desk.Streams.{Streams}
 
 -- what is served from a new counted reader and writer is served from what they hold, and each failure is counted
-pub session_of : (form : ReplyForm) (number : ℕ) (end : End) (result : Result Ended SessionFault)
+pub session_of : (form : ReplyForm) (number : ℕ) (end : SessionEnd) (result : Result Ended SessionFault)
     (counted_to_read to_read read_then counted_contents contents contents_then : Option (List ℕ))
     (reads reads_then writes writes_then : ℕ) (a b last : SeatValue) (asked asked_then : List OrderValue)
     → end ≡ end_of result → counted_to_read ≡ to_read → counted_contents ≡ contents → reads ≡ 0 → writes ≡ 0 → LastRelease number last b
@@ -28,22 +28,22 @@ pub session_of : (form : ReplyForm) (number : ℕ) (end : End) (result : Result 
     → IsSession form number end to_read read_then contents contents_then (0 < reads_then) (0 < writes_then) a asked b asked_then
 session_of form number end result counted_to_read to_read read_then counted_contents contents contents_then
     reads reads_then writes writes_then a b last asked asked_then end_is same_read same_contents no_reads no_writes released serves =
-    let Told = λ (first held : Option (List ℕ)) (n m : ℕ).
+    let Shows = λ (first held : Option (List ℕ)) (n m : ℕ).
     Serves form number result first read_then held contents_then (n < reads_then) (m < writes_then) a asked last asked_then in
-    let read = subst (λ first. Told first counted_contents reads writes) same_read serves in
-    let written = subst (λ held. Told to_read held reads writes) same_contents read in
-    let from_no_read = subst (λ n. Told to_read contents n writes) no_reads written in
+    let read = subst (λ first. Shows first counted_contents reads writes) same_read serves in
+    let written = subst (λ held. Shows to_read held reads writes) same_contents read in
+    let from_no_read = subst (λ n. Shows to_read contents n writes) no_reads written in
     record {
       result = result;
       last = last;
       end_is = end_is;
       released = released;
-      serves = subst (λ m. Told to_read contents 0 m) no_writes from_no_read;
+      serves = subst (λ m. Shows to_read contents 0 m) no_writes from_no_read;
     }
 
 module _ {C R W S : Type 0} (form : ReplyForm) (opens : C → Result (R × W) ConnFault → Type 0)
     (remaining : R → Option (List ℕ)) (contents : W → Option (List ℕ))
-    (number : S → ℕ) (value : S → SeatValue) (known : S → Known) where
+    (number : S → ℕ) (value : S → SeatValue) (known : S → KnownHistory) where
   -- one client more is served behind the others
   pub served_also : (clients : List C) (sessions : List (Session R W)) (client : C) (session : Session R W) (a m b : S)
       (asked between asked_then : List OrderValue)
@@ -89,7 +89,7 @@ module _ {C R W S : Type 0} (form : ReplyForm) (opens : C → Result (R × W) Co
       subst (λ clients. Are clients sessions_then) (sym takes) (subst (λ list. Are (has ++ client ∷ []) list) (sym adds) all)
 
   -- the reader and the writer of a session that was served may be closed
-  pub may_close : (fits : S → Type 0) (closes : R → W → End → Type 0) (client : C) (streams : Option (Streams R W)) (end : End) (a b : S)
+  pub may_close : (fits : S → Type 0) (closes : R → W → SessionEnd → Type 0) (client : C) (streams : Option (Streams R W)) (end : SessionEnd) (a b : S)
       (asked asked_then : List OrderValue) → MayClose form opens remaining contents number value known fits closes → fits a → fits b
       → IsServedAt form opens remaining contents number value known client (streams, end) a asked b asked_then
       → IfSome streams (λ now. closes (inner_of now.reader) (inner_of now.writer) end)

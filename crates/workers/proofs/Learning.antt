@@ -1,7 +1,7 @@
 -- What the loader comes to know, call by call.
 use Rattle.std.proofs.Common.{ℕ, List, [], ◌∷◌, ◌++◌, sym, ap, subst, ◌∙◌, append_assoc, append-nil}
 use Rattle.image_layout.specs.Image.{ImageValue}
-use Rattle.shelf_steps.specs.declared.views.Known.{Known}
+use Rattle.shelf_steps.specs.declared.views.KnownHistory.{KnownHistory}
 use Rattle.epochs.specs.SeatHistory.{Grows, IsPublished}
 use Rattle.epochs.specs.Seats.{CollectStep, PublishStep, RefuseStep}
 use Rattle.epochs.specs.declared.collected.Collected.{Collected}
@@ -11,25 +11,25 @@ use Rattle.epochs.proofs.GrowthLemmas.{grows_same, growths_join, published_stay}
 use Rattle.workers.specs.Learned.{LoaderLearns, WerePublished}
 
 -- what was published stays so
-published_later : (k later : Known) (answers : List LoaderAnswer) → Grows k later → WerePublished k answers → WerePublished later answers
+published_later : (k later : KnownHistory) (answers : List LoaderAnswer) → Grows k later → WerePublished k answers → WerePublished later answers
 published_later k later [] grows is = tt
 published_later k later (LoaderAnswer.Published version image ∷ answers) grows is =
     (published_stay k later version image.value grows is.0, published_later k later answers grows is.1)
 published_later k later (LoaderAnswer.PublishRefused fault ∷ answers) grows is = published_later k later answers grows is
 published_later k later (LoaderAnswer.Collected found ∷ answers) grows is = published_later k later answers grows is
 
-published_all : (k : Known) (xs ys : List LoaderAnswer) → WerePublished k xs → WerePublished k ys → WerePublished k (xs ++ ys)
+published_all : (k : KnownHistory) (xs ys : List LoaderAnswer) → WerePublished k xs → WerePublished k ys → WerePublished k (xs ++ ys)
 published_all k [] ys p q = q
 published_all k (LoaderAnswer.Published version image ∷ xs) ys p q = (p.0, published_all k xs ys p.1 q)
 published_all k (LoaderAnswer.PublishRefused fault ∷ xs) ys p q = published_all k xs ys p q
 published_all k (LoaderAnswer.Collected found ∷ xs) ys p q = published_all k xs ys p q
 
 -- nothing was done
-pub loader_same : (k : Known) (answers : List LoaderAnswer) → LoaderLearns k answers k answers
+pub loader_same : (k : KnownHistory) (answers : List LoaderAnswer) → LoaderLearns k answers k answers
 loader_same k answers = record { grows = grows_same k; answers = []; answers_are = sym (append-nil answers); published = tt }
 
 -- one call behind the other
-pub loader_on : (k l n : Known) (before between after : List LoaderAnswer) → LoaderLearns k before l between → LoaderLearns l between n after
+pub loader_on : (k l n : KnownHistory) (before between after : List LoaderAnswer) → LoaderLearns k before l between → LoaderLearns l between n after
     → LoaderLearns k before n after
 loader_on k l n before between after p q = record {
   grows = growths_join k l n p.grows q.grows;
@@ -39,7 +39,7 @@ loader_on k l n before between after p q = record {
 }
 
 -- a publish
-published_learns : (k l : Known) (before after : List LoaderAnswer) (image : ImageValue) (version : ℕ) → PublishStep before image version after
+published_learns : (k l : KnownHistory) (before after : List LoaderAnswer) (image : ImageValue) (version : ℕ) → PublishStep before image version after
     → IsPublished l version image → Grows k l → LoaderLearns k before l after
 published_learns k l before after image version step is grows = record {
   grows = grows;
@@ -49,13 +49,13 @@ published_learns k l before after image version step is grows = record {
 }
 
 -- a collection
-collected_learns : (k l : Known) (before after : List LoaderAnswer) (found : Collected) → CollectStep before found after → Grows k l
+collected_learns : (k l : KnownHistory) (before after : List LoaderAnswer) (found : Collected) → CollectStep before found after → Grows k l
     → LoaderLearns k before l after
 collected_learns k l before after found step grows =
     record { grows = grows; answers = LoaderAnswer.Collected found ∷ []; answers_are = step.1; published = tt }
 
 -- a publish and the collection behind it
-pub load_learns : (k l n : Known) (before between after : List LoaderAnswer) (image : ImageValue) (version : ℕ) (found : Collected)
+pub load_learns : (k l n : KnownHistory) (before between after : List LoaderAnswer) (image : ImageValue) (version : ℕ) (found : Collected)
     → PublishStep before image version between → IsPublished l version image → Grows k l → CollectStep between found after → Grows l n
     → LoaderLearns k before n after
 load_learns k l n before between after image version found publish is grows collect then =
@@ -63,7 +63,7 @@ load_learns k l n before between after image version found publish is grows coll
     (collected_learns l n between after found collect then)
 
 -- a publish that is refused
-pub refusal_learns : (k l : Known) (before after : List LoaderAnswer) (fault : PublishFault) → RefuseStep before fault after → Grows k l
+pub refusal_learns : (k l : KnownHistory) (before after : List LoaderAnswer) (fault : PublishFault) → RefuseStep before fault after → Grows k l
     → LoaderLearns k before l after
 refusal_learns k l before after (PublishFault.ShelvesFull counts) step grows =
     record { grows = grows; answers = LoaderAnswer.PublishRefused (PublishFault.ShelvesFull counts) ∷ []; answers_are = step.1; published = tt }

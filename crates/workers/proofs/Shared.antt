@@ -5,7 +5,7 @@ use Rattle.epochs.specs.Seats.{SeatValue}
 use Rattle.load_orders.specs.Asking.{OrderRoute, WorkerOrdersValue}
 use Rattle.load_orders.specs.Queue.{KeeperValue, QueueId, with_one_out, with_orders}
 use Rattle.load_orders.specs.declared.queue.OrderMark.{OrderMark}
-use Rattle.shelf_steps.specs.declared.views.Known.{Known}
+use Rattle.shelf_steps.specs.declared.views.KnownHistory.{KnownHistory}
 use Rattle.session.specs.declared.reply_form.ReplyForm.{ReplyForm}
 use Rattle.workers.specs.Ends.{Session}
 use Rattle.workers.specs.Ordering.{IsKeeperOf, put_by}
@@ -28,7 +28,7 @@ flat_also (first ∷ hands) hand =
 
 module _ {C R W S N : Type 0} (form : ReplyForm) (opens : C → Result (R × W) ConnFault → Type 0)
     (remaining : R → Option (List ℕ)) (contents : W → Option (List ℕ))
-    (number : S → ℕ) (value : S → SeatValue) (known : S → Known) (noted : N → ℕ) (route : OrderRoute N) where
+    (number : S → ℕ) (value : S → SeatValue) (known : S → KnownHistory) (noted : N → ℕ) (route : OrderRoute N) where
   -- one share more behind the others
   pub shares_also : (seats : List S) (hands : List (List C)) (used : List (WorkerOrdersValue N)) (ends : List (Session R W)) (lasts : List S)
       (seat : S) (hand : List C) (orders : WorkerOrdersValue N) (share : List (Session R W)) (last : S)

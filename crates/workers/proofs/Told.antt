@@ -4,7 +4,7 @@ use Rattle.image_layout.specs.Image.{ImageValue}
 use Rattle.epochs.specs.SeatHistory.{Grows}
 use Rattle.epochs.specs.Seats.{SeatValue}
 use Rattle.orders.specs.Ordering.{OrderValue}
-use Rattle.shelf_steps.specs.declared.views.Known.{Known}
+use Rattle.shelf_steps.specs.declared.views.KnownHistory.{KnownHistory}
 use Rattle.session.specs.declared.reply_form.ReplyForm.{ReplyForm}
 use Rattle.session.specs.Learning.{IsPublishedIfHeld, Learns, TellPublished}
 use Rattle.session.specs.declared.desk.Streams.{Streams}
@@ -12,14 +12,14 @@ use Rattle.session.proofs.LearnLemmas.{learning_tells, learns_on, learns_same}
 use Rattle.workers.specs.Ends.{Session}
 use Rattle.workers.specs.Sessions.{AreExact, AreServed, IsExact, IsServed}
 use Rattle.workers.specs.declared.clients.ConnFault.{ConnFault}
-use Rattle.workers.specs.declared.served.End.{End}
+use Rattle.workers.specs.declared.served.SessionEnd.{SessionEnd}
 
 -- a seat that is left alone while its shelves' history goes on
-learns_later : (k later : Known) (a : SeatValue) → Grows k later → Learns k a later a
+learns_later : (k later : KnownHistory) (a : SeatValue) → Grows k later → Learns k a later a
 learns_later k later a grows = record { grows = grows; answers = []; answers_are = sym (append-nil a.answers); published = tt }
 
 module _ {C R W S : Type 0} (form : ReplyForm) (opens : C → Result (R × W) ConnFault → Type 0)
-    (remaining : R → Option (List ℕ)) (contents : W → Option (List ℕ)) (number : S → ℕ) (value : S → SeatValue) (known : S → Known) where
+    (remaining : R → Option (List ℕ)) (contents : W → Option (List ℕ)) (number : S → ℕ) (value : S → SeatValue) (known : S → KnownHistory) where
   -- what a seat knows only grows
   knows_more : (clients : List C) (sessions : List (Session R W)) (a b : S) (asked asked_then : List OrderValue)
       → AreServed form opens remaining contents number value known clients sessions a asked b asked_then
@@ -34,7 +34,7 @@ module _ {C R W S : Type 0} (form : ReplyForm) (opens : C → Result (R × W) Co
       (knows_more clients sessions m b served.1 asked_then served.3)
 
   -- a session at a seat that held nothing, which tells what this history published
-  exact_one : (history : Known) (client : C) (now : Option (Streams R W)) (end : End) (a m : S) (asked between : List OrderValue)
+  exact_one : (history : KnownHistory) (client : C) (now : Option (Streams R W)) (end : SessionEnd) (a m : S) (asked between : List OrderValue)
       → (value a).held ≡ None → IsServed form opens remaining contents (number a) client now end (value a) asked (value m) between
       → TellPublished history (value a) (value m)
       → IsExact form opens remaining contents history (number a) client now end (value a) asked (value m) between

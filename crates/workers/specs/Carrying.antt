@@ -5,7 +5,7 @@ use Rattle.feed_files.specs.Files.{FileRead}
 use Rattle.feed_loader.specs.Faults.{failed_by, failed_in}
 use Rattle.feed_loader.specs.declared.plan.Plan.{Plan}
 use Rattle.load_orders.specs.Queue.{QueueId}
-use Rattle.load_orders.specs.Telling.{AnsweredValue, IsToldBack, LoaderOrdersValue}
+use Rattle.load_orders.specs.Telling.{AnsweredValue, IsSentBack, LoaderOrdersValue}
 use Rattle.load_orders.specs.declared.queue.OrderMark.{OrderMark}
 use Rattle.load_orders.specs.declared.ways.LoadAnswer.{LoadAnswer}
 use Rattle.orders.specs.Ordering.{order_fault_number}
@@ -13,12 +13,12 @@ use Rattle.orders.specs.declared.fault.OrderFault.{OrderFault}
 use Rattle.workers.specs.Drawing.{IsDrawnAt}
 use Rattle.workers.specs.Loading.{Holds, IsOutcome, load_answer, reading}
 use Rattle.workers.specs.declared.drawing.DrawnFiles.{DrawnFiles}
-use Rattle.workers.specs.declared.loading.Loaded.{Loaded}
+use Rattle.workers.specs.declared.loading.LoadedVersion.{LoadedVersion}
 use Rattle.workers.specs.declared.refusal.LoadRefusal.{LoadRefusal}
 
 -- a read of a feed's files failed exactly if the outcome says so, and it was of the file that the outcome names
-abbrev pub FailedAsTold : {D T : Type 0} → (D → ℕ) → (D → List (List ℕ)) → D → D → Result T LoadRefusal → Type 0
-FailedAsTold failures failed files files_then outcome =
+abbrev pub FailedAsReported : {D T : Type 0} → (D → ℕ) → (D → List (List ℕ)) → D → D → Result T LoadRefusal → Type 0
+FailedAsReported failures failed files files_then outcome =
     (failures files_then ≡ failures files + failed_in (reading outcome)) × (failed files_then ≡ failed_by (failed files) (reading outcome))
 
 -- for any notices with their versions; and for feeds at so many places, with their files, what these hold, what was read of them, how many reads
@@ -29,9 +29,9 @@ module _ {N D : Type 0} (noted : N → ℕ) (are_files : ℕ → D → Type 0) (
   -- that; or there is no such feed, and none are drawn
   abbrev pub IsLoadOf : QueueId N → List OrderMark → ℕ → Option (DrawnFiles D N) → LoadAnswer N → List LoaderAnswer → List LoaderAnswer → Type 0
   IsLoadOf queue taken feed (Some drawn) answer before after =
-      (plan : Plan) × (outcome : Result (Loaded × Option N) LoadRefusal) × IsDrawnAt queue taken drawn × are_files feed drawn.first.value × is_plan plan
+      (plan : Plan) × (outcome : Result (LoadedVersion × Option N) LoadRefusal) × IsDrawnAt queue taken drawn × are_files feed drawn.first.value × is_plan plan
       × IsOutcome noted (holds drawn.first.value) (reads drawn.first.value) (reads drawn.files) plan before outcome after
-      × FailedAsTold failures failed drawn.first.value drawn.files outcome × (answer ≡ load_answer outcome)
+      × FailedAsReported failures failed drawn.first.value drawn.files outcome × (answer ≡ load_answer outcome)
   IsLoadOf queue taken feed None answer before after =
       (places ≤ feed) × (after ≡ before) × (answer ≡ LoadAnswer.Refused (order_fault_number OrderFault.UnknownFeed))
 
@@ -40,7 +40,7 @@ module _ {N D : Type 0} (noted : N → ℕ) (are_files : ℕ → D → Type 0) (
   abbrev pub IsCarriedOut : QueueId N → List OrderMark → OrderMark → Option (DrawnFiles D N) → AnsweredValue N
       → List LoaderAnswer → List LoaderAnswer → Type 0
   IsCarriedOut queue taken order files answered before after =
-      IsToldBack order.way answered.answer answered.told × IsLoadOf queue taken order.feed files answered.answer before after
+      IsSentBack order.way answered.answer answered.sent × IsLoadOf queue taken order.feed files answered.answer before after
 
   -- after these earlier orders of the queue, further ones are carried out in turn, each once, and each with files of its own
   abbrev pub AreCarriedOut : QueueId N → List OrderMark → List OrderMark → List (Option (DrawnFiles D N)) → List (AnsweredValue N)

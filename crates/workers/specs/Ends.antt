@@ -4,26 +4,26 @@ use Rattle.std.specs.List.{count_by}
 use Rattle.session.specs.declared.fault.Ended.{Ended}
 use Rattle.session.specs.declared.fault.SessionFault.{SessionFault}
 use Rattle.session.specs.declared.desk.Streams.{Streams}
-use Rattle.workers.specs.declared.served.End.{End}
+use Rattle.workers.specs.declared.served.SessionEnd.{SessionEnd}
 
 -- a session: its client's reader and writer as they were when it ended, or none where the client couldn't be opened; and how it ended
 abbrev pub Session : Type 0 → Type 0 → Type 0
-Session R W = Option (Streams R W) × End
+Session R W = Option (Streams R W) × SessionEnd
 
 -- a count of 64 bits, which stops at the greatest value
 abbrev pub capped : ℕ → ℕ
 capped n = min n (2 ^ 64 - 1)
 
-abbrev pub has_ended : End → Bool
-has_ended End.Ended = true
+abbrev pub has_ended : SessionEnd → Bool
+has_ended SessionEnd.Ended = true
 has_ended _ = false
 
-abbrev pub has_failed : End → Bool
-has_failed End.Failed = true
+abbrev pub has_failed : SessionEnd → Bool
+has_failed SessionEnd.Failed = true
 has_failed _ = false
 
-abbrev pub is_spent : End → Bool
-is_spent End.Spent = true
+abbrev pub is_spent : SessionEnd → Bool
+is_spent SessionEnd.Spent = true
 is_spent _ = false
 
 abbrev pub ended_in : {R W : Type 0} → List (Session R W) → ℕ
@@ -42,8 +42,8 @@ pub record AreCounted {R W : Type 0} (sessions : List (Session R W)) (ended fail
   pub spent_are : spent ≡ spent_in sessions
 
 -- how a session ended
-abbrev pub end_of : Result Ended SessionFault → End
-end_of (Ok ended) = End.Ended
-end_of (Err SessionFault.ReadFailed) = End.Failed
-end_of (Err SessionFault.WriteFailed) = End.Failed
-end_of (Err SessionFault.TooManyRequests) = End.Spent
+abbrev pub end_of : Result Ended SessionFault → SessionEnd
+end_of (Ok ended) = SessionEnd.Ended
+end_of (Err SessionFault.ReadFailed) = SessionEnd.Failed
+end_of (Err SessionFault.WriteFailed) = SessionEnd.Failed
+end_of (Err SessionFault.TooManyRequests) = SessionEnd.Spent

@@ -4,8 +4,8 @@ use Rattle.epochs.specs.FaultNumber.{publish_fault_name, publish_fault_number}
 use Rattle.epochs.specs.declared.faults.PublishFault.{PublishFault}
 use Rattle.feed_loader.specs.Faults.{fault_name, fault_number}
 use Rattle.feed_loader.specs.declared.fault.LoadFault.{LoadFault}
-use Rattle.gtfs_rows.specs.Told.{file_name}
-use Rattle.workers.specs.declared.loading.Loaded.{Loaded}
+use Rattle.gtfs_rows.specs.FaultNumber.{file_name}
+use Rattle.workers.specs.declared.loading.LoadedVersion.{LoadedVersion}
 use Rattle.workers.specs.declared.refusal.LoadRefusal.{LoadRefusal}
 
 -- a number and a name, with a space between them; and a text with one word more, after a space
@@ -38,6 +38,6 @@ refusal_text (LoadRefusal.Load fault) = fault_text fault
 refusal_text (LoadRefusal.Publish fault) = publish_text fault
 
 -- what came of an order of the feed of this name
-abbrev pub outcome_line : List ℕ → Result Loaded LoadRefusal → List ℕ
+abbrev pub outcome_line : List ℕ → Result LoadedVersion LoadRefusal → List ℕ
 outcome_line name (Ok loaded) = (((codes "loaded " ++ name) ++ codes " version ") ++ decimal loaded.version) ++ codes "\n"
 outcome_line name (Err refusal) = (((codes "load " ++ name) ++ codes " refused ") ++ refusal_text refusal) ++ codes "\n"

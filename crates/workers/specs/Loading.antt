@@ -16,7 +16,7 @@ use Rattle.epochs.specs.Seats.{PublishStep, RefuseStep, CollectStep}
 use Rattle.epochs.specs.declared.collected.Collected.{Collected}
 use Rattle.epochs.specs.declared.faults.PublishFault.{PublishFault}
 use Rattle.epochs.specs.declared.seats.LoaderAnswer.{LoaderAnswer}
-use Rattle.workers.specs.declared.loading.Loaded.{Loaded}
+use Rattle.workers.specs.declared.loading.LoadedVersion.{LoadedVersion}
 use Rattle.workers.specs.declared.refusal.LoadRefusal.{LoadRefusal}
 
 -- the image of what the files hold, and its counts
@@ -63,7 +63,7 @@ IsRefusalOf holds old new plan (LoadRefusal.Publish fault) =
 -- what comes of files: each was read once, the image of what they show is published as the version that is told, with its counts, and a notice of
 -- that version comes; or the first of them were read, nothing is published, and the first refusal is told
 abbrev pub IsOutcome : {N : Type 0} → (N → ℕ) → Holds → List FileRead → List FileRead → Plan
-    → List LoaderAnswer → Result (Loaded × Option N) LoadRefusal → List LoaderAnswer → Type 0
+    → List LoaderAnswer → Result (LoadedVersion × Option N) LoadRefusal → List LoaderAnswer → Type 0
 IsOutcome noted holds old new plan before (Ok loaded) after =
     (image : ImageValue) × AllWereRead old new × ((content : Content) → ShowsContent holds old new content → IsImageOf content plan image loaded.0.report)
     × IsPublished before image loaded.0.version after × MatchOption loaded.1 ⊥ (λ notice. noted notice ≡ loaded.0.version)
@@ -80,7 +80,7 @@ abbrev pub notice_answer : {N : Type 0} → Option N → LoadAnswer N
 notice_answer (Some notice) = LoadAnswer.Published notice
 notice_answer None = LoadAnswer.Unnoticed
 
-abbrev pub load_answer : {N : Type 0} → Result (Loaded × Option N) LoadRefusal → LoadAnswer N
+abbrev pub load_answer : {N : Type 0} → Result (LoadedVersion × Option N) LoadRefusal → LoadAnswer N
 load_answer (Ok loaded) = notice_answer loaded.1
 load_answer (Err refusal) = LoadAnswer.Refused (refusal_number refusal)
 

@@ -5,7 +5,7 @@ use Rattle.epochs.specs.Seats.{SeatValue}
 use Rattle.lines.specs.Counting.{failures_of, inner_of}
 use Rattle.load_orders.specs.Asking.{OrderRoute, WorkerOrdersValue}
 use Rattle.orders.specs.Ordering.{OrderValue}
-use Rattle.shelf_steps.specs.declared.views.Known.{Known}
+use Rattle.shelf_steps.specs.declared.views.KnownHistory.{KnownHistory}
 use Rattle.session.specs.Learning.{AreFromPublished, Learns, TellPublished}
 use Rattle.session.specs.declared.fault.Ended.{Ended}
 use Rattle.session.specs.declared.fault.SessionFault.{SessionFault}
@@ -14,12 +14,12 @@ use Rattle.session.specs.Sessions.{LastRelease, Serves}
 use Rattle.workers.specs.Ends.{Session, end_of}
 use Rattle.workers.specs.Ordering.{IsAskedBy}
 use Rattle.workers.specs.declared.clients.ConnFault.{ConnFault}
-use Rattle.workers.specs.declared.served.End.{End}
+use Rattle.workers.specs.declared.served.SessionEnd.{SessionEnd}
 use Rattle.session.specs.declared.desk.Streams.{Streams}
 
 -- a session is served at this seat, its profiles are replied in this form, and it ends so; what was to be read, what was written, the seat and
 -- the orders are given as they were before it and after it
-pub record IsSession (form : ReplyForm) (number : ℕ) (end : End) (to_read read_then contents contents_then : Option (List ℕ))
+pub record IsSession (form : ReplyForm) (number : ℕ) (end : SessionEnd) (to_read read_then contents contents_then : Option (List ℕ))
     (read_failed write_failed : Type 0)
     (a : SeatValue) (asked : List OrderValue) (b : SeatValue) (asked_then : List OrderValue) : Type 0 where
   pub result : Result Ended SessionFault
@@ -29,8 +29,8 @@ pub record IsSession (form : ReplyForm) (number : ℕ) (end : End) (to_read read
   pub serves : Serves form number result to_read read_then contents contents_then read_failed write_failed a asked last asked_then
 
 -- a client that can't be opened changes nothing
-pub record IsUnopened (end : End) (a : SeatValue) (asked : List OrderValue) (b : SeatValue) (asked_then : List OrderValue) : Type 0 where
-  pub end_is : end ≡ End.Failed
+pub record IsUnopened (end : SessionEnd) (a : SeatValue) (asked : List OrderValue) (b : SeatValue) (asked_then : List OrderValue) : Type 0 where
+  pub end_is : end ≡ SessionEnd.Failed
   pub seat : b ≡ a
   pub orders : asked_then ≡ asked
 
@@ -38,7 +38,7 @@ module _ {C R W : Type 0} (form : ReplyForm) (opens : C → Result (R × W) Conn
     (remaining : R → Option (List ℕ)) (contents : W → Option (List ℕ)) where
   -- the client's own reader and writer were opened and served, and are so now, with only this session's failures counted; or the client couldn't
   -- be opened
-  abbrev pub IsServed : ℕ → C → Option (Streams R W) → End → SeatValue → List OrderValue → SeatValue → List OrderValue → Type 0
+  abbrev pub IsServed : ℕ → C → Option (Streams R W) → SessionEnd → SeatValue → List OrderValue → SeatValue → List OrderValue → Type 0
   IsServed number client (Some now) end a asked b asked_then =
       (was : R × W) × opens client (Ok was)
       × IsSession form number end (remaining was.0) (remaining (inner_of now.reader)) (contents was.1) (contents (inner_of now.writer))
@@ -47,7 +47,7 @@ module _ {C R W : Type 0} (form : ReplyForm) (opens : C → Result (R × W) Conn
 
   -- as `IsServed`; and each profile in the session's turns, unless memory or a version was wanting, is answered exactly, over the accepted image
   -- that this history published as the version that the reply tells
-  abbrev pub IsExact : Known → ℕ → C → Option (Streams R W) → End → SeatValue → List OrderValue → SeatValue → List OrderValue → Type 0
+  abbrev pub IsExact : KnownHistory → ℕ → C → Option (Streams R W) → SessionEnd → SeatValue → List OrderValue → SeatValue → List OrderValue → Type 0
   IsExact history number client (Some now) end a asked b asked_then =
       (was : R × W) × opens client (Ok was)
       × (session : IsSession form number end (remaining was.0) (remaining (inner_of now.reader)) (contents was.1) (contents (inner_of now.writer))
@@ -58,7 +58,7 @@ module _ {C R W : Type 0} (form : ReplyForm) (opens : C → Result (R × W) Conn
   -- over seats with these numbers and values
   module _ {S : Type 0} (number : S → ℕ) (value : S → SeatValue) where
     -- the clients are served at this seat one after the other, and each profile in their sessions is answered exactly, as this history has it
-    abbrev pub AreExact : Known → List C → List (Session R W) → S → List OrderValue → S → List OrderValue → Type 0
+    abbrev pub AreExact : KnownHistory → List C → List (Session R W) → S → List OrderValue → S → List OrderValue → Type 0
     AreExact history [] [] a asked b asked_then = (b ≡ a) × (asked_then ≡ asked)
     AreExact history (client ∷ clients) (session ∷ sessions) a asked b asked_then =
         (m : S) × (between : List OrderValue)
@@ -67,7 +67,7 @@ module _ {C R W : Type 0} (form : ReplyForm) (opens : C → Result (R × W) Conn
     AreExact history _ _ a asked b asked_then = ⊥
 
   -- over seats with these numbers, values, and parts of their shelves' one history that they know
-  module _ {S : Type 0} (number : S → ℕ) (value : S → SeatValue) (known : S → Known) where
+  module _ {S : Type 0} (number : S → ℕ) (value : S → SeatValue) (known : S → KnownHistory) where
     -- a client is served at this seat, which learns meanwhile: each profile is answered over the image that the history published as its
     -- version, and the seat holds nothing then if it held nothing
     abbrev pub IsServedAt : C → Session R W → S → List OrderValue → S → List OrderValue → Type 0
@@ -77,8 +77,8 @@ module _ {C R W : Type 0} (form : ReplyForm) (opens : C → Result (R × W) Conn
         × ((value a).held ≡ None → (value b).held ≡ None)
 
     -- whatever session was served at a seat that fits, its reader and its writer may be closed as they are then
-    abbrev pub MayClose : (S → Type 0) → (R → W → End → Type 0) → Type 0
-    MayClose fits closes = (client : C) (now : Streams R W) (end : End) (a b : S) (asked asked_then : List OrderValue)
+    abbrev pub MayClose : (S → Type 0) → (R → W → SessionEnd → Type 0) → Type 0
+    MayClose fits closes = (client : C) (now : Streams R W) (end : SessionEnd) (a b : S) (asked asked_then : List OrderValue)
         → fits a → fits b → IsServedAt client (Some now, end) a asked b asked_then → closes (inner_of now.reader) (inner_of now.writer) end
 
     -- the clients are served at this seat one after the other, each in one of these sessions

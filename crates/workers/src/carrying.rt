@@ -5,7 +5,7 @@ ghost use Rattle.std.specs.Io.KnownBytes.{Appends};
 ghost use Rattle.feed_loader.specs.declared.plan.Plan.{Plan};
 ghost use Rattle.load_orders.specs.Queue.{mark_of};
 ghost use Rattle.load_orders.specs.Telling.{AnsweredValue};
-ghost use Rattle.workers.specs.Carrying.{AllCarriedOut, FailedAsTold, IsCarriedOut, IsLoadOf};
+ghost use Rattle.workers.specs.Carrying.{AllCarriedOut, FailedAsReported, IsCarriedOut, IsLoadOf};
 ghost use Rattle.workers.specs.Learned.{LoaderLearns};
 ghost use Rattle.workers.specs.Lines.{outcome_line};
 ghost use Rattle.workers.specs.Loading.{IsOutcome, load_answer};
@@ -13,7 +13,7 @@ ghost use Rattle.workers.specs.declared.drawing.DrawnFiles.{DrawnFiles};
 
 use crate::drawing::{DrawnFiles, UsedFiles};
 use crate::feeds::Feeds;
-use crate::loading::Loaded;
+use crate::loading::LoadedVersion;
 use crate::refusal::LoadRefusal;
 use epochs::{Loads, Versions};
 use feed_loader::LoadFault;
@@ -26,14 +26,14 @@ use std::sync::Wait;
 
 /// What feeds are loaded with: the runtime and its memory, the shelves, and the feeds.
 #[derive(Drop)]
-pub(crate) struct Loading<'a, R, T, F> {
+pub(crate) struct LoadContext<'a, R, T, F> {
     pub rt: &'a R,
     pub alloc: Global,
     pub shelves: &'a T,
     pub feeds: &'a F,
 }
 
-impl<'a, R: Wait, N: Drop, T: Versions<Notice = N> + Loads, F: Feeds> Loading<'a, R, T, F> {
+impl<'a, R: Wait, N: Drop, T: Versions<Notice = N> + Loads, F: Feeds> LoadContext<'a, R, T, F> {
     /// Carries out the orders that come to the loader's end of their queue, which is new, until no more come: the feed
     /// of each is loaded once, in turn, and what came of that is told by the order's own way back. Returns this end,
     /// the loader's seat, the files that were used, and the error writer.
@@ -90,16 +90,16 @@ impl<'a, R: Wait, N: Drop, T: Versions<Notice = N> + Loads, F: Feeds> Loading<'a
             (length (F.named self.now.feeds.now)) orders.old.queue orders.old.taken (mark_of order) files answer
             (T.Loads.answers seat.old) (T.Loads.answers seat.new) }
     {
-        let (answer, files) = self.load_place(order.feed, orders, seat, errors);
+        let (answer, files) = self.load_at(order.feed, orders, seat, errors);
         used.note(&files);
         orders.answer(self.rt, order, answer);
     }
 
     // Loads the feed at the place from files that are drawn now, and returns what came of it, and the files. Where
     // there is no such place, there are no files, and the load is refused as that of an unknown feed.
-    fn load_place<E: Write>(
+    fn load_at<E: Write>(
         &self,
-        place: usize,
+        index: usize,
         orders: &LoaderOrders<N>,
         seat: &mut T::Loader,
         errors: &mut E,
@@ -111,21 +111,21 @@ impl<'a, R: Wait, N: Drop, T: Versions<Notice = N> + Loads, F: Feeds> Loading<'a
         ensures load { IsLoadOf T.Versions.noted (F.are_files self.now.feeds.now) F.Files.holds F.Files.reads
             F.Files.failures F.Files.failed
             (F.is_plan self.now.feeds.now)
-            (length (F.named self.now.feeds.now)) orders.now.queue orders.now.taken place result.1 result.0
+            (length (F.named self.now.feeds.now)) orders.now.queue orders.now.taken index result.1 result.0
             (T.Loads.answers seat.old) (T.Loads.answers seat.new) }
     {
         let names = self.feeds.names();
         match (
-            names.get(place),
-            DrawnFiles::draw(self.feeds, place, orders),
+            names.get(index),
+            DrawnFiles::draw(self.feeds, index, orders),
         ) {
             (Some(name), Some(mut files)) => {
-                let begun = self.feeds.begin(place);
+                let begun = self.feeds.begin(index);
                 let outcome = self.load_planned(&mut files, seat);
                 let loaded = loaded_or_refusal(&outcome);
                 // If its line can't be written, the loader goes on.
                 let _ = tell(errors, name.as_str(), loaded);
-                self.feeds.finish(errors, place, begun, loaded);
+                self.feeds.finish(errors, index, begun, loaded);
                 (answer_of(outcome), Some(files))
             }
             _ => (
@@ -142,7 +142,7 @@ impl<'a, R: Wait, N: Drop, T: Versions<Notice = N> + Loads, F: Feeds> Loading<'a
         &self,
         files: &mut DrawnFiles<F::Files, N>,
         seat: &mut T::Loader,
-    ) -> Result<(Loaded, Option<N>), LoadRefusal>
+    ) -> Result<(LoadedVersion, Option<N>), LoadRefusal>
         requires loads { T.Loads.loads self.now.shelves.now seat.old }
         requires new { files.old.files ≡ files.old.first.value }
         requires failures { F.Files.failures files.old.files ≡ 0 }
@@ -154,7 +154,7 @@ impl<'a, R: Wait, N: Drop, T: Versions<Notice = N> + Loads, F: Feeds> Loading<'a
         ensures outcome { (plan : Plan) × F.is_plan self.now.feeds.now plan
             × IsOutcome T.Versions.noted (F.Files.holds files.new.first.value) (F.Files.reads files.new.first.value)
             (F.Files.reads files.new.files) plan (T.Loads.answers seat.old) result (T.Loads.answers seat.new)
-            × FailedAsTold F.Files.failures F.Files.failed files.new.first.value files.new.files result }
+            × FailedAsReported F.Files.failures F.Files.failed files.new.first.value files.new.files result }
     {
         match self.feeds.plan(self.alloc) {
             Ok(plan) => files.load(self.alloc, &plan, self.shelves, seat),
@@ -164,8 +164,8 @@ impl<'a, R: Wait, N: Drop, T: Versions<Notice = N> + Loads, F: Feeds> Loading<'a
 }
 
 fn loaded_or_refusal<N>(
-    outcome: &Result<(Loaded, Option<N>), LoadRefusal>,
-) -> Result<Loaded, LoadRefusal> {
+    outcome: &Result<(LoadedVersion, Option<N>), LoadRefusal>,
+) -> Result<LoadedVersion, LoadRefusal> {
     match outcome {
         Ok((loaded, _)) => Ok(*loaded),
         Err(refusal) => Err(*refusal),
@@ -174,7 +174,7 @@ fn loaded_or_refusal<N>(
 
 // The answer to whoever waits for a load: a notice of its version, that there was no memory for a notice, or the
 // refusal's number.
-fn answer_of<N>(outcome: Result<(Loaded, Option<N>), LoadRefusal>) -> LoadAnswer<N>
+fn answer_of<N>(outcome: Result<(LoadedVersion, Option<N>), LoadRefusal>) -> LoadAnswer<N>
     ensures { result ≡ load_answer outcome }
 {
     match outcome {
@@ -190,7 +190,7 @@ fn answer_of<N>(outcome: Result<(Loaded, Option<N>), LoadRefusal>) -> LoadAnswer
 fn tell<E: Write>(
     errors: &mut E,
     name: &str,
-    outcome: Result<Loaded, LoadRefusal>,
+    outcome: Result<LoadedVersion, LoadRefusal>,
 ) -> io::Result<()>
     ensures { OnOk result (Appends (E.contents errors.old) (E.contents errors.new) (outcome_line name.now outcome)) }
 {

@@ -2,9 +2,9 @@
 
 ghost use Rattle.std.specs.Prelude.{◌≡◌, ◌++◌, ◌∷◌, [], List, Result, MatchOption, ⊤};
 ghost use Rattle.workers.specs.declared.clients.ConnFault.{ConnFault};
-ghost use Rattle.workers.specs.declared.served.End.{End};
+ghost use Rattle.workers.specs.declared.served.SessionEnd.{SessionEnd};
 
-use crate::served::End;
+use crate::served::SessionEnd;
 use std::io::{Read, Write};
 
 /// A client couldn't be opened.
@@ -22,7 +22,7 @@ pub trait Client {
     ghost opens: { Self → Result (Self.Reader × Self.Writer) ConnFault → Type 0 };
 
     // Whether this reader and this writer, as they are now, may be closed as those of a session that ended so.
-    ghost closes: { Self.Reader → Self.Writer → End → Type 0 } = { λ _ _ _. Unit {0} };
+    ghost closes: { Self.Reader → Self.Writer → SessionEnd → Type 0 } = { λ _ _ _. Unit {0} };
 
     /// Where its requests are read and its replies are written.
     fn open(self) -> Result<(Self::Reader, Self::Writer), ConnFault>
@@ -30,7 +30,7 @@ pub trait Client {
 
     /// Called once the client's session has ended, with what `open` gave and how the session ended. Nothing else
     /// depends on what is done here.
-    fn close(reader: Self::Reader, writer: Self::Writer, end: End)
+    fn close(reader: Self::Reader, writer: Self::Writer, end: SessionEnd)
         requires { closes reader writer end };
 }
 

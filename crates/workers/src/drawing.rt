@@ -2,13 +2,13 @@
 
 ghost use Rattle.std.specs.Prelude.{◌≡◌, ◌<◌, ◌≤◌, ◌-◌, ◌^◌, length, MatchOption};
 ghost use Rattle.connections.specs.declared.days.TheConstants.{MAX_DAYS};
-ghost use Rattle.workers.specs.Carrying.{FailedAsTold};
+ghost use Rattle.workers.specs.Carrying.{FailedAsReported};
 ghost use Rattle.workers.specs.Drawing.{IsDrawnAt};
 ghost use Rattle.workers.specs.Learned.{LoaderLearns};
 ghost use Rattle.workers.specs.Loading.{IsOutcome};
 
 use crate::feeds::Feeds;
-use crate::loading::{Loaded, load_one};
+use crate::loading::{LoadedVersion, load_one};
 use crate::refusal::LoadRefusal;
 use epochs::{Loads, Versions};
 use feed_loader::{FeedFiles, Plan};
@@ -34,14 +34,14 @@ impl<D: FeedFiles, N: Drop> DrawnFiles<D, N> {
     /// such place.
     pub(crate) fn draw<F: Feeds<Files = D>>(
         feeds: &F,
-        place: usize,
+        index: usize,
         orders: &LoaderOrders<N>,
     ) -> Option<DrawnFiles<D, N>>
-        ensures { MatchOption result (length (F.named feeds.now) ≤ place) (λ drawn. (drawn.files ≡ drawn.first.value)
-            × (D.failures drawn.files ≡ 0) × F.are_files feeds.now place drawn.first.value
+        ensures { MatchOption result (length (F.named feeds.now) ≤ index) (λ drawn. (drawn.files ≡ drawn.first.value)
+            × (D.failures drawn.files ≡ 0) × F.are_files feeds.now index drawn.first.value
             × IsDrawnAt orders.now.queue orders.now.taken drawn) }
     {
-        match feeds.files(place) {
+        match feeds.files(index) {
             Some(files) => Some(DrawnFiles {
                 first: Snapshot::of(&files),
                 files,
@@ -58,7 +58,7 @@ impl<D: FeedFiles, N: Drop> DrawnFiles<D, N> {
         plan: &Plan,
         shelves: &T,
         loader: &mut T::Loader,
-    ) -> Result<(Loaded, Option<N>), LoadRefusal>
+    ) -> Result<(LoadedVersion, Option<N>), LoadRefusal>
         requires loads { T.Loads.loads shelves.now loader.old }
         requires new { self.old.files ≡ self.old.first.value }
         requires failures { D.failures self.old.files < 2 ^ 64 - 1 }
@@ -71,7 +71,7 @@ impl<D: FeedFiles, N: Drop> DrawnFiles<D, N> {
         ensures end { self.new.end ≡ self.old.end }
         ensures outcome { IsOutcome T.Versions.noted (D.holds self.new.first.value) (D.reads self.new.first.value)
             (D.reads self.new.files) plan.now (T.Loads.answers loader.old) result (T.Loads.answers loader.new) }
-        ensures told { FailedAsTold D.failures D.failed self.new.first.value self.new.files result }
+        ensures failed_so { FailedAsReported D.failures D.failed self.new.first.value self.new.files result }
     {
         load_one(alloc, &mut self.files, plan, shelves, loader)
     }

@@ -5,7 +5,7 @@ ghost use Rattle.std.specs.Global.{Global};
 ghost use Rattle.connections.specs.declared.days.TheConstants.{MAX_DAYS};
 ghost use Rattle.feed_loader.specs.declared.plan.Plan.{Plan};
 
-use crate::loading::Loaded;
+use crate::loading::LoadedVersion;
 use crate::refusal::LoadRefusal;
 use feed_loader::{FeedFiles, Plan};
 use std::alloc::{AllocError, Global};
@@ -38,20 +38,20 @@ pub trait Feeds {
         ensures possible { IfErr result (λ _. (plan : Plan) × is_plan self.now plan) };
 
     /// The files of the feed at the place, of which no read has failed yet. None only where there is no such place.
-    fn files(&self, place: usize) -> Option<Self::Files>
-        ensures { MatchOption result (length (named self.now) ≤ place) (λ files. (Self.Files.failures files ≡ 0)
-            × are_files self.now place files) };
+    fn files(&self, index: usize) -> Option<Self::Files>
+        ensures { MatchOption result (length (named self.now) ≤ index) (λ files. (Self.Files.failures files ≡ 0)
+            × are_files self.now index files) };
 
     /// Called before the feed at the place is loaded. Returns the instant at which that is, for `finish`, or none.
-    fn begin(&self, place: usize) -> Option<Instant>;
+    fn begin(&self, index: usize) -> Option<Instant>;
 
     /// Called when that load has ended and the loader has written its own line, with the writer of that line. Nothing
     /// else depends on what is done here.
     fn finish<E: Write>(
         &self,
         errors: &mut E,
-        place: usize,
+        index: usize,
         begun: Option<Instant>,
-        outcome: Result<Loaded, LoadRefusal>,
+        outcome: Result<LoadedVersion, LoadRefusal>,
     );
 }

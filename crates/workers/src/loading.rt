@@ -20,7 +20,7 @@ use std::sync::Arc;
 
 /// The version that a load published, and the counts of its image.
 #[derive(Clone, Copy, Debug, PartialEq, Eq)]
-pub struct Loaded {
+pub struct LoadedVersion {
     pub version: u64,
     pub report: Report,
 }
@@ -33,7 +33,7 @@ pub fn load_one<F: FeedFiles, N, T: Versions<Notice = N> + Loads>(
     plan: &Plan,
     shelves: &T,
     loader: &mut T::Loader,
-) -> Result<(Loaded, Option<N>), LoadRefusal>
+) -> Result<(LoadedVersion, Option<N>), LoadRefusal>
     requires loads { T.Loads.loads shelves.now loader.old }
     requires failures { F.failures files.old < 2 ^ 64 - 1 }
     requires some { 1 ≤ plan.now.days }
@@ -49,7 +49,7 @@ pub fn load_one<F: FeedFiles, N, T: Versions<Notice = N> + Loads>(
 {
     match shared_image(alloc, files, plan) {
         Ok((image, report)) => match publish_image(shelves, loader, image) {
-            Ok((version, notice)) => Ok((Loaded { version, report }, notice)),
+            Ok((version, notice)) => Ok((LoadedVersion { version, report }, notice)),
             Err(fault) => Err(LoadRefusal::Publish(fault)),
         },
         Err(refusal) => Err(refusal),

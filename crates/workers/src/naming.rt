@@ -11,10 +11,10 @@ ghost use Rattle.workers.specs.Sessions.{AreServedSince, MayClose};
 
 use crate::clients::{Client, Clients};
 use crate::feeds::Feeds;
-use crate::running::{Ran, WorkersFault, run_workers};
+use crate::running::{ServingOutcome, WorkersFault, run_workers};
 use epochs::laws::pinned_images_are_left_alone;
 use epochs::{
-    Named, NamedLoader, NamedNotice, NamedSeat, NamedShelves, ShelfLoader, ShelfSeat, Shelves,
+    NamedLoader, NamedNotice, NamedSeat, NamedShelves, ShelfLoader, ShelfSeat, Shelves, ShelvesName,
 };
 use orders::Gate;
 use session::ReplyForm;
@@ -31,7 +31,7 @@ use std::thread::Threads;
 /// published as the version that is told. Clause `pinned`: no image is collected while a seat has it pinned. Clauses
 /// `loads` and `learns`: the published images are those of the bytes that the feeds' files gave.
 pub fn run_shelves<
-    B: Named + Send + Sync,
+    B: ShelvesName + Send + Sync,
     C: Client + Drop + Send,
     K: Clients<C> + Drop,
     F: Feeds + Sync,
@@ -49,7 +49,7 @@ pub fn run_shelves<
     gate: &G,
     form: ReplyForm,
     errors: E,
-) -> Result<Ran<C, K, ShelfSeat, ShelfLoader, NamedNotice<B>, F::Files>, WorkersFault>
+) -> Result<ServingOutcome<C, K, ShelfSeat, ShelfLoader, NamedNotice<B>, F::Files>, WorkersFault>
     requires shelves { shelves ≡ B.table }
     requires seats { All (λ seat. seat.table ≡ B.table) seats.items }
     requires loader { loader.table ≡ B.table }
@@ -83,7 +83,7 @@ pub fn run_shelves<
     let ran = run_workers(
         rt, alloc, clients, &shelves, seats, loader, feeds, gate, form, errors,
     )?;
-    Ok(Ran {
+    Ok(ServingOutcome {
         served: ran.served,
         clients: ran.clients,
         seats: unnamed_seats(ran.seats, room)?,
@@ -95,7 +95,7 @@ pub fn run_shelves<
 }
 
 // The seats, under their shelves' name.
-fn named_seats<B: Named>(
+fn named_seats<B: ShelvesName>(
     alloc: Global,
     seats: Vec<ShelfSeat>,
 ) -> Result<Vec<NamedSeat<B>>, AllocError>
@@ -110,7 +110,7 @@ fn named_seats<B: Named>(
 }
 
 // The seats without the name, moved into `room`.
-fn unnamed_seats<B: Named>(
+fn unnamed_seats<B: ShelvesName>(
     seats: Vec<NamedSeat<B>>,
     room: Vec<ShelfSeat>,
 ) -> Result<Vec<ShelfSeat>, AllocError>

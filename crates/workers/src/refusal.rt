@@ -62,7 +62,7 @@ impl fmt::Display for FeedFault {
     ghost use Rattle.std.specs.Prelude.{Some};
     ghost use Rattle.workers.specs.Lines.{fault_text};
 
-    ghost output = { λ told. Some (fault_text told.0) };
+    ghost output = { λ shown. Some (fault_text shown.0) };
 
     fn fmt<W: fmt::Write>(&self, f: &mut fmt::Formatter<W>) -> fmt::Result {
         let number = self.0.number();
@@ -92,14 +92,14 @@ impl fmt::Display for ShelfFault {
     ghost use Rattle.std.specs.Prelude.{Some};
     ghost use Rattle.workers.specs.Lines.{publish_text};
 
-    ghost output = { λ told. Some (publish_text told.0) };
+    ghost output = { λ shown. Some (publish_text shown.0) };
 
     fn fmt<W: fmt::Write>(&self, f: &mut fmt::Formatter<W>) -> fmt::Result {
         let number = self.0.number();
         let name = self.0.name();
         match self.0 {
             PublishFault::ShelvesFull { counts } => {
-                let counts = Counts(counts);
+                let counts = ShelfCounts(counts);
                 write!(f, "{number} {name}{counts}")
             }
             PublishFault::VersionsSpent => write!(f, "{number} {name}"),
@@ -110,9 +110,9 @@ impl fmt::Display for ShelfFault {
 
 // The counts of all shelves, as they are printed.
 #[derive(Clone, Copy, Drop)]
-struct Counts([u8; 8]);
+struct ShelfCounts([u8; 8]);
 
-impl fmt::Display for Counts {
+impl fmt::Display for ShelfCounts {
     ghost use Rattle.std.specs.Prelude.{Some};
     ghost use Rattle.workers.specs.Lines.{counts_text};
 

@@ -7,12 +7,12 @@ ghost use Rattle.workers.specs.Learned.{LoaderLearns};
 ghost use Rattle.workers.specs.Ordering.{AreAllTaken, route_to};
 ghost use Rattle.workers.specs.Sessions.{AreServedSince, IsShare, MayClose};
 
-use crate::carrying::Loading;
+use crate::carrying::LoadContext;
 use crate::clients::{Client, Clients};
 use crate::drawing::UsedFiles;
 use crate::feeds::Feeds;
 use crate::served::Served;
-use crate::serving::Worker;
+use crate::serving::DeskWorker;
 use crate::shares::{LoadsAt, RouteTo, Share, ShareAt, close_and_join, deal_and_join};
 use client_queue::client_queue;
 use epochs::{Loads, Versions};
@@ -40,7 +40,7 @@ impl From<AllocError> for WorkersFault {
 
 /// What is left once all clients were served.
 #[derive(Drop)]
-pub struct Ran<C: Client, K, S, L, N: Drop, D> {
+pub struct ServingOutcome<C: Client, K, S, L, N: Drop, D> {
     /// The sessions, seat after seat.
     pub served: Served<C::Reader, C::Writer>,
     /// The clients' source.
@@ -79,7 +79,7 @@ pub fn run_workers<
     gate: &G,
     form: ReplyForm,
     errors: E,
-) -> Result<Ran<C, K, T::Seat, T::Loader, T::Notice, F::Files>, WorkersFault>
+) -> Result<ServingOutcome<C, K, T::Seat, T::Loader, T::Notice, F::Files>, WorkersFault>
 where
     T::Seat: Send + Drop,
     T::Loader: Send + Drop,
@@ -108,7 +108,10 @@ where
     thread::scope(
         thread::scope_env(),
         rt,
-        move |scope| -> Result<Ran<C, K, T::Seat, T::Loader, T::Notice, F::Files>, WorkersFault>
+        move |scope| -> Result<
+            ServingOutcome<C, K, T::Seat, T::Loader, T::Notice, F::Files>,
+            WorkersFault,
+        >
             requires { IsSync R.row × IsSync T.row × IsSync F.row × IsSync G.row × IsSend T.Seat.row
                 × IsSend T.Loader.row
                 × IsSend T.Notice.row × IsSend C.row × IsSend C.Reader.row × IsSend C.Writer.row
@@ -160,7 +163,7 @@ where
                         × LoaderLearns (T.Loads.learned loader_seat) (T.Loads.answers loader_seat)
                         (T.Loads.learned result.1) (T.Loads.answers result.1) }
                 {
-                    let loading = Loading {
+                    let loading = LoadContext {
                         rt,
                         alloc,
                         shelves,
@@ -206,7 +209,7 @@ where
                             form,
                         };
                         let orders = WorkerOrders::new(rt, alloc, feeds.names(), shelves, end);
-                        let worker = Worker { rt, desk };
+                        let worker = DeskWorker { rt, desk };
                         let (share, orders) = worker.work(taker, seat, orders, nobody_yet);
                         (share, orders.into_used())
                     },
@@ -221,7 +224,7 @@ where
             );
             match served {
                 Ok((clients, served, seats, asked)) => match close_and_join(rt, asks, loading) {
-                    Some((orders, loader, used)) => Ok(Ran {
+                    Some((orders, loader, used)) => Ok(ServingOutcome {
                         served,
                         clients,
                         seats,

@@ -9,7 +9,7 @@ use std::marker::Model;
 
 /// How a session ended.
 #[derive(Clone, Copy, Debug, PartialEq, Eq)]
-pub enum End {
+pub enum SessionEnd {
     /// All its lines were answered.
     Ended,
     /// Its client couldn't be opened, or a read or a write failed.
@@ -19,13 +19,13 @@ pub enum End {
 }
 
 /// How a session ended, by what came of it.
-pub(crate) fn end_of(outcome: Result<Ended, SessionFault>) -> End
+pub(crate) fn end_of(outcome: Result<Ended, SessionFault>) -> SessionEnd
     ensures { result ≡ end_of_outcome outcome }
 {
     match outcome {
-        Ok(Ended) => End::Ended,
-        Err(SessionFault::ReadFailed | SessionFault::WriteFailed) => End::Failed,
-        Err(SessionFault::TooManyRequests) => End::Spent,
+        Ok(Ended) => SessionEnd::Ended,
+        Err(SessionFault::ReadFailed | SessionFault::WriteFailed) => SessionEnd::Failed,
+        Err(SessionFault::TooManyRequests) => SessionEnd::Spent,
     }
 }
 
@@ -37,7 +37,7 @@ pub struct Served<R, W> {
     ended: u64,
     failed: u64,
     spent: u64,
-    sessions: Notes<(Option<Streams<R, W>>, End)>,
+    sessions: Notes<(Option<Streams<R, W>>, SessionEnd)>,
 }
 
 impl<R, W> Model for Served<R, W> {
@@ -68,13 +68,13 @@ impl<R, W> Served<R, W> {
     }
 
     /// Adds one session.
-    pub fn add(&mut self, session: &(Option<Streams<R, W>>, End))
+    pub fn add(&mut self, session: &(Option<Streams<R, W>>, SessionEnd))
         ensures { self.new ≡ self.old ++ session.now ∷ [] }
     {
         match session.1 {
-            End::Ended => self.ended = self.ended.saturating_add(1),
-            End::Failed => self.failed = self.failed.saturating_add(1),
-            End::Spent => self.spent = self.spent.saturating_add(1),
+            SessionEnd::Ended => self.ended = self.ended.saturating_add(1),
+            SessionEnd::Failed => self.failed = self.failed.saturating_add(1),
+            SessionEnd::Spent => self.spent = self.spent.saturating_add(1),
         }
         self.sessions.note(session);
     }

@@ -5,10 +5,10 @@ ghost use Rattle.lines.specs.Counting.{inner_of};
 ghost use Rattle.session.specs.Learning.{Learns, TellPublished};
 ghost use Rattle.session.specs.Turns.{AgreeOnNotices};
 ghost use Rattle.workers.specs.Sessions.{AreExact, AreServed, IsServed, MayClose};
-ghost use Rattle.workers.specs.declared.served.End.{End};
+ghost use Rattle.workers.specs.declared.served.SessionEnd.{SessionEnd};
 
 use crate::clients::{Client, ConnFault};
-use crate::served::{End, Served, end_of};
+use crate::served::{Served, SessionEnd, end_of};
 use crate::shares::Share;
 use client_queue::Taker;
 use epochs::Versions;
@@ -18,12 +18,12 @@ use std::sync::Wait;
 
 /// A worker, who serves clients from a desk.
 #[derive(Drop)]
-pub struct Worker<'a, R, T, G> {
+pub struct DeskWorker<'a, R, T, G> {
     pub rt: &'a R,
     pub desk: Desk<'a, T, G>,
 }
 
-impl<'a, R: Wait, N: Drop, T: Versions<Notice = N>, G: Gate> Worker<'a, R, T, G> {
+impl<'a, R: Wait, N: Drop, T: Versions<Notice = N>, G: Gate> DeskWorker<'a, R, T, G> {
     /// Serves a client at this seat, and adds its session: the client's reader and writer as they are then, and how it
     /// ended. A client that can't be opened is a session that failed, without a reader and a writer. The session is
     /// returned too.
@@ -33,9 +33,9 @@ impl<'a, R: Wait, N: Drop, T: Versions<Notice = N>, G: Gate> Worker<'a, R, T, G>
         seat: &mut T::Seat,
         orders: &mut O,
         served: &mut Served<C::Reader, C::Writer>,
-    ) -> (Option<Streams<C::Reader, C::Writer>>, End)
+    ) -> (Option<Streams<C::Reader, C::Writer>>, SessionEnd)
         requires fits { T.fits self.now.desk.shelves.now seat.old }
-        requires notices { AgreeOnNotices O.told T.noted }
+        requires notices { AgreeOnNotices O.notice_version T.noted }
         ensures fits { T.fits self.now.desk.shelves.now seat.new }
         ensures number { T.number seat.new ≡ T.number seat.old }
         ensures learns { Learns (T.known seat.old) (T.value seat.old) (T.known seat.new) (T.value seat.new) }
@@ -56,7 +56,7 @@ impl<'a, R: Wait, N: Drop, T: Versions<Notice = N>, G: Gate> Worker<'a, R, T, G>
                 session
             }
             Err(ConnFault) => {
-                let unopened = (None, End::Failed);
+                let unopened = (None, SessionEnd::Failed);
                 served.add(&unopened);
                 unopened
             }
@@ -74,7 +74,7 @@ impl<'a, R: Wait, N: Drop, T: Versions<Notice = N>, G: Gate> Worker<'a, R, T, G>
         mut served: Served<C::Reader, C::Writer>,
     ) -> (Share<C, T::Seat>, O)
         requires fits { T.fits self.now.desk.shelves.now seat }
-        requires notices { AgreeOnNotices O.told T.noted }
+        requires notices { AgreeOnNotices O.notice_version T.noted }
         requires none { (taker.taken ≡ []) × (served ≡ []) }
         requires closes { MayClose self.now.desk.form C.opens C.Reader.remaining C.Writer.contents T.number T.value
             T.known (T.fits self.now.desk.shelves.now) C.closes }
@@ -115,7 +115,7 @@ impl<'a, R: Wait, N: Drop, T: Versions<Notice = N>, G: Gate> Worker<'a, R, T, G>
 }
 
 // Closes a client's reader and writer, if there are any.
-fn close<C: Client>(streams: Option<Streams<C::Reader, C::Writer>>, end: End)
+fn close<C: Client>(streams: Option<Streams<C::Reader, C::Writer>>, end: SessionEnd)
     requires closes { IfSome streams (λ now. C.closes (inner_of now.reader) (inner_of now.writer) end) }
 {
     if let Some(Streams { reader, writer }) = streams {

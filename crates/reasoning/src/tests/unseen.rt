@@ -2,21 +2,21 @@
 
 ghost use Rattle.std.specs.Prelude.{◌≡◌, ◌+◌, ◌<◌, ◌^◌};
 
-use crate::{Kept, Trace};
+use crate::{GhostValue, Trace};
 use std::mem::size_of;
 
 // The sum of two numbers, which no code computes.
-fn sum_of(first: &u32, second: &u32) -> Kept<u64>
+fn sum_of(first: &u32, second: &u32) -> GhostValue<u64>
     ensures { result.value ≡ first.now + second.now }
 {
-    Kept::at(first, second)
+    GhostValue::at(first, second)
 }
 
 /// A number that is one more than another, which only contracts see.
 #[derive(Drop)]
 struct Successor {
     number: u32,
-    of: Kept<u32>,
+    of: GhostValue<u32>,
     ghost next: { number ≡ of.value + 1 },
 }
 
@@ -26,7 +26,7 @@ fn successor_of(number: u32) -> Successor
 {
     Successor {
         number: number + 1,
-        of: Kept::of(&number),
+        of: GhostValue::of(&number),
     }
 }
 
@@ -35,7 +35,7 @@ fn unseen_values_take_no_bytes(rt: HostRuntime) {
     let _sum = sum_of(&1, &2);
     let next = successor_of(7);
     assert_eq!(rt; next.number, 8);
-    assert_eq!(rt; size_of::<Kept<String>>(), 0);
+    assert_eq!(rt; size_of::<GhostValue<String>>(), 0);
     assert_eq!(rt; size_of::<Trace<String>>(), 0);
     assert_eq!(rt; size_of::<Successor>(), 4);
 }

@@ -30,9 +30,9 @@ fn is_answered(
     first: &Arc<Verified, Global>,
     slow: &Arc<Verified, Global>,
     requests: &[u8],
-    place: usize,
+    index: usize,
 ) -> Result<bool, Fail> {
-    let (front, back) = requests.split_at(requests.len().min(place));
+    let (front, back) = requests.split_at(requests.len().min(index));
     let (ended, taker) = talked(
         alloc,
         Arc::try_clone(first)?,
@@ -45,8 +45,8 @@ fn is_answered(
 }
 
 // Whether an offset is in the long line that begins at `begin`, and not near one of its ends.
-fn is_deep(begin: usize, place: usize) -> bool {
-    place > begin.saturating_add(50) && place < begin.saturating_add(LONG - 50)
+fn is_deep(begin: usize, index: usize) -> bool {
+    index > begin.saturating_add(50) && index < begin.saturating_add(LONG - 50)
 }
 
 /// Cuts at each byte of the session's lines, except those deep in the long line.
@@ -56,11 +56,11 @@ fn a_session_with_a_long_line_may_be_cut(rt: HostRuntime) -> Result<(), Fail> {
     let requests = requests(alloc)?;
     let begin = requests.iter().position(|byte| *byte == b'x').unwrap_or(0);
     let (first, slow) = (image(alloc, 0)?, image(alloc, 121)?);
-    for place in 0..requests.len() {
-        if !is_deep(begin, place) {
+    for index in 0..requests.len() {
+        if !is_deep(begin, index) {
             assert!(&rt;
-                is_answered(alloc, &first, &slow, &requests, place)?,
-                "cut at {place}"
+                is_answered(alloc, &first, &slow, &requests, index)?,
+                "cut at {index}"
             );
         }
     }

@@ -2,7 +2,7 @@
 
 ghost use Rattle.std.specs.Prelude.{◌≡◌};
 
-use super::texts::{Case, Telling, try_cases, zone_of};
+use super::texts::{Case, Reporter, try_cases, zone_of};
 use clock_days::{instant, today, yesterday};
 use gtfs_rows::Day;
 use service_days::{DayFault, Zone};
@@ -73,45 +73,45 @@ const SHOWN: &str = "
 // Reads the instant of each line, and adds the days that the zone's clocks show then.
 struct Shown;
 
-impl Telling for Shown {
-    fn told<R: Abort>(&self, _rt: &R, alloc: Global, case: Case<'_>) -> Result<String, Fail> {
+impl Reporter for Shown {
+    fn reported<R: Abort>(&self, _rt: &R, alloc: Global, case: Case<'_>) -> Result<String, Fail> {
         let zone = zone_of(alloc, case.head)?;
-        let mut told = String::new(alloc);
-        add_lines(&mut told, &zone, case.wanted)?;
-        Ok(told)
+        let mut reported = String::new(alloc);
+        add_lines(&mut reported, &zone, case.wanted)?;
+        Ok(reported)
     }
 }
 
-fn add_lines(told: &mut String, zone: &Zone, lines: &str) -> Result<(), Fail> {
+fn add_lines(reported: &mut String, zone: &Zone, lines: &str) -> Result<(), Fail> {
     for line in lines.split("\n> ") {
         let (text, _) = line.split_once(' ').unwrap_or((line, ""));
-        if !told.is_empty() {
-            told.push_str("\n> ")?;
+        if !reported.is_empty() {
+            reported.push_str("\n> ")?;
         }
-        add_days(told, zone, text)?;
+        add_days(reported, zone, text)?;
     }
     Ok(())
 }
 
-fn add_days(told: &mut String, zone: &Zone, text: &str) -> Result<(), Fail> {
+fn add_days(reported: &mut String, zone: &Zone, text: &str) -> Result<(), Fail> {
     let Ok(instant) = text.parse() else {
         return Err(Fail::new("an instant of a text"));
     };
-    told.push_str(text)?;
-    add_day(told, today(zone, instant))?;
-    add_day(told, yesterday(zone, instant))?;
+    reported.push_str(text)?;
+    add_day(reported, today(zone, instant))?;
+    add_day(reported, yesterday(zone, instant))?;
     Ok(())
 }
 
 // Adds a day as one number, or that there is none.
-fn add_day(told: &mut String, day: Result<Day, DayFault>) -> Result<(), AllocError> {
+fn add_day(reported: &mut String, day: Result<Day, DayFault>) -> Result<(), AllocError> {
     match day {
         Ok(day) => {
             let Day { year, month, day } = day;
             let number = u32::from(year) * 10_000 + u32::from(month) * 100 + u32::from(day);
-            write!(told, " {number}")
+            write!(reported, " {number}")
         }
-        Err(_) => told.push_str(" none"),
+        Err(_) => reported.push_str(" none"),
     }
 }
 

@@ -4,7 +4,7 @@ ghost use Rattle.std.specs.Prelude.{◌≡◌, ℕ, true};
 ghost use Rattle.timetable.specs.Legal.{HasFootpath};
 ghost use Rattle.footpaths.specs.Closure.{AreInRange, HasLoops};
 
-use super::texts::{Case, Telling, number, paths_of, paths_text, try_cases};
+use super::texts::{Case, Reporter, number, paths_of, paths_text, try_cases};
 use footpaths::{FootFault, close, close_within};
 use std::alloc::{AllocError, Global};
 use std::process::Abort;
@@ -72,7 +72,7 @@ fn closed_within(
 }
 
 // A closure as a text, or its fault.
-fn told(alloc: Global, answer: Result<Vec<Footpath>, FootFault>) -> Result<String, AllocError> {
+fn reported(alloc: Global, answer: Result<Vec<Footpath>, FootFault>) -> Result<String, AllocError> {
     match answer {
         Ok(paths) if paths.is_empty() => String::from_str(alloc, "none"),
         Ok(paths) => paths_text(alloc, &paths),
@@ -82,7 +82,7 @@ fn told(alloc: Global, answer: Result<Vec<Footpath>, FootFault>) -> Result<Strin
 
 // The closure of listed footpaths as a text, or its fault. The head has the number of stops, as `3`, or also a bound,
 // as `3 within 2`.
-fn told_of(
+fn report_of(
     rt: &impl Abort,
     alloc: Global,
     head: &str,
@@ -95,7 +95,7 @@ fn told_of(
         }
         None => closed(rt, alloc, number(head)?, listed),
     };
-    Ok(told(alloc, answer)?)
+    Ok(reported(alloc, answer)?)
 }
 
 // Numbers of stops with listed footpaths and their closures: among them walks of a million seconds, of one second more,
@@ -145,10 +145,10 @@ const CLOSURES: &str = "
 
 struct Closures;
 
-impl Telling for Closures {
-    fn told<R: Abort>(&self, rt: &R, alloc: Global, case: Case<'_>) -> Result<String, Fail> {
+impl Reporter for Closures {
+    fn reported<R: Abort>(&self, rt: &R, alloc: Global, case: Case<'_>) -> Result<String, Fail> {
         let listed = paths_of(alloc, case.given)?;
-        told_of(rt, alloc, case.head, &listed)
+        report_of(rt, alloc, case.head, &listed)
     }
 }
 
@@ -158,7 +158,7 @@ fn footpaths_are_closed(rt: HostRuntime) -> Result<(), Fail> {
 }
 
 #[test]
-fn faults_are_told(rt: HostRuntime) -> Result<(), Fail> {
+fn faults_are_reported(rt: HostRuntime) -> Result<(), Fail> {
     assert!(rt; FootFault::WalkTooLong.number() == 41);
     assert!(rt; FootFault::TooManyFootpaths.name() == "TooManyFootpaths");
     let text = format!(in rt.alloc(); "{}", FootFault::OutOfMemory)?;
@@ -169,7 +169,7 @@ fn faults_are_told(rt: HostRuntime) -> Result<(), Fail> {
 // Whichever growth is refused, the fault is that memory ran out; otherwise the closure is returned. A refused growth
 // ends the test with `AllocError`.
 #[test]
-fn refused_growth_is_told(rt: HostRuntime) -> Result<(), Fail> {
+fn refused_growth_is_reported(rt: HostRuntime) -> Result<(), Fail> {
     let listed = paths_of(rt.alloc(), "0 0 0, 1 1 0, 2 2 0, 0 1 60, 1 2 60")?;
     match closed(&rt, rt.alloc(), 3, &listed) {
         Ok(closure) => assert_eq!(rt; closure.len(), 6),

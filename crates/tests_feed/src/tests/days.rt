@@ -2,7 +2,7 @@
 
 ghost use Rattle.std.specs.Prelude.{◌≡◌};
 
-use super::texts::{CENTRAL_EUROPE, Case, Telling, file_of, try_cases, zone_of};
+use super::texts::{CENTRAL_EUROPE, Case, Reporter, file_of, try_cases, zone_of};
 use gtfs_rows::{
     CalendarDateRow, CalendarRow, Day, Exception, FaultKind, IdHash, TableFault, read_calendar,
 };
@@ -16,11 +16,11 @@ fn day(text: &str) -> Result<Day, Fail> {
     Ok(Day::parse(text.as_bytes())?)
 }
 
-fn add_line(told: &mut String) -> Result<(), AllocError> {
-    if told.is_empty() {
+fn add_line(reported: &mut String) -> Result<(), AllocError> {
+    if reported.is_empty() {
         Ok(())
     } else {
-        told.push_str("\n> ")
+        reported.push_str("\n> ")
     }
 }
 
@@ -57,21 +57,21 @@ const STARTS: &str = "
 // Reads the day of each line, and tells the second at which it starts in the zone that the head names.
 struct Starts;
 
-impl Telling for Starts {
-    fn told<R: Abort>(&self, _rt: &R, alloc: Global, case: Case<'_>) -> Result<String, Fail> {
+impl Reporter for Starts {
+    fn reported<R: Abort>(&self, _rt: &R, alloc: Global, case: Case<'_>) -> Result<String, Fail> {
         let zone = zone_of(alloc, case.head)?;
-        let mut told = String::new(alloc);
-        add_starts(&mut told, &zone, case.wanted)?;
-        Ok(told)
+        let mut reported = String::new(alloc);
+        add_starts(&mut reported, &zone, case.wanted)?;
+        Ok(reported)
     }
 }
 
-fn add_starts(told: &mut String, zone: &Zone, lines: &str) -> Result<(), Fail> {
+fn add_starts(reported: &mut String, zone: &Zone, lines: &str) -> Result<(), Fail> {
     for line in lines.split("\n> ") {
         let (text, _) = line.split_once(' ').unwrap_or((line, ""));
         let start = day_start(zone, day(text)?)?;
-        add_line(told)?;
-        write!(told, "{text} {start}")?;
+        add_line(reported)?;
+        write!(reported, "{text} {start}")?;
     }
     Ok(())
 }
@@ -225,26 +225,26 @@ fn services_of(alloc: Global, lines: &str) -> Result<Services, Fail> {
 
 // Adds whether a service runs on each of some days, each answer after a space.
 fn add_answers(
-    told: &mut String,
+    reported: &mut String,
     services: &Services,
     service: &str,
     days: &str,
 ) -> Result<(), Fail> {
     for text in days.split(' ') {
         let runs = active(services, service, day(text)?);
-        write!(told, " {runs}")?;
+        write!(reported, " {runs}")?;
     }
     Ok(())
 }
 
 // Adds the services and the days of the lines, with whether each service runs on them.
-fn add_runs(told: &mut String, services: &Services, lines: &str) -> Result<(), Fail> {
+fn add_runs(reported: &mut String, services: &Services, lines: &str) -> Result<(), Fail> {
     for line in lines.split("\n> ") {
         let (asked, _) = line.split_once(": ").unwrap_or((line, ""));
         let (service, days) = asked.split_once(' ').unwrap_or((asked, ""));
-        add_line(told)?;
-        write!(told, "{asked}:")?;
-        add_answers(told, services, service, days)?;
+        add_line(reported)?;
+        write!(reported, "{asked}:")?;
+        add_answers(reported, services, service, days)?;
     }
     Ok(())
 }
@@ -252,12 +252,12 @@ fn add_runs(told: &mut String, services: &Services, lines: &str) -> Result<(), F
 // Reads the service and the days of each line, and tells whether it runs on them.
 struct Runs;
 
-impl Telling for Runs {
-    fn told<R: Abort>(&self, _rt: &R, alloc: Global, case: Case<'_>) -> Result<String, Fail> {
+impl Reporter for Runs {
+    fn reported<R: Abort>(&self, _rt: &R, alloc: Global, case: Case<'_>) -> Result<String, Fail> {
         let services = services_of(alloc, case.given)?;
-        let mut told = String::new(alloc);
-        add_runs(&mut told, &services, case.wanted)?;
-        Ok(told)
+        let mut reported = String::new(alloc);
+        add_runs(&mut reported, &services, case.wanted)?;
+        Ok(reported)
     }
 }
 

@@ -41,11 +41,11 @@ fn feed() -> [(&'static str, &'static [u8]); 6] {
 }
 
 // The feed without the file at an index.
-fn without(place: usize) -> [(&'static str, &'static [u8]); 6]
-    requires { place < 6 }
+fn without(index: usize) -> [(&'static str, &'static [u8]); 6]
+    requires { index < 6 }
 {
     let mut files = feed();
-    files[place].0 = "elsewhere.txt";
+    files[index].0 = "elsewhere.txt";
     files
 }
 
@@ -86,8 +86,8 @@ fn read_after(
     fault: FileFault,
 ) -> (Result<RowCounts, ReadFault>, u64) {
     let mut files = Failing::after(left, files, fault);
-    let told = sizes(read_tables(alloc, &mut files));
-    (told, files.failures)
+    let reported = sizes(read_tables(alloc, &mut files));
+    (reported, files.failures)
 }
 
 fn refused(table: Table, row: u64, kind: FaultKind) -> Result<RowCounts, ReadFault> {
@@ -104,16 +104,16 @@ fn a_feed_is_read(rt: HostRuntime) {
 }
 
 #[test]
-fn a_required_file_that_is_missing_is_told(rt: HostRuntime) {
+fn a_required_file_that_is_missing_is_reported(rt: HostRuntime) {
     let tables = [
         (0, Table::Agency),
         (1, Table::Stops),
         (2, Table::Trips),
         (3, Table::StopTimes),
     ];
-    for (place, table) in tables {
-        let told = read(rt.alloc(), &without(place));
-        assert!(rt; told == refused(table, 0, FaultKind::MissingFile));
+    for (index, table) in tables {
+        let reported = read(rt.alloc(), &without(index));
+        assert!(rt; reported == refused(table, 0, FaultKind::MissingFile));
     }
 }
 
@@ -123,53 +123,53 @@ fn one_calendar_is_enough(rt: HostRuntime) {
     assert!(rt; read(rt.alloc(), &without(5)) == Ok([1, 3, 2, 2, 1, 0, 0, 0]));
     let mut files = without(4);
     files[5].0 = "elsewhere.txt";
-    let told = read(rt.alloc(), &files);
-    assert!(rt; told == refused(Table::Calendar, 0, FaultKind::MissingFile));
+    let reported = read(rt.alloc(), &files);
+    assert!(rt; reported == refused(Table::Calendar, 0, FaultKind::MissingFile));
 }
 
 #[test]
-fn the_first_file_at_fault_is_told(rt: HostRuntime) {
+fn the_first_file_at_fault_is_reported(rt: HostRuntime) {
     let mut files = feed();
     files[3].1 = b"trip_id,arrival_time,departure_time,stop_id,stop_sequence\nT1,8:5:9,,A,1\n";
     files[5].1 = b"service_id,date,exception_type\nS,20240115,3\n";
-    let told = read(rt.alloc(), &files);
-    assert!(rt; told == refused(Table::StopTimes, 1, FaultKind::BadTime));
+    let reported = read(rt.alloc(), &files);
+    assert!(rt; reported == refused(Table::StopTimes, 1, FaultKind::BadTime));
     files[3].1 = STOP_TIMES;
     files[4].0 = "elsewhere.txt";
-    let told = read(rt.alloc(), &files);
-    assert!(rt; told == refused(Table::CalendarDates, 1, FaultKind::BadNumber));
+    let reported = read(rt.alloc(), &files);
+    assert!(rt; reported == refused(Table::CalendarDates, 1, FaultKind::BadNumber));
     files[0].0 = "elsewhere.txt";
-    let told = read(rt.alloc(), &files);
-    assert!(rt; told == refused(Table::Agency, 0, FaultKind::MissingFile));
+    let reported = read(rt.alloc(), &files);
+    assert!(rt; reported == refused(Table::Agency, 0, FaultKind::MissingFile));
 }
 
 // Whichever read fails, the fault names that file. It also names the file if memory runs out for it, which doesn't
 // count as a failed read.
 #[test]
-fn a_read_that_fails_is_told(rt: HostRuntime) {
+fn a_read_that_fails_is_reported(rt: HostRuntime) {
     let feed = feed();
     for (left, table) in ORDER.iter().enumerate() {
-        let (told, failures) = read_after(rt.alloc(), left, &feed, FileFault::Failed);
-        assert!(rt; told == Err(ReadFault::FileFailed(*table)) && failures == 1);
-        let (told, failures) = read_after(rt.alloc(), left, &feed, FileFault::OutOfMemory);
-        assert!(rt; told == refused(*table, 0, FaultKind::OutOfMemory) && failures == 0);
+        let (reported, failures) = read_after(rt.alloc(), left, &feed, FileFault::Failed);
+        assert!(rt; reported == Err(ReadFault::FileFailed(*table)) && failures == 1);
+        let (reported, failures) = read_after(rt.alloc(), left, &feed, FileFault::OutOfMemory);
+        assert!(rt; reported == refused(*table, 0, FaultKind::OutOfMemory) && failures == 0);
     }
 }
 
 // If a file before the one that can't be read is at fault, that one isn't read, and no read has failed.
 #[test]
-fn a_fault_before_a_read_that_fails_is_told(rt: HostRuntime) {
+fn a_fault_before_a_read_that_fails_is_reported(rt: HostRuntime) {
     let mut feed = feed();
     feed[1].1 = b"stop_id\nA\nA\n";
-    let (told, failures) = read_after(rt.alloc(), 2, &feed, FileFault::Failed);
-    assert!(rt; told == refused(Table::Stops, 2, FaultKind::IdTwice) && failures == 0);
+    let (reported, failures) = read_after(rt.alloc(), 2, &feed, FileFault::Failed);
+    assert!(rt; reported == refused(Table::Stops, 2, FaultKind::IdTwice) && failures == 0);
 }
 
 // That both calendars are missing is a fault only after both were asked for.
 #[test]
-fn a_read_that_fails_behind_a_missing_calendar_is_told(rt: HostRuntime) {
-    let (told, failures) = read_after(rt.alloc(), 5, &without(4), FileFault::Failed);
-    assert!(rt; told == Err(ReadFault::FileFailed(Table::CalendarDates)) && failures == 1);
+fn a_read_that_fails_behind_a_missing_calendar_is_reported(rt: HostRuntime) {
+    let (reported, failures) = read_after(rt.alloc(), 5, &without(4), FileFault::Failed);
+    assert!(rt; reported == Err(ReadFault::FileFailed(Table::CalendarDates)) && failures == 1);
 }
 
 // Whether a file of at most `limit` bytes is read, and has this text.
@@ -194,11 +194,11 @@ fn longer_files_are_refused(rt: HostRuntime) -> Result<(), Fail> {
     fs::write(&rt, "long_files/agency.txt", "12345")?;
     let whole = is_read(&rt, 5, "long_files", "agency.txt", b"12345");
     let longer = is_read(&rt, 4, "long_files", "agency.txt", b"1234");
-    let untold = is_read(&rt, 4, "/proc/self", "stat", b"");
+    let unsent = is_read(&rt, 4, "/proc/self", "stat", b"");
     fs::remove_file(&rt, "long_files/agency.txt")?;
     fs::remove_dir(&rt, "long_files")?;
     assert!(rt; whole == Ok(true) && longer == Err(FileFault::Failed));
-    assert!(rt; untold == Err(FileFault::Failed));
+    assert!(rt; unsent == Err(FileFault::Failed));
     Ok(())
 }
 
@@ -397,24 +397,24 @@ fn a_folder_is_read_whole(rt: HostRuntime) -> Result<(), Fail> {
 
 // Whichever growth is refused, the fault is that memory ran out. A refused growth ends the test with `AllocError`.
 #[test]
-fn refused_growth_is_told(rt: HostRuntime) -> Result<(), AllocError> {
-    let told = read(
+fn refused_growth_is_reported(rt: HostRuntime) -> Result<(), AllocError> {
+    let reported = read(
         rt.alloc(),
         &[("agency.txt", b"agency_timezone\n".as_slice())],
     );
-    if told == refused(Table::Agency, 0, FaultKind::OutOfMemory) {
+    if reported == refused(Table::Agency, 0, FaultKind::OutOfMemory) {
         return Err(AllocError);
     }
-    assert!(rt; told == refused(Table::Stops, 0, FaultKind::MissingFile));
+    assert!(rt; reported == refused(Table::Stops, 0, FaultKind::MissingFile));
     Ok(())
 }
 
 #[test]
 fn refused_growth_of_a_folders_file(rt: HostRuntime) -> Result<(), AllocError> {
-    let told = length_of(&rt, "/proc/self", "stat");
-    if told == Err(FileFault::OutOfMemory) {
+    let reported = length_of(&rt, "/proc/self", "stat");
+    if reported == Err(FileFault::OutOfMemory) {
         return Err(AllocError);
     }
-    assert!(rt; matches!(told, Ok(Some(length)) if length > 0));
+    assert!(rt; matches!(reported, Ok(Some(length)) if length > 0));
     Ok(())
 }

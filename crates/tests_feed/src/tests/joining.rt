@@ -1,6 +1,6 @@
 //! Small feeds joined: what each row becomes, and the first fault of each kind.
 
-use super::texts::{Case, Telling, add_rows, fault_text, joined, try_cases};
+use super::texts::{Case, Reporter, add_rows, fault_text, joined, try_cases};
 use gtfs_tables::Feed;
 use std::alloc::{AllocError, Global};
 use std::process::Abort;
@@ -139,8 +139,8 @@ fn feed_text(alloc: Global, feed: &Feed, parts: &str) -> Result<String, AllocErr
 // Joins the files of a case, strictly or loosely, and tells the parts of the feed that the head names.
 struct Joins;
 
-impl Telling for Joins {
-    fn told<R: Abort>(&self, _rt: &R, alloc: Global, case: Case<'_>) -> Result<String, Fail> {
+impl Reporter for Joins {
+    fn reported<R: Abort>(&self, _rt: &R, alloc: Global, case: Case<'_>) -> Result<String, Fail> {
         let (parts, _) = case.head.split_once(": ").unwrap_or((case.head, ""));
         match joined(alloc, case.given, BASE, parts.starts_with("strict")) {
             Ok(feed) => Ok(feed_text(alloc, &feed, parts)?),

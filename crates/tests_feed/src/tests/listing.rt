@@ -1,6 +1,6 @@
 //! Small feeds and the footpaths that they list.
 
-use super::texts::{Case, Telling, joined, joined_or_refused, number, paths_text, try_cases};
+use super::texts::{Case, Reporter, joined, joined_or_refused, number, paths_text, try_cases};
 use footpaths::listed;
 use gtfs_tables::Feed;
 use std::alloc::{AllocError, Global};
@@ -69,8 +69,8 @@ S,S,2,90|S,S,0,|S,S,3,|S,S,2,30|S,S,4,
 
 struct Transfers;
 
-impl Telling for Transfers {
-    fn told<R: Abort>(&self, _rt: &R, alloc: Global, case: Case<'_>) -> Result<String, Fail> {
+impl Reporter for Transfers {
+    fn reported<R: Abort>(&self, _rt: &R, alloc: Global, case: Case<'_>) -> Result<String, Fail> {
         let feed = feed_with(alloc, case.given)?;
         let paths = listed(alloc, &feed)?;
         Ok(paths_text(alloc, &paths)?)
@@ -100,11 +100,11 @@ fn listed_in(alloc: Global, feed: &Feed, bound: &str) -> Result<Result<usize, Li
 fn try_bounds(rt: &impl Abort, alloc: Global, feed: &Feed, lines: &str) -> Result<(), Fail> {
     for line in lines.split('\n') {
         let (bounds, wanted) = line.split_once(": ").unwrap_or((line, ""));
-        let told = match listed_in(alloc, feed, bounds)? {
+        let reported = match listed_in(alloc, feed, bounds)? {
             Ok(count) => format!(in alloc; "{count}")?,
             Err(fault) => format!(in alloc; "{fault:?}")?,
         };
-        assert_eq!(rt; told.as_str(), wanted, "{line}");
+        assert_eq!(rt; reported.as_str(), wanted, "{line}");
     }
     Ok(())
 }
@@ -150,7 +150,7 @@ fn a_station_that_forbids_lists_loops(rt: HostRuntime) -> Result<(), Fail> {
 
 // Whichever growth is refused, the fault is that memory ran out. A refused growth ends the test with `AllocError`.
 #[test]
-fn refused_growth_is_told(rt: HostRuntime) -> Result<(), Fail> {
+fn refused_growth_is_reported(rt: HostRuntime) -> Result<(), Fail> {
     let feed = joined_or_refused(&rt, rt.alloc(), "transfers.txt: S,S,2,180", BASE)?;
     match listed(rt.alloc(), &feed) {
         Ok(paths) => assert_eq!(rt; paths.len(), 5),

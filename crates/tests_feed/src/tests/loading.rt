@@ -300,7 +300,7 @@ fn a_station_has_ways_and_loops(rt: HostRuntime) -> Result<(), Fail> {
 }
 
 #[test]
-fn what_is_wrong_is_told(rt: HostRuntime) {
+fn what_is_wrong_is_reported(rt: HostRuntime) {
     let missing = TableFault {
         file: Table::Agency,
         row: 0,
@@ -312,7 +312,7 @@ fn what_is_wrong_is_told(rt: HostRuntime) {
 
 /// A fault has a number, a name and its places.
 #[test]
-fn faults_are_told(rt: HostRuntime) -> Result<(), Fail> {
+fn faults_are_reported(rt: HostRuntime) -> Result<(), Fail> {
     let twice = TableFault {
         file: Table::Stops,
         row: 3,
@@ -330,8 +330,8 @@ fn faults_are_told(rt: HostRuntime) -> Result<(), Fail> {
             "101 FileFailed stop_times.txt",
         ),
     ] {
-        let told = format!(in rt.alloc(); "{fault}")?;
-        assert_eq!(rt; told.as_str(), text);
+        let reported = format!(in rt.alloc(); "{fault}")?;
+        assert_eq!(rt; reported.as_str(), text);
     }
     Ok(())
 }
@@ -345,7 +345,7 @@ fn failed_after(alloc: Global, left: usize, files: &[(&str, &[u8])]) -> (Option<
 
 /// Whichever read fails, the fault names that file, and nothing is read after it.
 #[test]
-fn a_read_that_fails_is_told(rt: HostRuntime) -> Result<(), Fail> {
+fn a_read_that_fails_is_reported(rt: HostRuntime) -> Result<(), Fail> {
     let feed = feed_of(rt.alloc(), "", FILES)?;
     let files = files_of(rt.alloc(), feed.as_str())?;
     for (left, table) in ORDER.iter().enumerate() {
@@ -371,7 +371,7 @@ fn loaded_or_refused(
 
 /// Whichever growth is refused, the fault is that memory ran out.
 #[test]
-fn refused_growth_is_told(rt: HostRuntime) -> Result<(), AllocError> {
+fn refused_growth_is_reported(rt: HostRuntime) -> Result<(), AllocError> {
     let feed = feed_of(rt.alloc(), "", FILES)?;
     let files = files_of(rt.alloc(), feed.as_str())?;
     let answer = made(rt.alloc(), &files, &one_day());
@@ -418,7 +418,7 @@ fn two_days_of(alloc: Global, files: &[(&str, &[u8])]) -> Result<(Verified, Repo
 
 /// The same over a feed with all files.
 #[test]
-fn refused_growth_over_all_files_is_told(rt: HostRuntime) -> Result<(), AllocError> {
+fn refused_growth_over_all_files_is_reported(rt: HostRuntime) -> Result<(), AllocError> {
     let feed = feed_of(rt.alloc(), "", ALL_FILES)?;
     let files = files_of(rt.alloc(), feed.as_str())?;
     let answer = two_days_of(rt.alloc(), &files);

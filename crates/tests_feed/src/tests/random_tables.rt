@@ -69,8 +69,8 @@ fn add_field(text: &mut String, field: &str) -> Result<(), AllocError> {
 }
 
 // The text of a field, blank if there is no such field.
-fn field(record: &ByteRecord, place: usize) -> &str {
-    match record.get(place) {
+fn field(record: &ByteRecord, index: usize) -> &str {
+    match record.get(index) {
         Some(bytes) => str::from_utf8(bytes).unwrap_or("no text"),
         None => "",
     }
@@ -106,7 +106,7 @@ fn add_records(
 }
 
 // The first two fields of each record after the header, as `csv` reads them, or the first record of another length.
-fn told_by_csv(alloc: Global, bytes: &[u8]) -> Result<String, Fail> {
+fn report_by_csv(alloc: Global, bytes: &[u8]) -> Result<String, Fail> {
     let mut reader = ReaderBuilder::new()
         .has_headers(false)
         .flexible(true)
@@ -120,7 +120,10 @@ fn told_by_csv(alloc: Global, bytes: &[u8]) -> Result<String, Fail> {
 }
 
 // The same, as `gtfs_rows` reads them.
-fn told(alloc: Global, answer: Result<Vec<TransferRow>, TableFault>) -> Result<String, AllocError> {
+fn reported(
+    alloc: Global,
+    answer: Result<Vec<TransferRow>, TableFault>,
+) -> Result<String, AllocError> {
     let mut text = String::new(alloc);
     match answer {
         Ok(rows) => {
@@ -135,8 +138,8 @@ fn told(alloc: Global, answer: Result<Vec<TransferRow>, TableFault>) -> Result<S
 }
 
 fn try_table(rt: &impl Abort, alloc: Global, table: &str) -> Result<(), Fail> {
-    let wanted = told_by_csv(alloc, table.as_bytes())?;
-    let given = told(alloc, read_transfers(alloc, table.as_bytes()))?;
+    let wanted = report_by_csv(alloc, table.as_bytes())?;
+    let given = reported(alloc, read_transfers(alloc, table.as_bytes()))?;
     assert_eq!(rt; given.as_str(), wanted.as_str(), "{table}");
     Ok(())
 }

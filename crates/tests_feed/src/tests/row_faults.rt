@@ -1,7 +1,7 @@
 //! Each kind of fault in small files, and which comes first if there are two.
 
 use super::failing::ORDER;
-use super::rows::{told_of, try_files};
+use super::rows::{report_of, try_files};
 use gtfs_rows::{FaultKind, Table, TableFault};
 use std::alloc::Global;
 use std::process::Abort;
@@ -24,8 +24,8 @@ fn missing_files(rt: HostRuntime) {
 }
 
 #[test]
-fn told_by_number_and_name(rt: HostRuntime) {
-    let told = [
+fn reported_by_number_and_name(rt: HostRuntime) {
+    let reported = [
         (FaultKind::MissingFile, 1, "MissingFile"),
         (FaultKind::MissingColumn, 2, "MissingColumn"),
         (FaultKind::BadUtf8, 3, "BadUtf8"),
@@ -45,7 +45,7 @@ fn told_by_number_and_name(rt: HostRuntime) {
         (FaultKind::OutOfMemory, 17, "OutOfMemory"),
         (FaultKind::BadHeadway, 18, "BadHeadway"),
     ];
-    for (kind, number, name) in told.iter() {
+    for (kind, number, name) in reported.iter() {
         assert!(rt; kind.number() == *number && kind.name() == *name, "{name}");
     }
 }
@@ -71,9 +71,9 @@ fn file_names(rt: HostRuntime) {
 fn try_all_files(rt: &impl Abort, alloc: Global, bytes: &[u8], fault: &str) -> Result<(), Fail> {
     for table in ORDER {
         let file = table.file_name();
-        let told = told_of(alloc, file, bytes)?;
+        let reported = report_of(alloc, file, bytes)?;
         let wanted = format!(in alloc; "{fault} {file} 0")?;
-        assert_eq!(rt; told.as_str(), wanted.as_str());
+        assert_eq!(rt; reported.as_str(), wanted.as_str());
     }
     Ok(())
 }

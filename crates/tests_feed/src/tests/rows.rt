@@ -1,6 +1,6 @@
 //! Each file of a feed, read by itself: its rows as they are printed, or its fault.
 
-use super::texts::{Case, Telling, add_rows, fault_text, file_of, lines_of, number, try_cases};
+use super::texts::{Case, Reporter, add_rows, fault_text, file_of, lines_of, number, try_cases};
 use gtfs_rows::{
     IdHash, StopRow, StopTimes, TableFault, TripRow, read_agency, read_calendar,
     read_calendar_dates, read_frequencies, read_stop_times, read_stops, read_transfers, read_trips,
@@ -23,7 +23,7 @@ fn hashes_go_by_their_keys(rt: HostRuntime) {
 }
 
 // The rows of a file that was read, or its fault.
-fn told<T: Debug + Drop>(
+fn reported<T: Debug + Drop>(
     alloc: Global,
     answer: Result<Vec<T>, TableFault>,
 ) -> Result<String, AllocError> {
@@ -55,7 +55,10 @@ fn stop_times_text(alloc: Global, table: &StopTimes) -> Result<String, AllocErro
 }
 
 // The same for rows that name trips and stops by their indices among ids.
-fn told_by_ids(alloc: Global, answer: Result<StopTimes, TableFault>) -> Result<String, AllocError> {
+fn report_by_ids(
+    alloc: Global,
+    answer: Result<StopTimes, TableFault>,
+) -> Result<String, AllocError> {
     match answer {
         Ok(table) => stop_times_text(alloc, &table),
         Err(fault) => fault_text(alloc, fault),
@@ -63,21 +66,21 @@ fn told_by_ids(alloc: Global, answer: Result<StopTimes, TableFault>) -> Result<S
 }
 
 // The rows of a file with these bytes, or its fault.
-pub(crate) fn told_of(alloc: Global, file: &str, bytes: &[u8]) -> Result<String, AllocError> {
+pub(crate) fn report_of(alloc: Global, file: &str, bytes: &[u8]) -> Result<String, AllocError> {
     match file {
-        "agency.txt" => told(alloc, read_agency(alloc, bytes)),
-        "stops.txt" => told(alloc, read_stops(alloc, bytes)),
-        "trips.txt" => told(alloc, read_trips(alloc, bytes)),
-        "stop_times.txt" => told_by_ids(alloc, read_stop_times(alloc, bytes)),
-        "calendar.txt" => told(alloc, read_calendar(alloc, bytes)),
-        "calendar_dates.txt" => told(alloc, read_calendar_dates(alloc, bytes)),
-        "transfers.txt" => told(alloc, read_transfers(alloc, bytes)),
-        _ => told(alloc, read_frequencies(alloc, bytes)),
+        "agency.txt" => reported(alloc, read_agency(alloc, bytes)),
+        "stops.txt" => reported(alloc, read_stops(alloc, bytes)),
+        "trips.txt" => reported(alloc, read_trips(alloc, bytes)),
+        "stop_times.txt" => report_by_ids(alloc, read_stop_times(alloc, bytes)),
+        "calendar.txt" => reported(alloc, read_calendar(alloc, bytes)),
+        "calendar_dates.txt" => reported(alloc, read_calendar_dates(alloc, bytes)),
+        "transfers.txt" => reported(alloc, read_transfers(alloc, bytes)),
+        _ => reported(alloc, read_frequencies(alloc, bytes)),
     }
 }
 
 // The same, if only so many stops, or trips, are allowed.
-fn told_within(
+fn report_within(
     alloc: Global,
     file: &str,
     limit: usize,
@@ -85,30 +88,30 @@ fn told_within(
 ) -> Result<String, AllocError> {
     let hash = IdHash::of_key(7);
     if file == "stops.txt" {
-        told(alloc, rows_up_to::<StopRow>(limit, alloc, hash, bytes))
+        reported(alloc, rows_up_to::<StopRow>(limit, alloc, hash, bytes))
     } else {
-        told(alloc, rows_up_to::<TripRow>(limit, alloc, hash, bytes))
+        reported(alloc, rows_up_to::<TripRow>(limit, alloc, hash, bytes))
     }
 }
 
 // The rows or the fault of a file, given as `stops.txt stop_id|A|`, or as `stops.txt up to 2: stop_id|A|`.
-fn told_of_file(alloc: Global, line: &str) -> Result<String, Fail> {
+fn report_of_file(alloc: Global, line: &str) -> Result<String, Fail> {
     if let Some((file, rest)) = line.split_once(" up to ") {
         let (limit, text) = rest.split_once(": ").unwrap_or((rest, ""));
         let text = lines_of(alloc, text)?;
         let limit = number(limit)? as usize;
-        return Ok(told_within(alloc, file, limit, text.as_bytes())?);
+        return Ok(report_within(alloc, file, limit, text.as_bytes())?);
     }
     let (file, text) = file_of(alloc, line)?;
-    Ok(told_of(alloc, file, text.as_bytes())?)
+    Ok(report_of(alloc, file, text.as_bytes())?)
 }
 
 // Reads each file by itself.
 struct Reads;
 
-impl Telling for Reads {
-    fn told<R: Abort>(&self, _rt: &R, alloc: Global, case: Case<'_>) -> Result<String, Fail> {
-        told_of_file(alloc, case.head)
+impl Reporter for Reads {
+    fn reported<R: Abort>(&self, _rt: &R, alloc: Global, case: Case<'_>) -> Result<String, Fail> {
+        report_of_file(alloc, case.head)
     }
 }
 

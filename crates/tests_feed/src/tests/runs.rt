@@ -4,7 +4,7 @@ ghost use Rattle.std.specs.Prelude.{◌≡◌};
 ghost use Rattle.connections.specs.Faults.{too_many_of};
 
 use super::texts::{
-    Case, Telling, add_rows, joined, joined_or_refused, number, try_cases, zone_of,
+    Case, Reporter, add_rows, joined, joined_or_refused, number, try_cases, zone_of,
 };
 use connections::{MAX_DAYS, Report, Run, RunsFault, runs_of};
 use gtfs_tables::{Day, FaultKind, Feed, Table};
@@ -200,8 +200,8 @@ struct Feeds {
     is_counted: bool,
 }
 
-impl Telling for Feeds {
-    fn told<R: Abort>(&self, _rt: &R, alloc: Global, case: Case<'_>) -> Result<String, Fail> {
+impl Reporter for Feeds {
+    fn reported<R: Abort>(&self, _rt: &R, alloc: Global, case: Case<'_>) -> Result<String, Fail> {
         let (_, asked) = case.head.split_once(": ").unwrap_or(("", ""));
         match made(alloc, case.given, self.further, asked)? {
             Ok(made) => Ok(made_text(alloc, &made, self.is_counted)?),
@@ -252,7 +252,7 @@ fn is_want_of_memory(fault: RunsFault) -> bool {
 
 // Whichever growth is refused, the fault is that memory ran out. A refused growth ends the test with `AllocError`.
 #[test]
-fn refused_growth_is_told(rt: HostRuntime) -> Result<(), Fail> {
+fn refused_growth_is_reported(rt: HostRuntime) -> Result<(), Fail> {
     let feed = joined_or_refused(&rt, rt.alloc(), "", LEVEL)?;
     let first = Day::parse(b"20240115")?;
     match runs_of(rt.alloc(), &feed, first, 1, &Zone::fixed(0)) {

@@ -46,29 +46,29 @@ fn case_of(text: &str) -> Result<Case<'_>, Fail> {
 }
 
 /// A kind of cases.
-pub(crate) trait Telling {
+pub(crate) trait Reporter {
     /// Tells what comes of a case.
-    fn told<R: Abort>(&self, rt: &R, alloc: Global, case: Case<'_>) -> Result<String, Fail>;
+    fn reported<R: Abort>(&self, rt: &R, alloc: Global, case: Case<'_>) -> Result<String, Fail>;
 }
 
 /// Asserts that what is told of a case is what it expects.
-fn try_case<R: Abort, T: Telling>(
+fn try_case<R: Abort, T: Reporter>(
     rt: &R,
     alloc: Global,
     case: Case<'_>,
     kind: &T,
 ) -> Result<(), Fail> {
-    let told = kind.told(rt, alloc, case)?;
+    let reported = kind.reported(rt, alloc, case)?;
     let Case {
         head,
         given,
         wanted,
     } = case;
-    assert_eq!(rt; told.as_str(), wanted, "{head}\n{given}");
+    assert_eq!(rt; reported.as_str(), wanted, "{head}\n{given}");
     Ok(())
 }
 
-pub(crate) fn try_cases<R: Abort, T: Telling>(
+pub(crate) fn try_cases<R: Abort, T: Reporter>(
     rt: &R,
     alloc: Global,
     cases: &str,

@@ -75,12 +75,12 @@ fn number_text(alloc: Global, field: &[u8]) -> Result<String, AllocError> {
 fn try_line(rt: &impl Abort, alloc: Global, line: &str) -> Result<(), Fail> {
     let (kind, rest) = line.split_once('|').unwrap_or((line, ""));
     let (field, wanted) = rest.split_once('|').unwrap_or((rest, ""));
-    let told = match kind {
+    let reported = match kind {
         "time" => time_text(alloc, field.as_bytes())?,
         "date" => date_text(alloc, field.as_bytes())?,
         _ => number_text(alloc, field.as_bytes())?,
     };
-    assert_eq!(rt; told.as_str(), wanted, "{line}");
+    assert_eq!(rt; reported.as_str(), wanted, "{line}");
     Ok(())
 }
 

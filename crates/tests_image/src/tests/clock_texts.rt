@@ -58,7 +58,7 @@ fn clocks_are_written(rt: HostRuntime) -> Result<(), Fail> {
 /// Whichever growth is refused, the error is that memory ran out; otherwise the text is returned. A refused growth ends
 /// the test with `AllocError`.
 #[test]
-fn refused_growth_is_told(rt: HostRuntime) -> Result<(), Fail> {
+fn refused_growth_is_reported(rt: HostRuntime) -> Result<(), Fail> {
     let text = clock_text(rt.alloc(), u32::MAX)?;
     assert_eq!(rt; text.as_str(), "1193046:28:15");
     Ok(())

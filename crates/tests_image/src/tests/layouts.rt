@@ -1,7 +1,7 @@
 //! Where the fields of an image are, and words as bytes.
 
 ghost use Rattle.std.specs.Prelude.{◌≡◌, ◌<◌, ◌+◌, length};
-ghost use Rattle.image_layout.specs.Places.{IsWhole, header_of};
+ghost use Rattle.image_layout.specs.Offsets.{IsWhole, header_of};
 ghost use Rattle.image_layout.specs.Shown.{name_of};
 
 use image_layout::layout::{FIRST_LAYOUT, LAYOUT, MAGIC, is_layout};
@@ -122,10 +122,10 @@ fn connections_are_read(rt: HostRuntime) {
     ];
     for i in 0..3 {
         assert!(rt; connection_at(&words, i) == wanted[i]);
-        let told = six_words(&words, i);
-        assert!(rt; told == fields[i]);
-        assert!(rt; wanted[i].board == (told[5] % 2 == 1));
-        assert!(rt; wanted[i].alight == (told[5] / 2 == 1));
+        let reported = six_words(&words, i);
+        assert!(rt; reported == fields[i]);
+        assert!(rt; wanted[i].board == (reported[5] % 2 == 1));
+        assert!(rt; wanted[i].alight == (reported[5] / 2 == 1));
     }
 }
 
@@ -171,9 +171,9 @@ fn footpaths_are_read(rt: HostRuntime) {
     for stop in 0..3 {
         assert!(rt; foot_index_at(&words, stop) == [0, 2, 4][stop]);
     }
-    for place in 0..4 {
-        assert!(rt; foot_from_at(&words, place) == [0, 1, 0, 1][place]);
-        assert!(rt; foot_secs_at(&words, place) == [120, 300, 240, 90][place]);
+    for index in 0..4 {
+        assert!(rt; foot_from_at(&words, index) == [0, 1, 0, 1][index]);
+        assert!(rt; foot_secs_at(&words, index) == [120, 300, 240, 90][index]);
     }
 }
 
@@ -204,12 +204,12 @@ fn two_layouts_are_read(rt: HostRuntime) {
 /// Where the sections behind the connections begin, and how many words there are.
 fn sections(header: &Header) -> [usize; 7] {
     [
-        header.foot_index_place(),
-        header.footpath_place(),
-        header.name_index_place(),
-        header.day_place(),
-        header.repeat_place(),
-        header.text_place(),
+        header.foot_index_offset(),
+        header.footpath_offset(),
+        header.name_index_offset(),
+        header.day_offset(),
+        header.repeat_offset(),
+        header.text_offset(),
         header.word_count(),
     ]
 }
@@ -286,12 +286,12 @@ fn faults_have_numbers_names_and_messages(rt: HostRuntime) -> Result<(), AllocEr
 /// Whichever growth is refused, the error is that memory ran out; otherwise the words come back. A refused growth ends
 /// the test with `AllocError`.
 #[test]
-fn refused_growth_is_told(rt: HostRuntime) -> Result<(), AllocError> {
+fn refused_growth_is_reported(rt: HostRuntime) -> Result<(), AllocError> {
     let bytes = Words::to_bytes(rt.alloc(), &sample_words())?;
-    let told = given(rt.alloc(), &bytes);
-    if told == Err(WordsFault::OutOfMemory.number()) {
+    let reported = given(rt.alloc(), &bytes);
+    if reported == Err(WordsFault::OutOfMemory.number()) {
         return Err(AllocError);
     }
-    assert_eq!(rt; told, Ok(47));
+    assert_eq!(rt; reported, Ok(47));
     Ok(())
 }

@@ -113,13 +113,13 @@ fn assert_footpaths<R: Abort>(rt: &R, image: &Verified) {
     let targets = [0, 0, 1, 1, 2, 3];
     let times = [60, 45, 30, 0, 20, 15];
     assert!(rt; image.footpath_count() == 6);
-    for place in 0..6 {
+    for index in 0..6 {
         let wanted = Footpath {
-            from: froms[place],
-            to: targets[place],
-            secs: times[place],
+            from: froms[index],
+            to: targets[index],
+            secs: times[index],
         };
-        assert!(rt; image.footpath(place) == wanted, "place {place}");
+        assert!(rt; image.footpath(index) == wanted, "place {index}");
     }
 }
 
@@ -144,9 +144,9 @@ fn a_timetable_is_read_back(rt: HostRuntime) -> Result<(), AllocError> {
 fn assert_footpaths_into<R: Abort>(rt: &R, image: &Verified) {
     for stop in 0..image.stops() as usize {
         let (start, end) = image.walks_into(stop);
-        for place in start..end {
+        for index in start..end {
             assert!(rt;
-                image.footpath_into(stop, place) == image.footpath(place),
+                image.footpath_into(stop, index) == image.footpath(index),
                 "into {stop}"
             );
         }
@@ -291,10 +291,10 @@ fn assert_timetable<R: Abort>(rt: &R, image: &Verified, timetable: &Timetable) {
     assert!(rt; timetable.stops == 4 && timetable.trips == 3);
     assert!(rt; timetable.connections.len() == 4);
     assert!(rt; timetable.footpaths.len() == 6 && image.footpath_count() == 6);
-    for place in 0..6 {
+    for index in 0..6 {
         assert!(rt;
-            image.footpath(place) == timetable.footpaths[place],
-            "place {place}"
+            image.footpath(index) == timetable.footpaths[index],
+            "place {index}"
         );
     }
 }
@@ -342,7 +342,7 @@ fn unpacked(alloc: Global, image: &Verified) -> Result<(usize, usize), AllocErro
 /// Whichever growth is refused while an image is unpacked, the error is that memory ran out, and the image is
 /// unchanged.
 #[test]
-fn refused_growth_of_unpacking_is_told(rt: HostRuntime) -> Result<(), AllocError> {
+fn refused_growth_of_unpacking_is_reported(rt: HostRuntime) -> Result<(), AllocError> {
     let image = image(rt.alloc(), &second_sample_words())?;
     let counts = unpacked(rt.alloc(), &image);
     assert!(rt; image.words() == second_sample_words().as_slice());

@@ -139,7 +139,7 @@ fn names_fill_words(rt: HostRuntime) -> Result<(), AllocError> {
 /// Whichever growth is refused, the error is that memory ran out; otherwise all words are there. A refused growth ends
 /// the test with `AllocError`.
 #[test]
-fn refused_growth_is_told(rt: HostRuntime) -> Result<(), AllocError> {
+fn refused_growth_is_reported(rt: HostRuntime) -> Result<(), AllocError> {
     assert!(rt; written(rt.alloc(), "Wels")?.len() == 16);
     Ok(())
 }

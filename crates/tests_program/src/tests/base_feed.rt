@@ -27,13 +27,13 @@ T2,08:20:00,08:20:00,C,2",
 fn add_lines(
     text: &mut String,
     lines: &str,
-    mut place: u32,
+    mut index: u32,
     record: &str,
 ) -> Result<(), AllocError> {
     for line in lines.split('\n') {
-        text.push_str(if place == 0 { record } else { line })?;
+        text.push_str(if index == 0 { record } else { line })?;
         text.push_str("\n")?;
-        place = place.wrapping_sub(1);
+        index = index.wrapping_sub(1);
     }
     Ok(())
 }
@@ -66,13 +66,13 @@ pub(crate) fn change<R: Machine>(rt: &R, words: &str) -> Result<(), Fail> {
     let Some((file, rest)) = words.split_once(' ') else {
         return Err(Fail::new("a file, a number and a record"));
     };
-    let Some((place, record)) = rest.split_once(' ') else {
+    let Some((index, record)) = rest.split_once(' ') else {
         return Err(Fail::new("a number and a record"));
     };
-    let Ok(place) = place.parse() else {
+    let Ok(index) = index.parse() else {
         return Err(Fail::new("the number of a record"));
     };
     let mut text = String::new(rt.alloc());
-    add_lines(&mut text, lines_of(file), place, record)?;
+    add_lines(&mut text, lines_of(file), index, record)?;
     write(rt, file, text.as_str())
 }

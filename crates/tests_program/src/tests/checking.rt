@@ -163,26 +163,31 @@ fn verified_unread<R: Machine + Net<Listener = TcpListener, Stream = TcpStream>>
 /// If a line can't be written, the status and standard error tell so; the same holds if standard input can't be read,
 /// which isn't called a file.
 #[test]
-fn streams_that_fail_are_told(rt: HostRuntime) -> Result<(), Fail> {
+fn streams_that_fail_are_reported(rt: HostRuntime) -> Result<(), Fail> {
     let image = Words::to_bytes(rt.alloc(), &sample_words())?;
     let mut errors = Vec::new(rt.alloc());
     let status = verified_into(&rt, &image, &mut [0u8; 4], &mut errors);
-    let told = "csa: standard output can't be written: an input or output error\n";
+    let reported = "csa: standard output can't be written: an input or output error\n";
     assert!(rt; status == 3);
-    assert!(rt; errors.as_slice() == told.as_bytes());
+    assert!(rt; errors.as_slice() == reported.as_bytes());
     errors.clear();
     let status = verified_unread(&rt, &mut errors);
-    let told = "csa: standard input can't be read\n";
+    let reported = "csa: standard input can't be read\n";
     assert!(rt; status == 3);
-    assert!(rt; errors.as_slice() == told.as_bytes());
+    assert!(rt; errors.as_slice() == reported.as_bytes());
     Ok(())
 }
 
 /// Whether printing the sum of the sources to an output gives this status, and this text on standard error.
-fn is_told_of_sources<O: Write>(alloc: Global, output: &mut O, status: u8, told: &str) -> bool {
+fn is_reported_of_sources<O: Write>(
+    alloc: Global,
+    output: &mut O,
+    status: u8,
+    reported: &str,
+) -> bool {
     let mut errors: Vec<u8> = Vec::new(alloc);
     let ended = print_sources("0123", output, &mut errors);
-    ended == status && errors.as_slice() == told.as_bytes()
+    ended == status && errors.as_slice() == reported.as_bytes()
 }
 
 const FULL: &str = "csa: standard output can't be written: no space left on the device\n";
@@ -193,26 +198,26 @@ const FULL: &str = "csa: standard output can't be written: no space left on the 
 fn the_sum_of_the_sources_is_printed(rt: HostRuntime) {
     let alloc = rt.alloc();
     let mut printed: Vec<u8> = Vec::new(alloc);
-    assert!(rt; is_told_of_sources(alloc, &mut printed, 0, ""));
+    assert!(rt; is_reported_of_sources(alloc, &mut printed, 0, ""));
     assert!(rt; printed.as_slice() == "sources 0123\n".as_bytes());
     let mut full = Failing {
         kind: ErrorKind::StorageFull,
     };
-    assert!(rt; is_told_of_sources(alloc, &mut full, 3, FULL));
+    assert!(rt; is_reported_of_sources(alloc, &mut full, 3, FULL));
     let mut unread = Failing {
         kind: ErrorKind::BrokenPipe,
     };
-    assert!(rt; is_told_of_sources(alloc, &mut unread, 3, ""));
+    assert!(rt; is_reported_of_sources(alloc, &mut unread, 3, ""));
 }
 
 /// Standard error says why there are no words of a command line.
 #[test]
-fn words_that_cannot_be_read_are_told(rt: HostRuntime) {
+fn words_that_cannot_be_read_are_reported(rt: HostRuntime) {
     let mut errors: Vec<u8> = Vec::new(rt.alloc());
     explain_no_words(&mut errors, 64);
     explain_no_words(&mut errors, 4);
-    let told = "csa: a word of the command line isn't UTF-8\ncsa: out of memory\n";
-    assert!(rt; errors.as_slice() == told.as_bytes());
+    let reported = "csa: a word of the command line isn't UTF-8\ncsa: out of memory\n";
+    assert!(rt; errors.as_slice() == reported.as_bytes());
 }
 
 const EXPLAINED: &str = "

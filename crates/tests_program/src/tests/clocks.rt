@@ -2,7 +2,7 @@
 
 use clock_days::instant;
 use command_line::read;
-use command_requests::{FirstDay, PlanText, Request, ZoneText};
+use command_requests::{CommandRequest, FirstDay, PlanText, ZoneText};
 use feed_plans::plan_at;
 use service_days::day_start;
 use std::alloc::Global;
@@ -99,7 +99,7 @@ fn asked_of_build(alloc: Global, word: &str) -> &'static str {
         "csa", "build", "feed", "out", "--first", word, "--days", "1", "--zone", "fixed:0",
     ];
     match read(alloc, &words) {
-        Ok(Request::Build(request)) => word_of(request.plan.first),
+        Ok(CommandRequest::Build(request)) => word_of(request.plan.first),
         _ => "no build",
     }
 }
@@ -125,7 +125,7 @@ fn asked_of_serve(alloc: Global, word: &str) -> &'static str {
         "fixed:0",
     ];
     match read(alloc, &words) {
-        Ok(Request::Serve(request)) => word_of(request.plan.first),
+        Ok(CommandRequest::Serve(request)) => word_of(request.plan.first),
         _ => "no serve",
     }
 }

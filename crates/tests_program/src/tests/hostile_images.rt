@@ -261,6 +261,6 @@ remove faulty.csa
 ";
 
 #[test]
-fn the_first_fault_is_told(rt: HostRuntime) -> Result<(), Fail> {
+fn the_first_fault_is_reported(rt: HostRuntime) -> Result<(), Fail> {
     try_transcripts(&rt, &[CHANGES, FILES])
 }

@@ -109,7 +109,7 @@ fn taken(alloc: Global, port: u16) -> Result<String, AllocError> {
 }
 
 #[test]
-fn what_cannot_be_served_is_told(rt: HostRuntime) -> Result<(), Fail> {
+fn what_cannot_be_served_is_reported(rt: HostRuntime) -> Result<(), Fail> {
     let listener = TcpListener::bind(&rt, (Ipv4Addr::LOCALHOST, 0))?;
     let taken = taken(rt.alloc(), listener.local_addr()?.port())?;
     try_transcripts(&rt, &[WRONG_WORDS, taken.as_str()])

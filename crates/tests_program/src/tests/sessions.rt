@@ -107,12 +107,12 @@ fn expect_served<R: Machine + Abort>(
     status: u8,
     replies: Option<&[u8]>,
     printed: &[u8],
-    told: &[u8],
+    reported: &[u8],
 ) {
     assert!(rt; status == 0);
     assert!(rt; replies == Some(REPLIES.as_bytes()));
     assert!(rt; printed.ends_with(b"\nserved 1\n"));
-    assert!(rt; told.ends_with(b"loaded slow version 2\n"));
+    assert!(rt; reported.ends_with(b"loaded slow version 2\n"));
 }
 
 /// Each line has its reply, and the loader reports the version that the folder became.
@@ -121,14 +121,17 @@ fn a_client_beside_its_server(rt: HostRuntime) -> Result<(), Fail> {
     let alloc: Global = rt.alloc();
     base_feed::make(&rt)?;
     let image = Words::to_bytes(alloc, &sample_words())?;
-    let (printed, told) = (Mutex::new(Vec::new(alloc)), Mutex::new(Vec::new(alloc)));
-    let (rt, printed, told) = (&rt, &printed, &told);
+    let (printed, reported) = (Mutex::new(Vec::new(alloc)), Mutex::new(Vec::new(alloc)));
+    let (rt, printed, reported) = (&rt, &printed, &reported);
     let (status, replies) = thread::join(
         rt,
         move || -> u8 {
             let mut input = image.as_slice();
             let mut output = Heard { rt, bytes: printed };
-            let mut errors = Heard { rt, bytes: told };
+            let mut errors = Heard {
+                rt,
+                bytes: reported,
+            };
             run(rt, &WORDS, &mut input, &mut output, &mut errors, false)
         },
         move || -> Option<Vec<u8>> { replies_at(rt, port_of(rt, printed)?).ok() },
@@ -138,7 +141,7 @@ fn a_client_beside_its_server(rt: HostRuntime) -> Result<(), Fail> {
         status,
         replies.as_deref(),
         &printed.lock(rt),
-        &told.lock(rt),
+        &reported.lock(rt),
     );
     Ok(fs::remove_dir_all(rt, "base_feed")?)
 }

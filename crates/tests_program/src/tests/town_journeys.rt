@@ -112,6 +112,6 @@ judge A C 07:00:00 09:00:00 10:00:00 ride 0 0 ride | refused 80 BadText
 ";
 
 #[test]
-fn faults_of_journeys_are_told_in_order(rt: HostRuntime) -> Result<(), Fail> {
+fn faults_of_journeys_are_reported_in_order(rt: HostRuntime) -> Result<(), Fail> {
     try_transcripts(&rt, &[TOWN, TEXTS])
 }

@@ -59,7 +59,7 @@ struct Stage<'a> {
     /// Whether the command with these words was run.
     is_tried: bool,
     printed: String,
-    told: String,
+    reported: String,
 }
 
 impl<'a> Stage<'a> {
@@ -72,7 +72,7 @@ impl<'a> Stage<'a> {
             words: Vec::new(alloc),
             is_tried: true,
             printed: String::new(alloc),
-            told: String::new(alloc),
+            reported: String::new(alloc),
         }
     }
 
@@ -100,7 +100,7 @@ impl<'a> Stage<'a> {
 
     /// Fails if a line wasn't compared.
     fn all_compared(&self) -> Result<(), Fail> {
-        if self.printed.is_empty() && self.told.is_empty() {
+        if self.printed.is_empty() && self.reported.is_empty() {
             Ok(())
         } else {
             Err(Fail::new("lines that were never compared"))
@@ -114,7 +114,7 @@ impl<'a> Stage<'a> {
 
     /// Adds a line that the command must write to the errors.
     fn tells(&mut self, line: &str) -> Result<(), Fail> {
-        Ok(add_line(&mut self.told, line, "\n")?)
+        Ok(add_line(&mut self.reported, line, "\n")?)
     }
 
     fn take_image(&mut self, image: Vec<u32>) {
@@ -194,10 +194,10 @@ fn image_of(alloc: Global, kind: &str, text: &str) -> Result<Vec<u32>, Fail> {
 
 /// Puts a word at an offset.
 fn set(image: &mut [u32], text: &str) -> Result<(), Fail> {
-    let Some((place, word)) = text.split_once(' ') else {
+    let Some((index, word)) = text.split_once(' ') else {
         return Err(Fail::new("a place and a word"));
     };
-    match image.get_mut(number(place)? as usize) {
+    match image.get_mut(number(index)? as usize) {
         Some(at) => {
             *at = number(word)?;
             Ok(())
@@ -375,12 +375,12 @@ fn run_on_stage<R: Machine + Net<Listener = TcpListener, Stream = TcpStream>>(
 
 /// Whether these are the expected errors, apart from seconds. If none are expected, a refused image or journey must be
 /// explained in some words.
-fn is_told(alloc: Global, printed: &str, told: &str, errors: &[u8]) -> Result<bool, Fail> {
-    if told.is_empty() && is_of_image(printed) {
+fn is_reported(alloc: Global, printed: &str, reported: &str, errors: &[u8]) -> Result<bool, Fail> {
+    if reported.is_empty() && is_of_image(printed) {
         return Ok(errors.starts_with(b"csa: "));
     }
     let text = masked(alloc, str::from_utf8(errors).unwrap_or("no text"))?;
-    Ok(text.as_str() == told)
+    Ok(text.as_str() == reported)
 }
 
 /// Whether a line is the refusal of an image or a journey.
@@ -440,11 +440,11 @@ fn compare<R: Machine + Abort>(
     outcome: &Outcome,
     status: &str,
 ) -> Result<(), Fail> {
-    let (printed, told) = (stage.printed.as_str(), stage.told.as_str());
-    let is_told = is_told(rt.alloc(), printed, told, &outcome.errors)?;
+    let (printed, reported) = (stage.printed.as_str(), stage.reported.as_str());
+    let is_reported = is_reported(rt.alloc(), printed, reported, &outcome.errors)?;
     let is_printed = outcome.output.as_slice() == printed.as_bytes();
     demand(rt, &stage.words, is_printed, "the output");
-    demand(rt, &stage.words, is_told, "the errors");
+    demand(rt, &stage.words, is_reported, "the errors");
     let is_ended = u32::from(outcome.status) == number(status)?;
     demand(rt, &stage.words, is_ended, "the status");
     Ok(())
@@ -459,7 +459,7 @@ fn expect_lines<R: Machine + Net<Listener = TcpListener, Stream = TcpStream> + A
     let outcome = run_on_stage(rt, stage)?;
     compare(rt, stage, &outcome, status)?;
     stage.printed.clear();
-    stage.told.clear();
+    stage.reported.clear();
     Ok(())
 }
 

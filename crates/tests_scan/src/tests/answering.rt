@@ -8,7 +8,7 @@ ghost use Rattle.profile_scan.specs.Found.{listed};
 
 use super::images::{REPEATED, image};
 use super::in_turn::InTurn;
-use criteria::{Arrival, ArrivalTrips, Criterion, Told, ToldValue};
+use criteria::{Arrival, ArrivalTrips, Criterion, Figures, ShowsFigures};
 use image_layout::{sample_words, second_sample_words};
 use image_verifier::Verified;
 use journeys::{Answer, Window, answer_query, check, extract, journey_text, query_of};
@@ -60,10 +60,10 @@ pub const WITH_DIRECT_TRIP: [u32; 56] = [
 const CHANGE: &str = "ride 0 0 walk 1 1 0 ride 2 2";
 
 /// The journey of the point at an index.
-fn journey_at<C: Criterion>(alloc: Global, found: &Found<C>, place: usize) -> Result<Journey, Fail>
-    requires { place < length (listed found.now) }
+fn journey_at<C: Criterion>(alloc: Global, found: &Found<C>, index: usize) -> Result<Journey, Fail>
+    requires { index < length (listed found.now) }
 {
-    Ok(extract(alloc, found, place)?)
+    Ok(extract(alloc, found, index)?)
 }
 
 /// When a journey that counts for a query departs and arrives.
@@ -75,20 +75,20 @@ fn times_of(image: &Verified, query: &Query, journey: &Journey) -> Result<Times,
 }
 
 /// When the point at an index departs, and what is told of its value.
-fn told_at<C: Told>(criterion: &C, found: &Found<C>, place: usize) -> (u32, ToldValue)
-    requires { place < length (listed found.now) }
+fn figures_at<C: ShowsFigures>(criterion: &C, found: &Found<C>, index: usize) -> (u32, Figures)
+    requires { index < length (listed found.now) }
 {
-    let point = found.point(place);
-    (point.departure, criterion.tell(&point.value))
+    let point = found.point(index);
+    (point.departure, criterion.figures_of(&point.value))
 }
 
 /// Whether a journey that arrives at this time has this value: its trips, if they are told, are its rides.
-pub fn is_worth(journey: &Journey, arrival: u32, told: ToldValue) -> bool {
-    let are_told = match told.trips {
+pub fn is_worth(journey: &Journey, arrival: u32, figures: Figures) -> bool {
+    let are_reported = match figures.trips {
         Some(trips) => trips as usize == journey.rides.len(),
         None => true,
     };
-    told.arrival == arrival && are_told
+    figures.arrival == arrival && are_reported
 }
 
 /// Asserts that a journey departs and arrives at these times, and has this text.
@@ -110,27 +110,27 @@ fn assert_journey(
 
 /// Asserts that the point at an index departs and arrives at these times, and that its journey counts for the query, is
 /// worth as much, and has this text.
-fn assert_point<C: Told>(
+fn assert_point<C: ShowsFigures>(
     rt: &impl Abort,
     alloc: Global,
     image: &Verified,
     query: &Query,
     criterion: &C,
     found: &Found<C>,
-    place: usize,
+    index: usize,
     expected: (u32, u32, &str),
 ) -> Result<(), Fail>
-    requires { place < length (listed found.now) }
+    requires { index < length (listed found.now) }
 {
-    let (departure, told) = told_at(criterion, found, place);
-    let journey = journey_at(alloc, found, place)?;
+    let (departure, figures) = figures_at(criterion, found, index);
+    let journey = journey_at(alloc, found, index)?;
     let times = times_of(image, query, &journey)?;
-    assert!(rt; times.dep == departure && is_worth(&journey, times.arr, told));
+    assert!(rt; times.dep == departure && is_worth(&journey, times.arr, figures));
     assert_journey(rt, alloc, &journey, times, expected)
 }
 
 /// Asserts that the query has these points, each with its departure, its arrival and the text of its journey.
-fn assert_answer<S: ConnSource, C: Told>(
+fn assert_answer<S: ConnSource, C: ShowsFigures>(
     rt: &impl Abort,
     alloc: Global,
     image: &Verified,
@@ -143,14 +143,14 @@ fn assert_answer<S: ConnSource, C: Told>(
     query.check(stops).ok().ok_or("the query can be asked")?;
     let found = profile(alloc, source, criterion, query)?;
     assert!(rt; found.len() == expected.len());
-    for (place, point) in expected.iter().enumerate() {
-        assert_point(rt, alloc, image, query, criterion, &found, place, *point)?;
+    for (index, point) in expected.iter().enumerate() {
+        assert_point(rt, alloc, image, query, criterion, &found, index, *point)?;
     }
     Ok(())
 }
 
 /// Asserts the same over an image in place, and over its lists decoded.
-fn assert_answers<C: Told>(
+fn assert_answers<C: ShowsFigures>(
     rt: &impl Abort,
     alloc: Global,
     words: &[u32],
@@ -386,7 +386,7 @@ fn is_answered(alloc: Global, answer: &Answer<ArrivalTrips>) -> Result<bool, All
 /// growth is refused, the error is that memory ran out: then the test ends with `AllocError`. Either way connections
 /// were asked for in turn, from the last one on.
 #[test]
-fn refused_growth_is_told(rt: HostRuntime) -> Result<(), Fail> {
+fn refused_growth_is_reported(rt: HostRuntime) -> Result<(), Fail> {
     let alloc = rt.alloc();
     let image = image(alloc, &sample_words())?;
     let mut source = InTurn::of(InPlace::new(&image));

@@ -1,7 +1,7 @@
 //! Queries between sets of stops: worked rows.
 
 use super::images::image;
-use criteria::{Arrival, Told};
+use criteria::{Arrival, ShowsFigures};
 use image_verifier::Verified;
 use profile_scan::{Between, FoundBetween, profile_between};
 use sources::InPlace;
@@ -74,9 +74,9 @@ fn times_between(
     let asked = between(alloc, sources, targets, [0, until, 300])?;
     let found = found_between(alloc, &image, &asked)?;
     let mut times = Vec::new(alloc);
-    for place in 0..found.len() {
-        let point = found.point(place);
-        times.push((point.departure, Arrival.tell(&point.value).arrival))?;
+    for index in 0..found.len() {
+        let point = found.point(index);
+        times.push((point.departure, Arrival.figures_of(&point.value).arrival))?;
     }
     Ok(times)
 }

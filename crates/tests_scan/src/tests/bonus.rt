@@ -109,8 +109,8 @@ fn assert_departures<C: Criterion<V = u32>>(
             departure.time == *time && departure.value == *value,
             "{text}"
         );
-        let told = journey_text(alloc, &departure.journey)?;
-        assert!(rt; told.as_slice() == text.as_bytes(), "{text}");
+        let figures = journey_text(alloc, &departure.journey)?;
+        assert!(rt; figures.as_slice() == text.as_bytes(), "{text}");
     }
     Ok(())
 }

@@ -54,8 +54,8 @@ fn same(point: &Point<TimeTrips>, other: &Point<TimeTrips>) -> bool {
 // How often a bag lists a point.
 fn count(bag: &Bag<ArrivalTrips>, point: &Point<TimeTrips>) -> usize {
     let mut count = 0usize;
-    for place in 0..bag.len() {
-        if same(&bag.point(place), point) {
+    for index in 0..bag.len() {
+        if same(&bag.point(index), point) {
             count = count.saturating_add(1);
         }
     }
@@ -78,11 +78,11 @@ fn assert_stands(rt: &impl Abort, bag: &Bag<ArrivalTrips>, history: &[Point<Time
 }
 
 // Whether the point at an index departs at a time or later, and no such point of the bag is better.
-fn is_best(bag: &Bag<ArrivalTrips>, place: usize, time: u32) -> bool {
-    if place >= bag.len() {
+fn is_best(bag: &Bag<ArrivalTrips>, index: usize, time: u32) -> bool {
+    if index >= bag.len() {
         return false;
     }
-    let value = bag.point(place).value;
+    let value = bag.point(index).value;
     for i in 0..bag.len() {
         let other = bag.point(i);
         if other.departure >= time
@@ -93,21 +93,21 @@ fn is_best(bag: &Bag<ArrivalTrips>, place: usize, time: u32) -> bool {
             return false;
         }
     }
-    bag.point(place).departure >= time
+    bag.point(index).departure >= time
 }
 
 // Asserts that a bag gives the indices of its best points, rising, each once.
 fn assert_best(rt: &impl Abort, bag: &Bag<ArrivalTrips>, time: u32) {
     let mut next = 0usize;
-    for place in bag.best_from(time) {
-        for skipped in next..place {
+    for index in bag.best_from(time) {
+        for skipped in next..index {
             assert!(rt; !is_best(bag, skipped, time), "missed {skipped} at {time}");
         }
         assert!(rt;
-            place >= next && is_best(bag, place, time),
-            "gave {place} at {time}"
+            index >= next && is_best(bag, index, time),
+            "gave {index} at {time}"
         );
-        next = place.saturating_add(1);
+        next = index.saturating_add(1);
     }
     for skipped in next..bag.len() {
         assert!(rt; !is_best(bag, skipped, time), "missed {skipped} at {time}");
@@ -117,14 +117,14 @@ fn assert_best(rt: &impl Abort, bag: &Bag<ArrivalTrips>, time: u32) {
 // Asserts that a bag's points are ordered by falling departure, and those of equal departures by arrival and number of
 // trips.
 fn assert_order(rt: &impl Abort, bag: &Bag<ArrivalTrips>) {
-    for place in 1..bag.len() {
-        let before = bag.point(place - 1);
-        let point = bag.point(place);
+    for index in 1..bag.len() {
+        let before = bag.point(index - 1);
+        let point = bag.point(index);
         let falls = before.departure > point.departure;
         let together = before.departure == point.departure;
         let rises = before.value.time < point.value.time
             || (before.value.time == point.value.time && before.value.trips < point.value.trips);
-        assert!(rt; falls || (together && rises), "at {place}");
+        assert!(rt; falls || (together && rises), "at {index}");
     }
 }
 
@@ -216,7 +216,7 @@ fn assert_later(rt: &impl Abort, bag: &Bag<ArrivalTrips>) {
 }
 
 #[test]
-fn of_points_that_depart_later_the_best_are_told(rt: HostRuntime) -> Result<(), Fail> {
+fn of_points_that_depart_later_the_best_are_reported(rt: HostRuntime) -> Result<(), Fail> {
     let mut bag = Bag::new(rt.alloc(), ArrivalTrips);
     for tag in 0..40 {
         assert!(rt; are_new(&mut bag, 36_000 - tag as u32 * 60, tag)?);

@@ -4,7 +4,7 @@
 use super::answering::{WITH_CHAIN, WITH_DIRECT_TRIP, WITH_WALK, is_worth};
 use super::images::image;
 use super::random_images::{Dice, random_words};
-use criteria::{Arrival, ArrivalTrips, ArrivalTripsWalk, Told, ToldValue};
+use criteria::{Arrival, ArrivalTrips, ArrivalTripsWalk, Figures, ShowsFigures};
 use image_layout::{sample_words, second_sample_words};
 use image_verifier::Verified;
 use journeys::{Answer, Departure, answer_query, check};
@@ -17,7 +17,7 @@ use std::test::*;
 use timetable::{Footpath, Query, QueryFault};
 
 /// What is told of a best departure.
-type Shown = (u32, ToldValue);
+type Shown = (u32, Figures);
 
 /// Whether a departure leaves no earlier than another, and is as good in all that is told.
 fn dominates(shown: Shown, other: Shown) -> bool {
@@ -36,13 +36,13 @@ fn is_at_most(number: Option<u32>, other: Option<u32>) -> bool {
 }
 
 /// Adds what is told of the departures of an answer.
-fn add_shown<C: Told>(
+fn add_shown<C: ShowsFigures>(
     criterion: &C,
     answer: &Answer<C>,
     all: &mut Vec<Shown>,
 ) -> Result<(), AllocError> {
     for departure in &answer.departures {
-        all.push((departure.time, criterion.tell(&departure.value)))?;
+        all.push((departure.time, criterion.figures_of(&departure.value)))?;
     }
     Ok(())
 }
@@ -59,7 +59,7 @@ fn pair_of(asked: &Between, source: u32, target: u32) -> Query {
 }
 
 /// What is told of the departures of all pairs. Notes the least direct walk.
-fn shown_of_pairs<C: Told>(
+fn shown_of_pairs<C: ShowsFigures>(
     alloc: Global,
     image: &Verified,
     criterion: &C,
@@ -98,9 +98,9 @@ fn stands(all: &[Shown], shown: Shown) -> bool {
 /// How many departures stand, those that are alike counted once.
 fn count_standing(all: &[Shown]) -> usize {
     let mut count = 0usize;
-    for place in 0..all.len() {
-        let shown = all[place];
-        let is_new = !all[..place].iter().any(|before| *before == shown);
+    for index in 0..all.len() {
+        let shown = all[index];
+        let is_new = !all[..index].iter().any(|before| *before == shown);
         if is_new && stands(all, shown) {
             count = count.saturating_add(1);
         }
@@ -109,7 +109,7 @@ fn count_standing(all: &[Shown]) -> usize {
 }
 
 /// Whether a departure's journey counts for some pair, and is worth what is told.
-fn is_attained<C: Told>(
+fn is_attained<C: ShowsFigures>(
     image: &Verified,
     criterion: &C,
     asked: &Between,
@@ -119,8 +119,9 @@ fn is_attained<C: Told>(
         for target in &asked.targets {
             let query = pair_of(asked, *source, *target);
             if let Ok(times) = check(image, &query, &departure.journey) {
-                let told = criterion.tell(&departure.value);
-                return times.dep == departure.time && is_worth(&departure.journey, times.arr, told);
+                let figures = criterion.figures_of(&departure.value);
+                return times.dep == departure.time
+                    && is_worth(&departure.journey, times.arr, figures);
             }
         }
     }
@@ -128,7 +129,7 @@ fn is_attained<C: Told>(
 }
 
 /// Asserts that an answer has exactly the departures that stand among those of all pairs, each with a journey.
-fn assert_merged<C: Told>(
+fn assert_merged<C: ShowsFigures>(
     rt: &impl Abort,
     image: &Verified,
     criterion: &C,
@@ -138,18 +139,21 @@ fn assert_merged<C: Told>(
 ) {
     assert!(rt; answer.departures.len() == count_standing(all));
     for departure in &answer.departures {
-        let shown = (departure.time, criterion.tell(&departure.value));
+        let shown = (departure.time, criterion.figures_of(&departure.value));
         assert!(rt; all.iter().any(|other| *other == shown) && stands(all, shown));
         assert!(rt; is_attained(image, criterion, asked, departure));
     }
 }
 
 /// Asserts that the departures are listed by time, each once.
-fn assert_listed<C: Told>(rt: &impl Abort, criterion: &C, answer: &Answer<C>) {
-    for place in 1..answer.departures.len() {
-        let (before, here) = (&answer.departures[place - 1], &answer.departures[place]);
+fn assert_listed<C: ShowsFigures>(rt: &impl Abort, criterion: &C, answer: &Answer<C>) {
+    for index in 1..answer.departures.len() {
+        let (before, here) = (&answer.departures[index - 1], &answer.departures[index]);
         assert!(rt; before.time <= here.time);
-        let (earlier, later) = (criterion.tell(&before.value), criterion.tell(&here.value));
+        let (earlier, later) = (
+            criterion.figures_of(&before.value),
+            criterion.figures_of(&here.value),
+        );
         assert!(rt;
             before.time < here.time
                 || earlier.arrival < later.arrival
@@ -159,7 +163,7 @@ fn assert_listed<C: Told>(rt: &impl Abort, criterion: &C, answer: &Answer<C>) {
 }
 
 /// The answer to a question, if it can be asked.
-fn answer_of<C: Told>(
+fn answer_of<C: ShowsFigures>(
     alloc: Global,
     image: &Verified,
     criterion: &C,
@@ -172,7 +176,7 @@ fn answer_of<C: Told>(
 }
 
 /// Asserts that one scan for each target gives what an answer tells.
-fn assert_as_by_targets<C: Told>(
+fn assert_as_by_targets<C: ShowsFigures>(
     rt: &impl Abort,
     alloc: Global,
     image: &Verified,
@@ -181,16 +185,16 @@ fn assert_as_by_targets<C: Told>(
     answer: &Answer<C>,
 ) -> Result<(), Fail> {
     let other = answer_by_each_target(alloc, image, criterion, asked)?;
-    let (mut told, mut others) = (Vec::new(alloc), Vec::new(alloc));
-    add_shown(criterion, answer, &mut told)?;
+    let (mut figures, mut others) = (Vec::new(alloc), Vec::new(alloc));
+    add_shown(criterion, answer, &mut figures)?;
     add_shown(criterion, &other, &mut others)?;
-    assert!(rt; told.as_slice() == others.as_slice());
+    assert!(rt; figures.as_slice() == others.as_slice());
     assert!(rt; answer.walk == other.walk && answer.read == other.read);
     Ok(())
 }
 
 /// The answer to a question by one scan for each target, if it can be asked.
-fn answer_by_each_target<C: Told>(
+fn answer_by_each_target<C: ShowsFigures>(
     alloc: Global,
     image: &Verified,
     criterion: &C,
@@ -203,7 +207,7 @@ fn answer_by_each_target<C: Told>(
 }
 
 /// Compares the answer to a question with those of its pairs, and with that by one scan for each target.
-fn assert_question<C: Told>(
+fn assert_question<C: ShowsFigures>(
     rt: &impl Abort,
     alloc: Global,
     image: &Verified,
@@ -337,7 +341,7 @@ fn fault_of(
 }
 
 #[test]
-fn the_first_fault_is_told(rt: HostRuntime) -> Result<(), Fail> {
+fn the_first_fault_is_reported(rt: HostRuntime) -> Result<(), Fail> {
     let alloc = rt.alloc();
     assert!(rt; fault_of(alloc, &[0, 3], &[0], 1)? == Some(QueryFault::UnknownStop));
     assert!(rt; fault_of(alloc, &[0], &[0, 3], 1)? == Some(QueryFault::UnknownStop));

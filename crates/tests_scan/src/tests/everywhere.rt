@@ -9,7 +9,7 @@ use super::images::{REPEATED, image};
 use super::in_turn::InTurn;
 use super::random_images::{Dice, random_words};
 use bags::Point;
-use criteria::{Arrival, ArrivalTrips, ArrivalTripsWalk, Told};
+use criteria::{Arrival, ArrivalTrips, ArrivalTripsWalk, ShowsFigures};
 use image_layout::{sample_words, second_sample_words};
 use image_verifier::Verified;
 use journeys::{check, extract};
@@ -30,36 +30,36 @@ const ASKED: Destination = Destination {
 
 /// Asserts that the journey of the point at an index is one of the image, departs when the point does, and is worth as
 /// much.
-fn assert_attained<C: Told>(
+fn assert_attained<C: ShowsFigures>(
     rt: &impl Abort,
     alloc: Global,
     image: &Verified,
     criterion: &C,
     found: &Found<C>,
     asked: &Query,
-    place: usize,
+    index: usize,
 ) -> Result<(), Fail>
-    requires { place < length (listed found.now) }
+    requires { index < length (listed found.now) }
 {
-    let journey = extract(alloc, found, place)?;
+    let journey = extract(alloc, found, index)?;
     let times = check(image, asked, &journey)
         .ok()
         .ok_or("the journey counts")?;
-    let point = found.point(place);
-    let told = criterion.tell(&point.value);
-    assert!(rt; times.dep == point.departure && is_worth(&journey, times.arr, told));
+    let point = found.point(index);
+    let figures = criterion.figures_of(&point.value);
+    assert!(rt; times.dep == point.departure && is_worth(&journey, times.arr, figures));
     Ok(())
 }
 
 /// Whether two points depart together and are told alike.
-fn are_alike<C: Told>(criterion: &C, point: &Point<C::V>, other: &Point<C::V>) -> bool {
+fn are_alike<C: ShowsFigures>(criterion: &C, point: &Point<C::V>, other: &Point<C::V>) -> bool {
     point.departure == other.departure
-        && criterion.tell(&point.value) == criterion.tell(&other.value)
+        && criterion.figures_of(&point.value) == criterion.figures_of(&other.value)
 }
 
 /// Asserts that two answers have the same points, apart from tags, and the same walk; and that each point of the first
 /// has a journey.
-fn assert_same<C: Told>(
+fn assert_same<C: ShowsFigures>(
     rt: &impl Abort,
     alloc: Global,
     image: &Verified,
@@ -69,16 +69,16 @@ fn assert_same<C: Told>(
     asked: &Query,
 ) -> Result<(), Fail> {
     assert!(rt; found.len() == alone.len());
-    for place in 0..found.len() {
-        assert!(rt; are_alike(criterion, &found.point(place), &alone.point(place)));
-        assert_attained(rt, alloc, image, criterion, found, asked, place)?;
+    for index in 0..found.len() {
+        assert!(rt; are_alike(criterion, &found.point(index), &alone.point(index)));
+        assert_attained(rt, alloc, image, criterion, found, asked, index)?;
     }
     assert!(rt; found.direct_walk() == alone.direct_walk());
     Ok(())
 }
 
 /// Asserts that the points and the walk that the one scan has for a stop are those of the answer from there.
-fn assert_listed<C: Told>(
+fn assert_listed<C: ShowsFigures>(
     rt: &impl Abort,
     image: &Verified,
     criterion: &C,
@@ -91,14 +91,14 @@ fn assert_listed<C: Told>(
 {
     let points = profiles.points(stop);
     assert!(rt; points.len() == alone.len());
-    for place in 0..points.len() {
-        assert!(rt; are_alike(criterion, &points[place], &alone.point(place)));
+    for index in 0..points.len() {
+        assert!(rt; are_alike(criterion, &points[index], &alone.point(index)));
     }
     assert!(rt; profiles.direct_walk(stop) == alone.direct_walk());
 }
 
 /// Asserts that what the one scan finds from a stop, with its journeys, is what the query from there finds.
-fn assert_found<C: Told>(
+fn assert_found<C: ShowsFigures>(
     rt: &impl Abort,
     alloc: Global,
     image: &Verified,
@@ -116,7 +116,7 @@ fn assert_found<C: Told>(
 }
 
 /// The answer of one query.
-fn answer_from<S: ConnSource, C: Told>(
+fn answer_from<S: ConnSource, C: ShowsFigures>(
     alloc: Global,
     source: &mut S,
     criterion: &C,
@@ -129,7 +129,7 @@ fn answer_from<S: ConnSource, C: Told>(
 
 /// Asserts that what the one scan says of a stop is what the query from there says, and that this query reads as many
 /// connections, each in turn.
-fn assert_stop<C: Told>(
+fn assert_stop<C: ShowsFigures>(
     rt: &impl Abort,
     alloc: Global,
     image: &Verified,
@@ -151,7 +151,7 @@ fn assert_stop<C: Told>(
 }
 
 /// Runs `assert_stop` for every stop except the target.
-fn assert_stops<C: Told>(
+fn assert_stops<C: ShowsFigures>(
     rt: &impl Abort,
     alloc: Global,
     image: &Verified,
@@ -171,7 +171,7 @@ fn assert_stops<C: Told>(
 }
 
 /// The answers from all stops.
-fn answers_to<S: ConnSource, C: Told>(
+fn answers_to<S: ConnSource, C: ShowsFigures>(
     alloc: Global,
     source: &mut S,
     criterion: &C,
@@ -185,7 +185,7 @@ fn answers_to<S: ConnSource, C: Told>(
 }
 
 /// Finds the answers from all stops by one scan, which reads each connection in turn, and runs `assert_stops` on them.
-fn assert_answers<C: Told>(
+fn assert_answers<C: ShowsFigures>(
     rt: &impl Abort,
     alloc: Global,
     image: &Verified,
@@ -244,7 +244,7 @@ fn as_each_stop_alone(rt: HostRuntime) -> Result<(), Fail> {
 /// Whichever growth is refused, the test ends with `AllocError`. Either way connections were asked for in turn, from
 /// the last one on, and once for all stops.
 #[test]
-fn refused_growth_is_told_of_all_stops(rt: HostRuntime) -> Result<(), Fail> {
+fn refused_growth_is_reported_of_all_stops(rt: HostRuntime) -> Result<(), Fail> {
     let alloc = rt.alloc();
     let image = image(alloc, &sample_words())?;
     let mut source = InTurn::of(InPlace::new(&image));

@@ -69,12 +69,12 @@ impl<S: ConnSource> ConnSource for InTurn<S> {
         self.source.walks_into(stop)
     }
 
-    fn footpath(&self, place: usize) -> Footpath {
-        self.source.footpath(place)
+    fn footpath(&self, index: usize) -> Footpath {
+        self.source.footpath(index)
     }
 
-    fn footpath_into(&self, stop: usize, place: usize) -> Footpath {
-        self.source.footpath_into(stop, place)
+    fn footpath_into(&self, stop: usize, index: usize) -> Footpath {
+        self.source.footpath_into(stop, index)
     }
 
     ghost legal = { λ counted. S.legal counted.source };

@@ -48,8 +48,8 @@ fn windows_that_end_before_they_begin(rt: HostRuntime) -> Result<(), Fail> {
         ([0, 2, 120, 90, 310], "ride 0 0", WrongEnds),
     ];
     for (query, text, expected) in table.iter() {
-        let told = judged(rt.alloc(), &image, *query, text.as_bytes())?;
-        assert_eq!(rt; told.err(), Some(*expected), "{text}");
+        let figures = judged(rt.alloc(), &image, *query, text.as_bytes())?;
+        assert_eq!(rt; figures.err(), Some(*expected), "{text}");
     }
     Ok(())
 }

@@ -5,7 +5,7 @@ ghost use Rattle.criteria.specs.Laws.{IsTime};
 ghost use Rattle.fronts.specs.Lists.{IsSound, entries_of};
 
 use criteria::{ArrivalTrips, Criterion, TimeTrips};
-use fronts::{FrontLists, Ridden};
+use fronts::{FrontLists, RiddenLabel};
 use std::alloc::{AllocError, Global};
 
 // Takes in one value, without a walk.
@@ -24,7 +24,7 @@ fn take(
     ensures grows { length (entries_of lists.old) ≤ length (entries_of lists.new) }
     ensures within { IfOk result (λ new. new < length (entries_of lists.new)) }
 {
-    let ridden = [Ridden {
+    let ridden = [RiddenLabel {
         value: TimeTrips { time, trips },
         label,
     }];
@@ -48,11 +48,11 @@ fn take_two(
     ensures within { IfOk result (λ new. new < length (entries_of lists.new)) }
 {
     let ridden = [
-        Ridden {
+        RiddenLabel {
             value: first,
             label: 1,
         },
-        Ridden {
+        RiddenLabel {
             value: second,
             label: 2,
         },

@@ -47,8 +47,8 @@ fn seconds<S: ConnSource>(source: &S, from: u32, to: usize) -> Option<u32>
     requires { to < (S.timetable source.now).stops }
 {
     let (first, end) = source.walks_into(to);
-    for place in first..end {
-        let footpath = source.footpath_into(to, place);
+    for index in first..end {
+        let footpath = source.footpath_into(to, index);
         if footpath.from == from {
             return Some(footpath.secs);
         }
@@ -108,7 +108,7 @@ fn footpaths_and_departures(rt: HostRuntime) -> Result<(), Fail> {
 /// Whichever growth is refused, the error is that memory ran out; otherwise the lists are returned. A refused growth
 /// ends the test with `AllocError`.
 #[test]
-fn refused_growth_is_told(rt: HostRuntime) -> Result<(), Fail> {
+fn refused_growth_is_reported(rt: HostRuntime) -> Result<(), Fail> {
     let image = image(rt.alloc(), &EARLY)?;
     let mut source = Decoded::of(rt.alloc(), &image)?;
     assert!(rt; source.len() == 3 && last_departure(&mut source) == Some(40));

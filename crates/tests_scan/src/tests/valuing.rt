@@ -4,8 +4,8 @@ ghost use Rattle.std.specs.Prelude.{◌≡◌};
 ghost use Rattle.criteria.specs.Laws.{IsTime, IsSecs};
 
 use criteria::{
-    Arrival, ArrivalTrips, ArrivalTripsWalk, Criterion, CriterionName, TimeTrips, TimeTripsWalk,
-    Told, laws,
+    Arrival, ArrivalTrips, ArrivalTripsWalk, Criterion, CriterionName, ShowsFigures, TimeTrips,
+    TimeTripsWalk, laws,
 };
 use std::cmp::Ordering;
 
@@ -71,12 +71,14 @@ fn more_trips_with_less_walking_are_neither_worse_nor_better(rt: HostRuntime) {
 }
 
 #[test]
-fn values_are_told(rt: HostRuntime) {
-    let told = ArrivalTripsWalk.tell(&walking(30_000, 2, 60));
-    assert!(rt; told.arrival == 30_000 && told.trips == Some(2) && told.walked == Some(60));
-    let told = Arrival.tell(&30_000);
-    assert!(rt; told.trips == None && told.walked == None);
-    assert!(rt; ArrivalTrips.tell(&trips(1, 2)).walked == None);
+fn values_are_reported(rt: HostRuntime) {
+    let figures = ArrivalTripsWalk.figures_of(&walking(30_000, 2, 60));
+    assert!(rt;
+        figures.arrival == 30_000 && figures.trips == Some(2) && figures.walked == Some(60)
+    );
+    let figures = Arrival.figures_of(&30_000);
+    assert!(rt; figures.trips == None && figures.walked == None);
+    assert!(rt; ArrivalTrips.figures_of(&trips(1, 2)).walked == None);
 }
 
 #[test]

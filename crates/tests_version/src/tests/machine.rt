@@ -166,19 +166,19 @@ fn number(text: &str) -> Result<u64, Fail> {
 }
 
 fn event_of(word: &str, first: u64, second: u64) -> Event {
-    let place = first as usize;
+    let index = first as usize;
     match word {
-        "look" => Event::Look { worker: place },
-        "take" => Event::Take { worker: place },
-        "drop" => Event::Drop { worker: place },
+        "look" => Event::Look { worker: index },
+        "take" => Event::Take { worker: index },
+        "drop" => Event::Drop { worker: index },
         "open" => Event::Open { edition: first },
         "publish" => Event::Publish,
-        "close" => Event::Close { shelf: place },
-        "collect" => Event::Collect { shelf: place },
-        "ask" => Event::Ask { worker: place },
+        "close" => Event::Close { shelf: index },
+        "collect" => Event::Collect { shelf: index },
+        "ask" => Event::Ask { worker: index },
         "note" => Event::Note,
         _ => Event::Join {
-            worker: place,
+            worker: index,
             version: second,
         },
     }

@@ -199,11 +199,11 @@ fn words_of_shelves(rt: HostRuntime) -> Result<(), Fail> {
     Ok(())
 }
 
-fn pin_told(fault: PinFault) -> (u8, &'static str) {
+fn pin_fault_of(fault: PinFault) -> (u8, &'static str) {
     (fault.number(), fault.name())
 }
 
-fn publish_told(fault: PublishFault) -> (u8, &'static str) {
+fn publish_fault_of(fault: PublishFault) -> (u8, &'static str) {
     (fault.number(), fault.name())
 }
 
@@ -211,21 +211,25 @@ fn publish_told(fault: PublishFault) -> (u8, &'static str) {
 fn faults_have_numbers_and_names(rt: HostRuntime) {
     let full = PublishFault::ShelvesFull { counts: [1; 8] };
     let faults = [
-        (pin_told(PinFault::Moved { newest: 7 }), 91, "Moved"),
-        (pin_told(PinFault::AlreadyPinned), 92, "AlreadyPinned"),
-        (pin_told(PinFault::NotPinned), 93, "NotPinned"),
-        (pin_told(PinFault::SeatLost), 97, "SeatLost"),
-        (pin_told(PinFault::OutOfMemory), 98, "OutOfMemory"),
-        (publish_told(full), 94, "ShelvesFull"),
+        (pin_fault_of(PinFault::Moved { newest: 7 }), 91, "Moved"),
+        (pin_fault_of(PinFault::AlreadyPinned), 92, "AlreadyPinned"),
+        (pin_fault_of(PinFault::NotPinned), 93, "NotPinned"),
+        (pin_fault_of(PinFault::SeatLost), 97, "SeatLost"),
+        (pin_fault_of(PinFault::OutOfMemory), 98, "OutOfMemory"),
+        (publish_fault_of(full), 94, "ShelvesFull"),
         (
-            publish_told(PublishFault::VersionsSpent),
+            publish_fault_of(PublishFault::VersionsSpent),
             95,
             "VersionsSpent",
         ),
-        (publish_told(PublishFault::OutOfMemory), 96, "OutOfMemory"),
+        (
+            publish_fault_of(PublishFault::OutOfMemory),
+            96,
+            "OutOfMemory",
+        ),
     ];
-    for (told, number, name) in faults.iter() {
-        assert!(rt; *told == (*number, *name), "{name}");
+    for (reported, number, name) in faults.iter() {
+        assert!(rt; *reported == (*number, *name), "{name}");
     }
 }
 

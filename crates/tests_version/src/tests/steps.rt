@@ -44,13 +44,13 @@ impl Model for Scene {
 impl Scene {
     fn new(alloc: Global) -> Result<Scene, AllocError> {
         let source = Source::new(alloc, 1)?;
-        let (table, mut place) = new_shelves(alloc, &source.image)?;
-        let worker = new_worker(&table, &mut place);
-        let other = new_worker(&table, &mut place);
+        let (table, mut index) = new_shelves(alloc, &source.image)?;
+        let worker = new_worker(&table, &mut index);
+        let other = new_worker(&table, &mut index);
         Ok(Scene {
             table,
             source,
-            loader: LoaderSteps::of(place),
+            loader: LoaderSteps::of(index),
             first: WorkerSteps::of(worker),
             second: WorkerSteps::of(other),
             notices: Vec::new(alloc),

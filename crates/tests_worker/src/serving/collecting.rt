@@ -5,7 +5,7 @@ ghost use Rattle.std.specs.Prelude.{◌≡◌};
 use super::holding::{Stage, stage_of};
 use super::spending::Sink;
 use super::{Row, two_feeds};
-use epochs::{Named, NamedLoader, NamedSeat, ShelfLoader, ShelfSeat, Shelves, SoloShelves};
+use epochs::{NamedLoader, NamedSeat, ShelfLoader, ShelfSeat, Shelves, ShelvesName, SoloShelves};
 use load_orders::Notes;
 use orders::OpenGate;
 use std::alloc::{AllocError, Global};
@@ -21,12 +21,12 @@ use workers::*;
 
 /// A writer that takes everything, and keeps the first shelf's word as it was at the last reply.
 #[derive(Drop)]
-struct Looking<'a, B: Named> {
+struct Looking<'a, B: ShelvesName> {
     shelves: &'a SoloShelves<B>,
     word: &'a AtomicU64,
 }
 
-impl<'a, B: Named> Write for Looking<'a, B> {
+impl<'a, B: ShelvesName> Write for Looking<'a, B> {
     fn write(&mut self, piece: &[u8]) -> io::Result<usize> {
         self.word.store(self.shelves.word(1), Ordering::SeqCst);
         Ok(piece.len())
@@ -42,11 +42,11 @@ const WAIT: &str = "{\"do\":\"load\",\"feed\":\"slow\",\"wait\":true}\n";
 
 /// A client that waits for a load, and looks at the first shelf when it has its reply.
 #[derive(Drop)]
-struct Waiter<'a, B: Named> {
+struct Waiter<'a, B: ShelvesName> {
     replies: Looking<'a, B>,
 }
 
-impl<'a, B: Named + Send + Sync> Client for Waiter<'a, B> {
+impl<'a, B: ShelvesName + Send + Sync> Client for Waiter<'a, B> {
     type Reader = &'static [u8];
 
     type Writer = Looking<'a, B>;
@@ -57,18 +57,21 @@ impl<'a, B: Named + Send + Sync> Client for Waiter<'a, B> {
         Ok((WAIT.as_bytes(), self.replies))
     }
 
-    fn close(_reader: &'static [u8], _writer: Looking<'a, B>, _end: End) {}
+    fn close(_reader: &'static [u8], _writer: Looking<'a, B>, _end: SessionEnd) {}
 }
 
 /// A client that looks at these shelves.
-fn waiter_at<'a, B: Named>(shelves: &'a SoloShelves<B>, word: &'a AtomicU64) -> Waiter<'a, B> {
+fn waiter_at<'a, B: ShelvesName>(
+    shelves: &'a SoloShelves<B>,
+    word: &'a AtomicU64,
+) -> Waiter<'a, B> {
     Waiter {
         replies: Looking { shelves, word },
     }
 }
 
 /// Serves the client over these shelves.
-fn serve_waiter<B: Named + Send + Sync, R: Threads + Wait + Sync>(
+fn serve_waiter<B: ShelvesName + Send + Sync, R: Threads + Wait + Sync>(
     rt: &R,
     alloc: Global,
     waiter: Waiter<'_, B>,
@@ -103,7 +106,7 @@ fn serve_waiter<B: Named + Send + Sync, R: Threads + Wait + Sync>(
 }
 
 /// Serves a client that waits for a load, over these shelves under a name: the first shelf's word at its reply.
-fn word_at<B: Named + Send + Sync, R: Threads + Wait + Sync>(
+fn word_at<B: ShelvesName + Send + Sync, R: Threads + Wait + Sync>(
     rt: &R,
     alloc: Global,
     shelves: Shelves,

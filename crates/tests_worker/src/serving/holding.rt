@@ -3,7 +3,7 @@
 
 ghost use Rattle.std.specs.Prelude.{◌≡◌, All, IfOk};
 
-use super::{Counts, Manner, Row, Shared, Visitor, count_ends, visitor_of};
+use super::{EndCounts, Manner, Row, Shared, Visitor, count_ends, visitor_of};
 use epochs::{ShelfLoader, ShelfSeat, Shelves};
 use image_layout::sample_words;
 use image_verifier::{Verified, verify};
@@ -93,18 +93,18 @@ fn serve_at<R: Threads + Wait + Sync + Abort>(
     shelves: Shelves,
     loader: ShelfLoader,
     seat: ShelfSeat,
-) -> Result<(Counts, Vec<u8>), Fail>
+) -> Result<(EndCounts, Vec<u8>), Fail>
     requires { (loader.table ≡ shelves) × (seat.table ≡ shelves) }
 {
     let seats = vec![in alloc; seat]?;
-    let told = Mutex::new(Vec::new(alloc));
+    let reported = Mutex::new(Vec::new(alloc));
     let row = Row {
         visitors,
         came: Notes::none(),
     };
     let errors = Shared {
         rt,
-        bytes: &told,
+        bytes: &reported,
         is_gone: false,
     };
     let counts = count_ends::<Brand, _, _, _, _, _>(
@@ -118,7 +118,7 @@ fn serve_at<R: Threads + Wait + Sync + Abort>(
         ReplyForm::of(PointForm::Bare),
         errors,
     )?;
-    Ok((counts, told.into_inner()))
+    Ok((counts, reported.into_inner()))
 }
 
 /// The same while so many other seats each hold a version of their own, from version 1 on.
@@ -127,7 +127,7 @@ fn serve_beside<R: Threads + Wait + Sync + Abort>(
     alloc: Global,
     visitors: Vec<Visitor<'_, R>>,
     count: usize,
-) -> Result<(Counts, Vec<u8>), Fail> {
+) -> Result<(EndCounts, Vec<u8>), Fail> {
     let Stage {
         shelves,
         mut loader,
@@ -149,14 +149,14 @@ fn asking_beside<R: Threads + Wait + Sync + Abort>(
     alloc: Global,
     asking: &[(&'static str, Manner)],
     count: usize,
-) -> Result<(Counts, Vec<u8>, Vec<u8>), Fail> {
+) -> Result<(EndCounts, Vec<u8>, Vec<u8>), Fail> {
     let bytes = Mutex::new(Vec::new(alloc));
     let mut visitors = Vec::new(alloc);
     for (requests, manner) in asking {
         visitors.push(visitor_of(rt, *requests, *manner, &bytes))?;
     }
-    let (counts, told) = serve_beside(rt, alloc, visitors, count)?;
-    Ok((counts, bytes.into_inner(), told))
+    let (counts, reported) = serve_beside(rt, alloc, visitors, count)?;
+    Ok((counts, bytes.into_inner(), reported))
 }
 
 const PIN: &str = "{\"do\":\"pin\"}\n";
@@ -188,10 +188,10 @@ load slow refused 94 ShelvesFull 1 1 1 1 1 1 1 0
 #[test]
 fn a_load_meets_full_shelves(rt: HostRuntime) -> Result<(), Fail> {
     let asking = [(LOADS, Manner::Reads)];
-    let (counts, replies, told) = asking_beside(&rt, rt.alloc(), &asking, 7)?;
+    let (counts, replies, reported) = asking_beside(&rt, rt.alloc(), &asking, 7)?;
     assert_eq!(&rt; counts.ended, 1);
     assert_eq!(&rt; str::from_utf8(&replies).unwrap_or("?"), REFUSED);
-    assert_eq!(&rt; str::from_utf8(&told).unwrap_or("?"), FULL);
+    assert_eq!(&rt; str::from_utf8(&reported).unwrap_or("?"), FULL);
     Ok(())
 }
 
@@ -208,12 +208,12 @@ const LOADED_TWICE: &str = "\
 #[test]
 fn a_client_that_went_away_holds_nothing(rt: HostRuntime) -> Result<(), Fail> {
     let asking = [(LOADS, Manner::Reads), (PIN, Manner::GoesAway)];
-    let (counts, replies, told) = asking_beside(&rt, rt.alloc(), &asking, 6)?;
+    let (counts, replies, reported) = asking_beside(&rt, rt.alloc(), &asking, 6)?;
     assert_eq!(&rt; counts.ended, 1);
     assert_eq!(&rt; counts.failed, 1);
     assert_eq!(&rt; str::from_utf8(&replies).unwrap_or("?"), LOADED_TWICE);
     assert_eq!(&rt;
-        str::from_utf8(&told).unwrap_or("?"),
+        str::from_utf8(&reported).unwrap_or("?"),
         "loaded slow version 8\n0: 8 3 2 3\nloaded slow version 9\n0: 9 3 0 0\n"
     );
     Ok(())

@@ -3,7 +3,7 @@
 ghost use Rattle.std.specs.Prelude.{◌≡◌};
 
 use super::holding::{Stage, stage_of};
-use epochs::{Named, ShelfLoader, ShelfSeat, Shelves, SoloShelves};
+use epochs::{ShelfLoader, ShelfSeat, Shelves, ShelvesName, SoloShelves};
 use orders::Gate;
 use session::{Desk, SoloOrders, Streams};
 use std::alloc::{AllocError, Global};
@@ -16,12 +16,12 @@ use std::test::Fail;
 
 /// A writer that takes everything, and at each write looks how many workers are at the first shelf.
 #[derive(Drop)]
-struct Looking<'a, B: Named> {
+struct Looking<'a, B: ShelvesName> {
     shelves: &'a SoloShelves<B>,
     counts: Vec<u64>,
 }
 
-impl<'a, B: Named> Write for Looking<'a, B> {
+impl<'a, B: ShelvesName> Write for Looking<'a, B> {
     fn write(&mut self, piece: &[u8]) -> io::Result<usize> {
         let count = self.shelves.word(1) & 255;
         self.counts.extend_from_slice(&[count])?;
@@ -35,12 +35,12 @@ impl<'a, B: Named> Write for Looking<'a, B> {
 
 /// A gate that looks how many workers are at the first shelf when a scan begins, and adds these numbers up.
 #[derive(Drop)]
-struct Watching<'a, B: Named> {
+struct Watching<'a, B: ShelvesName> {
     shelves: &'a SoloShelves<B>,
     count: AtomicU64,
 }
 
-impl<'a, B: Named> Gate for Watching<'a, B> {
+impl<'a, B: ShelvesName> Gate for Watching<'a, B> {
     fn enter(&self) {
         let count = self.shelves.word(1) & 255;
         self.count.fetch_add(count, Ordering::SeqCst);
@@ -51,7 +51,7 @@ impl<'a, B: Named> Gate for Watching<'a, B> {
 
 /// Serves a session over these shelves: how many workers are at the first shelf at each reply, how many were there when
 /// scans began, and whether the session ended.
-fn counts_at<B: Named>(
+fn counts_at<B: ShelvesName>(
     alloc: Global,
     shelves: Shelves,
     loader: ShelfLoader,

@@ -1,6 +1,6 @@
 //! A client that sends one request more than a session may have.
 
-use super::{Counts, Row, count_ends, shelves_for};
+use super::{EndCounts, Row, count_ends, shelves_for};
 use load_orders::Notes;
 use orders::OpenGate;
 use std::alloc::Global;
@@ -59,7 +59,7 @@ impl Client for Sender {
         Ok((LineEnds { left: self.lines }, Sink))
     }
 
-    fn close(_reader: LineEnds, _writer: Sink, _end: End) {}
+    fn close(_reader: LineEnds, _writer: Sink, _end: SessionEnd) {}
 }
 
 /// Serves senders at one seat, the last first, and returns how their sessions ended.
@@ -67,7 +67,7 @@ fn serve_senders<R: Threads + Wait + Sync + Abort>(
     rt: &R,
     alloc: Global,
     visitors: Vec<Sender>,
-) -> Result<Counts, Fail> {
+) -> Result<EndCounts, Fail> {
     let (shelves, loader, seats) = shelves_for(alloc, false)?;
     let row = Row {
         visitors,

@@ -3,4 +3,4 @@ use Rattle.answer_pictures.proofs.drawing.put_grid.Goals as goal
 
 pub returns : goal.returns
 unfolding grid_text
-returns c = rw c.place.ensures at c.put_numbers.ensures
+returns c = rw c.x_at.ensures at c.put_numbers.ensures

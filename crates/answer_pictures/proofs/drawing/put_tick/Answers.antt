@@ -10,7 +10,7 @@ returns c =
     (string_bytes c.put_text-2.new.out) (string_bytes c.put_moment.new.out) (string_bytes c.put_text-3.new.out) _ _
     _ _ _
     c.in_ok-put_text.ensures
-    (rw c.place.ensures at c.in_ok-put_attribute.ensures)
+    (rw c.x_at.ensures at c.in_ok-put_attribute.ensures)
     c.in_ok-put_text-2.ensures
     c.in_ok-put_moment.ensures
     c.in_ok-put_text-3.ensures

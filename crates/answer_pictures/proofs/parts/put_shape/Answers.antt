@@ -9,4 +9,4 @@ unfolding shape_text
 returns c =
     subst (λ (s : StretchValue). OnOk c.put_numbers.result (string_bytes c.put_numbers.new.out ≡ string_bytes c.args.out.now ++ shape_text c.args.axis s))
     c.stretch.view_is
-    (rw (c.way_text.ensures, c.place.ensures, c.between_text.ensures, c.length.ensures) at c.put_numbers.ensures)
+    (rw (c.way_text.ensures, c.x_at.ensures, c.between_text.ensures, c.length.ensures) at c.put_numbers.ensures)

@@ -11,5 +11,5 @@ returns c =
     let trip : c.deref.result.now ≡ c.args.stretch.now.trip = c.deref.ensures ∙ ap (λ (v : StretchValue). v.trip) c.stretch.view_is in
     three (string_bytes c.args.out.now) (string_bytes c.put_text.new.out) (string_bytes c.put_attribute.new.out) (string_bytes c.put_element.new.out) _ _ _
     c.in_ok-put_text.ensures
-    (rw (c.place.ensures, start) at c.in_ok-put_attribute.ensures)
+    (rw (c.x_at.ensures, start) at c.in_ok-put_attribute.ensures)
     (rw trip at c.in_ok-put_element.ensures)

@@ -8,4 +8,4 @@ unfolding wait_text
 returns c =
     let departs : c.line.inside.departure ≡ c.args.line.now.departure = ap (λ (v : LineValue). v.departure) c.line.view_is in
     let arrives : c.line.inside.arrival ≡ c.args.line.now.arrival = ap (λ (v : LineValue). v.arrival) c.line.view_is in
-    rw (c.place.ensures, c.place-2.ensures, departs, arrives) at c.put_numbers.ensures
+    rw (c.x_at.ensures, c.x_at-2.ensures, departs, arrives) at c.put_numbers.ensures

@@ -1,5 +1,5 @@
 use Rattle.std.proofs.Common.{◌≡◌, ◌++◌, drop}
-use Rattle.answer_pictures.specs.Told.{walk_parts}
+use Rattle.answer_pictures.specs.JourneyLines.{walk_parts}
 use Rattle.answer_pictures.proofs.telling.add_walks.Given as goal
 
 abbrev pub invariant-loop-footpath : goal.invariant-loop-footpath

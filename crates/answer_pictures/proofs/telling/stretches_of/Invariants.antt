@@ -1,6 +1,6 @@
 use Rattle.std.proofs.Common.{◌≡◌, ◌++◌, take}
 use Rattle.std.specs.List.{flat_map}
-use Rattle.answer_pictures.specs.Told.{ride_parts, start_parts}
+use Rattle.answer_pictures.specs.JourneyLines.{ride_parts, start_parts}
 use Rattle.answer_pictures.proofs.telling.stretches_of.Given as goal
 
 abbrev pub invariant-loop-ride : goal.invariant-loop-ride

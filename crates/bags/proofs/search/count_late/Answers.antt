@@ -1,6 +1,6 @@
 use Rattle.std.proofs.Common.{ap, arith, get_or}
 use Rattle.std.proofs.lemmas.List.{get_or_default}
-use Rattle.bags.specs.declared.entry.Entry.{Entry}
+use Rattle.bags.specs.declared.entry.BagEntry.{BagEntry}
 use Rattle.bags.proofs.Order.{falling_to}
 use Rattle.bags.proofs.search.count_late.Goals as goal
 
@@ -9,8 +9,8 @@ returns-then-entries-count-clause-early g c k d from lt =
     let entries = c.args.entries.now in
     let first = c.index-entries-count.result in
     let e = get_or entries k d in
-    let falls = falling_to (λ (x : Entry g.row.V.Denot). x.point.departure) entries c.requires k e lt
+    let falls = falling_to (λ (x : BagEntry g.row.V.Denot). x.point.departure) entries c.requires k e lt
     (get_or_default entries k d e lt) c.loop-count.count first from in
-    let here = ap (λ (x : Entry g.row.V.Denot). x.point.departure) c.index-entries-count.is in
+    let here = ap (λ (x : BagEntry g.row.V.Denot). x.point.departure) c.index-entries-count.is in
     let early = c.if-entries-count.true in
     omega arith

@@ -11,9 +11,9 @@ loop-position-preserved c k d lt =
     let below : c.loop-position.position < length c.args.times.now = c.loop-position-test.true in
     elim (cases_eq k c.loop-position.position) [
       | inl same ↦
-          let place : k < length c.args.times.now = omega (arith, same, below) in
+          let position : k < length c.args.times.now = omega (arith, same, below) in
           subst (λ (t : RowTimes). IsInside c.args.clock.day.base (zero_of c.args.clock) c.args.clock.start k t)
-          (get_or_default c.args.times.now k none d place)
+          (get_or_default c.args.times.now k none d position)
           (subst (λ (n : ℕ). IsInside c.args.clock.day.base (zero_of c.args.clock) c.args.clock.start n (get_or c.args.times.now n none)) (sym same)
           c.if-not-is_inside.ensures)
       | inr other ↦ c.loop-position.invariant k d (omega (arith, lt, other))

@@ -8,7 +8,7 @@ use Rattle.service_days.specs.declared.zone.Zone.{Zone}
 use Rattle.connections.specs.Building.{AddsRun, AreByRun}
 use Rattle.connections.specs.declared.days.ServiceDay.{ServiceDay}
 use Rattle.connections.specs.declared.runs.Run.{Run}
-use Rattle.connections.proofs.FinalLemmas.{fault_told}
+use Rattle.connections.proofs.FinalLemmas.{fault_of_hops}
 use Rattle.connections.proofs.ListSteps.{by_run_more, by_run_none}
 use Rattle.connections.proofs.listing.connections_by_run.Goals.{After-start_of-start}
 use Rattle.connections.proofs.listing.connections_by_run.Goals as goal
@@ -57,7 +57,7 @@ returns-in-Err-clause-err c zone base d e starts =
     let none : ServiceDay = record { day = record { year = 0; month = 0; day = 0 }; start = pos 0 } in
     let first : ℤ = (get_or c.args.days.now 0 none).start in
     let fits : FitsSigned w64 first = search rules in
-    fault_told c.args.feed.now zone base (to_z w64 (of_z w64 (first_start known))) c.args.runs.now c.loop-number.number (run_of known) c.in-Err.fault
+    fault_of_hops c.args.feed.now zone base (to_z w64 (of_z w64 (first_start known))) c.args.runs.now c.loop-number.number (run_of known) c.in-Err.fault
     (base_is known base d fits e) (run_at known) (c.in-Err.ensures.err zone (starts_then known zone starts))
 
 pub loop-number-preserved : goal.loop-number-preserved

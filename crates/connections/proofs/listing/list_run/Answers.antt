@@ -14,10 +14,10 @@ use Rattle.connections.proofs.listing.list_run.Goals.{After-are_inside, After-de
 use Rattle.connections.proofs.listing.list_run.Goals as goal
 
 is_ready : (c : goal.After-are_inside) → IsReady c.args.feed.now c.args.run.now c.rows_of-rows.result.now c.deref-2.result.now
-is_ready c = ready c.args.feed.now c.args.run.now c.args.times.now c.index-trip.result.now c.rows_of-rows.result.now c.index-times-place.result
+is_ready c = ready c.args.feed.now c.args.run.now c.args.times.now c.index-trip.result.now c.rows_of-rows.result.now c.index-times-position.result
     c.deref-2.result.now c.requires.times c.requires.trip
     c.index-trip.ensures (c.rows_of-rows.ensures.rows ∙ ap (λ (st : List StopTimeRow). rows_of st c.index-trip.result.now) c.deref.ensures.value)
-    c.rows_of-rows.ensures.len c.index-times-place.is (c.deref-2.ensures.value ∙ ap (λ (t : TripTimes). t.rows.items) (sym c.index-times-place.is))
+    c.rows_of-rows.ensures.len c.index-times-position.is (c.deref-2.ensures.value ∙ ap (λ (t : TripTimes). t.rows.items) (sym c.index-times-position.is))
 
 abbrev clock_of : (c : goal.After-are_inside) → RunClock
 clock_of c = record { day = c.args.day; start = c.args.run.now.start; own = c.index.result.now.departure }

@@ -24,11 +24,11 @@ loop-second-preserved c =
     let len : length c.in_ok-marks.marks.items ≡ c.end_of-end.result = c.in_ok-marks.ensures.len in
     let lt : second < length c.in_ok-marks.marks.items = (let below = c.loop-second-test.true in omega (arith, below, len)) in
     let is : c.index.result.now ≡ get_or c.in_ok-marks.marks.items second c.index.result.now = search rules in
-    let told : c.index.result.now ≡ is_start rows second =
+    let fact : c.index.result.now ≡ is_start rows second =
     starts_marked rows c.deref.result.now c.in_ok-marks.marks.items second c.index.result.now moved c.in_ok-marks.ensures.marks lt is in
     elim c.if-index.branch [
       | then-index+in_ok-push w ↦
           rw w.starts-is (w.in_ok-push.ensures.items ∙ ap (λ xs. xs ++ second ∷ []) c.loop-second.invariant
-          ∙ sym (starts_with rows second (sym told ∙ w.if-index.true)))
-      | else-index w ↦ rw w.starts-is (c.loop-second.invariant ∙ sym (starts_without rows second (sym told ∙ w.if-index.false)))
+          ∙ sym (starts_with rows second (sym fact ∙ w.if-index.true)))
+      | else-index w ↦ rw w.starts-is (c.loop-second.invariant ∙ sym (starts_without rows second (sym fact ∙ w.if-index.false)))
     ]

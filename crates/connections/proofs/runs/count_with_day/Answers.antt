@@ -10,6 +10,6 @@ returns-then-before-clause-count c feed day names n holds named are was =
 
 pub returns-clause-count : goal.returns-clause-count
 returns-clause-count c feed day names n holds named are was =
-    let told : c.deref.result.now ≡ map (runs_on feed day) c.args.trips.now =
-    c.deref.ensures.value ∙ c.in_ok-running.ensures.told feed day names named are in
-    c.count_with_trips.ensures.count feed day n told holds was
+    let marked : c.deref.result.now ≡ map (runs_on feed day) c.args.trips.now =
+    c.deref.ensures.value ∙ c.in_ok-running.ensures.marked feed day names named are in
+    c.count_with_trips.ensures.count feed day n marked holds was

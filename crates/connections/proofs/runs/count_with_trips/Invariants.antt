@@ -7,11 +7,11 @@ use Rattle.connections.specs.Keeping.{AreKept, HoldStarts}
 use Rattle.connections.specs.Runs.{runs_from, runs_on}
 use Rattle.connections.proofs.runs.count_with_trips.Given as goal
 
-abbrev pub invariant-loop-place : goal.invariant-loop-place
-invariant-loop-place l = record {
+abbrev pub invariant-loop-position : goal.invariant-loop-position
+invariant-loop-position l = record {
   len : length l.starts.items ≡ length l.trips;
   kept : AreKept l.fn.starts.items l.starts.items;
   count : (feed : Feed) (day : Day) (n : ℕ) → l.running ≡ map (runs_on feed day) l.trips
       → HoldStarts feed.frequencies.items (length l.trips) l.fn.starts.items → IsCount MAX_TRIPS l.before n
-      → IsCount MAX_TRIPS l.count (n + length (runs_from feed day 0 (take l.place l.trips)));
+      → IsCount MAX_TRIPS l.count (n + length (runs_from feed day 0 (take l.position l.trips)));
 }

@@ -22,13 +22,14 @@ loop-number-preserved c =
       len = kept.same_length ∙ was.len;
       kept = kept_then c.args.starts.now.items before c.add_runs_on.new.starts.items was.kept kept;
       runs = λ feed trips_are holds active.
-          let told : c.deref-in-loop-number-2.result.now ≡ map (runs_on feed day.day) c.args.trips.now =
-          c.deref-in-loop-number-2.ensures.value ∙ c.in_ok-running.ensures.told feed day.day active.names (rw c.deref-in-loop-number.ensures.value active.named)
+          let marked : c.deref-in-loop-number-2.result.now ≡ map (runs_on feed day.day) c.args.trips.now =
+          c.deref-in-loop-number-2.ensures.value ∙ c.in_ok-running.ensures.marked feed day.day active.names
+          (rw c.deref-in-loop-number.ensures.value active.named)
           (c.deref.ensures.value ∙ active_on feed active.names days c.args.services.now.active.items i c.index.result.now day
           active.active c.loop-number-test.true
           is c.index.ensures) in
           let added : c.add_runs_on.new.runs.items ≡ c.loop-number.runs.items ++ runs_from feed day.day 0 feed.trips.items =
-          c.in_ok-add_runs_on.ensures.runs feed told
+          c.in_ok-add_runs_on.ensures.runs feed marked
           (hold_kept feed.frequencies.items (length c.args.trips.now) c.args.starts.now.items before holds was.kept)
           ∙ ap (λ (ts : List Trip). c.loop-number.runs.items ++ runs_from feed day.day 0 ts) (sym trips_are) in
           days_step feed days i day c.loop-number.runs.items c.add_runs_on.new.runs.items c.loop-number-test.true

@@ -8,8 +8,8 @@ use Rattle.csa_commands.proofs.days.read_feed.Goals as goal
 pub returns-in_err-tables-clause-refused : goal.returns-in_err-tables-clause-refused
 returns-in_err-tables-clause-refused g c =
     let refusal = c.in_err-tables.field-0.0 in
-    let told = err_from_is_err_and c.from_residual.result c.from_residual.ensures.1 in
-    rw (told.1, told.2) (λ unless. of_read_weaker g.H.Disk.gives c.args.folder.now (λ content. NoTables content refusal) _
+    let figures = err_from_is_err_and c.from_residual.result c.from_residual.ensures.1 in
+    rw (figures.1, figures.2) (λ unless. of_read_weaker g.H.Disk.gives c.args.folder.now (λ content. NoTables content refusal) _
     (λ content first. inl (record {
       refusal = refusal;
       is = refl;
@@ -19,8 +19,8 @@ returns-in_err-tables-clause-refused g c =
 pub returns-in_err-feed-clause-refused : goal.returns-in_err-feed-clause-refused
 returns-in_err-feed-clause-refused g c =
     let tables = c.in_ok-tables.tables in
-    let told = err_from_is_err_and c.from_residual-in_err-feed.result c.from_residual-in_err-feed.ensures.1 in
-    rw (told.1, told.2) (λ unless. of_read_weaker g.H.Disk.gives c.args.folder.now (λ content. HoldsTables content tables) _
+    let figures = err_from_is_err_and c.from_residual-in_err-feed.result c.from_residual-in_err-feed.ensures.1 in
+    rw (figures.1, figures.2) (λ unless. of_read_weaker g.H.Disk.gives c.args.folder.now (λ content. HoldsTables content tables) _
     (λ content held. inr (record {
       t = tables;
       held = held;

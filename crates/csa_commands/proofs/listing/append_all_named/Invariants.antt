@@ -6,4 +6,4 @@ use Rattle.csa_commands.proofs.listing.append_all_named.Given as goal
 
 abbrev pub invariant-loop-departure : goal.invariant-loop-departure
 invariant-loop-departure g l = string_bytes l.lines ≡ string_bytes l.fn.lines
-    ++ flat_map (departure_line g.C.Told.told (named_text l.image)) (take l.departure-index l.departures)
+    ++ flat_map (departure_line g.C.ShowsFigures.figures (named_text l.image)) (take l.departure-index l.departures)

@@ -8,5 +8,5 @@ unfolding departure_line
 returns g c =
     three (string_bytes c.args.lines.now) (string_bytes c.append_point.new.lines)
     (string_bytes c.append_named.new.lines) (string_bytes c.put_text.new.out) _ _ _
-    (c.in_ok-append_point.ensures ∙ ap (λ told. string_bytes c.args.lines.now ++ point_text c.args.departure.now.time told) c.tell.ensures)
+    (c.in_ok-append_point.ensures ∙ ap (λ figures. string_bytes c.args.lines.now ++ point_text c.args.departure.now.time figures) c.figures_of.ensures)
     c.in_ok-append_named.ensures c.in_ok-put_text.ensures

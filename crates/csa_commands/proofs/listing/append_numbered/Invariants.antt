@@ -5,4 +5,4 @@ use Rattle.csa_commands.proofs.listing.append_numbered.Given as goal
 
 abbrev pub invariant-loop-departure : goal.invariant-loop-departure
 invariant-loop-departure g l = string_bytes l.lines ≡ string_bytes l.fn.lines
-    ++ flat_map (departure_line g.C.Told.told numbered_text) (take l.departure-index l.departures)
+    ++ flat_map (departure_line g.C.ShowsFigures.figures numbered_text) (take l.departure-index l.departures)

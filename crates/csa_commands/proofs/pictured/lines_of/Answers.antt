@@ -4,6 +4,6 @@ use Rattle.csa_commands.proofs.pictured.lines_of.Goals as goal
 
 pub loop-departure-preserved : goal.loop-departure-preserved
 loop-departure-preserved g c =
-    drawn_more (IsDrawnAs g.C.Told.told c.args.image.now) c.args.departures.now c.loop-departure.departure-index c.departure-item.result
+    drawn_more (IsDrawnAs g.C.ShowsFigures.figures c.args.image.now) c.args.departures.now c.loop-departure.departure-index c.departure-item.result
     c.loop-departure.lines.items _ _ c.loop-departure-test.true c.departure-item.is c.loop-departure.invariant c.in_ok-line.ensures
     c.in_ok-push.ensures.items

@@ -4,4 +4,4 @@ use Rattle.csa_commands.specs.Picturing.{IsDrawnAs}
 use Rattle.csa_commands.proofs.pictured.lines_of.Given as goal
 
 abbrev pub invariant-loop-departure : goal.invariant-loop-departure
-invariant-loop-departure g l = AllZip (IsDrawnAs g.C.Told.told l.image) (take l.departure-index l.departures) l.lines.items
+invariant-loop-departure g l = AllZip (IsDrawnAs g.C.ShowsFigures.figures l.image) (take l.departure-index l.departures) l.lines.items

@@ -7,11 +7,11 @@ use Rattle.csa_program.proofs.serve.listen.Goals as goal
 pub returns-in-Ok-serve_door-clause-end : goal.returns-in-Ok-serve_door-clause-end
 returns-in-Ok-serve_door-clause-end g c =
     let begun = c.tell_port-begun in
-    let told = c.tell_served in
+    let shown = c.tell_served in
     let hosted = c.in-Ok-serve_door.hosted in
     let accepted : begun.result ≡ ACCEPTED = search rules in
-    served_end c.args.bound.now.port _ (g.O.Write.contents begun.new.output) (g.O.Write.contents told.new.output)
-    hosted.served hosted.door.failed told.result (begun.ensures.printed accepted) told.ensures.status told.ensures.printed
+    served_end c.args.bound.now.port _ (g.O.Write.contents begun.new.output) (g.O.Write.contents shown.new.output)
+    hosted.served hosted.door.failed shown.result (begun.ensures.printed accepted) shown.ensures.status shown.ensures.printed
 
 -- as many as are asked for
 pub returns-in-Ok-serve_door-clause-many : goal.returns-in-Ok-serve_door-clause-many

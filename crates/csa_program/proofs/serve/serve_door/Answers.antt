@@ -11,12 +11,12 @@ pub returns-clause-many : goal.returns-clause-many
 returns-clause-many g c wanted counted =
     let door = c.args.door in
     let last = c.in_ok-ran.ran.clients in
-    let told = c.in_ok-ran.ensures in
+    let shown = c.in_ok-ran.ensures in
     let was = subst (λ came. AreCountedOff wanted door.left door.accepted door.is_endless door.failed (map (λ visitor. visitor.number) came))
     (sym c.requires.nobody) counted in
-    let many = told.many c.requires.nobody ∙ sym (length-map last.came (λ visitor. visitor.number)) in
+    let many = shown.many c.requires.nobody ∙ sym (length-map last.came (λ visitor. visitor.number)) in
     as_many wanted last.left last.accepted last.is_endless last.failed (map (λ visitor. visitor.number) last.came) _
-    (told.holds wanted was) told.none_left many
+    (shown.holds wanted was) shown.none_left many
 
 -- the sessions of all who came to the door
 pub returns-clause-sessions : goal.returns-clause-sessions

@@ -2,12 +2,12 @@ use Rattle.std.proofs.Common.{arith, sym, ◌∙◌}
 use Rattle.departure_lines.proofs.Sought.{item_found, item_missing}
 use Rattle.departure_lines.proofs.listed_names.first_missing.Goals as goal
 
-pub loop-place-preserved : goal.loop-place-preserved
-loop-place-preserved c =
-    item_found (λ name. name.now) c.args.listed.now c.loop-place.place _ c.args.found.now (omega arith) c.loop-place.invariant
+pub loop-index-preserved : goal.loop-index-preserved
+loop-index-preserved c =
+    item_found (λ name. name.now) c.args.listed.now c.loop-index.index _ c.args.found.now (omega arith) c.loop-index.invariant
     (sym c.was_found.ensures ∙ c.if-not-was_found.false)
 
 pub returns-then-not-was_found-clause-missing : goal.returns-then-not-was_found-clause-missing
 returns-then-not-was_found-clause-missing c =
-    item_missing (λ name. name.now) c.args.listed.now c.loop-place.place _ c.args.found.now (omega arith) c.loop-place.invariant
+    item_missing (λ name. name.now) c.args.listed.now c.loop-index.index _ c.args.found.now (omega arith) c.loop-index.invariant
     (sym c.was_found.ensures ∙ c.if-not-was_found.true)

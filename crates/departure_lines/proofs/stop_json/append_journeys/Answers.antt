@@ -4,17 +4,18 @@ use Rattle.departure_lines.specs.Json.{journey_json, with_commas}
 use Rattle.departure_lines.proofs.Commas.{commas_all, commas_more}
 use Rattle.departure_lines.proofs.stop_json.append_journeys.Goals as goal
 
-pub loop-place-init : goal.loop-place-init
+pub loop-index-init : goal.loop-index-init
 unfolding with_commas
-loop-place-init g c = sym (append-nil (string_bytes c.args.lines.now))
+loop-index-init g c = sym (append-nil (string_bytes c.args.lines.now))
 
-pub loop-place-preserved : goal.loop-place-preserved
-loop-place-preserved g c =
-    commas_more (journey_json g.C.Told.told) c.args.departures.now c.loop-place.place c.index-departures-place.result (string_bytes c.args.lines.now)
-    (string_bytes c.loop-place.lines) (string_bytes c.put_comma.new.lines) (string_bytes c.append_journey.new.lines)
-    (omega arith) c.index-departures-place.is c.loop-place.invariant c.in_ok-put_comma.ensures c.in_ok-append_journey.ensures
+pub loop-index-preserved : goal.loop-index-preserved
+loop-index-preserved g c =
+    commas_more (journey_json g.C.ShowsFigures.figures) c.args.departures.now c.loop-index.index c.index-departures-index.result (string_bytes c.args.lines.now)
+    (string_bytes c.loop-index.lines) (string_bytes c.put_comma.new.lines) (string_bytes c.append_journey.new.lines)
+    (omega arith) c.index-departures-index.is c.loop-index.invariant c.in_ok-put_comma.ensures c.in_ok-append_journey.ensures
 
 pub returns : goal.returns
 returns g c =
-    commas_all (journey_json g.C.Told.told) c.args.departures.now c.loop-place.place (string_bytes c.args.lines.now) (string_bytes c.loop-place.lines)
-    (omega arith) c.loop-place.invariant
+    commas_all (journey_json g.C.ShowsFigures.figures) c.args.departures.now c.loop-index.index (string_bytes c.args.lines.now)
+    (string_bytes c.loop-index.lines)
+    (omega arith) c.loop-index.invariant

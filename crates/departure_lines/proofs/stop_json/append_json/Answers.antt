@@ -7,8 +7,8 @@ use Rattle.departure_lines.proofs.stop_json.append_json.Goals as goal
 
 pub returns : goal.returns
 returns g c =
-    let texts = map (journey_json g.C.Told.told) c.args.departures.now in
-    let long = length-map c.args.departures.now (journey_json g.C.Told.told) in
+    let texts = map (journey_json g.C.ShowsFigures.figures) c.args.departures.now in
+    let long = length-map c.args.departures.now (journey_json g.C.ShowsFigures.figures) in
     three (string_bytes c.args.lines.now) (string_bytes c.append_head.new.lines) (string_bytes c.append_journeys.new.lines)
     (string_bytes c.append_tail.new.lines) _ _ _
     c.in_ok-append_head.ensures c.in_ok-append_journeys.ensures c.in_ok-append_tail.ensures

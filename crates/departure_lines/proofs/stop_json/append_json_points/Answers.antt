@@ -7,8 +7,8 @@ use Rattle.departure_lines.proofs.stop_json.append_json_points.Goals as goal
 
 pub returns : goal.returns
 returns g c =
-    let texts = map (point_json g.C.Told.told) c.args.points.now in
-    let long = length-map c.args.points.now (point_json g.C.Told.told) in
+    let texts = map (point_json g.C.ShowsFigures.figures) c.args.points.now in
+    let long = length-map c.args.points.now (point_json g.C.ShowsFigures.figures) in
     three (string_bytes c.args.lines.now) (string_bytes c.append_head.new.lines) (string_bytes c.append_points.new.lines)
     (string_bytes c.append_tail.new.lines) _ _ _
     c.in_ok-append_head.ensures c.in_ok-append_points.ensures c.in_ok-append_tail.ensures

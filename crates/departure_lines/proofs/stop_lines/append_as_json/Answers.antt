@@ -13,14 +13,15 @@ returns g c =
     let q = query_from (destination_of shown.profiles.now) c.args.stop in
     let old = criterion_of_profiles shown.profiles.now in
     let departures = c.in_ok-departures.departures.items in
-    let texts = map (journey_json g.C.Told.told) departures in
+    let texts = map (journey_json g.C.ShowsFigures.figures) departures in
     let text = json_if_some (stop_bytes shown.image.now.names c.args.stop) texts (walk_from shown.profiles.now c.args.stop) in
     let added = c.in_ok-append_json.ensures
-    ∙ ap (λ them. string_bytes c.args.lines.now ++ json_if_some (string_bytes c.in_ok-name.name) (map (journey_json g.C.Told.told) them)
+    ∙ ap (λ them. string_bytes c.args.lines.now ++ json_if_some (string_bytes c.in_ok-name.name) (map (journey_json g.C.ShowsFigures.figures) them)
     c.direct_walk-walk.result) c.deref.ensures.value
     ∙ ap (λ name. string_bytes c.args.lines.now ++ json_if_some name texts c.direct_walk-walk.result) c.in_ok-name.ensures
     ∙ ap (λ walk. string_bytes c.args.lines.now ++ json_if_some (stop_bytes shown.image.now.names c.args.stop) texts walk) c.direct_walk-walk.ensures in
-    journeys_shown g.C.Criterion.rules g.C.Told.told _ shown.image.now shown.profiles.now shown.criterion.now c.args.stop departures c.len.result text
+    journeys_shown g.C.Criterion.rules g.C.ShowsFigures.figures _ shown.image.now shown.profiles.now shown.criterion.now c.args.stop departures c.len.result
+    text
     (string_bytes c.args.lines.now) (string_bytes c.append_json.new.lines)
     (c.len.ensures ∙ sym c.deref.ensures.len ∙ ap length c.deref.ensures.value)
     c.requires.stop c.requires.differ c.requires.same c.requires.answered c.in_ok-departures.ensures.points

@@ -8,9 +8,10 @@ use Rattle.departure_lines.proofs.stop_lines.append_bare.Goals as goal
 pub returns : goal.returns
 returns g c =
     let shown = c.args.shown.now in
-    let text = flat_map (point_line g.C.Told.told (stop_bytes shown.image.now.names c.args.stop)) c.points-points.result.now in
-    points_shown g.C.Criterion.rules g.C.Told.told _ shown.image.now shown.profiles.now shown.criterion.now c.args.stop c.points-points.result.now text
+    let text = flat_map (point_line g.C.ShowsFigures.figures (stop_bytes shown.image.now.names c.args.stop)) c.points-points.result.now in
+    points_shown g.C.Criterion.rules g.C.ShowsFigures.figures _ shown.image.now shown.profiles.now shown.criterion.now c.args.stop c.points-points.result.now
+    text
     (string_bytes c.args.lines.now) (string_bytes c.append_points.new.lines)
     c.requires.stop c.requires.differ c.requires.same c.requires.answered c.points-points.ensures refl
     (c.in_ok-append_points.ensures ∙ ap (λ name. string_bytes c.args.lines.now
-    ++ flat_map (point_line g.C.Told.told name) c.points-points.result.now) (c.as_str.ensures.value ∙ c.in_ok-name.ensures))
+    ++ flat_map (point_line g.C.ShowsFigures.figures name) c.points-points.result.now) (c.as_str.ensures.value ∙ c.in_ok-name.ensures))

@@ -8,9 +8,10 @@ use Rattle.departure_lines.proofs.stop_lines.append_bare_json.Goals as goal
 pub returns : goal.returns
 returns g c =
     let shown = c.args.shown.now in
-    let texts = map (point_json g.C.Told.told) c.points-points.result.now in
+    let texts = map (point_json g.C.ShowsFigures.figures) c.points-points.result.now in
     let text = json_if_some (stop_bytes shown.image.now.names c.args.stop) texts (walk_from shown.profiles.now c.args.stop) in
-    points_shown g.C.Criterion.rules g.C.Told.told _ shown.image.now shown.profiles.now shown.criterion.now c.args.stop c.points-points.result.now text
+    points_shown g.C.Criterion.rules g.C.ShowsFigures.figures _ shown.image.now shown.profiles.now shown.criterion.now c.args.stop c.points-points.result.now
+    text
     (string_bytes c.args.lines.now) (string_bytes c.append_json_points.new.lines)
     c.requires.stop c.requires.differ c.requires.same c.requires.answered c.points-points.ensures refl
     (c.in_ok-append_json_points.ensures

@@ -14,12 +14,13 @@ returns g c =
     let q = query_from (destination_of shown.profiles.now) c.args.stop in
     let old = criterion_of_profiles shown.profiles.now in
     let departures = c.in_ok-departures.departures.items in
-    let text = flat_map (line_from g.C.Told.told (stop_bytes shown.image.now.names c.args.stop)) departures in
+    let text = flat_map (line_from g.C.ShowsFigures.figures (stop_bytes shown.image.now.names c.args.stop)) departures in
     let added = c.in_ok-append_lines.ensures
-    ∙ ap (λ them. string_bytes c.args.lines.now ++ flat_map (line_from g.C.Told.told c.as_str.result.now) them) c.deref.ensures.value
+    ∙ ap (λ them. string_bytes c.args.lines.now ++ flat_map (line_from g.C.ShowsFigures.figures c.as_str.result.now) them) c.deref.ensures.value
     ∙ ap (λ name. string_bytes c.args.lines.now
-    ++ flat_map (line_from g.C.Told.told name) departures) (c.as_str.ensures.value ∙ c.in_ok-name.ensures) in
-    journeys_shown g.C.Criterion.rules g.C.Told.told _ shown.image.now shown.profiles.now shown.criterion.now c.args.stop departures c.len.result text
+    ++ flat_map (line_from g.C.ShowsFigures.figures name) departures) (c.as_str.ensures.value ∙ c.in_ok-name.ensures) in
+    journeys_shown g.C.Criterion.rules g.C.ShowsFigures.figures _ shown.image.now shown.profiles.now shown.criterion.now c.args.stop departures c.len.result
+    text
     (string_bytes c.args.lines.now) (string_bytes c.append_lines.new.lines)
     (c.len.ensures ∙ sym c.deref.ensures.len ∙ ap length c.deref.ensures.value)
     c.requires.stop c.requires.differ c.requires.same c.requires.answered c.in_ok-departures.ensures.points

@@ -6,7 +6,8 @@ use Rattle.departure_lines.proofs.stop_lines.append_stops.Goals as goal
 pub loop-stop-init : goal.loop-stop-init
 loop-stop-init g c =
     let shown = c.args.shown.now in
-    none_added g.C.Told.told (g.C.Criterion.rules shown.criterion.now) c.args.form shown.image.now (destination_of shown.profiles.now) c.args.wanted.now
+    none_added g.C.ShowsFigures.figures (g.C.Criterion.rules shown.criterion.now) c.args.form shown.image.now
+    (destination_of shown.profiles.now) c.args.wanted.now
     (string_bytes c.args.lines.now)
 
 pub loop-stop-preserved : goal.loop-stop-preserved

@@ -5,5 +5,6 @@ use Rattle.departure_lines.proofs.stop_lines.append_stops.Given as goal
 
 abbrev pub invariant-loop-stop : goal.invariant-loop-stop
 invariant-loop-stop g l =
-    AddsStops g.C.Told.told (g.C.Criterion.rules l.shown.criterion.now) l.form l.shown.image.now (destination_of l.shown.profiles.now) l.wanted l.stop
+    AddsStops g.C.ShowsFigures.figures (g.C.Criterion.rules l.shown.criterion.now) l.form l.shown.image.now
+    (destination_of l.shown.profiles.now) l.wanted l.stop
     (string_bytes l.fn.lines) (string_bytes l.lines) l.counts

@@ -5,4 +5,4 @@ use Rattle.departure_lines.proofs.stop_words.append_lines.Given as goal
 
 abbrev pub invariant-loop-departure : goal.invariant-loop-departure
 invariant-loop-departure g l = string_bytes l.lines ≡ string_bytes l.fn.lines
-    ++ flat_map (line_from g.C.Told.told l.name) (take l.departure-index l.departures)
+    ++ flat_map (line_from g.C.ShowsFigures.figures l.name) (take l.departure-index l.departures)

@@ -11,5 +11,5 @@ returns g c =
     (string_bytes c.append_values.new.lines) (string_bytes c.put_text-3.new.out) _ _ _ _
     c.in_ok-put_text.ensures c.in_ok-put_text-2.ensures
     (c.in_ok-append_values.ensures
-    ∙ ap (λ told. string_bytes c.put_text-2.new.out ++ values_text c.args.point.now.departure told) c.tell.ensures)
+    ∙ ap (λ figures. string_bytes c.put_text-2.new.out ++ values_text c.args.point.now.departure figures) c.figures_of.ensures)
     c.in_ok-put_text-3.ensures

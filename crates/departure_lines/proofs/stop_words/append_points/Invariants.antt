@@ -5,4 +5,4 @@ use Rattle.departure_lines.proofs.stop_words.append_points.Given as goal
 
 abbrev pub invariant-loop-point : goal.invariant-loop-point
 invariant-loop-point g l = string_bytes l.lines ≡ string_bytes l.fn.lines
-    ++ flat_map (point_line g.C.Told.told l.name) (take l.point-index l.points)
+    ++ flat_map (point_line g.C.ShowsFigures.figures l.name) (take l.point-index l.points)

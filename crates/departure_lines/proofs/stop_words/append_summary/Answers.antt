@@ -6,12 +6,12 @@ use Rattle.departure_lines.proofs.stop_words.append_summary.Goals as goal
 
 pub returns-then-points-eq0 : goal.returns-then-points-eq0
 returns-then-points-eq0 g c =
-    no_summary g.C.Told.told c.args.name.now c.args.points.now c.args.walk (string_bytes c.args.lines.now) c.if-points-eq0.true
+    no_summary g.C.ShowsFigures.figures c.args.name.now c.args.points.now c.args.walk (string_bytes c.args.lines.now) c.if-points-eq0.true
 
 pub returns : goal.returns
 unfolding sum_line
 returns g c =
-    summary_added g.C.Told.told c.args.name.now c.args.points.now c.args.walk c.index-points-0.result c.index-points-points.result
+    summary_added g.C.ShowsFigures.figures c.args.name.now c.args.points.now c.args.walk c.index-points-0.result c.index-points-points.result
     _ _ c.least_travel-least.result (string_bytes c.args.lines.now) (string_bytes c.put_text.new.out)
     (omega (arith, c.if-points-eq0.false)) c.index-points-0.is c.index-points-points.is c.least_travel-least.ensures
     (ap (λ point. point.departure) (sym c.index-points-0.is)) (ap (λ point. point.departure) (sym c.index-points-points.is))

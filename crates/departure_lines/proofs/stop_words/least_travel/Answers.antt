@@ -5,7 +5,7 @@ use Rattle.departure_lines.proofs.stop_words.least_travel.Goals as goal
 
 pub loop-point-preserved : goal.loop-point-preserved
 loop-point-preserved g c =
-    let f = travel g.C.Told.told in
+    let f = travel g.C.ShowsFigures.figures in
     let points = c.args.points.now in
     let point = c.point-item.result in
     let lesser = c.min-least.ensures ∙ ap (min c.loop-point.least) c.seconds_of.ensures in
@@ -19,6 +19,6 @@ loop-point-preserved g c =
 pub returns : goal.returns
 returns g c = record {
   reached = c.loop-point.invariant.reached;
-  none_less = none_less_all (travel g.C.Told.told) c.args.points.now c.loop-point.point-index c.loop-point.least (omega arith)
+  none_less = none_less_all (travel g.C.ShowsFigures.figures) c.args.points.now c.loop-point.point-index c.loop-point.least (omega arith)
       c.loop-point.invariant.none_less;
 }

@@ -7,7 +7,7 @@ use Rattle.epochs.proofs.shelves.open.Given as goal
 
 abbrev pub invariant-loop-number : goal.invariant-loop-number
 invariant-loop-number l = record {
-  table : l.place.table ≡ l.table-inside.table.shared.table_id;
-  me : l.place.me ≡ (View.Loading (handed l.number (arc_value l.fn.first)), []);
+  table : l.table_seat.table ≡ l.table-inside.table.shared.table_id;
+  me : l.table_seat.me ≡ (View.Loading (handed l.number (arc_value l.fn.first)), []);
   seats : SeatsHanded l.table-inside.table.shared.table_id l.number l.seats.items;
 }

@@ -6,9 +6,9 @@ use Rattle.connections.specs.Active.{AreNamed, active_among}
 use Rattle.connections.specs.Runs.{runs_on}
 use Rattle.feed_days.proofs.counting.count_running.Given as goal
 
-abbrev pub invariant-loop-place : goal.invariant-loop-place
-invariant-loop-place l = record {
-  few : l.count ≤ l.place;
+abbrev pub invariant-loop-index : goal.invariant-loop-index
+invariant-loop-index l = record {
+  few : l.count ≤ l.index;
   count : (feed : Feed) (day : Day) (names : List (List ℕ)) → AreNamed names l.trips l.indices → l.active ≡ active_among feed names day
-      → l.count ≡ count_by (runs_on feed day) (take l.place l.trips);
+      → l.count ≡ count_by (runs_on feed day) (take l.index l.trips);
 }

@@ -13,6 +13,6 @@ returns c =
     let names = names_of c.args.services.now.named in
     c.count_running.ensures feed day names
     (subst (λ ts. AreNamed names ts c.deref-2.result.now) (sym c.deref-3.ensures.value)
-    (subst (λ places. AreNamed names feed.trips.items places) (sym c.deref-2.ensures.value) c.requires.named))
+    (subst (λ indices. AreNamed names feed.trips.items indices) (sym c.deref-2.ensures.value) c.requires.named))
     (c.deref.ensures.value ∙ c.in_ok-active.ensures feed.calendar.items feed.calendar_dates.items c.requires.held)
     ∙ ap (λ (ts : List Trip). count_by (runs_on feed day) ts) c.deref-3.ensures.value

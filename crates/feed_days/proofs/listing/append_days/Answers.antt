@@ -4,17 +4,17 @@ use Rattle.std.specs.List.{flat_map}
 use Rattle.std.proofs.lemmas.List.{append-nil}
 use Rattle.gtfs_rows.specs.declared.values.Day.{Day}
 use Rattle.feed_days.specs.Days.{trips_line}
-use Rattle.feed_days.specs.Service.{day_place}
+use Rattle.feed_days.specs.Service.{day_number}
 use Rattle.feed_days.proofs.Listed.{after_more, after_none, all_listed, line_more, more_listed, none_yet}
-use Rattle.feed_days.proofs.Order.{civil_before, next_place, other_by_parts, place_below, place_by_not_after, same_by_parts}
+use Rattle.feed_days.proofs.Order.{civil_before, next_number, other_by_parts, number_below, number_by_not_after, same_by_parts}
 use Rattle.feed_days.proofs.listing.append_days.Goals as goal
 
 pub loop-listed-init : goal.loop-listed-init
 loop-listed-init c = record {
   civil = c.requires.first;
   day = after_none c.args.span.first;
-  place = omega arith;
-  within = place_by_not_after c.args.span.first c.args.span.last c.requires.first c.requires.last c.requires.in_order;
+  index = omega arith;
+  within = number_by_not_after c.args.span.first c.args.span.last c.requires.first c.requires.last c.requires.in_order;
   few = omega arith;
   lines = sym (ap (λ (days : List Day). string_bytes c.args.lines.now ++ flat_map (trips_line c.args.feed.now) days) (none_yet c.args.span.first)
       ∙ append-nil (string_bytes c.args.lines.now));
@@ -23,8 +23,8 @@ loop-listed-init c = record {
 pub returns-then-eq-clause-lines : goal.returns-then-eq-clause-lines
 returns-then-eq-clause-lines c =
     let is = c.loop-listed.invariant in
-    let same = ap day_place (same_by_parts c.loop-listed.day c.args.span.last c.if-eq.ensures) in
-    let all = all_listed c.args.span c.loop-listed.listed (omega (arith, same, is.place)) c.loop-listed-test.true in
+    let same = ap day_number (same_by_parts c.loop-listed.day c.args.span.last c.if-eq.ensures) in
+    let all = all_listed c.args.span c.loop-listed.listed (omega (arith, same, is.index)) c.loop-listed-test.true in
     line_more (trips_line c.args.feed.now) c.args.span.first c.loop-listed.day c.loop-listed.listed (string_bytes c.args.lines.now)
     (string_bytes c.loop-listed.lines) (string_bytes c.append_day.new.lines) is.day is.lines c.in_ok-append_day.ensures
     ∙ ap (λ (days : List Day). string_bytes c.args.lines.now ++ flat_map (trips_line c.args.feed.now) days) (sym all.0)
@@ -32,19 +32,19 @@ returns-then-eq-clause-lines c =
 pub returns-then-eq-clause-unlisted : goal.returns-then-eq-clause-unlisted
 returns-then-eq-clause-unlisted c =
     let is = c.loop-listed.invariant in
-    let same = ap day_place (same_by_parts c.loop-listed.day c.args.span.last c.if-eq.ensures) in
-    sym (all_listed c.args.span c.loop-listed.listed (omega (arith, same, is.place)) c.loop-listed-test.true).1
+    let same = ap day_number (same_by_parts c.loop-listed.day c.args.span.last c.if-eq.ensures) in
+    sym (all_listed c.args.span c.loop-listed.listed (omega (arith, same, is.index)) c.loop-listed-test.true).1
 
 pub loop-listed-preserved : goal.loop-listed-preserved
 loop-listed-preserved c =
     let is = c.loop-listed.invariant in
-    let below = place_below c.loop-listed.day c.args.span.last is.civil c.requires.last is.within
+    let below = number_below c.loop-listed.day c.args.span.last is.civil c.requires.last is.within
     (other_by_parts c.loop-listed.day c.args.span.last c.if-eq.ensures) in
-    let next = next_place c.loop-listed.day is.civil in
+    let next = next_number c.loop-listed.day is.civil in
     rw c.day_after-day.ensures (record {
       civil = civil_before c.loop-listed.day c.args.span.last is.civil c.requires.last below;
       day = after_more c.args.span.first c.loop-listed.day c.loop-listed.listed is.day;
-      place = omega (arith, next, is.place);
+      index = omega (arith, next, is.index);
       within = omega (arith, next, below);
       few = omega (arith, c.loop-listed-test.true);
       lines = line_more (trips_line c.args.feed.now) c.args.span.first c.loop-listed.day c.loop-listed.listed (string_bytes c.args.lines.now)
@@ -55,7 +55,7 @@ pub returns-clause-lines : goal.returns-clause-lines
 returns-clause-lines c =
     let is = c.loop-listed.invariant in
     let full : c.loop-listed.listed ≡ 366 = omega (arith, c.loop-listed-test.false, is.few) in
-    let more = more_listed c.args.span (omega (arith, full, is.place, is.within)) in
+    let more = more_listed c.args.span (omega (arith, full, is.index, is.within)) in
     rw full at is.lines
     ∙ ap (λ (days : List Day). string_bytes c.args.lines.now ++ flat_map (trips_line c.args.feed.now) days) (sym more.0)
 
@@ -63,5 +63,5 @@ pub returns-clause-unlisted : goal.returns-clause-unlisted
 returns-clause-unlisted c =
     let is = c.loop-listed.invariant in
     let full : c.loop-listed.listed ≡ 366 = omega (arith, c.loop-listed-test.false, is.few) in
-    let more = more_listed c.args.span (omega (arith, full, is.place, is.within)) in
+    let more = more_listed c.args.span (omega (arith, full, is.index, is.within)) in
     ap (λ (d : Day). Some d) (rw full at is.day) ∙ sym more.1

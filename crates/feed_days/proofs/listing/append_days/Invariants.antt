@@ -3,7 +3,7 @@ use Rattle.std.specs.List.{flat_map}
 use Rattle.gtfs_rows.specs.Values.{is_civil}
 use Rattle.connections.specs.Days.{days_from}
 use Rattle.feed_days.specs.Days.{days_after, trips_line}
-use Rattle.feed_days.specs.Service.{day_place}
+use Rattle.feed_days.specs.Service.{day_number}
 use Rattle.feed_days.proofs.listing.append_days.Given as goal
 
 -- so many days have their lines, and the next isn't behind the last
@@ -11,8 +11,8 @@ abbrev pub invariant-loop-listed : goal.invariant-loop-listed
 invariant-loop-listed l = record {
   civil : is_civil l.day ≡ true;
   day : l.day ≡ days_after l.span.first l.listed;
-  place : day_place l.day ≡ day_place l.span.first + l.listed;
-  within : day_place l.day ≤ day_place l.span.last;
+  index : day_number l.day ≡ day_number l.span.first + l.listed;
+  within : day_number l.day ≤ day_number l.span.last;
   few : l.listed ≤ 366;
   lines : string_bytes l.lines ≡ string_bytes l.fn.lines ++ flat_map (trips_line l.feed) (days_from l.span.first l.listed);
 }

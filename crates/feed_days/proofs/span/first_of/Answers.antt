@@ -1,6 +1,6 @@
 use Rattle.std.proofs.Common.{◌-◌, ◌<◌, arith, sym}
-use Rattle.feed_days.specs.Service.{HoldsOfNone, day_place, gives_weekly}
-use Rattle.feed_days.proofs.Order.{place_bound}
+use Rattle.feed_days.specs.Service.{HoldsOfNone, day_number, gives_weekly}
+use Rattle.feed_days.proofs.Order.{number_bound}
 use Rattle.feed_days.proofs.Rows.{starts, weekly_civil, weekly_to}
 use Rattle.feed_days.proofs.Spans.{from_found, from_next, if_none, none_from_end, none_from_last}
 use Rattle.feed_days.proofs.span.first_of.Goals as goal
@@ -24,8 +24,8 @@ returns-in_err-day-clause-none c =
 pub loop-day-smaller : goal.loop-day-smaller
 loop-day-smaller c =
     let more = c.in_ok-day.ensures.some.1 in
-    let bound = place_bound c.in_ok-day.day c.in_ok-day.ensures.some.0 in
-    let less : 7_304_850 - day_place c.in_ok-day.day < 7_304_850 - day_place c.loop-day.day = omega (arith, more, bound) in
+    let bound = number_bound c.in_ok-day.day c.in_ok-day.ensures.some.0 in
+    let less : 7_304_850 - day_number c.in_ok-day.day < 7_304_850 - day_number c.loop-day.day = omega (arith, more, bound) in
     less
 
 pub loop-day-preserved : goal.loop-day-preserved

@@ -5,7 +5,7 @@ use Rattle.std.specs.declared.alloc.Global.{Global}
 use Rattle.gtfs_rows.specs.Faults.{IsFaultOf}
 use Rattle.gtfs_rows.specs.Tables.{HoldsAgencies, HoldsStopsWithin, HoldsTripsWithin, IsStopsFault, IsTripsFault, agency_shape, stop_times_shape}
 use Rattle.gtfs_rows.specs.declared.fault.Table.TheVariants as tables
-use Rattle.gtfs_rows.specs.declared.limited.Limited.{Limited}
+use Rattle.gtfs_rows.specs.declared.limited.RowsWithinLimit.{RowsWithinLimit}
 use Rattle.gtfs_rows.specs.declared.read.TheConstants.{MAX_STOPS, MAX_TRIPS}
 use Rattle.gtfs_rows.specs.declared.rows.AgencyRow.{AgencyRow}
 use Rattle.gtfs_rows.specs.declared.rows.StopRow.{StopRow}
@@ -76,7 +76,7 @@ returns-in_err-trips-clause-err g c content gave =
     let g3 = gave_rest content j2 gave in
     let agencies = required_rows (λ (rows : Vec AgencyRow Global). rows.items) HoldsAgencies (content tables.Agency)
     c.in_ok-agencies.agencies (c.in_ok-agencies.ensures.ok content f1) in
-    let stops = required_rows (λ (kept : Limited StopRow). kept.rows.items) (HoldsStopsWithin MAX_STOPS)
+    let stops = required_rows (λ (kept : RowsWithinLimit StopRow). kept.rows.items) (HoldsStopsWithin MAX_STOPS)
     (content tables.Stops) c.in_ok-stops.stops (c.in_ok-stops.ensures.ok content g2) in
     let p = err_from_is_err_and c.from_residual-in_err-trips.result c.from_residual-in_err-trips.ensures.1 in
     rw (p.1, p.2) (no_tables content tables.Trips (RequiredFault (IsTripsFault MAX_TRIPS) (content tables.Trips))
@@ -99,9 +99,9 @@ returns-in_err-stop_times-clause-err g c content gave =
     let g4 = gave_rest content j3 gave in
     let agencies = required_rows (λ (rows : Vec AgencyRow Global). rows.items) HoldsAgencies (content tables.Agency)
     c.in_ok-agencies.agencies (c.in_ok-agencies.ensures.ok content f1) in
-    let stops = required_rows (λ (kept : Limited StopRow). kept.rows.items) (HoldsStopsWithin MAX_STOPS)
+    let stops = required_rows (λ (kept : RowsWithinLimit StopRow). kept.rows.items) (HoldsStopsWithin MAX_STOPS)
     (content tables.Stops) c.in_ok-stops.stops (c.in_ok-stops.ensures.ok content g2) in
-    let trips = required_rows (λ (kept : Limited TripRow). kept.rows.items) (HoldsTripsWithin MAX_TRIPS)
+    let trips = required_rows (λ (kept : RowsWithinLimit TripRow). kept.rows.items) (HoldsTripsWithin MAX_TRIPS)
     (content tables.Trips) c.in_ok-trips.trips (c.in_ok-trips.ensures.ok content g3) in
     let p = err_from_is_err_and c.from_residual-in_err-stop_times.result c.from_residual-in_err-stop_times.ensures.1 in
     rw (p.1, p.2) (no_tables content tables.StopTimes (RequiredFault (IsFaultOf stop_times_shape) (content tables.StopTimes))

@@ -6,8 +6,8 @@ use Rattle.feed_loader.proofs.loading.load.Goals as goal
 -- the files are refused as they are read
 pub returns-in_err-tables-clause-err : goal.returns-in_err-tables-clause-err
 returns-in_err-tables-clause-err g c = λ content tells.
-    let told = err_from_is_err_and c.from_residual.result c.from_residual.ensures.1 in
-    rw (told.1, told.2) (λ unless. inl (record {
+    let outcome = err_from_is_err_and c.from_residual.result c.from_residual.ensures.1 in
+    rw (outcome.1, outcome.2) (λ unless. inl (record {
       refusal = c.in_err-tables.field-0.0;
       is = refl;
       first = c.in_err-tables.ensures.err content tells;
@@ -15,8 +15,8 @@ returns-in_err-tables-clause-err g c = λ content tells.
 
 pub returns-in_err-tables-clause-read_err : goal.returns-in_err-tables-clause-read_err
 returns-in_err-tables-clause-read_err g c = λ content ts read.
-    let told = err_from_is_err_and c.from_residual.result c.from_residual.ensures.1 in
-    rw (told.1, told.2) (λ unless. inl (record {
+    let outcome = err_from_is_err_and c.from_residual.result c.from_residual.ensures.1 in
+    rw (outcome.1, outcome.2) (λ unless. inl (record {
       refusal = c.in_err-tables.field-0.0;
       is = refl;
       first = c.in_err-tables.ensures.read_err content ts read;
@@ -25,8 +25,8 @@ returns-in_err-tables-clause-read_err g c = λ content ts read.
 -- the tables are read, and don't join
 pub returns-in_err-feed-clause-err : goal.returns-in_err-feed-clause-err
 returns-in_err-feed-clause-err g c = λ content tells.
-    let told = err_from_is_err_and c.from_residual-in_err-feed.result c.from_residual-in_err-feed.ensures.1 in
-    rw (told.1, told.2) (λ unless. inr (inl (record {
+    let outcome = err_from_is_err_and c.from_residual-in_err-feed.result c.from_residual-in_err-feed.ensures.1 in
+    rw (outcome.1, outcome.2) (λ unless. inr (inl (record {
       t = c.in_ok-tables.tables;
       held = c.in_ok-tables.ensures.ok content tells;
       refusal = c.in_err-feed.field-0.0;
@@ -36,8 +36,8 @@ returns-in_err-feed-clause-err g c = λ content tells.
 
 pub returns-in_err-feed-clause-read_err : goal.returns-in_err-feed-clause-read_err
 returns-in_err-feed-clause-read_err g c = λ content ts read.
-    let told = err_from_is_err_and c.from_residual-in_err-feed.result c.from_residual-in_err-feed.ensures.1 in
-    rw (told.1, told.2) (λ unless. inr (inl (record {
+    let outcome = err_from_is_err_and c.from_residual-in_err-feed.result c.from_residual-in_err-feed.ensures.1 in
+    rw (outcome.1, outcome.2) (λ unless. inr (inl (record {
       t = c.in_ok-tables.tables;
       held = c.in_ok-tables.ensures.read_ok content ts read;
       refusal = c.in_err-feed.field-0.0;

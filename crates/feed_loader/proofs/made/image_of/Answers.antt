@@ -11,8 +11,8 @@ use Rattle.feed_loader.proofs.made.image_of.Goals as goal
 -- the runs are listed, and their names are refused
 pub returns-in_err-names-clause-err : goal.returns-in_err-names-clause-err
 returns-in_err-names-clause-err c =
-    let told = err_from_is_err_and c.from_residual-in_err-names.result c.from_residual-in_err-names.ensures.1 in
-    rw (told.1, told.2) (names_refused c.args.feed.now c.args.plan.now c.in_ok-connections.connections.items c.in_ok-connections.runs.items
+    let outcome = err_from_is_err_and c.from_residual-in_err-names.result c.from_residual-in_err-names.ensures.1 in
+    rw (outcome.1, outcome.2) (names_refused c.args.feed.now c.args.plan.now c.in_ok-connections.connections.items c.in_ok-connections.runs.items
     c.in_err-names.field-0.0 c.requires.some (omega (
       arith,
       c.if-len.false,

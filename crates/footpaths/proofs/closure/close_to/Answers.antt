@@ -1,22 +1,22 @@
 use Rattle.std.proofs.Common.{◌≡◌, ℕ, List, Option, None, length, subst, sym, ◌∙◌, ap, arith}
 use Rattle.std.proofs.lemmas.Grind.{common_steps}
 use Rattle.std.proofs.lemmas.Result.{err_from_is_err_and}
-use Rattle.footpaths.specs.Search.{time_at, AreToldLeast}
+use Rattle.footpaths.specs.Search.{time_at, AreCappedLeast}
 use Rattle.footpaths.specs.Collected.{IsClosedInto}
 use Rattle.footpaths.proofs.ClosureLemmas.{written_back}
 use Rattle.footpaths.proofs.closure.close_to.Goals as goal
 
 pub returns-in_err-collect-clause-fault : goal.returns-in_err-collect-clause-fault
 returns-in_err-collect-clause-fault c =
-    let least : AreToldLeast c.args.listed.now c.args.cap c.loop-target.target c.fill.new.self.times.items =
+    let least : AreCappedLeast c.args.listed.now c.args.cap c.loop-target.target c.fill.new.self.times.items =
     c.in_ok-fill.ensures.least c.args.listed.now c.in_ok-index.ensures.index in
     let p = err_from_is_err_and c.from_residual-in_err-collect.result c.from_residual-in_err-collect.ensures.1 in
     rw (p.1, p.2) (c.in_err-collect.ensures.fault c.args.listed.now c.args.cap c.loop-target.invariant.closed
-    (subst (λ (ts : List (Option ℕ)). AreToldLeast c.args.listed.now c.args.cap c.loop-target.target ts) (sym c.deref_mut.ensures.value) least))
+    (subst (λ (ts : List (Option ℕ)). AreCappedLeast c.args.listed.now c.args.cap c.loop-target.target ts) (sym c.deref_mut.ensures.value) least))
 
 pub loop-target-preserved : goal.loop-target-preserved
 loop-target-preserved c =
-    let least : AreToldLeast c.args.listed.now c.args.cap c.loop-target.target c.fill.new.self.times.items =
+    let least : AreCappedLeast c.args.listed.now c.args.cap c.loop-target.target c.fill.new.self.times.items =
     c.in_ok-fill.ensures.least c.args.listed.now c.in_ok-index.ensures.index in
     let same : length c.collect.new.times ≡ length c.fill.new.self.times.items = c.collect.auto.times ∙ ap length c.deref_mut.ensures.value in
     let count : c.fill.new.self.times.len ≡ length c.fill.new.self.times.items = grind (arith, common_steps) in
@@ -27,7 +27,7 @@ loop-target-preserved c =
       nothing = c.clear.ensures.items;
       idle = c.in_ok-fill.ensures.idle;
       closed = c.in_ok-collect.ensures.closed c.args.listed.now c.args.cap c.loop-target.invariant.closed
-          (subst (λ (ts : List (Option ℕ)). AreToldLeast c.args.listed.now c.args.cap c.loop-target.target ts) (sym c.deref_mut.ensures.value) least);
+          (subst (λ (ts : List (Option ℕ)). AreCappedLeast c.args.listed.now c.args.cap c.loop-target.target ts) (sym c.deref_mut.ensures.value) least);
       few = c.in_ok-collect.ensures.few c.loop-target.invariant.few;
     }
 

@@ -4,12 +4,12 @@ use Rattle.timetable.specs.Legal.{At}
 use Rattle.footpaths.specs.Index.{IsLastInto, AddsThoseFrom}
 use Rattle.footpaths.proofs.index.add_chain.Given as goal
 
-abbrev pub invariant-loop-place : goal.invariant-loop-place
-invariant-loop-place l = record {
-  in_range : l.place ≤ length l.listed;
-  into : (stop : ℕ) → IsLastInto l.listed stop (length l.listed) l.last → (i : ℕ) (f : Footpath) → l.place ≡ i + 1 → At l.listed i f → f.to ≡ stop;
-  adds : (stop : ℕ) → IsLastInto l.listed stop (length l.listed) l.last → AddsThoseFrom l.listed stop l.place l.initial.paths.items l.paths.items;
+abbrev pub invariant-loop-position : goal.invariant-loop-position
+invariant-loop-position l = record {
+  in_range : l.position ≤ length l.listed;
+  into : (stop : ℕ) → IsLastInto l.listed stop (length l.listed) l.last → (i : ℕ) (f : Footpath) → l.position ≡ i + 1 → At l.listed i f → f.to ≡ stop;
+  adds : (stop : ℕ) → IsLastInto l.listed stop (length l.listed) l.last → AddsThoseFrom l.listed stop l.position l.initial.paths.items l.paths.items;
 }
 
-abbrev pub decreases-loop-place : goal.decreases-loop-place
-decreases-loop-place l = l.place
+abbrev pub decreases-loop-position : goal.decreases-loop-position
+decreases-loop-position l = l.position

@@ -30,12 +30,12 @@ path g c = subst (λ es. IsPath es c.args.head c.pass.new.passed.items c.in_ok-a
 union : (g : given.Over) (c : goal.After-join-arg-4-1 g)
     → IsUnion (g.C.Criterion.rules c.args.criterion.now) c.keep_walked.new.kept.items
     (points_from c.args.entries.now.items c.args.items.now.items c.in_ok-after.after)
-    (points_from c.put.new.entries.items c.put.new.items.items c.in_ok-place.place)
+    (points_from c.put.new.entries.items c.put.new.items.items c.in_ok-index.index)
 union g c =
     subst (λ ps. IsUnion (g.C.Criterion.rules c.args.criterion.now) ps
     (points_from c.args.entries.now.items c.args.items.now.items c.in_ok-after.after)
-    (points_from c.put.new.entries.items c.put.new.items.items c.in_ok-place.place))
-    c.deref-5.ensures.value c.in_ok-place.ensures.union
+    (points_from c.put.new.entries.items c.put.new.items.items c.in_ok-index.index))
+    c.deref-5.ensures.value c.in_ok-index.ensures.union
 
 pub returns-then-len-eq0-clause-takes : goal.returns-then-len-eq0-clause-takes
 returns-then-len-eq0-clause-takes g c =
@@ -64,23 +64,23 @@ put-requires-clause-may g c =
 pub join-requires-clause-path : goal.join-requires-clause-path
 join-requires-clause-path g c =
     path_more (g.C.Criterion.rules c.args.criterion.now) c.args.entries.now.items c.put.new.entries.items
-    c.args.items.now.items c.put.new.items.items c.requires.entries c.in_ok-place.ensures.more_entries
-    c.in_ok-place.ensures.more_items c.args.head c.pass.new.passed.items c.in_ok-after.after (path g c)
+    c.args.items.now.items c.put.new.items.items c.requires.entries c.in_ok-index.ensures.more_entries
+    c.in_ok-index.ensures.more_items c.args.head c.pass.new.passed.items c.in_ok-after.after (path g c)
 
 pub join-requires-clause-after : goal.join-requires-clause-after
 join-requires-clause-after g c =
     let within = (known g (goal.at.join-requires-clause-after g c).After-deref-5).late.within in
-    let grows = extends_long c.args.entries.now.items c.put.new.entries.items c.in_ok-place.ensures.more_entries in
+    let grows = extends_long c.args.entries.now.items c.put.new.entries.items c.in_ok-index.ensures.more_entries in
     omega arith
 
 pub join-requires-clause-early : goal.join-requires-clause-early
 join-requires-clause-early g c =
     let early = subst (λ es. DepartBefore es c.args.boarding.departure c.pass.new.passed.items) c.deref.ensures.value c.in_ok-after.ensures.early in
     before_more (g.C.Criterion.rules c.args.criterion.now) c.args.entries.now.items c.put.new.entries.items
-    c.args.items.now.items c.put.new.items.items c.requires.entries c.in_ok-place.ensures.more_entries
-    c.in_ok-place.ensures.more_items c.args.head c.pass.new.passed.items c.in_ok-after.after
-    c.args.boarding.departure (departure_of c.put.new.entries.items c.in_ok-place.place) (path g c) early
-    c.in_ok-place.ensures.departs
+    c.args.items.now.items c.put.new.items.items c.requires.entries c.in_ok-index.ensures.more_entries
+    c.in_ok-index.ensures.more_items c.args.head c.pass.new.passed.items c.in_ok-after.after
+    c.args.boarding.departure (departure_of c.put.new.entries.items c.in_ok-index.index) (path g c) early
+    c.in_ok-index.ensures.departs
 
 pub join-requires-clause-covers : goal.join-requires-clause-covers
 join-requires-clause-covers g c =
@@ -89,26 +89,26 @@ join-requires-clause-covers g c =
     c.args.boarding.walk c.args.boarding.secs c.in_ok-after.after c.args.ridden.now c.keep_walked.new.steps.items
     c.keep_walked.new.kept.items (known g (goal.at.join-requires-clause-covers g c).After-deref-5)
     c.put.new.entries.items c.put.new.items.items
-    (points_from c.put.new.entries.items c.put.new.items.items c.in_ok-place.place)
-    c.in_ok-place.ensures.more_entries c.in_ok-place.ensures.more_items (union g c)
+    (points_from c.put.new.entries.items c.put.new.items.items c.in_ok-index.index)
+    c.in_ok-index.ensures.more_entries c.in_ok-index.ensures.more_items (union g c)
 
 pub returns-in_err-new-clause-more_entries : goal.returns-in_err-new-clause-more_entries
 returns-in_err-new-clause-more_entries g c =
     extends_on c.args.entries.now.items c.put.new.entries.items c.join.new.entries.items
-    c.in_ok-place.ensures.more_entries c.in_err-new.ensures.more_entries
+    c.in_ok-index.ensures.more_entries c.in_err-new.ensures.more_entries
 
 pub returns-in_err-new-clause-more_items : goal.returns-in_err-new-clause-more_items
 returns-in_err-new-clause-more_items g c =
-    extends_on c.args.items.now.items c.put.new.items.items c.join.new.items.items c.in_ok-place.ensures.more_items
+    extends_on c.args.items.now.items c.put.new.items.items c.join.new.items.items c.in_ok-index.ensures.more_items
     c.in_err-new.ensures.more_items
 
 pub returns-clause-more_entries : goal.returns-clause-more_entries
 returns-clause-more_entries g c = extends_on c.args.entries.now.items c.put.new.entries.items c.join.new.entries.items
-    c.in_ok-place.ensures.more_entries c.in_ok-new.ensures.more_entries
+    c.in_ok-index.ensures.more_entries c.in_ok-new.ensures.more_entries
 
 pub returns-clause-more_items : goal.returns-clause-more_items
 returns-clause-more_items g c = extends_on c.args.items.now.items c.put.new.items.items c.join.new.items.items
-    c.in_ok-place.ensures.more_items c.in_ok-new.ensures.more_items
+    c.in_ok-index.ensures.more_items c.in_ok-new.ensures.more_items
 
 pub returns-clause-takes : goal.returns-clause-takes
 returns-clause-takes g c =
@@ -117,7 +117,7 @@ returns-clause-takes g c =
     c.args.boarding.walk c.args.boarding.secs c.in_ok-after.after c.args.ridden.now c.keep_walked.new.steps.items
     c.keep_walked.new.kept.items (known g (goal.at.returns-clause-takes g c).After-deref-5)
     c.put.new.entries.items c.put.new.items.items
-    (points_from c.put.new.entries.items c.put.new.items.items c.in_ok-place.place)
+    (points_from c.put.new.entries.items c.put.new.items.items c.in_ok-index.index)
     (points_from c.join.new.entries.items c.join.new.items.items c.in_ok-new.new)
-    c.in_ok-place.ensures.more_entries c.in_ok-place.ensures.more_items c.requires.head
+    c.in_ok-index.ensures.more_entries c.in_ok-index.ensures.more_items c.requires.head
     (union g (goal.at.returns-clause-takes g c).After-join-arg-4-1) c.in_ok-new.ensures.joined

@@ -3,7 +3,7 @@ use Rattle.std.proofs.lemmas.List.Elements.{Contains-append_left, Contains-push}
 use Rattle.reasoning.proofs.ListLemmas.{extends_none, extends_on}
 use Rattle.criteria.specs.Laws.{Rules}
 use Rattle.fronts.specs.declared.entry.Item.{Item}
-use Rattle.fronts.specs.declared.entry.Entry.{Entry}
+use Rattle.fronts.specs.declared.entry.FrontEntry.{FrontEntry}
 use Rattle.fronts.specs.Front.{next_of, departure_of, points_from, Extends}
 use Rattle.fronts.specs.Entries.{AreEntries}
 use Rattle.fronts.specs.Putting.{IsPath, DepartBefore}
@@ -13,18 +13,18 @@ use Rattle.fronts.proofs.Joining.{joined_on, joined_here, covers_on}
 use Rattle.fronts.proofs.insertion.join.Goals as goal
 
 -- what the last of the passed entries is
-popped : {V : Type 0} (entries : List (Entry V)) (head was b : ℕ) (passed rest : List ℕ) → passed ≡ rest ++ b ∷ []
+popped : {V : Type 0} (entries : List (FrontEntry V)) (head was b : ℕ) (passed rest : List ℕ) → passed ≡ rest ++ b ∷ []
     → IsPath entries head passed was → IsPath entries head rest b × (0 < b) × (b < length entries)
     × (next_of entries b ≡ was)
 popped entries head was b passed rest e path = path_pop entries head rest b was (subst (λ bs. IsPath entries head bs was) e path)
 
-is_earlier : {V : Type 0} (rules : Rules V) (first mid : List (Entry V)) (first_items mid_items : List (Item V))
-    (head was b place now : ℕ) (passed rest : List ℕ) → AreEntries rules first first_items → Extends first mid
+is_earlier : {V : Type 0} (rules : Rules V) (first mid : List (FrontEntry V)) (first_items mid_items : List (Item V))
+    (head was b index now : ℕ) (passed rest : List ℕ) → AreEntries rules first first_items → Extends first mid
     → Extends first_items mid_items → passed ≡ rest ++ b ∷ [] → IsPath first head passed was
-    → DepartBefore first (departure_of first place) passed
-    → (departure_of first place ≤ departure_of mid now) ⊎ ((0 < was) × (departure_of first was ≤ departure_of mid now))
+    → DepartBefore first (departure_of first index) passed
+    → (departure_of first index ≤ departure_of mid now) ⊎ ((0 < was) × (departure_of first was ≤ departure_of mid now))
     → departure_of mid b < departure_of mid now
-is_earlier rules first mid first_items mid_items head was b place now passed rest are entries items e path before late =
+is_earlier rules first mid first_items mid_items head was b index now passed rest are entries items e path before late =
     let p = popped first head was b passed rest e path in
     let same = same_departure rules first mid first_items mid_items are entries items b p.2 in
     elim late [
@@ -41,7 +41,7 @@ loop-from-init g c =
     let rules = g.C.Criterion.rules c.args.criterion.now in
     record {
       are = c.requires.entries;
-      within = c.requires.place;
+      within = c.requires.index;
       more_entries = extends_none c.args.entries.now.items;
       more_items = extends_none c.args.items.now.items;
       early = c.requires.early;
@@ -51,7 +51,7 @@ loop-from-init g c =
         c.requires.after,
         inl (omega arith),
         joined_here rules (points_from c.args.entries.now.items c.args.items.now.items c.args.after)
-            (points_from c.args.entries.now.items c.args.items.now.items c.args.place) c.requires.covers,
+            (points_from c.args.entries.now.items c.args.items.now.items c.args.index) c.requires.covers,
       );
     }
 
@@ -71,7 +71,7 @@ pub join_one-requires-clause-early : goal.join_one-requires-clause-early
 join_one-requires-clause-early g c =
     let j = c.loop-from.invariant.joined in
     is_earlier (g.C.Criterion.rules c.args.criterion.now) c.args.entries.now.items c.loop-from.entries.items
-    c.args.items.now.items c.loop-from.items.items c.args.head j.0 c.in-Some.from c.args.place c.loop-from.new
+    c.args.items.now.items c.loop-from.items.items c.args.head j.0 c.in-Some.from c.args.index c.loop-from.new
     c.loop-from.passed.items c.pop.new.self.items
     c.requires.entries c.loop-from.invariant.more_entries c.loop-from.invariant.more_items c.in-Some.ensures.items j.1 c.loop-from.invariant.early j.3
 
@@ -81,7 +81,7 @@ join_one-requires-clause-covers g c =
     let p = popped c.args.entries.now.items c.args.head j.0 c.in-Some.from c.loop-from.passed.items c.pop.new.self.items c.in-Some.ensures.items j.1 in
     covers_on (g.C.Criterion.rules c.args.criterion.now) c.args.entries.now.items c.loop-from.entries.items
     c.args.items.now.items c.loop-from.items.items j.0 c.in-Some.from
-    (points_from c.args.entries.now.items c.args.items.now.items c.args.place)
+    (points_from c.args.entries.now.items c.args.items.now.items c.args.index)
     (points_from c.loop-from.entries.items c.loop-from.items.items c.loop-from.new)
     c.requires.entries c.loop-from.invariant.more_entries c.loop-from.invariant.more_items p.2 j.2 p.3 j.4
 
@@ -108,7 +108,7 @@ loop-from-preserved g c =
         p.0,
         p.2,
         inr (p.1, omega arith),
-        joined_on rules first mid c.args.items.now.items c.loop-from.items.items j.0 b c.args.place
+        joined_on rules first mid c.args.items.now.items c.loop-from.items.items j.0 b c.args.index
             (points_from mid c.loop-from.items.items c.loop-from.new)
             (points_from last c.join_one.new.items.items c.in_ok-new.new) c.requires.entries inv.more_entries
             inv.more_items p.2 p.3 j.4 c.in_ok-new.ensures.joined,

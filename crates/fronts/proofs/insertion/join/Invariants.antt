@@ -12,14 +12,14 @@ invariant-loop-from g l =
       within : l.new < length l.entries.items;
       more_entries : Extends l.fn.entries.items l.entries.items;
       more_items : Extends l.fn.items.items l.items.items;
-      early : DepartBefore l.fn.entries.items (departure_of l.fn.entries.items l.place) l.passed.items;
+      early : DepartBefore l.fn.entries.items (departure_of l.fn.entries.items l.index) l.passed.items;
       joined : (was : ℕ)
           × IsPath l.fn.entries.items l.head l.passed.items was
           × (was < length l.fn.entries.items)
-          × ((departure_of l.fn.entries.items l.place ≤ departure_of l.entries.items l.new)
+          × ((departure_of l.fn.entries.items l.index ≤ departure_of l.entries.items l.new)
           ⊎ ((0 < was) × (departure_of l.fn.entries.items was ≤ departure_of l.entries.items l.new)))
           × IsUnion rules (points_from l.fn.entries.items l.fn.items.items was)
-          (points_from l.fn.entries.items l.fn.items.items l.place)
+          (points_from l.fn.entries.items l.fn.items.items l.index)
           (points_from l.entries.items l.items.items l.new);
     }
 

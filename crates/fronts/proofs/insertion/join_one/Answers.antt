@@ -11,10 +11,10 @@ pub returns-then-len-eq0-clause-joined : goal.returns-then-len-eq0-clause-joined
 returns-then-len-eq0-clause-joined g c =
     let rules = g.C.Criterion.rules c.args.criterion.now in
     let is = kept_read rules c.deref.result.now c.args.entries.now.items c.deref-2.result.now c.args.items.now.items
-    c.keep_front.new.kept.items c.args.place c.args.from c.deref.ensures.value c.deref-2.ensures.value
+    c.keep_front.new.kept.items c.args.index c.args.from c.deref.ensures.value c.deref-2.ensures.value
     c.in_ok-keep_front.ensures in
     joined_none rules (g.met.C.Criterion.laws c.args.criterion.now) c.args.entries.now.items c.args.items.now.items
-    c.requires.entries c.args.from c.args.place c.requires.early c.requires.covers c.keep_front.new.kept.items is
+    c.requires.entries c.args.from c.args.index c.requires.early c.requires.covers c.keep_front.new.kept.items is
     (omega arith)
 
 pub put-requires-clause-may : goal.put-requires-clause-may
@@ -22,13 +22,13 @@ put-requires-clause-may g c =
     let rules = g.C.Criterion.rules c.args.criterion.now in
     let entries = c.args.entries.now.items in
     let is = kept_read rules c.deref.result.now entries c.deref-2.result.now c.args.items.now.items
-    c.keep_front.new.kept.items c.args.place c.args.from c.deref.ensures.value c.deref-2.ensures.value
+    c.keep_front.new.kept.items c.args.index c.args.from c.deref.ensures.value c.deref-2.ensures.value
     c.in_ok-keep_front.ensures in
-    subst (λ d. MayPut rules entries d c.args.place c.deref-3.result.now) (departs_at entries c.args.from c.index.result.now c.requires.from c.index.ensures)
-    (subst (λ ps. MayPut rules entries (departure_of entries c.args.from) c.args.place ps) (sym c.deref-3.ensures.value)
+    subst (λ d. MayPut rules entries d c.args.index c.deref-3.result.now) (departs_at entries c.args.from c.index.result.now c.requires.from c.index.ensures)
+    (subst (λ ps. MayPut rules entries (departure_of entries c.args.from) c.args.index ps) (sym c.deref-3.ensures.value)
     (joined_may rules (g.met.C.Criterion.laws c.args.criterion.now) entries c.args.items.now.items c.requires.entries
-    c.args.from c.args.place c.requires.early c.requires.covers c.keep_front.new.kept.items is (omega arith)
-    c.requires.place))
+    c.args.from c.args.index c.requires.early c.requires.covers c.keep_front.new.kept.items is (omega arith)
+    c.requires.index))
 
 pub returns-clause-late : goal.returns-clause-late
 returns-clause-late g c =
@@ -42,9 +42,9 @@ returns-clause-joined g c =
     let entries = c.args.entries.now.items in
     let items = c.args.items.now.items in
     let kept = c.keep_front.new.kept.items in
-    let is = kept_read rules c.deref.result.now entries c.deref-2.result.now items kept c.args.place c.args.from
+    let is = kept_read rules c.deref.result.now entries c.deref-2.result.now items kept c.args.index c.args.from
     c.deref.ensures.value c.deref-2.ensures.value c.in_ok-keep_front.ensures in
     let new = points_from c.put.new.entries.items c.put.new.items.items c.in_ok-new.new in
     joined_put rules (g.met.C.Criterion.laws c.args.criterion.now) entries items c.requires.entries c.args.from
-    c.args.place c.requires.early c.requires.covers kept is new
-    (subst (λ ps. IsUnion rules ps (points_from entries items c.args.place) new) c.deref-3.ensures.value c.in_ok-new.ensures.union)
+    c.args.index c.requires.early c.requires.covers kept is new
+    (subst (λ ps. IsUnion rules ps (points_from entries items c.args.index) new) c.deref-3.ensures.value c.in_ok-new.ensures.union)

@@ -5,5 +5,5 @@ use Rattle.fronts.proofs.keeping.keep_each.Given as goal
 
 abbrev pub invariant-loop-k : goal.invariant-loop-k
 invariant-loop-k g l =
-    let points = front l.arena.entries.now l.arena.items.now l.place in
+    let points = front l.arena.entries.now l.arena.items.now l.index in
     l.kept.items ≡ l.fn.kept.items ++ left_by (g.C.Criterion.rules l.criterion) points (take l.k l.points)

@@ -37,7 +37,7 @@ loop-i-preserved g c =
     let laws = g.met.C.Criterion.laws c.args.criterion.now in
     let inv = c.loop-i.invariant in
     let r = c.index-ridden-i.result in
-    let points = front c.args.arena.entries.now c.args.arena.items.now c.args.place in
+    let points = front c.args.arena.entries.now c.args.arena.items.now c.args.index in
     let contained = c.requires.ridden r (c.loop-i.i, omega arith, sym c.index-ridden-i.is) in
     let admitted = subst (Admits rules) (sym c.walk-value.ensures) (laws.walk_admits c.args.boarding.secs r.value c.requires.secs contained) in
     elim c.if-not-front_betters.branch [

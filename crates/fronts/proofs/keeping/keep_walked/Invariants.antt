@@ -7,5 +7,5 @@ invariant-loop-i g l = record {
   more : Extends l.fn.steps.items l.steps.items;
   boarded : AreBoardings (g.C.Criterion.rules l.criterion) l.steps.items l.boarding.departure l.boarding.first
       l.boarding.walk l.boarding.secs l.ridden l.kept.items;
-  all : AllWalked (g.C.Criterion.rules l.criterion) (front l.arena.entries.now l.arena.items.now l.place) l.boarding.secs l.ridden l.i l.kept.items;
+  all : AllWalked (g.C.Criterion.rules l.criterion) (front l.arena.entries.now l.arena.items.now l.index) l.boarding.secs l.ridden l.i l.kept.items;
 }

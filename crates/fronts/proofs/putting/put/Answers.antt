@@ -1,6 +1,6 @@
 use Rattle.std.proofs.Common.{[], drop, refl, sym, ◌∙◌, subst, append-nil, arith}
 use Rattle.reasoning.proofs.ListLemmas.{extends_on}
-use Rattle.fronts.specs.declared.entry.Entry.{Entry}
+use Rattle.fronts.specs.declared.entry.FrontEntry.{FrontEntry}
 use Rattle.fronts.specs.Front.{Extends}
 use Rattle.fronts.specs.Entries.{AreEntries}
 use Rattle.fronts.proofs.Growth.{are_more, extends_long}
@@ -54,7 +54,7 @@ returns-in_err-count-clause-entries g c =
 pub follow-next-requires : goal.follow-next-requires
 follow-next-requires g c =
     let early = c.requires.may.early in
-    let departs = departs_at c.args.entries.now.items c.args.place c.index.result.now c.requires.may.within c.index.ensures in
+    let departs = departs_at c.args.entries.now.items c.args.index c.index.result.now c.requires.may.within c.index.ensures in
     omega arith
 
 pub returns-in_err-push-clause-entries : goal.returns-in_err-push-clause-entries
@@ -70,11 +70,11 @@ returns-in_err-push-clause-more_entries g c = ([], c.in_err-push.ensures.items �
 -- what the put does
 made : (g : given.Over) (c : goal.In_ok-push g)
     → IsPut (g.C.Criterion.rules c.args.criterion.now) c.args.entries.now.items c.push.new.self.items
-    c.args.items.now.items c.leave_front.new.items.items c.args.departure c.args.place c.args.points.now c.in_ok-new.new
+    c.args.items.now.items c.leave_front.new.items.items c.args.departure c.args.index c.args.points.now c.in_ok-new.new
 made g c =
     let rules = g.C.Criterion.rules c.args.criterion.now in
     let x = c.index-points-0.result in
-    let e : Entry g.row.C-V.Denot = record {
+    let e : FrontEntry g.row.C-V.Denot = record {
       departure = c.args.departure;
       next = c.follow-next.result;
       rest =
@@ -86,17 +86,17 @@ made g c =
     let grows = extends_long c.args.items.now.items c.leave_front.new.items.items
     (extends_on c.args.items.now.items c.push_others.new.items.items c.leave_front.new.items.items
     c.in_ok-push_others.ensures.extends c.in_ok-leave_front.ensures.extends) in
-    let new_is = c.in_ok-new.ensures.place in
-    let rest_is = c.in_ok-rest.ensures.place in
-    let count_is = c.in_ok-count.ensures.place in
+    let new_is = c.in_ok-new.ensures.index in
+    let rest_is = c.in_ok-rest.ensures.index in
+    let count_is = c.in_ok-count.ensures.index in
     put_all rules (g.met.C.Criterion.laws c.args.criterion.now) c.args.entries.now.items c.deref.result.now
-    c.push.new.self.items c.args.items.now.items c.leave_front.new.items.items c.args.departure c.args.place
+    c.push.new.self.items c.args.items.now.items c.leave_front.new.items.items c.args.departure c.args.index
     c.in_ok-new.new c.args.points.now e c.index.result.now x
     c.requires.entries c.requires.may c.deref.ensures.value c.index-points-0.is refl refl refl c.index.ensures
     c.follow-next.ensures (leave_behind rules c.args.points.now c.deref.result.now c.args.items.now.items
     c.push_others.new.items.items c.leave_front.new.items.items (drop 1 c.args.points.now)
     (subst (λ es. AreEntries rules es c.args.items.now.items) (sym c.deref.ensures.value) c.requires.entries)
-    c.args.place c.in_ok-push_others.ensures.pushed c.in_ok-leave_front.ensures.left) (omega arith) (omega arith)
+    c.args.index c.in_ok-push_others.ensures.pushed c.in_ok-leave_front.ensures.left) (omega arith) (omega arith)
     c.in_ok-push.ensures.items (omega arith)
 
 pub returns-clause-entries : goal.returns-clause-entries

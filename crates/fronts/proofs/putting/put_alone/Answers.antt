@@ -1,5 +1,5 @@
 use Rattle.std.proofs.Common.{◌∷◌, [], refl, arith}
-use Rattle.fronts.specs.declared.entry.Entry.{Entry}
+use Rattle.fronts.specs.declared.entry.FrontEntry.{FrontEntry}
 use Rattle.fronts.proofs.OnePut.{IsPut, put_one}
 use Rattle.fronts.proofs.putting.put_alone.Given as given
 use Rattle.fronts.proofs.putting.put_alone.Goals.{In_ok-push}
@@ -8,11 +8,11 @@ use Rattle.fronts.proofs.putting.put_alone.Goals as goal
 -- what the put does
 made : (g : given.Over) (c : goal.In_ok-push g)
     → IsPut (g.C.Criterion.rules c.args.criterion.now) c.args.entries.now.items c.push.new.self.items
-    c.args.items.now c.args.items.now c.args.point.departure c.args.place (c.args.point ∷ []) c.in_ok-new.new
+    c.args.items.now c.args.items.now c.args.point.departure c.args.index (c.args.point ∷ []) c.in_ok-new.new
 made g c =
     let rules = g.C.Criterion.rules c.args.criterion.now in
     let x = c.args.point in
-    let e : Entry g.row.C-V.Denot = record {
+    let e : FrontEntry g.row.C-V.Denot = record {
       departure = x.departure;
       next = c.follow-next.result;
       rest = 0;
@@ -20,9 +20,9 @@ made g c =
       tag = x.tag;
       value = x.value;
     } in
-    let new_is = c.in_ok-new.ensures.place in
+    let new_is = c.in_ok-new.ensures.index in
     put_one rules (g.met.C.Criterion.laws c.args.criterion.now) c.args.entries.now.items c.push.new.self.items
-    c.args.items.now c.args.place c.in_ok-new.new x e c.index.result.now c.requires.entries c.requires.may
+    c.args.items.now c.args.index c.in_ok-new.new x e c.index.result.now c.requires.entries c.requires.may
     c.requires.outdone refl refl refl c.index.ensures c.follow-next.ensures c.in_ok-push.ensures.items (omega (arith, new_is))
 
 pub returns-clause-entries : goal.returns-clause-entries

@@ -3,7 +3,7 @@ use Rattle.std.proofs.lemmas.List.{get_or_default}
 use Rattle.reasoning.proofs.ListLemmas.{not_in_nil}
 use Rattle.reasoning.proofs.OptionLemmas.{on_err}
 use Rattle.fronts.specs.declared.labels.Label.{Label}
-use Rattle.fronts.specs.declared.run_labels.Run.{Run}
+use Rattle.fronts.specs.declared.run_labels.LabelRun.{LabelRun}
 use Rattle.fronts.specs.RunLabels.{ArePut, labels_in, no_run, run_at, run_labels}
 use Rattle.fronts.specs.Offered.{is_beaten, others}
 use Rattle.fronts.proofs.Runs.{put_none, run_there, run_unbeaten, runs_put, runs_stay, with_admitted}
@@ -45,7 +45,7 @@ returns-clause-labels g c =
     let are = c.requires.labels in
     let label : Label g.row.C-V.Denot = record { value = c.args.value; tag = c.in_ok-tag.tag } in
     let run_is = c.index-run.ensures ∙ get_or_default runs c.args.trip run no_run c.requires.trip in
-    let put = subst (λ (r : Run). ArePut old r c.deref-3.result.now placed now) run_is c.in_ok-labels.ensures.put in
+    let put = subst (λ (r : LabelRun). ArePut old r c.deref-3.result.now placed now) run_is c.in_ok-labels.ensures.put in
     let new_is = kept_are g (goal.at.returns-clause-labels g c).After-deref-3 in
     record {
       runs = runs_put runs c.args.trip placed c.requires.trip (length old) (length now) are.runs put.counted put.within put.longer put.apart;
@@ -65,7 +65,7 @@ returns-clause-same g c k other =
     let placed = c.in_ok-labels.field-0 in
     let are = c.requires.labels.runs in
     let run_is = c.index-run.ensures ∙ get_or_default runs c.args.trip run no_run c.requires.trip in
-    let put = subst (λ (r : Run). ArePut old r c.deref-3.result.now placed now) run_is c.in_ok-labels.ensures.put in
+    let put = subst (λ (r : LabelRun). ArePut old r c.deref-3.result.now placed now) run_is c.in_ok-labels.ensures.put in
     ap (labels_in now) (run_there runs c.args.trip placed c.requires.trip k other)
     ∙ put.others (run_at runs k) (are.counted k) (are.within k) (are.apart k c.args.trip other)
 

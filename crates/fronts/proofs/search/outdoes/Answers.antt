@@ -7,25 +7,25 @@ returns-then-entry-gt0 g c =
     let rules = g.C.Criterion.rules c.args.criterion.now in
     let entries = c.args.arena.entries.now in
     let items = c.args.arena.items.now in
-    let e = get_or entries c.args.place c.index-arena-place.result in
-    let is = read_again entries c.args.place c.index-arena-place.result c.index-arena-place.is in
+    let e = get_or entries c.args.index c.index-arena-index.result in
+    let is = read_again entries c.args.index c.index-arena-index.result c.index-arena-index.is in
     sym (several_not_outdone rules c.args.value.now _ items e
-    (front_at entries items c.args.place e (omega arith) c.requires.place is) c.if-entry-gt0.true
-    (entry_part rules entries items c.requires.entries c.args.place e c.requires.place is))
+    (front_at entries items c.args.index e (omega arith) c.requires.index is) c.if-entry-gt0.true
+    (entry_part rules entries items c.requires.entries c.args.index e c.requires.index is))
 
 pub no_worse-requires-clause-other : goal.no_worse-requires-clause-other
 no_worse-requires-clause-other g c =
     let entries = c.args.arena.entries.now in
-    entry_admitted (g.C.Criterion.rules c.args.criterion.now) entries c.args.arena.items.now c.requires.entries c.args.place _ (omega arith) c.requires.place
-    (read_again entries c.args.place c.index-arena-place.result c.index-arena-place.is)
+    entry_admitted (g.C.Criterion.rules c.args.criterion.now) entries c.args.arena.items.now c.requires.entries c.args.index _ (omega arith) c.requires.index
+    (read_again entries c.args.index c.index-arena-index.result c.index-arena-index.is)
 
 pub returns : goal.returns
 returns g c =
     let rules = g.C.Criterion.rules c.args.criterion.now in
     let entries = c.args.arena.entries.now in
     let items = c.args.arena.items.now in
-    let e = get_or entries c.args.place c.index-arena-place.result in
-    let is = read_again entries c.args.place c.index-arena-place.result c.index-arena-place.is in
+    let e = get_or entries c.args.index c.index-arena-index.result in
+    let is = read_again entries c.args.index c.index-arena-index.result c.index-arena-index.is in
     let few = c.if-entry-gt0.false in
     c.no_worse.ensures ∙ sym (one_outdone rules c.args.value.now _ items e
-    (front_at entries items c.args.place e (omega arith) c.requires.place is) (omega (arith, few)))
+    (front_at entries items c.args.index e (omega arith) c.requires.index is) (omega (arith, few)))

@@ -5,19 +5,19 @@ use Rattle.gtfs_rows.specs.Cells.{cell, trim_spaces}
 use Rattle.gtfs_rows.proofs.CellLemmas.{column-here, column-later, field_there}
 use Rattle.gtfs_rows.proofs.cells.column.Goals as goal
 
-pub loop-place-init : goal.loop-place-init
-loop-place-init c = refl
+pub loop-index-init : goal.loop-index-init
+loop-index-init c = refl
 
 pub returns-then-eq : goal.returns-then-eq
 returns-then-eq c =
-    let (f, is, rest) = field_there (fields_of c.args.header.now) c.loop-place.place (omega (arith, c.len-place-end.ensures)) in
-    let here : cell (Some c.loop-place.place) (fields_of c.args.header.now) ≡ trim_spaces f = ap (λ (o : Option (List ℕ)). trim_spaces (unwrap_or o [])) is in
+    let (f, is, rest) = field_there (fields_of c.args.header.now) c.loop-index.index (omega (arith, c.len-index-end.ensures)) in
+    let here : cell (Some c.loop-index.index) (fields_of c.args.header.now) ≡ trim_spaces f = ap (λ (o : Option (List ℕ)). trim_spaces (unwrap_or o [])) is in
     let same : bytes_eq c.args.name.now (trim_spaces f) ≡ true = rw (← here, ← c.cell.ensures) (sym c.eq.ensures ∙ c.if-eq.true) in
-    sym (c.loop-place.invariant ∙ column-here c.args.name.now (fields_of c.args.header.now) c.loop-place.place f rest same)
+    sym (c.loop-index.invariant ∙ column-here c.args.name.now (fields_of c.args.header.now) c.loop-index.index f rest same)
 
-pub loop-place-preserved : goal.loop-place-preserved
-loop-place-preserved c =
-    let (f, is, rest) = field_there (fields_of c.args.header.now) c.loop-place.place (omega (arith, c.len-place-end.ensures)) in
-    let here : cell (Some c.loop-place.place) (fields_of c.args.header.now) ≡ trim_spaces f = ap (λ (o : Option (List ℕ)). trim_spaces (unwrap_or o [])) is in
+pub loop-index-preserved : goal.loop-index-preserved
+loop-index-preserved c =
+    let (f, is, rest) = field_there (fields_of c.args.header.now) c.loop-index.index (omega (arith, c.len-index-end.ensures)) in
+    let here : cell (Some c.loop-index.index) (fields_of c.args.header.now) ≡ trim_spaces f = ap (λ (o : Option (List ℕ)). trim_spaces (unwrap_or o [])) is in
     let differs : bytes_eq c.args.name.now (trim_spaces f) ≡ false = rw (← here, ← c.cell.ensures) (sym c.eq.ensures ∙ c.if-eq.false) in
-    c.loop-place.invariant ∙ column-later c.args.name.now (fields_of c.args.header.now) c.loop-place.place f rest differs
+    c.loop-index.invariant ∙ column-later c.args.name.now (fields_of c.args.header.now) c.loop-index.index f rest differs

@@ -29,7 +29,7 @@ returns-in-Err-add_record-clause-err g c = λ other.
       c.loop-taken.taken,
       c.fault.ensures.row,
       rw c.fault.ensures.kind (first_fault (length_first c.args.width
-          (judge_of g.T.TableRows.TABLE c.args.places.now)) (left_of c.args.records.now) (left_of c.advance.new.self)
+          (judge_of g.T.TableRows.TABLE c.args.indices.now)) (left_of c.args.records.now) (left_of c.advance.new.self)
           c.loop-taken.taken (fields_of c.last.result.now) c.in-Err-add_record.kind (c.loop-taken.invariant.left
           ∙ here) bad c.loop-taken.invariant.good),
     )
@@ -47,7 +47,7 @@ loop-taken-preserved g c =
       reading = c.in-Ok-true.ensures.reading c.loop-taken.invariant.reading;
       text = text_rest (left_of c.loop-taken.records) (left_of c.advance.new.self) (fields_of c.last.result.now) first c.loop-taken.invariant.text;
       left = after;
-      good = faultless_more (length_first c.args.width (judge_of g.T.TableRows.TABLE c.args.places.now))
+      good = faultless_more (length_first c.args.width (judge_of g.T.TableRows.TABLE c.args.indices.now))
           (left_of c.args.records.now) (left_of c.advance.new.self) c.loop-taken.taken
           (fields_of c.last.result.now) here good.0 c.loop-taken.invariant.good;
       held = rw more good.1;

@@ -9,7 +9,7 @@ invariant-loop-taken g l = record {
   reading : IsReading l.records;
   text : AllRecordsText (left_of l.records);
   left : drop l.taken (left_of l.initial.records) ≡ left_of l.records;
-  good : (j : ℕ) → j < l.taken → fault_at (length_first l.width (judge_of g.T.TableRows.TABLE l.places)) (left_of l.initial.records) j ≡ None;
-  held : g.T.TableRows.holds l.places (take l.taken (left_of l.initial.records)) l.rows;
+  good : (j : ℕ) → j < l.taken → fault_at (length_first l.width (judge_of g.T.TableRows.TABLE l.indices)) (left_of l.initial.records) j ≡ None;
+  held : g.T.TableRows.holds l.indices (take l.taken (left_of l.initial.records)) l.rows;
   hashes : g.T.TableRows.hashes l.rows ≡ g.T.TableRows.hashes l.initial.rows;
 }

@@ -1,15 +1,15 @@
 use Rattle.std.proofs.Common.{◌≡◌, ◌∙◌, sym, length, true}
 use Rattle.std.proofs.lemmas.Result.{IfErr-weaker, IfOk-weaker}
-use Rattle.gtfs_rows.specs.Cells.{has_required, places_of}
+use Rattle.gtfs_rows.specs.Cells.{has_required, indices_of}
 use Rattle.gtfs_rows.specs.Source.{last_of, left_of}
 use Rattle.gtfs_rows.specs.Tables.{shape_of}
 use Rattle.gtfs_rows.proofs.FaultLemmas.{fault_under, held_under}
 use Rattle.gtfs_rows.proofs.reader.read_under.Given.{Over}
 use Rattle.gtfs_rows.proofs.reader.read_under.Goals as goal
-use Rattle.gtfs_rows.proofs.reader.read_under.Goals.{After-drop-places-2}
+use Rattle.gtfs_rows.proofs.reader.read_under.Goals.{After-drop-indices-2}
 
-module _ (g : Over) (c : After-drop-places-2 g) where
-  is : c.deref-2.result.now ≡ places_of (shape_of g.T.TableRows.TABLE).names (last_of c.args.records.now)
+module _ (g : Over) (c : After-drop-indices-2 g) where
+  is : c.deref-2.result.now ≡ indices_of (shape_of g.T.TableRows.TABLE).names (last_of c.args.records.now)
   is = c.deref-2.ensures.value ∙ (rw (c.columns.ensures, c.TABLE.ensures, c.last-header.ensures) at c.in-Ok.ensures)
 
   wide : c.len-width.result ≡ length (last_of c.args.records.now)

@@ -1,6 +1,6 @@
 use Rattle.std.proofs.Common.{◌≡◌, None, Some, ℕ, map, refl, slice_index_or, string_bytes}
 use Rattle.csv.specs.Records.{fields_of}
-use Rattle.gtfs_rows.specs.Cells.{Places}
+use Rattle.gtfs_rows.specs.Cells.{ColumnIndices}
 use Rattle.gtfs_rows.specs.Rows.{SpellsStopTime, stop_time_fault, time_fault, value}
 use Rattle.gtfs_rows.specs.Source.{Record}
 use Rattle.gtfs_rows.specs.Values.{number_of}
@@ -9,15 +9,15 @@ use Rattle.gtfs_rows.proofs.CellLemmas.{cell_text}
 use Rattle.gtfs_rows.proofs.SeenLemmas.{rows_more, stops_more, trips_more}
 use Rattle.gtfs_rows.proofs.stop_times.add_stop_time.Goals as goal
 
-no_stop_time_fault : (places : Places) (r : Record) (n : ℕ) → time_fault (value places 1 r) ≡ None → time_fault (value places 2 r) ≡ None
-    → number_of (value places 4 r) ≡ Some n → stop_time_fault places r ≡ None
-no_stop_time_fault places r n a d s = rw (a, d, s) refl
+no_stop_time_fault : (indices : ColumnIndices) (r : Record) (n : ℕ) → time_fault (value indices 1 r) ≡ None → time_fault (value indices 2 r) ≡ None
+    → number_of (value indices 4 r) ≡ Some n → stop_time_fault indices r ≡ None
+no_stop_time_fault indices r n a d s = rw (a, d, s) refl
 
-pub place_of-requires : goal.place_of-requires
-place_of-requires c = rw c.get.ensures (cell_text (slice_index_or c.args.cells.now.places.now 0 None) (fields_of c.args.cells.now.fields.now) c.requires)
+pub index_of-requires : goal.index_of-requires
+index_of-requires c = rw c.get.ensures (cell_text (slice_index_or c.args.cells.now.indices.now 0 None) (fields_of c.args.cells.now.fields.now) c.requires)
 
-pub stop_place-requires : goal.stop_place-requires
-stop_place-requires c = rw c.get-2.ensures (cell_text (slice_index_or c.args.cells.now.places.now 3 None) (fields_of c.args.cells.now.fields.now) c.requires)
+pub stop_index-requires : goal.stop_index-requires
+stop_index-requires c = rw c.get-2.ensures (cell_text (slice_index_or c.args.cells.now.indices.now 3 None) (fields_of c.args.cells.now.fields.now) c.requires)
 
 pub returns-clause-ok : goal.returns-clause-ok
 returns-clause-ok c = λ before held.
@@ -30,7 +30,7 @@ returns-clause-ok c = λ before held.
       board = c.available.result;
       alight = c.available-2.result;
     } in
-    let spelled : SpellsStopTime (map string_bytes c.place_of.new.ids.keys) (map string_bytes c.stop_place.new.stops.keys) c.args.cells.now.places.now
+    let spelled : SpellsStopTime (map string_bytes c.index_of.new.ids.keys) (map string_bytes c.stop_index.new.stops.keys) c.args.cells.now.indices.now
     (fields_of c.args.cells.now.fields.now) row = record {
       trip = rw c.get.ensures at c.in_ok-trip.ensures.ok;
       arrival = c.in_ok-arrival.ensures.ok;
@@ -40,19 +40,19 @@ returns-clause-ok c = λ before held.
       board = rw c.get-3.ensures at c.available.ensures;
       alight = rw c.get-4.ensures at c.available-2.ensures;
     } in (
-      no_stop_time_fault c.args.cells.now.places.now (fields_of c.args.cells.now.fields.now) c.in_ok-sequence.sequence
+      no_stop_time_fault c.args.cells.now.indices.now (fields_of c.args.cells.now.fields.now) c.in_ok-sequence.sequence
           c.in_ok-arrival.ensures.fine c.in_ok-departure.ensures.fine
           c.in_ok-sequence.ensures.ok,
       record {
-        trips = trips_more c.args.cells.now.places.now before (fields_of c.args.cells.now.fields.now) (map string_bytes c.args.times.now.trips.keys)
-            (map string_bytes c.place_of.new.ids.keys) held.trips (rw c.get.ensures at c.in_ok-trip.ensures.more);
-        stops = stops_more c.args.cells.now.places.now before (fields_of c.args.cells.now.fields.now) (map string_bytes c.args.times.now.stops.keys)
-            (map string_bytes c.stop_place.new.stops.keys) held.stops (rw c.get-2.ensures at c.in_ok-stop.ensures.more);
+        trips = trips_more c.args.cells.now.indices.now before (fields_of c.args.cells.now.fields.now) (map string_bytes c.args.times.now.trips.keys)
+            (map string_bytes c.index_of.new.ids.keys) held.trips (rw c.get.ensures at c.in_ok-trip.ensures.more);
+        stops = stops_more c.args.cells.now.indices.now before (fields_of c.args.cells.now.fields.now) (map string_bytes c.args.times.now.stops.keys)
+            (map string_bytes c.stop_index.new.stops.keys) held.stops (rw c.get-2.ensures at c.in_ok-stop.ensures.more);
         rows = rows_more (map string_bytes c.args.times.now.trips.keys) (map string_bytes c.args.times.now.stops.keys)
-            (map string_bytes c.place_of.new.ids.keys) (map string_bytes c.stop_place.new.stops.keys)
-            (value c.args.cells.now.places.now 0 (fields_of c.args.cells.now.fields.now))
-            (value c.args.cells.now.places.now 3 (fields_of c.args.cells.now.fields.now))
-            c.args.cells.now.places.now before
+            (map string_bytes c.index_of.new.ids.keys) (map string_bytes c.stop_index.new.stops.keys)
+            (value c.args.cells.now.indices.now 0 (fields_of c.args.cells.now.fields.now))
+            (value c.args.cells.now.indices.now 3 (fields_of c.args.cells.now.fields.now))
+            c.args.cells.now.indices.now before
             (fields_of c.args.cells.now.fields.now)
             c.args.times.now.rows.items c.add_row.new.rows.items row (rw c.get.ensures at c.in_ok-trip.ensures.more)
             (rw c.get-2.ensures at c.in_ok-stop.ensures.more) c.in_ok-add_row.ensures.ok held.rows spelled;

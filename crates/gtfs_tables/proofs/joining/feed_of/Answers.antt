@@ -7,12 +7,12 @@ use Rattle.gtfs_tables.specs.Names.{stop_named, trip_named}
 use Rattle.gtfs_tables.specs.Order.{comes_before, turns_in}
 use Rattle.gtfs_tables.specs.Rows.{IsTransferOf, is_kept}
 use Rattle.gtfs_tables.specs.declared.tables.Frequency.{Frequency}
-use Rattle.gtfs_tables.proofs.JoinLemmas.{flex_told, none_first, of_ok, rows_are, transfer_first, trip_first, trips_are}
+use Rattle.gtfs_tables.proofs.JoinLemmas.{flex_as_given, none_first, of_ok, rows_are, transfer_first, trip_first, trips_are}
 use Rattle.gtfs_tables.proofs.JoinedLemmas.{joined_names, joined_trips}
 use Rattle.gtfs_tables.proofs.joining.feed_of.Goals as goal
 
 pub made_of-requires-clause-flex : goal.made_of-requires-clause-flex
-made_of-requires-clause-flex c = flex_told c.args.tables.stop_times.rows.items c.args.links.names.trips.items
+made_of-requires-clause-flex c = flex_as_given c.args.tables.stop_times.rows.items c.args.links.names.trips.items
     (trips_by (trip_named c.args.tables.trips.items) c.args.tables) c.args.links.names.flex.items c.args.links.names.flex.items
     c.requires.trips refl c.requires.flex
 

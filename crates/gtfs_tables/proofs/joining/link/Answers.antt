@@ -1,6 +1,6 @@
 use Rattle.std.proofs.Common.{◌∙◌, ap}
 use Rattle.gtfs_tables.specs.Names.{held_at, stop_named, trip_named}
-use Rattle.gtfs_tables.proofs.JoinLemmas.{fault_told, links_told}
+use Rattle.gtfs_tables.proofs.JoinLemmas.{fault_as_given, links_as_given}
 use Rattle.gtfs_tables.proofs.joining.link.Goals as goal
 
 pub stops_by_id-requires : goal.stops_by_id-requires
@@ -17,7 +17,7 @@ returns-in_default-trips_by_id-clause-err c = λ other. absurd (other c.out_of_m
 
 pub returns-clause-ok : goal.returns-clause-ok
 returns-clause-ok c =
-    links_told (held_at c.in-Ok.names) (stop_named c.args.tables.now.stops.items) (held_at c.in-Ok-trips_by_id.places)
+    links_as_given (held_at c.in-Ok.names) (stop_named c.args.tables.now.stops.items) (held_at c.in-Ok-trips_by_id.indices)
     (trip_named c.args.tables.now.trips.items) c.args.tables.now c.link_by.result
     (λ id. c.in-Ok.ensures id ∙ ap (λ stops. stop_named stops id) c.deref.ensures.value)
     (λ id. c.in-Ok-trips_by_id.ensures id ∙ ap (λ trips. trip_named trips id) c.deref-2.ensures.value)
@@ -25,7 +25,7 @@ returns-clause-ok c =
 
 pub returns-clause-err : goal.returns-clause-err
 returns-clause-err c =
-    fault_told (held_at c.in-Ok.names) (stop_named c.args.tables.now.stops.items) (held_at c.in-Ok-trips_by_id.places)
+    fault_as_given (held_at c.in-Ok.names) (stop_named c.args.tables.now.stops.items) (held_at c.in-Ok-trips_by_id.indices)
     (trip_named c.args.tables.now.trips.items) c.args.tables.now c.link_by.result
     (λ id. c.in-Ok.ensures id ∙ ap (λ stops. stop_named stops id) c.deref.ensures.value)
     (λ id. c.in-Ok-trips_by_id.ensures id ∙ ap (λ trips. trip_named trips id) c.deref-2.ensures.value)

@@ -3,8 +3,8 @@ use Rattle.std.specs.Prelude.{IsSortedBy}
 use Rattle.std.proofs.lemmas.List.{length-map}
 use Rattle.gtfs_tables.specs.Feeds.{linked_by}
 use Rattle.gtfs_tables.specs.Order.{comes_before, turns_by, turns_in}
-use Rattle.gtfs_tables.specs.declared.order.Turn.{Turn}
-use Rattle.gtfs_tables.proofs.JoinLemmas.{trips_made, trips_told, turns_told}
+use Rattle.gtfs_tables.specs.declared.order.SortKey.{SortKey}
+use Rattle.gtfs_tables.proofs.JoinLemmas.{trips_made, trips_as_given, keys_as_given}
 use Rattle.gtfs_tables.proofs.joining.timed_rows.Goals.{After-deref-2}
 use Rattle.gtfs_tables.proofs.joining.timed_rows.Goals as goal
 
@@ -14,7 +14,8 @@ made c = c.deref.ensures.value ∙ c.in-Ok.ensures
 
 same : (c : goal.After-deref-2) → turns_by c.args.links.now.order c.deref.result.now
     ≡ turns_in c.args.links.now.names.trips.items c.args.links.now.order c.args.rows.items
-same c = turns_told c.args.links.now.names.trips.items c.args.links.now.names.stops.items c.args.links.now.order c.args.rows.items c.deref.result.now (made c)
+same c = keys_as_given c.args.links.now.names.trips.items c.args.links.now.names.stops.items c.args.links.now.order c.args.rows.items c.deref.result.now
+    (made c)
 
 pub linked_rows-requires : goal.linked_rows-requires
 linked_rows-requires c = c.requires.flex
@@ -29,7 +30,7 @@ timed_trips-requires-clause-len c =
     ∙ sym (ap length (same from))
 
 pub timed_trips-requires-clause-rising : goal.timed_trips-requires-clause-rising
-timed_trips-requires-clause-rising c = subst (λ (turns : List Turn). IsSortedBy comes_before turns)
+timed_trips-requires-clause-rising c = subst (λ (turns : List SortKey). IsSortedBy comes_before turns)
     (sym (same (goal.at.timed_trips-requires-clause-rising c).After-deref-2)) c.requires.rising
 
 pub returns-in-Ok-timed_trips-clause-rows : goal.returns-in-Ok-timed_trips-clause-rows
@@ -38,7 +39,7 @@ returns-in-Ok-timed_trips-clause-rows c = sym c.deref.ensures.value ∙ made (go
 pub returns-in-Ok-timed_trips-clause-fine : goal.returns-in-Ok-timed_trips-clause-fine
 returns-in-Ok-timed_trips-clause-fine c =
     let from = (goal.at.returns-in-Ok-timed_trips-clause-fine c).After-deref-2 in
-    trips_told c.args.strict _ _ _ _ _ _ (same from) (made from) c.in-Ok-timed_trips.ensures.fine
+    trips_as_given c.args.strict _ _ _ _ _ _ (same from) (made from) c.in-Ok-timed_trips.ensures.fine
 
 pub returns-in-Ok-timed_trips-clause-trips : goal.returns-in-Ok-timed_trips-clause-trips
 returns-in-Ok-timed_trips-clause-trips c =
@@ -48,4 +49,4 @@ returns-in-Ok-timed_trips-clause-trips c =
 pub returns-in-Err-clause-err : goal.returns-in-Err-clause-err
 returns-in-Err-clause-err c = λ other.
     let from = (goal.at.returns-in-Err-clause-err c).After-deref-2 in
-    trips_told c.args.strict _ _ _ _ _ _ (same from) (made from) (c.in-Err.ensures.err other)
+    trips_as_given c.args.strict _ _ _ _ _ _ (same from) (made from) (c.in-Err.ensures.err other)

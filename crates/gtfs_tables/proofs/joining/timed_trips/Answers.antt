@@ -9,7 +9,7 @@ use Rattle.gtfs_tables.proofs.joining.timed_trips.Goals as goal
 
 pub loop-row-init : goal.loop-row-init
 loop-row-init c = record {
-  place = refl;
+  index = refl;
   left = let e = ap length c.into_iter-row-iterator.ensures.into_iter_gives.0 in omega (arith, e);
   within = omega arith;
   first = first_turn-is (turns_by c.args.order.now c.args.rows.now) 0 0 c.requires.rising (omega arith)
@@ -21,7 +21,7 @@ loop-row-init c = record {
 
 pub loop-row-preserved : goal.loop-row-preserved
 loop-row-preserved c = record {
-  place = grind (arith, common_steps);
+  index = grind (arith, common_steps);
   left = let step = ap length c.in-Some.ensures.steps.0 in let more =
       length-append c.loop-row.yielded (c.in-Some.row
       ∷ []) in omega (
@@ -33,12 +33,12 @@ loop-row-preserved c = record {
   within = c.end_of_trip-end.ensures.within;
   first = c.end_of_trip-end.ensures.end;
   before = c.end_of_trip-end.ensures.before;
-  fine = first_below-more (trip_fault c.args.strict (turns_by c.args.order.now c.args.rows.now) c.args.rows.now) c.loop-row.place c.loop-row.invariant.fine
-      (trip_fault-at c.args.strict (turns_by c.args.order.now c.args.rows.now) c.args.rows.now c.loop-row.place c.loop-row.first
+  fine = first_below-more (trip_fault c.args.strict (turns_by c.args.order.now c.args.rows.now) c.args.rows.now) c.loop-row.index c.loop-row.invariant.fine
+      (trip_fault-at c.args.strict (turns_by c.args.order.now c.args.rows.now) c.args.rows.now c.loop-row.index c.loop-row.first
       c.end_of_trip-end.result c.loop-row.invariant.first c.end_of_trip-end.ensures.end ∙ c.in-Ok-judge_trip.ensures.ok);
   timed = c.in-Ok-push.ensures.items ∙ feed_trips-more (turns_by c.args.order.now c.args.rows.now) c.args.rows.now
-      (λ t. slice_index_or c.args.repeats.now t false) c.loop-row.place c.loop-row.yielded c.in-Some.row c.loop-row.timed.items
-      c.loop-row.first c.end_of_trip-end.result c.flex_at.result c.is_flex.result c.loop-row.invariant.place
+      (λ t. slice_index_or c.args.repeats.now t false) c.loop-row.index c.loop-row.yielded c.in-Some.row c.loop-row.timed.items
+      c.loop-row.first c.end_of_trip-end.result c.flex_at.result c.is_flex.result c.loop-row.invariant.index
       c.loop-row.invariant.timed c.loop-row.invariant.first c.end_of_trip-end.ensures.end c.flex_at.ensures
       c.is_flex.ensures;
 }
@@ -46,8 +46,8 @@ loop-row-preserved c = record {
 pub returns-in-Err-clause-err : goal.returns-in-Err-clause-err
 returns-in-Err-clause-err c = λ other.
     let step = ap length c.in-Some.ensures.steps.0 in
-    let lt : c.loop-row.place < length c.args.trips.items = omega (arith, step, c.loop-row.invariant.left, c.loop-row.invariant.place) in
+    let lt : c.loop-row.index < length c.args.trips.items = omega (arith, step, c.loop-row.invariant.left, c.loop-row.invariant.index) in
     first_below-found (trip_fault c.args.strict (turns_by c.args.order.now c.args.rows.now) c.args.rows.now) (length c.args.trips.items)
-    c.loop-row.place c.in-Err.fault lt c.loop-row.invariant.fine
-    (trip_fault-at c.args.strict (turns_by c.args.order.now c.args.rows.now) c.args.rows.now c.loop-row.place c.loop-row.first
+    c.loop-row.index c.in-Err.fault lt c.loop-row.invariant.fine
+    (trip_fault-at c.args.strict (turns_by c.args.order.now c.args.rows.now) c.args.rows.now c.loop-row.index c.loop-row.first
     c.end_of_trip-end.result c.loop-row.invariant.first c.end_of_trip-end.ensures.end ∙ c.in-Err.ensures.err other)

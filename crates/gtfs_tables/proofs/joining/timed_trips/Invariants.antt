@@ -7,11 +7,11 @@ use Rattle.gtfs_tables.proofs.joining.timed_trips.Given as goal
 
 abbrev pub invariant-loop-row : goal.invariant-loop-row
 invariant-loop-row l = record {
-  place : l.place ≡ length l.yielded;
+  index : l.index ≡ length l.yielded;
   left : length l.yielded + length l.row-iterator.rest.items ≡ length l.fn.trips.items;
   within : l.first ≤ length l.rows;
-  first : l.first ≡ first_turn (turns_by l.order l.rows) l.place;
-  before : AllWithin (λ turn. turn.trip < l.place) (turns_by l.order l.rows) 0 l.first;
-  fine : first_below (trip_fault l.strict (turns_by l.order l.rows) l.rows) l.place ≡ None;
+  first : l.first ≡ first_turn (turns_by l.order l.rows) l.index;
+  before : AllWithin (λ turn. turn.trip < l.index) (turns_by l.order l.rows) 0 l.first;
+  fine : first_below (trip_fault l.strict (turns_by l.order l.rows) l.rows) l.index ≡ None;
   timed : l.timed.items ≡ feed_trips (turns_by l.order l.rows) l.rows (λ t. slice_index_or l.repeats t false) 0 l.yielded;
 }

@@ -7,7 +7,7 @@ use Rattle.gtfs_tables.proofs.links.repeating.Given as goal
 
 abbrev pub invariant-loop-at : goal.invariant-loop-at
 invariant-loop-at l = record {
-  fine : first_below (row_fault Frequencies (frequency_fault (held_at l.places)) l.frequencies) l.at ≡ None;
+  fine : first_below (row_fault Frequencies (frequency_fault (held_at l.indices)) l.frequencies) l.at ≡ None;
   len : length l.repeats.items ≡ l.trips;
-  marked : (t : ℕ) → t < l.trips → slice_index_or l.repeats.items t false ≡ is_repeated (held_at l.places) (take l.at l.frequencies) t;
+  marked : (t : ℕ) → t < l.trips → slice_index_or l.repeats.items t false ≡ is_repeated (held_at l.indices) (take l.at l.frequencies) t;
 }

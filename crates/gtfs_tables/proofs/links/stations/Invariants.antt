@@ -5,8 +5,8 @@ use Rattle.gtfs_tables.specs.Names.{held_at}
 use Rattle.gtfs_tables.specs.Rows.{parent_fault, station_of}
 use Rattle.gtfs_tables.proofs.links.stations.Given as goal
 
-abbrev pub invariant-loop-place : goal.invariant-loop-place
-invariant-loop-place l = record {
-  fine : first_below (row_fault Stops (parent_fault (held_at l.names)) l.stops) l.place ≡ None;
-  found : l.found.items ≡ map (station_of (held_at l.names)) (take l.place l.stops);
+abbrev pub invariant-loop-index : goal.invariant-loop-index
+invariant-loop-index l = record {
+  fine : first_below (row_fault Stops (parent_fault (held_at l.names)) l.stops) l.index ≡ None;
+  found : l.found.items ≡ map (station_of (held_at l.names)) (take l.index l.stops);
 }

@@ -7,8 +7,8 @@ use Rattle.gtfs_tables.specs.Names.{held_at}
 use Rattle.gtfs_tables.specs.Rows.{IsTransferOf, is_kept, transfer_fault}
 use Rattle.gtfs_tables.proofs.links.transfers.Given as goal
 
-abbrev pub invariant-loop-place : goal.invariant-loop-place
-invariant-loop-place l = record {
-  fine : first_below (row_fault Transfers (transfer_fault (held_at l.names)) l.rows) l.place ≡ None;
-  kept : AllZip (IsTransferOf (held_at l.names)) (filter is_kept (take l.place l.rows)) l.kept.items;
+abbrev pub invariant-loop-index : goal.invariant-loop-index
+invariant-loop-index l = record {
+  fine : first_below (row_fault Transfers (transfer_fault (held_at l.names)) l.rows) l.index ≡ None;
+  kept : AllZip (IsTransferOf (held_at l.names)) (filter is_kept (take l.index l.rows)) l.kept.items;
 }

@@ -7,34 +7,34 @@ use Rattle.gtfs_tables.proofs.NameLemmas.{held-none, stop_named-more}
 use Rattle.gtfs_tables.proofs.names.stops_by_id.Goals as goal
 use Rattle.gtfs_tables.proofs.names.stops_by_id.Goals.{then-eq, else-eq}
 
-pub loop-place-init : goal.loop-place-init
-loop-place-init c = record {
+pub loop-index-init : goal.loop-index-init
+loop-index-init c = record {
   number = search rules;
   held = λ id. held-none c.in_ok-names.names id c.in_ok-names.ensures.empty ∙ sym (first_below-start _);
 }
 
-pub loop-place-preserved : goal.loop-place-preserved
-loop-place-preserved c = record {
+pub loop-index-preserved : goal.loop-index-preserved
+loop-index-preserved c = record {
   number = elim c.if-eq.branch [
     | then-eq w ↦
         grind (
           arith,
           common_steps,
-          count_by_more_yes is_stop c.args.stops.now c.loop-place.place
-              c.index-stops-place.result,
+          count_by_more_yes is_stop c.args.stops.now c.loop-index.index
+              c.index-stops-index.result,
         )
     | else-eq w ↦
         grind (
           arith,
           common_steps,
-          count_by_more_no is_stop c.args.stops.now c.loop-place.place
-              c.index-stops-place.result,
+          count_by_more_no is_stop c.args.stops.now c.loop-index.index
+              c.index-stops-index.result,
         )
   ];
   held = λ id.
-      let before = c.loop-place.invariant.held id in
-      let count = c.loop-place.invariant.number in
-      let step = stop_named-more c.args.stops.now c.loop-place.place c.index-stops-place.result id (omega arith) c.index-stops-place.is in
+      let before = c.loop-index.invariant.held id in
+      let count = c.loop-index.invariant.number in
+      let step = stop_named-more c.args.stops.now c.loop-index.index c.index-stops-index.result id (omega arith) c.index-stops-index.is in
       let put = c.in_ok-add_first.ensures id in
       let text = c.as_str.ensures.value in
       let name = c.named_as-name.ensures in

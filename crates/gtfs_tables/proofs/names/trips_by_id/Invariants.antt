@@ -3,5 +3,5 @@ use Rattle.gtfs_tables.specs.First.{first_below}
 use Rattle.gtfs_tables.specs.Names.{held_at, trip_with}
 use Rattle.gtfs_tables.proofs.names.trips_by_id.Given as goal
 
-abbrev pub invariant-loop-place : goal.invariant-loop-place
-invariant-loop-place l = (id : List ℕ) → held_at l.places id ≡ first_below (trip_with l.trips id) l.place
+abbrev pub invariant-loop-index : goal.invariant-loop-index
+invariant-loop-index l = (id : List ℕ) → held_at l.indices id ≡ first_below (trip_with l.trips id) l.index

@@ -6,14 +6,14 @@ use Rattle.gtfs_tables.proofs.order.are_in_order.Goals as goal
 pub loop-at-init : goal.loop-at-init
 loop-at-init c =
     let some : 0 < length c.args.rows.now = search rules in
-    rising_one c.args.trips.now c.args.rows.now c.turn_of-last.result some c.turn_of-last.ensures
+    rising_one c.args.trips.now c.args.rows.now c.sort_key_of-last.result some c.sort_key_of-last.ensures
 
 pub loop-at-preserved : goal.loop-at-preserved
 loop-at-preserved c =
     let some : 0 < c.loop-at.at = (let low = c.loop-at.auto.at in omega (arith, low)) in
-    let up : comes_before c.turn_of-turn.result c.loop-at.last ≡ false = search rules in
-    rising_more c.args.trips.now c.args.rows.now c.loop-at.at c.loop-at.last c.turn_of-turn.result some c.loop-at-test.true
-    c.turn_of-turn.ensures up c.loop-at.invariant
+    let up : comes_before c.sort_key_of-turn.result c.loop-at.last ≡ false = search rules in
+    rising_more c.args.trips.now c.args.rows.now c.loop-at.at c.loop-at.last c.sort_key_of-turn.result some c.loop-at-test.true
+    c.sort_key_of-turn.ensures up c.loop-at.invariant
 
 pub returns : goal.returns
 returns c holds =

@@ -1,9 +1,9 @@
 use Rattle.image_layout.proofs.NameByte.{name_byte_within, name_byte}
 use Rattle.image_layout.proofs.fields.name_byte_at.Goals as goal
 
-pub bounds-words-text_place : goal.bounds-words-text_place
-bounds-words-text_place c = rw (
-  c.text_place.ensures,
+pub bounds-words-text_offset : goal.bounds-words-text_offset
+bounds-words-text_offset c = rw (
+  c.text_offset.ensures,
   c.of.ensures,
   c.name_index_at.ensures,
 ) (name_byte_within c.args.words.now c.args.name c.args.byte c.requires.inside)
@@ -11,7 +11,7 @@ bounds-words-text_place c = rw (
 pub returns : goal.returns
 returns c = rw (
   c.to_le_bytes.ensures,
-  c.text_place.ensures,
+  c.text_offset.ensures,
   c.of.ensures,
   c.name_index_at.ensures,
 ) (name_byte c.args.words.now c.args.name c.args.byte c.requires.inside)

@@ -1,5 +1,5 @@
 use Rattle.std.proofs.Common.{ap, sym, subst, ◌∙◌, List, ℕ}
-use Rattle.image_layout.specs.Places.{IsWhole}
+use Rattle.image_layout.specs.Offsets.{IsWhole}
 use Rattle.image_layout.specs.Fields.{layout_of}
 use Rattle.image_layout.specs.Shown.{timetable_of, names_of}
 use Rattle.image_layout.proofs.Back.{image_is_whole, timetable_back}

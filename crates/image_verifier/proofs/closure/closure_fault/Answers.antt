@@ -1,5 +1,5 @@
 use Rattle.std.proofs.Common.{◌<◌, sym, subst, ◌∙◌}
-use Rattle.image_layout.specs.Places.{header_of}
+use Rattle.image_layout.specs.Offsets.{header_of}
 use Rattle.image_layout.specs.declared.header.Header.{Header}
 use Rattle.image_verifier.specs.ClosureFaults.{into_fault}
 use Rattle.timetable.proofs.FirstLemmas.{first_below-start, first_below-more, first_below-found}

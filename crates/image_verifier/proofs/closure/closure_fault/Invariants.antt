@@ -1,6 +1,6 @@
 use Rattle.std.proofs.Common.{◌≡◌, None}
 use Rattle.std.specs.Prelude.{replicate}
-use Rattle.image_layout.specs.Places.{header_of}
+use Rattle.image_layout.specs.Offsets.{header_of}
 use Rattle.timetable.specs.First.{first_below}
 use Rattle.image_verifier.specs.declared.closure.TheConstants.{NEVER}
 use Rattle.image_verifier.specs.ClosureFaults.{into_fault}

@@ -1,6 +1,6 @@
 use Rattle.std.proofs.Common.{◌+◌, arith, sym, ◌∙◌}
 use Rattle.image_layout.specs.Fields.{foot_index_of}
-use Rattle.image_verifier.proofs.ClosureLemmas.{way_at, into_by_place, none_to_end}
+use Rattle.image_verifier.proofs.ClosureLemmas.{way_at, into_by_index, none_to_end}
 use Rattle.timetable.proofs.FirstLemmas.{first_between-empty, first_between-more, first_between-found}
 use Rattle.image_verifier.proofs.closure.into_fault.Goals as goal
 
@@ -14,7 +14,7 @@ pub returns-in-Some-clause-fault : goal.returns-in-Some-clause-fault
 returns-in-Some-clause-fault c =
     let w = c.args.words.now in
     let into = c.args.into in
-    sym (into_by_place w into (c.requires.ranges into c.requires.into)
+    sym (into_by_index w into (c.requires.ranges into c.requires.into)
     ∙ first_between-found (way_at w into) (foot_index_of w into) (foot_index_of w (into + 1)) c.loop-second.second
     c.in-Some.fault (omega arith) (omega arith) c.loop-second.invariant (sym c.way_fault.ensures ∙ c.in-Some.is))
 
@@ -29,5 +29,5 @@ pub returns-clause-fault : goal.returns-clause-fault
 returns-clause-fault c =
     let w = c.args.words.now in
     let into = c.args.into in
-    sym (into_by_place w into (c.requires.ranges into c.requires.into)
+    sym (into_by_index w into (c.requires.ranges into c.requires.into)
     ∙ none_to_end (way_at w into) (foot_index_of w into) (foot_index_of w (into + 1)) c.loop-second.second (omega arith) c.loop-second.invariant)

@@ -3,7 +3,7 @@ use Rattle.image_layout.specs.Fields.{foot_index_of, foot_from_of, foot_secs_of}
 use Rattle.image_verifier.specs.declared.fault.ImageFault.TheVariants.{NotClosed}
 use Rattle.image_verifier.specs.FootFaults.{IsInto}
 use Rattle.image_verifier.specs.ClosureFaults.{or_never, secs_between}
-use Rattle.image_verifier.proofs.ClosureLemmas.{open_at, way_by_place, pair_closed, pair_open, none_to_end}
+use Rattle.image_verifier.proofs.ClosureLemmas.{open_at, way_by_index, pair_closed, pair_open, none_to_end}
 use Rattle.timetable.proofs.FirstLemmas.{first_between-empty, first_between-more, first_between-found}
 use Rattle.image_verifier.proofs.closure.way_fault.Goals.{After-foot_secs_at}
 use Rattle.image_verifier.proofs.closure.way_fault.Goals as goal
@@ -51,7 +51,7 @@ returns-then-secs-from c =
     let longer = pair_open w first c.args.second into (get_or c.args.secs.now (foot_from_of w first) 0)
     c.requires.ranges there c.requires.second (direct at_hand) long in
     rw (c.foot_from_at-from.ensures, c.foot_from_at-middle.ensures)
-    (sym (way_by_place w middle into (c.requires.ranges middle there.stop)
+    (sym (way_by_index w middle into (c.requires.ranges middle there.stop)
     ∙ first_between-found (open_at w middle into) (foot_index_of w middle) (foot_index_of w (middle + 1)) first (NotClosed (foot_from_of w first) middle into)
     there.start there.end c.loop-first.invariant longer))
 
@@ -74,6 +74,6 @@ returns c =
     let end : c.foot_index_at-first-end.result ≡ foot_index_of w (middle + 1) =
     c.foot_index_at-first-end.ensures ∙ ap (λ (m : ℕ). foot_index_of w (m + 1)) c.foot_from_at-middle.ensures in
     let in_range = (c.requires.ranges c.args.into c.requires.second.stop).from c.args.second c.requires.second.start c.requires.second.end in
-    sym (way_by_place w middle c.args.into (c.requires.ranges middle in_range)
+    sym (way_by_index w middle c.args.into (c.requires.ranges middle in_range)
     ∙ none_to_end (open_at w middle c.args.into) (foot_index_of w middle) (foot_index_of w (middle + 1))
     c.loop-first.first (omega arith) c.loop-first.invariant)

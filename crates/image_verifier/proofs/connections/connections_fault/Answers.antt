@@ -1,5 +1,5 @@
 use Rattle.std.proofs.Common.{◌≡◌, ◌<◌, None, arith, sym, ◌∙◌, refl, subst}
-use Rattle.image_layout.specs.Places.{header_of}
+use Rattle.image_layout.specs.Offsets.{header_of}
 use Rattle.image_layout.specs.declared.header.Header.{Header}
 use Rattle.timetable.specs.First.{first_below}
 use Rattle.image_verifier.specs.ConnectionFaults.{connection_fault}

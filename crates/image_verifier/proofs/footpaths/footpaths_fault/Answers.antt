@@ -1,5 +1,5 @@
 use Rattle.std.proofs.Common.{◌<◌, sym, subst}
-use Rattle.image_layout.specs.Places.{header_of}
+use Rattle.image_layout.specs.Offsets.{header_of}
 use Rattle.image_layout.specs.declared.header.Header.{Header}
 use Rattle.timetable.specs.First.{first_below}
 use Rattle.image_verifier.specs.FootFaults.{foot_fault, foot_end_fault}

@@ -2,7 +2,7 @@ use Rattle.std.proofs.Common.{◌∙◌, ℕ, List, ◌++◌, sym, ap, arith}
 use Rattle.std.specs.List.{flat_map, range_with_len}
 use Rattle.timetable.specs.declared.network.Footpath.{Footpath}
 use Rattle.image_layout.specs.declared.header.Header.{Header}
-use Rattle.image_layout.specs.Places.{header_of}
+use Rattle.image_layout.specs.Offsets.{header_of}
 use Rattle.image_layout.specs.Shown.{footpaths_into, footpaths_of}
 use Rattle.image_verifier.proofs.Unpacking.{next_piece, all_made}
 use Rattle.image_verifier.proofs.unpacked.unpack_footpaths.Goals as goal

@@ -2,7 +2,7 @@ use Rattle.std.proofs.Common.{◌∙◌, ℕ, ◌+◌, map, ap, arith}
 use Rattle.std.specs.Prelude.{string_bytes}
 use Rattle.std.specs.List.{range_with_len}
 use Rattle.image_layout.specs.declared.header.Header.{Header}
-use Rattle.image_layout.specs.Places.{header_of}
+use Rattle.image_layout.specs.Offsets.{header_of}
 use Rattle.image_layout.specs.Shown.{name_of, trip_name_of}
 use Rattle.image_verifier.proofs.Unpacking.{next_one, all_made}
 use Rattle.image_verifier.proofs.unpacked.unpack_trip_names.Goals as goal

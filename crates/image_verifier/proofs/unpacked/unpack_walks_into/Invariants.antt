@@ -4,8 +4,8 @@ use Rattle.image_layout.specs.Fields.{foot_index_of}
 use Rattle.image_layout.specs.Shown.{footpath_of}
 use Rattle.image_verifier.proofs.unpacked.unpack_walks_into.Given as goal
 
-abbrev pub invariant-loop-place : goal.invariant-loop-place
-invariant-loop-place l =
+abbrev pub invariant-loop-position : goal.invariant-loop-position
+invariant-loop-position l =
     l.footpaths.items ≡ l.initial.footpaths.items
     ++ map (footpath_of l.words l.stop) (range_with_len (foot_index_of l.words l.stop)
-    (l.place - foot_index_of l.words l.stop))
+    (l.position - foot_index_of l.words l.stop))

@@ -14,11 +14,11 @@ returns-in-Ok-clause-shown c = IsImage-from c.args.words.items (subst (λ (w : L
 
 -- where nothing is first, what is told is want of memory
 tells_memory : (w : List ℕ) (f : ImageFault) → Tells w f → first_fault w ≡ None → f ≡ OutOfMemory
-tells_memory w f told none = elim told [ inl first ↦ absurd (some-none f (sym first ∙ none)) | inr memory ↦ memory.0 ]
+tells_memory w f fact none = elim fact [ inl first ↦ absurd (some-none f (sym first ∙ none)) | inr memory ↦ memory.0 ]
 
 pub returns-in-Err-clause-every_image : goal.returns-in-Err-clause-every_image
 returns-in-Err-clause-every_image c = λ p n is_image.
     let w = c.args.words.items in
     let fits : (i : ℕ) → slice_index w i < 2 ^ 32 = subst (λ (x : List ℕ). (i : ℕ) → slice_index x i < 2 ^ 32) c.deref.ensures.value c.in-Err.ensures.fits in
-    let told : Tells w c.in-Err.fault = subst (λ (x : List ℕ). Tells x c.in-Err.fault) c.deref.ensures.value c.in-Err.ensures.judged in
-    tells_memory w c.in-Err.fault told (image_is_faultless w p n fits is_image)
+    let fact : Tells w c.in-Err.fault = subst (λ (x : List ℕ). Tells x c.in-Err.fault) c.deref.ensures.value c.in-Err.ensures.judged in
+    tells_memory w c.in-Err.fault fact (image_is_faultless w p n fits is_image)

@@ -14,8 +14,8 @@ use Rattle.profile_scan.specs.Window.{window_of}
 use Rattle.profile_scan.proofs.Windows.{window_falls}
 use Rattle.profile_scan.specs.Points.{untagged}
 use Rattle.profile_scan.specs.Kept.{AreWays, story_of, ways_of}
-use Rattle.profile_scan.specs.Telling.{IsJourneyTold, IsRetold}
-use Rattle.profile_scan.proofs.AnsweredLemmas.{answered, journeys_told}
+use Rattle.profile_scan.specs.Telling.{IsJourneySpelled, IsSpelledAgain}
+use Rattle.profile_scan.proofs.AnsweredLemmas.{answered, journeys_spelled}
 use Rattle.profile_scan.proofs.WayLemmas.{direct_is}
 use Rattle.profile_scan.proofs.Offers.{bag_under}
 use Rattle.profile_scan.proofs.PartLemmas.{firsts_rise}
@@ -51,12 +51,12 @@ returns-in_err-points-clause-err g c =
           ∙ ap (λ (ks : List ℕ). g.S.ConnSource.log c.args.source.now ++ ks) (sym falls)),
     )
 
-pub returns-in_err-told-clause-err : goal.returns-in_err-told-clause-err
-returns-in_err-told-clause-err g c =
+pub returns-in_err-spelled-clause-err : goal.returns-in_err-spelled-clause-err
+returns-in_err-spelled-clause-err g c =
     let t = g.S.ConnSource.timetable c.args.source.now in
     let falls = window_falls t c.args.query.now.from c.args.query.now.by
     c.first_at-start.result c.first_at-end.result c.first_at-start.ensures c.first_at-end.ensures in
-    on_err c.from_residual-in_err-told.result _ (
+    on_err c.from_residual-in_err-spelled.result _ (
       length (reverse (window_of t c.args.query.now.from c.args.query.now.by)),
       taken_all (g.S.ConnSource.log c.args.source.now) (reverse (window_of t c.args.query.now.from c.args.query.now.by))
           (g.S.ConnSource.log c.scan_window.new.source) (c.in_ok-scan.ensures.log
@@ -84,11 +84,11 @@ tell_journeys-requires g c =
     let state = c.in_ok-scan.scan.state in
     let points = c.in_ok-points.points.items in
     subst (λ (ps : List (Point g.row.C-V.Denot)). (p : Point g.row.C-V.Denot) → Contains ps p
-    → IsJourneyTold (g.S.ConnSource.timetable c.scan_window.new.source).footpaths (story_of state) p.tag)
+    → IsJourneySpelled (g.S.ConnSource.timetable c.scan_window.new.source).footpaths (story_of state) p.tag)
     (sym c.deref.ensures.value)
     (subst (λ (x : TimetableValue). (p : Point g.row.C-V.Denot) → Contains points p
-    → IsJourneyTold x.footpaths (story_of state) p.tag) (sym c.in_ok-scan.ensures.timetable)
-    (journeys_told rules t (question c.args.query.now) c.first_at-start.result (story_of state) (points_of state.origin.found)
+    → IsJourneySpelled x.footpaths (story_of state) p.tag) (sym c.in_ok-scan.ensures.timetable)
+    (journeys_spelled rules t (question c.args.query.now) c.first_at-start.result (story_of state) (points_of state.origin.found)
     points (found_is g (goal.at.tell_journeys-requires g c).In_ok-scan).matches c.in_ok-points.ensures.only))
 
 -- the ways from the sources
@@ -106,7 +106,7 @@ direct_walk-requires g c stop is =
 -- what was told answers the query
 made : (g : given.Over) (c : goal.After-of g)
     → IsAnsweredBetween (g.C.Criterion.rules c.args.criterion.now) (g.S.ConnSource.timetable c.args.source.now)
-    (question c.args.query.now) c.in_ok-told.told.points.items c.in_ok-told.told.nodes.items c.direct_walk.result
+    (question c.args.query.now) c.in_ok-spelled.spelled.points.items c.in_ok-spelled.spelled.nodes.items c.direct_walk.result
 made g c =
     let rules = g.C.Criterion.rules c.args.criterion.now in
     let laws = g.met.C.Criterion.laws c.args.criterion.now in
@@ -121,8 +121,8 @@ made g c =
     } in
     let state = c.in_ok-scan.scan.state in
     let found = points_of state.origin.found in
-    let points = c.in_ok-told.told.points.items in
-    let nodes = c.in_ok-told.told.nodes.items in
+    let points = c.in_ok-spelled.spelled.points.items in
+    let nodes = c.in_ok-spelled.spelled.nodes.items in
     let is = found_is g (goal.at.After-of g c).In_ok-scan in
     let bag = bag_under g.C.Criterion.rules state.origin.found.criterion c.args.criterion.now found is.same state.origin.found.kept in
     let shortest = subst (λ (xs : List ℕ). IsShortestWay (ways_of c.in_ok-asked.asked.ways) xs (length xs) c.direct_walk.result)
@@ -130,11 +130,11 @@ made g c =
     let way = direct_is t q (ways_of c.in_ok-asked.asked.ways) (ways_are g (goal.at.After-of g c).In_ok-scan) c.requires.sources
     c.requires.differ c.direct_walk.result shortest in
     let says = subst (λ (x : TimetableValue). (p : Point g.row.C-V.Denot) → Contains points p
-    → IsRetold x.footpaths (story_of state) c.in_ok-points.points.items nodes p) c.in_ok-scan.ensures.timetable
+    → IsSpelledAgain x.footpaths (story_of state) c.in_ok-points.points.items nodes p) c.in_ok-scan.ensures.timetable
     (subst (λ (ps : List (Point g.row.C-V.Denot)). (p : Point g.row.C-V.Denot) → Contains points p
-    → IsRetold (g.S.ConnSource.timetable c.scan_window.new.source).footpaths (story_of state) ps nodes p)
-    c.deref.ensures.value c.in_ok-told.ensures.says) in
-    let same = subst (λ (ps : List (Point g.row.C-V.Denot)). map untagged points ≡ map untagged ps) c.deref.ensures.value c.in_ok-told.ensures.same in
+    → IsSpelledAgain (g.S.ConnSource.timetable c.scan_window.new.source).footpaths (story_of state) ps nodes p)
+    c.deref.ensures.value c.in_ok-spelled.ensures.says) in
+    let same = subst (λ (ps : List (Point g.row.C-V.Denot)). map untagged points ≡ map untagged ps) c.deref.ensures.value c.in_ok-spelled.ensures.same in
     answered rules laws t q can c.first_at-start.result c.first_at-start.ensures (story_of state) nodes found
     c.in_ok-points.points.items points c.direct_walk.result is.matches bag
     c.in_ok-points.ensures.ordered c.in_ok-points.ensures.only c.in_ok-points.ensures.each same says way
@@ -143,8 +143,8 @@ made g c =
 pub invariant_of-result : goal.invariant_of-result
 invariant_of-result g c =
     let rules = g.C.Criterion.rules c.args.criterion.now in
-    let points = c.in_ok-told.told.points.items in
-    let nodes = c.in_ok-told.told.nodes.items in
+    let points = c.in_ok-spelled.spelled.points.items in
+    let nodes = c.in_ok-spelled.spelled.nodes.items in
     let at_t = subst (λ (x : TimetableValue). IsAnsweredBetween rules x (question c.args.query.now) points nodes c.direct_walk.result)
     (sym (c.timetable_of.ensures ∙ c.in_ok-scan.ensures.timetable))
     (made g (goal.at.invariant_of-result g c).After-of) in

@@ -8,7 +8,7 @@ use Rattle.profile_scan.specs.Plain.{IsPlainOf}
 use Rattle.profile_scan.specs.Matching.{from_to, MatchesFrom, Matches}
 use Rattle.profile_scan.specs.Steps.{IsStep}
 use Rattle.profile_scan.specs.LawStatements.{CanScan}
-use Rattle.profile_scan.specs.Story.{told}
+use Rattle.profile_scan.specs.Story.{spelling_of}
 use Rattle.profile_scan.specs.Hops.{IsAsked, StandsAt}
 use Rattle.profile_scan.specs.Window.{falling}
 use Rattle.profile_scan.specs.Origins.{found_from, from_stop}
@@ -42,7 +42,7 @@ loop-place-init g c =
                 c.args.source.now;
             in_time = c.requires.can_ask.by;
           } in
-          let spelled = told t.footpaths (story_from state stop) in
+          let spelled = spelling_of t.footpaths (story_from state stop) in
           matches_alike rules t q spelled c.args.window.end (record { bag = λ _. []; labels = λ _. []; found = [] })
           (kept_from state stop) made.bags made.labels (made.found stop)
           (nothing_follows rules t q can c.args.window.end c.requires.past spelled);
@@ -80,10 +80,11 @@ loop-place-preserved g c =
                 c.args.source.now;
             in_time = c.requires.can_ask.by;
           } in
-          let tags = from_to (told t.footpaths (story_from old stop)) (told t.footpaths (story_from new stop)) in
+          let tags = from_to (spelling_of t.footpaths (story_from old stop)) (spelling_of t.footpaths (story_from new stop)) in
           one_index_down rules (g.met.C.Criterion.laws c.args.asked.now.criterion) t q can tags i in_i (kept_from old stop) (kept_from new stop)
-          (subst (λ (n : ℕ). MatchesFrom rules t q (told t.footpaths (story_from old stop)) n (kept_from old stop)) up (inv.matched stop))
-          (subst (λ (x : TimetableValue). IsStep rules x q (from_to (told x.footpaths (story_from old stop)) (told x.footpaths (story_from new stop)))
+          (subst (λ (n : ℕ). MatchesFrom rules t q (spelling_of t.footpaths (story_from old stop)) n (kept_from old stop)) up (inv.matched stop))
+          (subst (λ (x : TimetableValue). IsStep rules x q
+          (from_to (spelling_of x.footpaths (story_from old stop)) (spelling_of x.footpaths (story_from new stop)))
           i (kept_from old stop) (kept_from new stop)) same
           (c.in_ok-step.ensures.steps stop));
     }
@@ -146,7 +147,7 @@ returns-clause-found g c stop =
     let q = from_stop (question c.args.asked.now.query) stop in
     let at : c.loop-place.place ≡ c.args.window.start = omega arith in
     let state = c.loop-place.state in
-    subst (λ (n : ℕ). Matches rules (told t.footpaths (story_from state stop)).journey (CountsFrom t q n) (IsPlainOf t (Contains q.targets))
+    subst (λ (n : ℕ). Matches rules (spelling_of t.footpaths (story_from state stop)).journey (CountsFrom t q n) (IsPlainOf t (Contains q.targets))
     (journey_value rules t)
     (found_from state.origins stop)) at (inv.matched stop).at_source
 

@@ -1,7 +1,7 @@
 use Rattle.std.proofs.Common.{◌≡◌, ◌-◌, ◌≤◌, ◌++◌, [], ℕ}
 use Rattle.profile_scan.specs.Between.{question}
 use Rattle.profile_scan.specs.Matching.{MatchesFrom}
-use Rattle.profile_scan.specs.Story.{told}
+use Rattle.profile_scan.specs.Story.{spelling_of}
 use Rattle.profile_scan.specs.Window.{falling}
 use Rattle.profile_scan.specs.Origins.{from_stop}
 use Rattle.profile_scan.specs.Everywhere.{IsStateOfAll, kept_from, story_from}
@@ -18,7 +18,7 @@ invariant-loop-place g l =
       log : g.S.ConnSource.log l.source ≡ g.S.ConnSource.log l.fn.source ++ falling l.place (l.fn.window.end - l.place);
       state : IsStateOfAll g.C.Criterion.rules l.asked.criterion t.stops t.trips l.state;
       matched : (stop : ℕ) → MatchesFrom (g.C.Criterion.rules l.asked.criterion) t (from_stop (question l.asked.query) stop)
-          (told t.footpaths (story_from l.state stop)) l.place (kept_from l.state stop);
+          (spelling_of t.footpaths (story_from l.state stop)) l.place (kept_from l.state stop);
     }
 
 abbrev pub decreases-loop-place : goal.decreases-loop-place

@@ -7,7 +7,7 @@ use Rattle.profile_scan.specs.Between.{BetweenValue, CountsBetween, IsAnswerBetw
 use Rattle.profile_scan.specs.Values.{journey_value}
 use Rattle.profile_scan.specs.Plain.{IsPlainOf}
 use Rattle.profile_scan.specs.Matching.{IsAttained}
-use Rattle.profile_scan.specs.Story.{told}
+use Rattle.profile_scan.specs.Story.{spelling_of}
 use Rattle.profile_scan.specs.LawStatements.{CanScan}
 use Rattle.profile_scan.specs.Window.{window}
 use Rattle.profile_scan.specs.Destinations.{query_from}
@@ -91,7 +91,7 @@ returns-clause-answers g c =
     let from : (stop : ℕ)
     → IsAnswerBetween rules t (between_one (query_from d stop)) (points_in (slice_get lists stop))
     × ((p : Point g.row.C-V.Denot) → Contains (points_in (slice_get lists stop)) p → IsAttained
-    (told t.footpaths (story_from state stop)).journey (CountsBetween t (between_one (query_from d stop))) (IsPlainOf t (Contains (d.target ∷ [])))
+    (spelling_of t.footpaths (story_from state stop)).journey (CountsBetween t (between_one (query_from d stop))) (IsPlainOf t (Contains (d.target ∷ [])))
     (journey_value rules t) p) =
     λ stop.
     let q = between_one (query_from d stop) in
@@ -109,7 +109,7 @@ returns-clause-answers g c =
     (points_in (slice_get lists stop)) matches bag listed in
     let answer_at = λ (stop : ℕ). answer_from rules t (query_from d stop) (points_in (slice_get lists stop)) (from stop).0 in
     let attained_at = λ (stop : ℕ) (p : Point g.row.C-V.Denot) (h : Contains (points_in (slice_get lists stop)) p).
-    attained_one rules t (query_from d stop) (told t.footpaths (story_from state stop)).journey p ((from stop).1 p h) in
+    attained_one rules t (query_from d stop) (spelling_of t.footpaths (story_from state stop)).journey p ((from stop).1 p h) in
     let direct_at = λ (stop : ℕ) (lt : stop < t.stops).
     one_way_is t d.target stop (get_or (ways_of c.in_ok-asked.asked.ways) stop None) (ways stop lt) in
     record {

@@ -9,7 +9,7 @@ use Rattle.profile_scan.specs.Plain.{IsPlainOf}
 use Rattle.profile_scan.specs.Matching.{from_to, MatchesFrom, Matches}
 use Rattle.profile_scan.specs.Steps.{IsStep}
 use Rattle.profile_scan.specs.LawStatements.{CanScan}
-use Rattle.profile_scan.specs.Story.{told}
+use Rattle.profile_scan.specs.Story.{spelling_of}
 use Rattle.profile_scan.specs.Kept.{IsScan, IsState, kept_by, story_of}
 use Rattle.profile_scan.specs.Hops.{IsAsked, StandsAt}
 use Rattle.profile_scan.specs.Window.{falling}
@@ -33,7 +33,7 @@ loop-place-init g c =
       in_time = c.requires.can_ask.by;
     } in
     let state = c.in_ok-state.state in
-    let spelled = told t.footpaths (story_of state) in
+    let spelled = spelling_of t.footpaths (story_of state) in
     let made = c.in_ok-state.ensures in
     let counted = subst (λ (n : ℕ). IsState g.C.Criterion.rules c.args.asked.now.criterion c.stops.result n state) c.trips.ensures made.state in
     record {
@@ -75,7 +75,7 @@ loop-place-preserved g c =
     } in
     let in_range = c.requires.past.in_range in
     let in_i : c.loop-place.place - 1 < length (g.S.ConnSource.timetable c.args.source.now).connections = omega arith in
-    let tags = from_to (told t.footpaths (story_of c.loop-place.scan.state)) (told t.footpaths (story_of c.step.new.self.state)) in
+    let tags = from_to (spelling_of t.footpaths (story_of c.loop-place.scan.state)) (spelling_of t.footpaths (story_of c.step.new.self.state)) in
     let up : c.loop-place.place ≡ c.loop-place.place - 1 + 1 = omega arith in
     record {
       low = omega arith;
@@ -87,10 +87,11 @@ loop-place-preserved g c =
       matched =
           one_index_down rules (g.met.C.Criterion.laws c.args.asked.now.criterion) t q can tags i in_i
           (kept_by c.loop-place.scan.state) (kept_by c.step.new.self.state)
-          (subst (λ (n : ℕ). MatchesFrom rules t q (told t.footpaths (story_of c.loop-place.scan.state)) n (kept_by c.loop-place.scan.state)) up inv.matched)
+          (subst (λ (n : ℕ). MatchesFrom rules t q (spelling_of t.footpaths (story_of c.loop-place.scan.state)) n
+          (kept_by c.loop-place.scan.state)) up inv.matched)
           (subst (λ (x : TimetableValue). IsStep rules x q
-          (from_to (told x.footpaths (story_of c.loop-place.scan.state))
-          (told x.footpaths (story_of c.step.new.self.state))) i (kept_by c.loop-place.scan.state)
+          (from_to (spelling_of x.footpaths (story_of c.loop-place.scan.state))
+          (spelling_of x.footpaths (story_of c.step.new.self.state))) i (kept_by c.loop-place.scan.state)
           (kept_by c.step.new.self.state)) same
           c.in_ok-step.ensures.step);
     }
@@ -154,6 +155,6 @@ returns-clause-found g c =
     let m = inv.matched in
     record {
       same = inv.scan.state.found;
-      matches = subst (λ (n : ℕ). Matches rules (told t.footpaths (story_of state)).journey (CountsFrom t q n)
+      matches = subst (λ (n : ℕ). Matches rules (spelling_of t.footpaths (story_of state)).journey (CountsFrom t q n)
           (IsPlainOf t (Contains q.targets)) (journey_value rules t) (points_of state.origin.found)) at m.at_source;
     }

@@ -1,7 +1,7 @@
 use Rattle.std.proofs.Common.{◌≡◌, ◌-◌, ◌≤◌, ◌++◌}
 use Rattle.profile_scan.specs.Between.{question}
 use Rattle.profile_scan.specs.Matching.{MatchesFrom}
-use Rattle.profile_scan.specs.Story.{told}
+use Rattle.profile_scan.specs.Story.{spelling_of}
 use Rattle.profile_scan.specs.Kept.{IsScan, kept_by, story_of}
 use Rattle.profile_scan.specs.Window.{falling}
 use Rattle.profile_scan.proofs.scan.scan_window.Given as goal
@@ -15,7 +15,7 @@ invariant-loop-place g l =
       timetable : g.S.ConnSource.timetable l.source ≡ g.S.ConnSource.timetable l.fn.source;
       log : g.S.ConnSource.log l.source ≡ g.S.ConnSource.log l.fn.source ++ falling l.place (l.fn.window.end - l.place);
       scan : IsScan g.C.Criterion.rules l.asked.criterion t l.place l.scan;
-      matched : MatchesFrom (g.C.Criterion.rules l.asked.criterion) t (question l.asked.query) (told t.footpaths (story_of l.scan.state)) l.place
+      matched : MatchesFrom (g.C.Criterion.rules l.asked.criterion) t (question l.asked.query) (spelling_of t.footpaths (story_of l.scan.state)) l.place
           (kept_by l.scan.state);
     }
 

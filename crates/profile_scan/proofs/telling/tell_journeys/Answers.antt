@@ -2,7 +2,7 @@ use Rattle.std.proofs.Common.{map, sym, ◌∙◌, ap, arith}
 use Rattle.std.proofs.lemmas.List.{take_all}
 use Rattle.profile_scan.specs.Views.{story_seen}
 use Rattle.profile_scan.specs.Points.{untagged}
-use Rattle.profile_scan.proofs.TellingLemmas.{retold_more}
+use Rattle.profile_scan.proofs.TellingLemmas.{spelled_again_more}
 use Rattle.profile_scan.proofs.telling.tell_journeys.Goals as goal
 
 pub tell_journey-requires : goal.tell_journey-requires
@@ -11,7 +11,7 @@ tell_journey-requires g c = c.requires c.index-points-i.result (c.loop-i.i, omeg
 pub loop-i-preserved : goal.loop-i-preserved
 loop-i-preserved g c =
     let walks = (g.S.ConnSource.timetable c.args.source.now).footpaths in
-    let m = retold_more walks (story_seen c.args.view.now) c.args.points.now c.loop-i.told.items c.push.new.self.items
+    let m = spelled_again_more walks (story_seen c.args.view.now) c.args.points.now c.loop-i.spelled.items c.push.new.self.items
     c.loop-i.nodes.items c.tell_journey.new.nodes.items c.loop-i.i c.index-points-i.result c.in_ok-tag.tag
     c.in_ok-tag.ensures.nodes (omega arith) c.index-points-i.is c.in_ok-push.ensures.items c.in_ok-tag.ensures.says
     c.loop-i.invariant.same c.loop-i.invariant.says in

@@ -1,12 +1,12 @@
 use Rattle.std.proofs.Common.{arith, ap, sym, subst, ◌∙◌}
-use Rattle.shelf_steps.specs.Plays.{PlaceValue, HasLooked}
+use Rattle.shelf_steps.specs.Plays.{TableSeatValue, HasLooked}
 use Rattle.shelf_steps.proofs.Works.{takings}
 use Rattle.shelf_steps.proofs.worker_steps.take.Goals as goal
 
 pub fetch_add-requires : goal.fetch_add-requires
 fetch_add-requires c = (
-  ap (λ (p : PlaceValue). p.table) c.worker.view_is ∙ (c.requires.table ∙ sym c.shelves.view_is),
+  ap (λ (p : TableSeatValue). p.table) c.worker.view_is ∙ (c.requires.table ∙ sym c.shelves.view_is),
   (let n = c.shelves.invariant.0 in let k = c.requires.looked.0 in omega arith),
   takings _ c.worker.inside.seat.id c.args.shelf c.worker.inside.seat.me
-      (subst (λ (p : PlaceValue). HasLooked c.args.shelf p.me.0) (sym c.worker.view_is) c.requires.looked.1),
+      (subst (λ (p : TableSeatValue). HasLooked c.args.shelf p.me.0) (sym c.worker.view_is) c.requires.looked.1),
 )

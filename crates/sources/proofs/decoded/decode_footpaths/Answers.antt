@@ -1,6 +1,6 @@
 use Rattle.std.proofs.Common.{rules, ◌≡◌, ◌+◌, ◌++◌, ◌∷◌, [], ℕ, List, arith, ap, sym, ◌∙◌, subst, length}
 use Rattle.std.proofs.lemmas.List.{length-append}
-use Rattle.sources.specs.FootStarts.{IsStartPlace, AreStarts, HoldsBelow}
+use Rattle.sources.specs.FootStarts.{IsStartIndex, AreStarts, HoldsBelow}
 use Rattle.sources.proofs.StartLemmas.{AreStartsBelow, starts_more, all_held}
 use Rattle.sources.proofs.decoded.decode_footpaths.Goals as goal
 
@@ -9,13 +9,13 @@ loop-stop-preserved c =
     let t = c.args.image.now.timetable in
     let stop = c.loop-stop.stop in
     let items = c.loop-stop.starts.items in
-    let place = c.len.result in
-    let start : IsStartPlace t stop place = subst (λ (x : ℕ). IsStartPlace t stop x) (search rules) c.loop-stop.invariant.holds.start in
+    let index = c.len.result in
+    let start : IsStartIndex t stop index = subst (λ (x : ℕ). IsStartIndex t stop x) (search rules) c.loop-stop.invariant.holds.start in
     record {
       holds = c.in_ok-decode_walks_into.ensures;
-      long = ap length c.in_ok-push.ensures.items ∙ length-append items (place ∷ []) ∙ ap (λ n. n + 1) c.loop-stop.invariant.long;
-      starts = subst (λ (places : List ℕ). AreStartsBelow t (stop + 1) places) (sym c.in_ok-push.ensures.items)
-          (starts_more t stop place items c.loop-stop.invariant.long c.loop-stop.invariant.starts start);
+      long = ap length c.in_ok-push.ensures.items ∙ length-append items (index ∷ []) ∙ ap (λ n. n + 1) c.loop-stop.invariant.long;
+      starts = subst (λ (indices : List ℕ). AreStartsBelow t (stop + 1) indices) (sym c.in_ok-push.ensures.items)
+          (starts_more t stop index items c.loop-stop.invariant.long c.loop-stop.invariant.starts start);
     }
 
 pub returns-clause-footpaths : goal.returns-clause-footpaths
@@ -30,12 +30,12 @@ returns-clause-starts c =
     let t = c.args.image.now.timetable in
     let stop = c.loop-stop.stop in
     let items = c.loop-stop.starts.items in
-    let place = c.len-2.result in
+    let index = c.len-2.result in
     let done : stop ≡ t.stops = omega (arith, c.loop-stop-test.false, c.loop-stop.auto, c.stops-stops.ensures.stops) in
-    let start : IsStartPlace t stop place = subst (λ (x : ℕ). IsStartPlace t stop x) (search rules) c.loop-stop.invariant.holds.start in
-    let more = starts_more t stop place items c.loop-stop.invariant.long c.loop-stop.invariant.starts start in
-    let all : AreStarts t (items ++ place ∷ []) = record {
-      each = length-append items (place ∷ []) ∙ ap (λ n. n + 1) (c.loop-stop.invariant.long ∙ done);
+    let start : IsStartIndex t stop index = subst (λ (x : ℕ). IsStartIndex t stop x) (search rules) c.loop-stop.invariant.holds.start in
+    let more = starts_more t stop index items c.loop-stop.invariant.long c.loop-stop.invariant.starts start in
+    let all : AreStarts t (items ++ index ∷ []) = record {
+      each = length-append items (index ∷ []) ∙ ap (λ n. n + 1) (c.loop-stop.invariant.long ∙ done);
       start = λ s le. more s (omega (arith, le, done));
     } in
-    subst (λ (places : List ℕ). AreStarts t places) (sym c.in_ok-push-2.ensures.items) all
+    subst (λ (indices : List ℕ). AreStarts t indices) (sym c.in_ok-push-2.ensures.items) all

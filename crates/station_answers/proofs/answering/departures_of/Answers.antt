@@ -4,25 +4,25 @@ use Rattle.profile_scan.specs.Between.{IsAnswerBetween, IsPointBetween}
 use Rattle.profile_scan.specs.Found.{listed_between}
 use Rattle.journeys.specs.Extracted.{AttainsBetween}
 use Rattle.journeys.proofs.AnswerLemmas.{point_at}
-use Rattle.station_answers.proofs.TellLemmas.{AreTold, all_told, between_tagless, none_told, one_more}
+use Rattle.station_answers.proofs.TellLemmas.{HaveJourneys, all_told, between_tagless, no_journeys, one_more}
 use Rattle.station_answers.proofs.answering.departures_of.Goals as goal
 
 pub loop-i-init : goal.loop-i-init
 loop-i-init g c criterion t b answers =
-    none_told (AttainsBetween (g.C.Criterion.rules criterion) t b) c.points-points.result.now c.in_ok-departures.departures.items
+    no_journeys (AttainsBetween (g.C.Criterion.rules criterion) t b) c.points-points.result.now c.in_ok-departures.departures.items
     c.in_ok-departures.ensures.items
 
 pub loop-i-preserved : goal.loop-i-preserved
 loop-i-preserved g c criterion t b answers =
     let rules = g.C.Criterion.rules criterion in
-    let told = AttainsBetween rules t b in
+    let departures = AttainsBetween rules t b in
     let points = c.points-points.result.now in
     let p = c.index-points-i.result in
     let there = point_at points points c.loop-i.i p refl (omega arith) c.index-points-i.is in
     let at = point_at (listed_between c.args.found.now) points c.loop-i.i p c.points-points.ensures (omega arith) c.index-points-i.is in
     let attains = c.in_ok-journey.ensures.attains criterion t b p answers at in
-    subst (AreTold told points (c.loop-i.i + 1)) (sym c.in_ok-push.ensures.items)
-    (one_more told points c.loop-i.i c.loop-i.departures.items p c.in_ok-journey.journey (c.loop-i.invariant criterion t b answers) there
+    subst (HaveJourneys departures points (c.loop-i.i + 1)) (sym c.in_ok-push.ensures.items)
+    (one_more departures points c.loop-i.i c.loop-i.departures.items p c.in_ok-journey.journey (c.loop-i.invariant criterion t b answers) there
     (between_tagless rules t b p c.in_ok-journey.journey attains))
 
 pub returns-clause-points : goal.returns-clause-points

@@ -2,9 +2,9 @@ use Rattle.timetable.specs.TimetableValue.{TimetableValue}
 use Rattle.profile_scan.specs.Between.{BetweenValue}
 use Rattle.profile_scan.specs.Found.{AnswersBetween}
 use Rattle.journeys.specs.Extracted.{AttainsBetween}
-use Rattle.station_answers.proofs.TellLemmas.{AreTold}
+use Rattle.station_answers.proofs.TellLemmas.{HaveJourneys}
 use Rattle.station_answers.proofs.answering.departures_of.Given as goal
 
 abbrev pub invariant-loop-i : goal.invariant-loop-i
 invariant-loop-i g l = (criterion : _) (t : TimetableValue) (b : BetweenValue) → AnswersBetween criterion (g.C.Criterion.rules criterion) t b l.found
-    → AreTold (AttainsBetween (g.C.Criterion.rules criterion) t b) l.points l.i l.departures.items
+    → HaveJourneys (AttainsBetween (g.C.Criterion.rules criterion) t b) l.points l.i l.departures.items

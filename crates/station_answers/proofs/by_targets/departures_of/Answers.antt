@@ -8,11 +8,11 @@ use Rattle.profile_scan.proofs.OrderLemmas.{listed_bag}
 use Rattle.station_answers.specs.Attaining.{AttainsPair}
 use Rattle.station_answers.specs.Merging.{IsMerged}
 use Rattle.station_answers.proofs.MergeLemmas.{merged_answers}
-use Rattle.station_answers.proofs.TellLemmas.{AreTold, all_told, none_told, one_more, pair_tagless}
+use Rattle.station_answers.proofs.TellLemmas.{HaveJourneys, all_told, no_journeys, one_more, pair_tagless}
 use Rattle.station_answers.proofs.by_targets.departures_of.Goals as goal
 
-pub loop-place-init : goal.loop-place-init
-loop-place-init g c = none_told
+pub loop-index-init : goal.loop-index-init
+loop-index-init g c = no_journeys
     (AttainsPair (g.C.Criterion.rules c.args.criterion.now) (g.S.ConnSource.timetable c.args.source.now) (question c.args.query.now))
     c.in_ok-points.points.items c.in_ok-departures.departures.items c.in_ok-departures.ensures.items
 
@@ -20,29 +20,29 @@ pub journey_of-requires : goal.journey_of-requires
 journey_of-requires g c =
     let points = c.in_ok-points.points in
     let p = c.index.result.now in
-    let within : c.loop-place.place < length points.items = omega (arith, c.loop-place-test.true, c.len-place-end.ensures, points.ok.0) in
-    c.requires.merged.points p (c.in_ok-points.ensures.only p (c.loop-place.place, within, sym c.index.ensures))
+    let within : c.loop-index.index < length points.items = omega (arith, c.loop-index-test.true, c.len-index-end.ensures, points.ok.0) in
+    c.requires.merged.points p (c.in_ok-points.ensures.only p (c.loop-index.index, within, sym c.index.ensures))
 
-pub loop-place-preserved : goal.loop-place-preserved
-loop-place-preserved g c =
+pub loop-index-preserved : goal.loop-index-preserved
+loop-index-preserved g c =
     let t = g.S.ConnSource.timetable c.args.source.now in
     let b = question c.args.query.now in
     let rules = g.C.Criterion.rules c.args.criterion.now in
     let merged = c.args.merged.now in
     let points = c.in_ok-points.points in
     let p = c.index.result.now in
-    let place = c.loop-place.place in
-    let within : c.loop-place.place < length points.items = omega (arith, c.loop-place-test.true, c.len-place-end.ensures, points.ok.0) in
-    let at : slice_get points.items c.loop-place.place ≡ Some c.index.result.now =
-    slice_get-get_or points.items place p within ∙ ap Some (sym c.index.ensures) in
+    let index = c.loop-index.index in
+    let within : c.loop-index.index < length points.items = omega (arith, c.loop-index-test.true, c.len-index-end.ensures, points.ok.0) in
+    let at : slice_get points.items c.loop-index.index ≡ Some c.index.result.now =
+    slice_get-get_or points.items index p within ∙ ap Some (sym c.index.ensures) in
     let own : IsMerged g.C.Criterion.rules (criterion_of merged.best) t b merged =
     subst (λ (k : g.row.C.Denot). IsMerged g.C.Criterion.rules k t b merged) (sym c.requires.merged.under) c.requires.merged in
     let attains : AttainsPair (g.C.Criterion.rules c.args.criterion.now) t b p c.in_ok-journey.journey =
     subst (λ (k : g.row.C.Denot). AttainsPair (g.C.Criterion.rules k) t b p c.in_ok-journey.journey) c.requires.merged.under
     (c.in_ok-journey.ensures t b own) in
-    let told = AttainsPair rules t b in
-    subst (AreTold told points.items (place + 1)) (sym c.in_ok-push.ensures.items)
-    (one_more told points.items place c.loop-place.departures.items p c.in_ok-journey.journey c.loop-place.invariant at
+    let departures = AttainsPair rules t b in
+    subst (HaveJourneys departures points.items (index + 1)) (sym c.in_ok-push.ensures.items)
+    (one_more departures points.items index c.loop-index.departures.items p c.in_ok-journey.journey c.loop-index.invariant at
     (pair_tagless rules t b p c.in_ok-journey.journey attains))
 
 pub returns-clause-points : goal.returns-clause-points
@@ -54,7 +54,7 @@ returns-clause-points g c =
     let laws = g.met.C.Criterion.laws criterion in
     let merged = c.args.merged.now in
     let points = c.in_ok-points.points in
-    let past : length points.items ≤ c.loop-place.place = omega (arith, c.loop-place-test.false, c.len-place-end.ensures, points.ok.0) in
+    let past : length points.items ≤ c.loop-index.index = omega (arith, c.loop-index-test.false, c.len-index-end.ensures, points.ok.0) in
     let can : CanScan (g.S.ConnSource.timetable c.args.source.now) (question c.args.query.now) = record {
       legal = g.met.S.ConnSource.legal c.args.source.now;
       limits = g.met.S.ConnSource.limits c.args.source.now;
@@ -63,6 +63,6 @@ returns-clause-points g c =
     let found : IsBag (g.C.Criterion.rules c.args.criterion.now) (points_of merged.best) =
     subst (λ (k : g.row.C.Denot). IsBag (g.C.Criterion.rules k) (points_of merged.best)) c.requires.merged.under merged.best.kept in
     let bag = listed_bag rules laws (points_of merged.best) points.items found c.in_ok-points.ensures.ordered c.in_ok-points.ensures.only in
-    all_told rules (IsPointBetween rules t b) (AttainsPair rules t b) points.items c.loop-place.place c.loop-place.departures.items c.loop-place.invariant past
+    all_told rules (IsPointBetween rules t b) (AttainsPair rules t b) points.items c.loop-index.index c.loop-index.departures.items c.loop-index.invariant past
     (merged_answers g.C.Criterion.rules criterion laws t b can merged points.items c.requires.merged c.requires.covers bag c.in_ok-points.ensures.ordered
     c.in_ok-points.ensures.only c.in_ok-points.ensures.each)

@@ -1,9 +1,9 @@
 use Rattle.profile_scan.specs.Between.{question}
 use Rattle.station_answers.specs.Attaining.{AttainsPair}
-use Rattle.station_answers.proofs.TellLemmas.{AreTold}
+use Rattle.station_answers.proofs.TellLemmas.{HaveJourneys}
 use Rattle.station_answers.proofs.by_targets.departures_of.Given as goal
 
-abbrev pub invariant-loop-place : goal.invariant-loop-place
-invariant-loop-place g l =
-    AreTold (AttainsPair (g.C.Criterion.rules l.criterion) (g.S.ConnSource.timetable l.source) (question l.query)) l.points.items l.place
+abbrev pub invariant-loop-index : goal.invariant-loop-index
+invariant-loop-index g l =
+    HaveJourneys (AttainsPair (g.C.Criterion.rules l.criterion) (g.S.ConnSource.timetable l.source) (question l.query)) l.points.items l.index
     l.departures.items

@@ -4,12 +4,12 @@ use Rattle.station_answers.specs.Merging.{CoversQuery, IsMerged}
 use Rattle.station_answers.specs.Reading.{repeated, window_between}
 use Rattle.station_answers.proofs.by_targets.merged_between.Given as goal
 
-abbrev pub invariant-loop-place : goal.invariant-loop-place
-invariant-loop-place g l = record {
+abbrev pub invariant-loop-index : goal.invariant-loop-index
+invariant-loop-index g l = record {
   timetable : g.S.ConnSource.timetable l.source ≡ g.S.ConnSource.timetable l.fn.source;
   merged : IsMerged g.C.Criterion.rules l.criterion (g.S.ConnSource.timetable l.fn.source) (question l.query) l.merged;
-  covers : (k target stop : ℕ) → k < l.place → slice_get l.query.targets.items k ≡ Some target → Contains l.query.sources.items stop
+  covers : (k target stop : ℕ) → k < l.index → slice_get l.query.targets.items k ≡ Some target → Contains l.query.sources.items stop
       → CoversQuery (g.C.Criterion.rules l.criterion) (g.S.ConnSource.timetable l.fn.source) l.merged (pair_of (question l.query) stop target);
   log : g.S.ConnSource.log l.source
-      ≡ g.S.ConnSource.log l.fn.source ++ repeated l.place (reverse (window_between (g.S.ConnSource.timetable l.fn.source) (question l.query)));
+      ≡ g.S.ConnSource.log l.fn.source ++ repeated l.index (reverse (window_between (g.S.ConnSource.timetable l.fn.source) (question l.query)));
 }

@@ -20,12 +20,12 @@ loop-other-preserved g c =
     let from = c.index-from.result.now in
     let to = c.index-to.result.now in
     let within : c.loop-other.other < length targets.items = omega (arith, c.loop-other-test.true, c.len-other-end.ensures, targets.ok.0) in
-    let at_from : slice_get sources.items c.args.place ≡ Some from =
-    slice_get-get_or sources.items c.args.place from c.requires.place ∙ ap Some (sym c.index-from.ensures) in
+    let at_from : slice_get sources.items c.args.index ≡ Some from =
+    slice_get-get_or sources.items c.args.index from c.requires.index ∙ ap Some (sym c.index-from.ensures) in
     let at_to : slice_get targets.items c.loop-other.other ≡ Some to =
     slice_get-get_or targets.items c.loop-other.other to within ∙ ap Some (sym c.index-to.ensures) in
-    subst (IsLeastBefore t b c.args.place (c.loop-other.other + 1)) (sym c.shorter_of-next.ensures)
-    (one_further t (g.met.S.ConnSource.legal c.args.source.now) b c.args.place c.loop-other.other from to at_from at_to c.loop-other.best
+    subst (IsLeastBefore t b c.args.index (c.loop-other.other + 1)) (sym c.shorter_of-next.ensures)
+    (one_further t (g.met.S.ConnSource.legal c.args.source.now) b c.args.index c.loop-other.other from to at_from at_to c.loop-other.best
     c.footpath_between-footpath.result c.footpath_between-footpath.ensures c.loop-other.invariant)
 
 pub returns : goal.returns
@@ -36,5 +36,5 @@ returns g c =
     let b = question c.args.query.now in
     let at_end : c.loop-other.other ≡ length c.args.query.now.targets.items =
     omega (arith, over, within, c.len-other-end.ensures, c.args.query.now.targets.ok.0) in
-    next_source t (g.met.S.ConnSource.legal c.args.source.now) b c.args.place c.loop-other.best
-    (subst (λ (n : ℕ). IsLeastBefore t b c.args.place n c.loop-other.best) at_end c.loop-other.invariant)
+    next_source t (g.met.S.ConnSource.legal c.args.source.now) b c.args.index c.loop-other.best
+    (subst (λ (n : ℕ). IsLeastBefore t b c.args.index n c.loop-other.best) at_end c.loop-other.invariant)

@@ -3,7 +3,7 @@
 
 use super::{ASKED, NO_TRIPS, WITH_DIRECT_TRIP, by, until};
 use crate::tests::images::{REPEATED, image};
-use criteria::{Arrival, ArrivalTrips, ArrivalTripsWalk, Told};
+use criteria::{Arrival, ArrivalTrips, ArrivalTripsWalk, ShowsFigures};
 use image_layout::{sample_words, second_sample_words};
 use journeys::{Answer, Departure, answer_query, journey_string};
 use sources::{ConnSource, Decoded, InPlace};
@@ -82,32 +82,32 @@ const LATER: Query = Query {
 };
 
 /// The sample with another word at an offset.
-fn changed(place: usize, word: u32) -> [u32; 47] {
+fn changed(index: usize, word: u32) -> [u32; 47] {
     let mut words = sample_words();
-    if let Some(at) = words.get_mut(place) {
+    if let Some(at) = words.get_mut(index) {
         *at = word;
     }
     words
 }
 
 /// Adds the line of a point: when it departs, what the criterion counts, and its journey.
-fn add_point<C: Told>(
+fn add_point<C: ShowsFigures>(
     alloc: Global,
     criterion: &C,
     point: &Departure<C::V>,
     text: &mut String,
 ) -> Result<(), AllocError> {
-    let told = criterion.tell(&point.value);
+    let figures = criterion.figures_of(&point.value);
     write!(
         text,
         "dep {} arr {}",
         Clock(point.time),
-        Clock(told.arrival)
+        Clock(figures.arrival)
     )?;
-    if let Some(trips) = told.trips {
+    if let Some(trips) = figures.trips {
         write!(text, " trips {trips}")?;
     }
-    if let Some(walked) = told.walked {
+    if let Some(walked) = figures.walked {
         write!(text, " walked {walked}")?;
     }
     let journey = journey_string(alloc, &point.journey)?;
@@ -115,7 +115,7 @@ fn add_point<C: Told>(
 }
 
 /// The points, and how many there are, how many connections were read, and the footpath to the target.
-fn text_of<C: Told>(
+fn text_of<C: ShowsFigures>(
     alloc: Global,
     criterion: &C,
     answer: &Answer<C>,
@@ -138,7 +138,7 @@ fn text_of<C: Told>(
 }
 
 /// The text of the answer to a query.
-fn answer_text<S: ConnSource, C: Told>(
+fn answer_text<S: ConnSource, C: ShowsFigures>(
     alloc: Global,
     source: &mut S,
     criterion: &C,
@@ -151,7 +151,7 @@ fn answer_text<S: ConnSource, C: Told>(
 }
 
 /// The answer's text over the image in place, and over its lists decoded.
-fn both_texts<C: Told>(
+fn both_texts<C: ShowsFigures>(
     alloc: Global,
     words: &[u32],
     criterion: &C,
@@ -164,7 +164,7 @@ fn both_texts<C: Told>(
 }
 
 /// Asserts that each query has its answer over both.
-fn try_rows<C: Told>(
+fn try_rows<C: ShowsFigures>(
     rt: &impl Abort,
     alloc: Global,
     criterion: &C,

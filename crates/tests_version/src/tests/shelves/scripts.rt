@@ -101,12 +101,12 @@ fn number(text: &str) -> Result<u32, Fail> {
 }
 
 /// Adds an answer after those before it.
-fn add(told: &mut String, answer: Result<String, AllocError>) -> Result<(), AllocError> {
+fn add(reported: &mut String, answer: Result<String, AllocError>) -> Result<(), AllocError> {
     let answer = answer?;
-    if !told.is_empty() {
-        told.push_str("; ")?;
+    if !reported.is_empty() {
+        reported.push_str("; ")?;
     }
-    told.push_str(answer.as_str())
+    reported.push_str(answer.as_str())
 }
 
 /// Adds what is told of a round, one answer after another.
@@ -114,19 +114,19 @@ fn add_round<S: Stage, R: Wait>(
     rt: &R,
     stage: &mut S,
     second: u32,
-    told: &mut String,
+    reported: &mut String,
 ) -> Result<(), AllocError> {
-    add(told, stage.call(rt, Deed::Release, 0))?;
-    add(told, stage.publish(rt, second))?;
-    add(told, stage.collect(rt))?;
-    add(told, stage.join(rt, 0))?;
-    add(told, stage.call(rt, Deed::Pin, 0))
+    add(reported, stage.call(rt, Deed::Release, 0))?;
+    add(reported, stage.publish(rt, second))?;
+    add(reported, stage.collect(rt))?;
+    add(reported, stage.join(rt, 0))?;
+    add(reported, stage.call(rt, Deed::Pin, 0))
 }
 
 fn round<S: Stage, R: Wait>(rt: &R, stage: &mut S, second: u32) -> Result<String, AllocError> {
-    let mut told = String::new(stage.alloc());
-    add_round(rt, stage, second, &mut told)?;
-    Ok(told)
+    let mut reported = String::new(stage.alloc());
+    add_round(rt, stage, second, &mut reported)?;
+    Ok(reported)
 }
 
 /// Does what the text before the colon says, and tells the answer.
@@ -198,7 +198,7 @@ fn play_under_a_lock<R: Wait + Abort>(rt: &R, alloc: Global, script: &str) -> Re
     play(rt, &mut stage, script)
 }
 
-fn play_at<B: Named, R: Wait + Abort>(
+fn play_at<B: ShelvesName, R: Wait + Abort>(
     rt: &R,
     alloc: Global,
     shelves: Shelves,
@@ -221,7 +221,7 @@ fn play_without_a_lock<R: Wait + Abort>(rt: &R, alloc: Global, course: Course) -
     }
 }
 
-fn play_alone<B: Named, R: Wait + Abort>(
+fn play_alone<B: ShelvesName, R: Wait + Abort>(
     rt: &R,
     alloc: Global,
     shelves: Shelves,

@@ -139,7 +139,7 @@ impl Stage for LockedStage {
 
 /// Shelves without a lock, under a name.
 #[derive(Drop)]
-pub(crate) struct NamedStage<B: Named, K> {
+pub(crate) struct NamedStage<B: ShelvesName, K> {
     alloc: Global,
     pub(crate) shelves: NamedShelves<B, K>,
     pub(crate) loader: NamedLoader<B>,
@@ -148,7 +148,7 @@ pub(crate) struct NamedStage<B: Named, K> {
 }
 
 // The seats, under their shelves' name.
-fn named_seats<B: Named>(
+fn named_seats<B: ShelvesName>(
     alloc: Global,
     seats: Vec<ShelfSeat>,
 ) -> Result<Vec<NamedSeat<B>>, AllocError>
@@ -161,7 +161,7 @@ fn named_seats<B: Named>(
     Ok(named)
 }
 
-impl<B: Named, K> NamedStage<B, K> {
+impl<B: ShelvesName, K> NamedStage<B, K> {
     pub(crate) fn of(
         alloc: Global,
         shelves: NamedShelves<B, K>,
@@ -190,7 +190,7 @@ impl<B: Named, K> NamedStage<B, K> {
 }
 
 /// The shelves under a name, with all their seats.
-pub(crate) fn named_stage<B: Named>(
+pub(crate) fn named_stage<B: ShelvesName>(
     alloc: Global,
     shelves: Shelves,
     loader: ShelfLoader,
@@ -204,7 +204,7 @@ pub(crate) fn named_stage<B: Named>(
 }
 
 /// Publishes, and keeps the notice.
-fn publish_noted<B: Named, K>(
+fn publish_noted<B: ShelvesName, K>(
     shelves: &NamedShelves<B, K>,
     loader: &mut NamedLoader<B>,
     image: Arc<Verified, Global>,
@@ -221,7 +221,7 @@ fn publish_noted<B: Named, K>(
     }
 }
 
-impl<B: Named, K> Stage for NamedStage<B, K> {
+impl<B: ShelvesName, K> Stage for NamedStage<B, K> {
     fn alloc(&self) -> Global {
         self.alloc
     }

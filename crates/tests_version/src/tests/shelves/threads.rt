@@ -20,8 +20,8 @@ use std::thread::Threads;
 /// Images whose bases are the seconds from 2 on.
 fn images(alloc: Global, count: u32) -> Result<Vec<Arc<Verified, Global>>, Fail> {
     let mut images = Vec::new(alloc);
-    for place in 0..count {
-        images.push(image(alloc, place.saturating_add(2))?)?;
+    for index in 0..count {
+        images.push(image(alloc, index.saturating_add(2))?)?;
     }
     Ok(images)
 }
@@ -103,7 +103,7 @@ fn goes_with(edition: &Edition) -> bool {
 }
 
 /// Whether the seat holds the image of its version.
-fn holds_well<B: Named>(seat: &NamedSeat<B>) -> bool {
+fn holds_well<B: ShelvesName>(seat: &NamedSeat<B>) -> bool {
     seat.shows_what_it_knows();
     match NamedShelves::<B>::edition(seat) {
         Some(edition) => goes_with(edition),
@@ -112,7 +112,7 @@ fn holds_well<B: Named>(seat: &NamedSeat<B>) -> bool {
 }
 
 /// Whether a pin gives the image of its version, and gives it back.
-fn pins_well<B: Named>(shelves: &NamedShelves<B>, seat: &mut NamedSeat<B>) -> bool {
+fn pins_well<B: ShelvesName>(shelves: &NamedShelves<B>, seat: &mut NamedSeat<B>) -> bool {
     let pinned = shelves.pin(seat);
     let well = holds_well(seat) && pinned.is_ok();
     let released = shelves.release(seat);
@@ -120,7 +120,7 @@ fn pins_well<B: Named>(shelves: &NamedShelves<B>, seat: &mut NamedSeat<B>) -> bo
 }
 
 /// How many of a thousand pins gave the image of their version.
-fn pins_of<B: Named>(shelves: &NamedShelves<B>, seat: &mut NamedSeat<B>) -> u32 {
+fn pins_of<B: ShelvesName>(shelves: &NamedShelves<B>, seat: &mut NamedSeat<B>) -> u32 {
     let mut held = 0u32;
     for _ in 0..1000u32 {
         if pins_well(shelves, seat) {
@@ -131,7 +131,7 @@ fn pins_of<B: Named>(shelves: &NamedShelves<B>, seat: &mut NamedSeat<B>) -> u32 
 }
 
 /// How many of the images became versions, with a collection after each.
-fn publishes_of<B: Named>(
+fn publishes_of<B: ShelvesName>(
     shelves: &NamedShelves<B>,
     loader: &mut NamedLoader<B>,
     images: Vec<Arc<Verified, Global>>,
@@ -147,7 +147,7 @@ fn publishes_of<B: Named>(
 }
 
 /// Two seats pin in parallel.
-fn two_pin<B: Named + Send + Sync, R: Threads + Wait + Sync>(
+fn two_pin<B: ShelvesName + Send + Sync, R: Threads + Wait + Sync>(
     rt: &R,
     shelves: &NamedShelves<B>,
     first: &mut NamedSeat<B>,
@@ -157,7 +157,7 @@ fn two_pin<B: Named + Send + Sync, R: Threads + Wait + Sync>(
 }
 
 /// A loader publishes while two seats pin.
-fn pin_beside_a_loader<B: Named + Send + Sync, R: Threads + Wait + Sync>(
+fn pin_beside_a_loader<B: ShelvesName + Send + Sync, R: Threads + Wait + Sync>(
     rt: &R,
     shelves: &NamedShelves<B>,
     loader: &mut NamedLoader<B>,
@@ -172,7 +172,7 @@ fn pin_beside_a_loader<B: Named + Send + Sync, R: Threads + Wait + Sync>(
     )
 }
 
-fn two_seats<B: Named>(
+fn two_seats<B: ShelvesName>(
     stage: &mut NamedStage<B, ManySeats>,
 ) -> Result<(NamedSeat<B>, NamedSeat<B>), Fail> {
     match (stage.seats.pop(), stage.seats.pop()) {
@@ -182,7 +182,7 @@ fn two_seats<B: Named>(
 }
 
 /// After one more publish the version that was current is collected too: no worker is left at it.
-fn publishes_the_last<B: Named, R: Abort>(
+fn publishes_the_last<B: ShelvesName, R: Abort>(
     rt: &R,
     stage: &mut NamedStage<B, ManySeats>,
     image: Arc<Verified, Global>,
@@ -195,7 +195,7 @@ fn publishes_the_last<B: Named, R: Abort>(
 
 /// A pin is refused only after it found four versions that were gone, each newer than those before: with fifty versions
 /// that go, that is at most twelve times.
-fn try_two_workers<B: Named + Send + Sync, R: Threads + Wait + Sync + Abort>(
+fn try_two_workers<B: ShelvesName + Send + Sync, R: Threads + Wait + Sync + Abort>(
     rt: &R,
     stage: &mut NamedStage<B, ManySeats>,
     images: Vec<Arc<Verified, Global>>,
@@ -216,7 +216,7 @@ fn try_two_workers<B: Named + Send + Sync, R: Threads + Wait + Sync + Abort>(
     Ok(())
 }
 
-fn beside_a_loader<B: Named + Send + Sync, R: Threads + Wait + Sync + Abort>(
+fn beside_a_loader<B: ShelvesName + Send + Sync, R: Threads + Wait + Sync + Abort>(
     rt: &R,
     alloc: Global,
     shelves: Shelves,

@@ -10,7 +10,7 @@ use crate::tests::images::Source;
 use shelf_steps::laws::{
     close, gather, give_back, join, leave_late, look, note, open, publish, take,
 };
-use shelf_steps::{Place, ShelfTable, editions_of, fill_block, try_shelf};
+use shelf_steps::{ShelfTable, TableSeat, editions_of, fill_block, try_shelf};
 use std::alloc::AllocError;
 use std::marker::Model;
 use version_core::{MOST_VERSIONS, Shelf, Worker};
@@ -59,7 +59,7 @@ impl Memory for Loaded {
 /// A seat, and what it remembers. Contracts see only the table.
 #[derive(Drop)]
 pub(crate) struct Steps<M: Memory + Drop> {
-    place: Place,
+    index: TableSeat,
     memory: M,
 }
 
@@ -68,9 +68,9 @@ impl<M: Memory + Drop> Model for Steps<M> {
 
     ghost Value = { TableId };
 
-    ghost view = { λ s. s.place.table };
+    ghost view = { λ s. s.index.table };
 
-    ghost invariant = { λ s. M.is_so s.memory s.place.me };
+    ghost invariant = { λ s. M.is_so s.memory s.index.me };
 }
 
 pub(crate) type WorkerSteps = Steps<Worker>;
@@ -81,12 +81,12 @@ pub(crate) type NoticeSteps = Steps<Noted>;
 pub(crate) type LoaderSteps = Steps<Loaded>;
 
 impl WorkerSteps {
-    pub(crate) fn of(place: Place) -> WorkerSteps
-        requires { (n : ℕ) × (place.me ≡ (View.Working (newcomer n), [])) }
-        ensures { result ≡ place.table }
+    pub(crate) fn of(index: TableSeat) -> WorkerSteps
+        requires { (n : ℕ) × (index.me ≡ (View.Working (newcomer n), [])) }
+        ensures { result ≡ index.table }
     {
         Steps {
-            place,
+            index,
             memory: Worker::Idle,
         }
     }
@@ -99,7 +99,7 @@ impl WorkerSteps {
     {
         match self.memory {
             Worker::Idle => {
-                let word = look(shelves, &mut self.place);
+                let word = look(shelves, &mut self.index);
                 self.memory = Worker::Looked {
                     version: word / 8,
                     shelf: (word % 8) as usize,
@@ -119,7 +119,7 @@ impl WorkerSteps {
     {
         match self.memory {
             Worker::Looked { version, shelf } => {
-                let word = take(shelves, &mut self.place, shelf);
+                let word = take(shelves, &mut self.index, shelf);
                 if says_open(word, version) {
                     self.memory = Worker::Holding { shelf, version };
                     Some(Some(version))
@@ -140,12 +140,12 @@ impl WorkerSteps {
     {
         match self.memory {
             Worker::Late { shelf } => {
-                leave_late(shelves, &mut self.place, shelf);
+                leave_late(shelves, &mut self.index, shelf);
                 self.memory = Worker::Idle;
                 true
             }
             Worker::Holding { shelf, version: _ } => {
-                give_back(shelves, &mut self.place, shelf);
+                give_back(shelves, &mut self.index, shelf);
                 self.memory = Worker::Idle;
                 true
             }
@@ -162,11 +162,11 @@ impl WorkerSteps {
     {
         match self.memory {
             Worker::Idle => {
-                join(shelves, &mut self.place, notice.place);
+                join(shelves, &mut self.index, notice.index);
                 None
             }
             Worker::Holding { .. } => {
-                join(shelves, &mut self.place, notice.place);
+                join(shelves, &mut self.index, notice.index);
                 None
             }
             Worker::Looked { .. } | Worker::Late { .. } => Some(notice),
@@ -188,9 +188,9 @@ fn says_open(word: u64, version: u64) -> bool
 }
 
 impl LoaderSteps {
-    pub(crate) fn of(place: Place) -> LoaderSteps
-        requires { (n : ℕ) × (image : ImageValue) × (place.me ≡ (View.Loading (handed n image), [])) }
-        ensures { result ≡ place.table }
+    pub(crate) fn of(index: TableSeat) -> LoaderSteps
+        requires { (n : ℕ) × (image : ImageValue) × (index.me ≡ (View.Loading (handed n image), [])) }
+        ensures { result ≡ index.table }
     {
         let mut shelves = [Shelf::Free; 8];
         shelves[0] = Shelf::Open { version: 1 };
@@ -199,7 +199,7 @@ impl LoaderSteps {
             newest: 1,
             shelves,
         };
-        Steps { place, memory }
+        Steps { index, memory }
     }
 
     /// Gives a notice of the current version.
@@ -208,10 +208,10 @@ impl LoaderSteps {
         requires { self.old ≡ table.now }
         ensures { (self.new ≡ self.old) × (result ≡ table.now) }
     {
-        let place = note(table, &mut self.place);
+        let index = note(table, &mut self.index);
         let version = self.memory.current;
         Steps {
-            place,
+            index,
             memory: Noted { version },
         }
     }
@@ -234,9 +234,9 @@ impl LoaderSteps {
         }
         let version = self.memory.newest + 1;
         let editions = editions_of(source.alloc, version, &source.image)?;
-        gather(table, &mut self.place, shelf);
-        fill_block(table, &mut self.place, shelf, editions);
-        open(table, &mut self.place, shelf, version);
+        gather(table, &mut self.index, shelf);
+        fill_block(table, &mut self.index, shelf, editions);
+        open(table, &mut self.index, shelf, version);
         self.memory.shelves[shelf] = Shelf::Open { version };
         self.memory.newest = version;
         Ok(true)
@@ -249,7 +249,7 @@ impl LoaderSteps {
     {
         match self.memory.shelves[shelf] {
             Shelf::Open { version } if self.memory.current < version => {
-                publish(table, &mut self.place, version, shelf);
+                publish(table, &mut self.index, version, shelf);
                 self.memory.current = version;
                 true
             }
@@ -264,7 +264,7 @@ impl LoaderSteps {
     {
         match self.memory.shelves[shelf] {
             Shelf::Open { version } if version < self.memory.current => {
-                close(table, &mut self.place, shelf);
+                close(table, &mut self.index, shelf);
                 self.memory.shelves[shelf] = Shelf::Closing { version };
                 true
             }
@@ -280,7 +280,7 @@ impl LoaderSteps {
     {
         match self.memory.shelves[shelf] {
             Shelf::Closing { version } => {
-                match try_shelf(table, &mut self.place, shelf, version) {
+                match try_shelf(table, &mut self.index, shelf, version) {
                     Some(count) => Some(count),
                     None => {
                         self.memory.shelves[shelf] = Shelf::Free;

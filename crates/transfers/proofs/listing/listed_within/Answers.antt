@@ -14,4 +14,4 @@ pub returns-clause-many : goal.returns-clause-many
 returns-clause-many c =
     IfErr-weaker c.paths_below.result (λ fault. fault ≡ TooMany
     → ListsMoreBelow c.args.feed.now c.end_of_stops-end.result c.args.most) (λ fault. fault ≡ TooMany → ListsMore c.args.feed.now c.args.most)
-    (λ fault h told. lists_more c.args.feed.now c.end_of_stops-end.result c.end_of_stops-end.ensures.below c.args.most (h told)) c.paths_below.ensures.many
+    (λ fault h fact. lists_more c.args.feed.now c.end_of_stops-end.result c.end_of_stops-end.ensures.below c.args.most (h fact)) c.paths_below.ensures.many

@@ -7,8 +7,8 @@ pub loop-seat-preserved : goal.loop-seat-preserved
 loop-seat-preserved g c =
     let was = c.loop-seat.invariant in
     let step = c.in-Some.ensures.steps in
-    let left : All (λ seat. seat.table ≡ g.B.Named.table) (c.in-Some.seat ∷ c.next.new.self.rest.items) =
-    subst (λ items. All (λ seat. seat.table ≡ g.B.Named.table) items) step.0 was.left in
+    let left : All (λ seat. seat.table ≡ g.B.ShelvesName.table) (c.in-Some.seat ∷ c.next.new.self.rest.items) =
+    subst (λ items. All (λ seat. seat.table ≡ g.B.ShelvesName.table) items) step.0 was.left in
     let short = ap length step.0 in
     record {
       next = tt;

@@ -7,7 +7,7 @@ abbrev pub invariant-loop-seat : goal.invariant-loop-seat
 invariant-loop-seat g l = record {
   next : (goal.iterator-loop-seat g).can_next l.seat-iterator;
   finite : (goal.iterator-loop-seat g).is_finite l.seat-iterator;
-  left : All (λ seat. seat.table ≡ g.B.Named.table) l.seat-iterator.rest.items;
+  left : All (λ seat. seat.table ≡ g.B.ShelvesName.table) l.seat-iterator.rest.items;
   len : into_iter_len l.seat-iterator ≡ length (into_iter_items l.seat-iterator);
   named : l.fn.seats.items ≡ l.named.items ++ into_iter_items l.seat-iterator;
 }

@@ -9,7 +9,7 @@ loop-seat-init g c = record {
   finite = tt;
   len = search rules;
   moved = search rules;
-  table = subst (λ items. All (λ seat. seat.table ≡ g.B.Named.table) items) (sym c.requires) (All-nil _);
+  table = subst (λ items. All (λ seat. seat.table ≡ g.B.ShelvesName.table) items) (sym c.requires) (All-nil _);
 }
 
 -- one seat more is without its name, and one is left less
@@ -23,6 +23,6 @@ loop-seat-preserved g c =
       finite = tt;
       len = omega (arith, short, step.1, was.len);
       moved = moved_next _ _ _ _ _ _ c.in-Some.seat was.moved step.0 c.in_ok-push.ensures.items c.into_inner.ensures.same;
-      table = subst (λ items. All (λ seat. seat.table ≡ g.B.Named.table) items) (sym c.in_ok-push.ensures.items)
-          (All-push (λ seat. seat.table ≡ g.B.Named.table) _ _ was.table c.into_inner.ensures.table);
+      table = subst (λ items. All (λ seat. seat.table ≡ g.B.ShelvesName.table) items) (sym c.in_ok-push.ensures.items)
+          (All-push (λ seat. seat.table ≡ g.B.ShelvesName.table) _ _ was.table c.into_inner.ensures.table);
     }

@@ -9,5 +9,5 @@ invariant-loop-seat g l = record {
   finite : (goal.iterator-loop-seat g).is_finite l.seat-iterator;
   len : into_iter_len l.seat-iterator ≡ length (into_iter_items l.seat-iterator);
   moved : l.fn.seats.items ≡ l.inner.items ++ into_iter_items l.seat-iterator;
-  table : All (λ seat. seat.table ≡ g.B.Named.table) l.inner.items;
+  table : All (λ seat. seat.table ≡ g.B.ShelvesName.table) l.inner.items;
 }

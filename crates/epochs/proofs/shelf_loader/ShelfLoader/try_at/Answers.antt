@@ -9,14 +9,14 @@ pub invariant_of-self : goal.invariant_of-self
 invariant_of-self c =
     let inside = c.self.inside in let after = c.try_shelf.new.loader.me in
     let rests : OfLoader after.0 (λ l. Rests inside.current inside.current_shelf inside.shelves l) × (after.1 ≡ []) = search rules in
-    (rests.0, rests.1, busy_known c.args.shelf c.in-Some.count inside.place.me.0 after.0 c.self.invariant.2 c.in-Some.ensures.busy)
+    (rests.0, rests.1, busy_known c.args.shelf c.in-Some.count inside.table_seat.me.0 after.0 c.self.invariant.2 c.in-Some.ensures.busy)
 
 pub invariant_of-self-in-None : goal.invariant_of-self-in-None
 invariant_of-self-in-None c =
     let inside = c.self.inside in let after = c.try_shelf.new.loader.me in
     let closing = closing_at inside.shelves c.args.shelf c.in-Closing.version c.in-Closing.is in (
-      rests_free inside.current inside.current_shelf inside.shelves c.args.shelf c.in-Closing.version inside.place.me.0 after.0
+      rests_free inside.current inside.current_shelf inside.shelves c.args.shelf c.in-Closing.version inside.table_seat.me.0 after.0
           c.self.invariant.0 closing c.in-None.ensures.freed,
       c.try_shelf.ensures.empty,
-      frees_known c.args.shelf inside.place.me.0 after.0 c.self.invariant.2 c.in-None.ensures.freed,
+      frees_known c.args.shelf inside.table_seat.me.0 after.0 c.self.invariant.2 c.in-None.ensures.freed,
     )

@@ -12,9 +12,9 @@ use Rattle.epochs.proofs.shelf_seats.ShelfSeat.release_at.Goals as goal
 pub returns-in-Some-clause-grows : goal.returns-in-Some-clause-grows
 returns-in-Some-clause-grows c =
     subst (λ (s : ShelfSeatValue). Grows (known_of s.view) (known_of c.release.new.worker.me.0)) c.self.view_is
-    (releases_grow c.self.inside.place.me.0 c.release.new.worker.me.0 c.release.ensures.releases.0)
+    (releases_grow c.self.inside.table_seat.me.0 c.release.new.worker.me.0 c.release.ensures.releases.0)
 
 pub returns-in-Some-clause-ends : goal.returns-in-Some-clause-ends
 returns-in-Some-clause-ends c =
     subst (λ (s : ShelfSeatValue). Happened (known_of s.view) (Event.Drop s.number) Reply.Dropped (known_of c.release.new.worker.me.0)) c.self.view_is
-    (releases_end c.self.inside.place.me.0 c.release.new.worker.me c.self.inside.number c.release.ensures.releases.0 c.release.ensures.releases.1)
+    (releases_end c.self.inside.table_seat.me.0 c.release.new.worker.me c.self.inside.number c.release.ensures.releases.0 c.release.ensures.releases.1)

@@ -5,5 +5,5 @@ pub returns-clause-loader : goal.returns-clause-loader
 returns-clause-loader c = (
   freed_never_busy c.args.self.now c.try_shelves-found.result c.try_shelves-found.new.self
       c.history.ensures.kept c.try_shelves-found.ensures,
-  c.tell.ensures,
+  c.note_answer.ensures,
 )

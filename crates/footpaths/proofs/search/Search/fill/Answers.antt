@@ -2,7 +2,7 @@ use Rattle.std.proofs.Common.{◌+◌, ℕ, sym, ◌∙◌, inl, inr}
 use Rattle.std.specs.BinaryHeap.{heap_items}
 use Rattle.std.proofs.lemmas.Option.{none-some}
 use Rattle.footpaths.specs.Search.{IsFollowed, AreWalked, AreReached, ArePendingOrFollowed}
-use Rattle.footpaths.proofs.WalkLemmas.{followed_those, told_alone, least}
+use Rattle.footpaths.proofs.WalkLemmas.{followed_those, capped_alone, least}
 use Rattle.footpaths.proofs.SearchLemmas.{AreReached-sorted, AreReached-none}
 use Rattle.std.proofs.lemmas.List.Sorted.{IsNonDecreasingBy-from_sort}
 use Rattle.footpaths.proofs.search.Search.fill.Goals as goal
@@ -14,7 +14,7 @@ returns-clause-least c = λ listed index.
     followed_those listed c.spread.new.self.times.items c.args.target 0 c.into.result.now those c.in_ok-spread.ensures.within in
     let walked : AreWalked listed c.args.cap c.args.target c.spread.new.self.times.items =
     c.in_ok-spread.ensures.walked listed c.args.target
-    (λ k d below. told_alone listed c.args.cap c.args.target _ (those.into k d below).0 (those.into k d below).1)
+    (λ k d below. capped_alone listed c.args.cap c.args.target _ (those.into k d below).0 (those.into k d below).1)
     (λ stop secs at. absurd (none-some secs (sym (c.requires.empty stop) ∙ at))) in
     let pending : ArePendingOrFollowed listed c.spread.new.self.times.items (heap_items c.spread.new.self.pending) =
     λ stop secs at. elim (c.in_ok-spread.ensures.grows.fresh stop secs at) [

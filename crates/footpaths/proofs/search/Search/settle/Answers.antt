@@ -3,7 +3,7 @@ use Rattle.std.specs.BinaryHeap.{heap_items}
 use Rattle.std.proofs.lemmas.Grind.{common_steps}
 use Rattle.std.proofs.lemmas.List.Elements.{All-tail}
 use Rattle.std.proofs.lemmas.List.Sorted.{All-permutation}
-use Rattle.footpaths.specs.declared.search.Found.{Found}
+use Rattle.footpaths.specs.declared.search.HeapEntry.{HeapEntry}
 use Rattle.footpaths.proofs.WalkLemmas.{still_pending_or_followed, all_followed}
 use Rattle.footpaths.proofs.search.Search.settle.Goals as goal
 
@@ -11,7 +11,7 @@ pub loop-next-preserved : goal.loop-next-preserved
 loop-next-preserved c =
     let grows = c.in_ok-follow.ensures.grows in
     let moved = c.in-Some.ensures.permutation in
-    let inside = λ (x : Found). x.stop < length c.loop-next.self.times.items in
+    let inside = λ (x : HeapEntry). x.stop < length c.loop-next.self.times.items in
     record {
       count = grows.same_length ∙ c.loop-next.invariant.count;
       inside = grows.inside (All-tail inside c.in-Some.next (heap_items c.pop.new.self)

@@ -10,11 +10,11 @@ pub returns-clause-grows : goal.returns-clause-grows
 returns-clause-grows g c = extends_long (entries_of c.args.self.now) c.insert.new.entries.items c.insert.ensures.more_entries
 
 pub returns-clause-same : goal.returns-clause-same
-returns-clause-same g c place lt =
+returns-clause-same g c index lt =
     let lists = c.args.self.now in
     ap (map point_of) (same_points (g.C.Criterion.rules (lists_criterion lists)) (entries_of lists)
     c.insert.new.entries.items (items_of lists) c.insert.new.items.items c.requires.sound
-    c.insert.ensures.more_entries c.insert.ensures.more_items place lt)
+    c.insert.ensures.more_entries c.insert.ensures.more_items index lt)
 
 pub returns-clause-takes : goal.returns-clause-takes
 returns-clause-takes g c =

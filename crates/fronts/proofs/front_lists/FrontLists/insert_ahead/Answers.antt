@@ -29,7 +29,7 @@ put_one-requires-clause-may g c =
     let lists = c.args.self.now in
     let rules = g.C.Criterion.rules (lists_criterion lists) in
     let by = c.args.boarding in
-    let numbered = c.in_ok-tag.ensures.place in
+    let numbered = c.in_ok-tag.ensures.index in
     ahead_may rules (g.met.C.Criterion.laws (lists_criterion lists)) (entries_of lists) (items_of lists) c.requires.sound
     c.args.head by.departure by.first by.walk by.secs c.args.ride c.requires.head c.requires.ahead c.requires.secs
     c.requires.ride (steps_of lists) c.push.new.self.items c.in_ok-tag.tag c.walk-value.result c.walk-value.ensures
@@ -40,7 +40,7 @@ returns-clause-takes g c =
     let lists = c.args.self.now in
     let rules = g.C.Criterion.rules (lists_criterion lists) in
     let by = c.args.boarding in
-    let tag_is = c.in_ok-tag.ensures.place in
+    let tag_is = c.in_ok-tag.ensures.index in
     let numbered : c.in_ok-tag.tag ≡ length (steps_of lists) = omega (arith, tag_is) in
     IfOk-weaker c.put_one.result _ _
     (λ new union. subst (λ steps. TakesBoardings rules steps by.departure by.first by.walk by.secs (c.args.ride ∷ [])

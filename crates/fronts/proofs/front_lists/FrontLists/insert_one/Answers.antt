@@ -7,12 +7,12 @@ use Rattle.fronts.proofs.Mapped.{takes_points}
 use Rattle.fronts.proofs.front_lists.FrontLists.insert_one.Goals as goal
 
 pub returns-clause-same : goal.returns-clause-same
-returns-clause-same g c place lt =
+returns-clause-same g c index lt =
     let lists = c.args.self.now in
     let new = c.take_one.new.self in
     ap (map point_of) (same_points (g.C.Criterion.rules (lists_criterion lists)) (entries_of lists) (entries_of new)
     (items_of lists) (items_of new) c.requires.sound c.take_one.ensures.more_entries c.take_one.ensures.more_items
-    place lt)
+    index lt)
 
 pub returns-clause-takes : goal.returns-clause-takes
 returns-clause-takes g c =

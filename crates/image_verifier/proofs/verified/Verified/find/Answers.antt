@@ -2,7 +2,7 @@ use Rattle.std.proofs.Common.{◌≡◌, ◌≢◌, ◌<◌, ℕ, List, Option, 
 use Rattle.std.specs.Prelude.{IfSome, IfNone}
 use Rattle.std.proofs.lemmas.Option.{IfSome_then}
 use Rattle.timetable.specs.Legal.{At}
-use Rattle.image_layout.specs.Places.{header_of}
+use Rattle.image_layout.specs.Offsets.{header_of}
 use Rattle.image_layout.specs.Shown.{name_of, names_of}
 use Rattle.image_layout.specs.Image.{ImageValue}
 use Rattle.image_verifier.proofs.NameReads.{stop_name_is, stop_name_shown}

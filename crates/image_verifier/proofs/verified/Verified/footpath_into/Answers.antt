@@ -7,17 +7,17 @@ use Rattle.image_verifier.proofs.ShownLemmas.{is_among}
 use Rattle.image_verifier.proofs.verified.Verified.footpath_into.Goals as goal
 
 -- the place is among those into the stop
-among : (c : goal.After-deref) → (foot_index_of c.self.inside.words.items c.args.stop ≤ c.args.place)
-    × (c.args.place < foot_index_of c.self.inside.words.items (c.args.stop + 1))
+among : (c : goal.After-deref) → (foot_index_of c.self.inside.words.items c.args.stop ≤ c.args.position)
+    × (c.args.position < foot_index_of c.self.inside.words.items (c.args.stop + 1))
 among c =
     let back = sym c.self.view_is in
-    is_among c.self.inside.words.items c.args.stop c.args.place c.self.invariant
+    is_among c.self.inside.words.items c.args.stop c.args.position c.self.invariant
     (subst (λ (v : ImageValue). c.args.stop < v.timetable.stops) back c.requires.stop)
-    (subst (λ (v : ImageValue). c.args.place < length v.timetable.footpaths) back c.requires.place)
-    (subst (λ (v : ImageValue). (f : Footpath) → At v.timetable.footpaths c.args.place f → f.to ≡ c.args.stop) back c.requires.into)
+    (subst (λ (v : ImageValue). c.args.position < length v.timetable.footpaths) back c.requires.position)
+    (subst (λ (v : ImageValue). (f : Footpath) → At v.timetable.footpaths c.args.position f → f.to ≡ c.args.stop) back c.requires.into)
 
 pub footpath_of_stop-requires-clause-start : goal.footpath_of_stop-requires-clause-start
-footpath_of_stop-requires-clause-start c = subst (λ (w : List ℕ). foot_index_of w c.args.stop ≤ c.args.place) (sym c.deref.ensures.value) (among c).0
+footpath_of_stop-requires-clause-start c = subst (λ (w : List ℕ). foot_index_of w c.args.stop ≤ c.args.position) (sym c.deref.ensures.value) (among c).0
 
 pub footpath_of_stop-requires-clause-end : goal.footpath_of_stop-requires-clause-end
-footpath_of_stop-requires-clause-end c = subst (λ (w : List ℕ). c.args.place < foot_index_of w (c.args.stop + 1)) (sym c.deref.ensures.value) (among c).1
+footpath_of_stop-requires-clause-end c = subst (λ (w : List ℕ). c.args.position < foot_index_of w (c.args.stop + 1)) (sym c.deref.ensures.value) (among c).1

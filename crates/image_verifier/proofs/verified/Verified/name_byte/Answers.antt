@@ -4,7 +4,7 @@ use Rattle.timetable.specs.Legal.{At}
 use Rattle.image_layout.specs.Spelling.{name_list}
 use Rattle.image_layout.specs.Shown.{name_of}
 use Rattle.image_layout.specs.Image.{ImageValue}
-use Rattle.image_verifier.proofs.NameReads.{name_is, name_told, within_names}
+use Rattle.image_verifier.proofs.NameReads.{name_is, name_as_read, within_names}
 use Rattle.image_verifier.proofs.verified.Verified.name_byte.Goals as goal
 
 pub name_byte_at-requires-clause-within : goal.name_byte_at-requires-clause-within
@@ -20,4 +20,4 @@ name_byte_at-requires-clause-inside c =
 
 pub returns : goal.returns
 returns c = λ name at. ap (λ (x : List ℕ). slice_get x c.args.j)
-    (sym (name_told _ _ _ c.args.i name c.self.view_is c.deref.ensures.value at)) ∙ c.name_byte_at.ensures
+    (sym (name_as_read _ _ _ c.args.i name c.self.view_is c.deref.ensures.value at)) ∙ c.name_byte_at.ensures

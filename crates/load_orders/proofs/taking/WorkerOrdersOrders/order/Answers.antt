@@ -12,10 +12,10 @@ invariant_of-self g c =
     let here = c.self.inside in
     let names = map string_bytes here.names.now in
     let feed = c.args.feed.now in
-    elim c.match-place_of.branch [
+    elim c.match-index_of.branch [
       | in-Some w ↦
           let put = w.put-outcome in
-          let does = does_put g.P.Protocol.holds g.T.Versions.noted feed w.in-Some.place put.result names here.end put.new.self here.heard
+          let does = does_put g.P.Protocol.holds g.T.Versions.noted feed w.in-Some.index put.result names here.end put.new.self here.heard
           w.in-Some.ensures put.ensures.put put.ensures.refused in
           let grows = c.note.ensures ∙ ap (λ m. m.asked ++ c.put.result ∷ []) w.self-inside-is
           ∙ ap (λ (order : OrderValue). here.asked ++ order ∷ []) (c.put.ensures ∙ ap (order_value feed) w.outcome-is) in

@@ -1,5 +1,5 @@
 use Rattle.std.proofs.Common.{◌++◌, ◌∷◌, ◌∙◌, [], IfErr, IfOk, Some, ap, map, string_bytes, subst}
-use Rattle.orders.specs.Ordering.{OrderValue, version_told, waited_value}
+use Rattle.orders.specs.Ordering.{OrderValue, version_alone, waited_value}
 use Rattle.load_orders.specs.Asking.{Hears, RefusesVersion, WorkerOrdersValue}
 use Rattle.load_orders.specs.declared.ways.LoadAnswer.{LoadAnswer}
 use Rattle.load_orders.proofs.AskLemmas.{asked_more, does_wait, refused_so}
@@ -15,7 +15,7 @@ invariant_of-self g c =
     let does = does_wait g.P.Protocol.holds g.T.Versions.noted feed waited.result names here.end waited.new.end here.heard waited.new.heard
     waited.ensures.notice waited.ensures.heard waited.ensures.refused in
     let grows = c.note.ensures ∙ ap (λ (order : OrderValue). here.asked ++ order ∷ []) c.waited.ensures in
-    asked_more g.P.Protocol.holds g.T.Versions.noted (waited_value feed (version_told waited.result)) names here.end waited.new.end
+    asked_more g.P.Protocol.holds g.T.Versions.noted (waited_value feed (version_alone waited.result)) names here.end waited.new.end
     here.asked c.note.new.self here.heard waited.new.heard c.self.invariant does waited.ensures.queue grows
 
 -- what was heard, or why nothing was, by the orders as they are then
@@ -24,8 +24,8 @@ returns-clause-heard g c =
     let waited = c.wait_for-outcome in
     let names = map string_bytes c.self.inside.names.now in
     let after : WorkerOrdersValue _ = record { names = names; end = waited.new.end; asked = c.note.new.self; heard = waited.new.heard } in
-    let Told = λ (before : WorkerOrdersValue _). IfOk waited.result (λ r. Hears c.args.feed.now (Some (LoadAnswer.Published r.1)) before after) in
-    subst Told c.self.view_is waited.ensures.heard
+    let P = λ (before : WorkerOrdersValue _). IfOk waited.result (λ r. Hears c.args.feed.now (Some (LoadAnswer.Published r.1)) before after) in
+    subst P c.self.view_is waited.ensures.heard
 
 pub returns-clause-refused : goal.returns-clause-refused
 returns-clause-refused g c =
@@ -33,7 +33,7 @@ returns-clause-refused g c =
     let waited = c.wait_for-outcome in
     let names = map string_bytes here.names.now in
     let after : WorkerOrdersValue _ = record { names = names; end = waited.new.end; asked = c.note.new.self; heard = waited.new.heard } in
-    let Told = λ (before : WorkerOrdersValue _). IfErr waited.result (λ fault. RefusesVersion g.P.Protocol.holds c.args.feed.now fault before after) in
-    subst Told c.self.view_is
+    let P = λ (before : WorkerOrdersValue _). IfErr waited.result (λ fault. RefusesVersion g.P.Protocol.holds c.args.feed.now fault before after) in
+    subst P c.self.view_is
     (refused_so g.P.Protocol.holds g.T.Versions.noted c.args.feed.now waited.result names here.end waited.new.end here.asked c.note.new.self
     here.heard waited.new.heard waited.ensures.refused)

@@ -1,7 +1,7 @@
 use Rattle.std.proofs.Common.{◌<◌, ℕ, Contains, sym, subst}
 use Rattle.reasoning.proofs.ListLemmas.{not_in_nil}
 use Rattle.profile_scan.specs.Between.{question}
-use Rattle.profile_scan.specs.Story.{told}
+use Rattle.profile_scan.specs.Story.{spelling_of}
 use Rattle.profile_scan.specs.Kept.{AreStops, IsWayTo}
 use Rattle.profile_scan.specs.Origins.{from_stop}
 use Rattle.profile_scan.specs.Everywhere.{kept_from, story_from}
@@ -58,7 +58,7 @@ returns-then-is_idle-clause-steps g c stop =
     let t = g.S.ConnSource.timetable c.args.source.now in
     let state = c.args.self.now in
     step_idle_at (g.C.Criterion.rules c.args.asked.now.criterion) t (from_stop (question c.args.asked.now.query) stop)
-    (told t.footpaths (story_from state stop)) c.args.place (kept_from state stop) _ c.args.connection.now c.requires.stands.is
+    (spelling_of t.footpaths (story_from state stop)) c.args.place (kept_from state stop) _ c.args.connection.now c.requires.stands.is
     (way_is g (goal.at.returns-then-is_idle-clause-steps g c).After-way_from-way)
     (c.is_idle.ensures c.if-is_idle.true)
 

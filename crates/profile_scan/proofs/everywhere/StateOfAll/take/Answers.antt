@@ -10,7 +10,7 @@ use Rattle.profile_scan.specs.Steps.{leavings, boardings, settings_out, TakesIn}
 use Rattle.profile_scan.specs.Adding.{label_points, trip_points}
 use Rattle.profile_scan.specs.Bound.{carried}
 use Rattle.profile_scan.specs.Matching.{from_to}
-use Rattle.profile_scan.specs.Story.{story, told}
+use Rattle.profile_scan.specs.Story.{story, spelling_of}
 use Rattle.profile_scan.specs.Kept.{AreStops, points_at}
 use Rattle.profile_scan.specs.Origins.{found_from, from_stop, set_outs_from}
 use Rattle.profile_scan.specs.Everywhere.{story_from}
@@ -116,7 +116,7 @@ returns-clause-steps g c stop =
     let was = story_from c.args.self.now stop in
     let between = story mid steps outs in
     let grows_first = exits_grow c.args.self.now.trips.exits.items mid steps outs c.in_ok-alight.ensures.trip.exits in
-    let first = from_to (told t.footpaths was) (told t.footpaths between) in
+    let first = from_to (spelling_of t.footpaths was) (spelling_of t.footpaths between) in
     let bag = points_at stops (connection_at t i).to in
     let old_found = found_from c.args.self.now.origins stop in
     let bag_is = ap (λ (x : Connection). carried rules values (points_at stops x.to)) at.is in
@@ -136,10 +136,10 @@ returns-clause-steps g c stop =
     let after = story mid now_steps now_outs in
     let out_grows = set_outs_grow mid steps outs now_outs (c.in_ok-set_out.ensures.origins.set_outs stop) in
     let in_grows = steps_grow mid steps now_steps now_outs c.in_ok-board.ensures.stops.steps in
-    let second = from_to (told t.footpaths between) (told t.footpaths after) in
+    let second = from_to (spelling_of t.footpaths between) (spelling_of t.footpaths after) in
     let new_found = found_from c.set_out.new.self stop in
     record {
-      between = told t.footpaths between;
+      between = spelling_of t.footpaths between;
       kept_first = grows_keeps t.footpaths was between grows_first;
       kept_then = grows_keeps t.footpaths between after (grows_on between set_out after out_grows in_grows);
       changing = carried rules values bag;
@@ -187,7 +187,7 @@ returns-then-labels-eq0-clause-steps g c stop =
     let was = story_from c.args.self.now stop in
     let between = story mid steps outs in
     let grows_first = exits_grow c.args.self.now.trips.exits.items mid steps outs c.in_ok-alight.ensures.trip.exits in
-    let first = from_to (told t.footpaths was) (told t.footpaths between) in
+    let first = from_to (spelling_of t.footpaths was) (spelling_of t.footpaths between) in
     let bag = points_at stops (connection_at t i).to in
     let old_found = found_from c.args.self.now.origins stop in
     let bag_is = ap (λ (x : Connection). carried rules values (points_at stops x.to)) at.is in
@@ -201,12 +201,12 @@ returns-then-labels-eq0-clause-steps g c stop =
     (carried rules values (points_at stops hop.connection.to)) (old hop.connection.trip) (new hop.connection.trip)
     (trip_admitted rules c.alight.new.self.labels c.in_ok-alight.ensures.trip.labels.labels hop.connection.trip)
     (c.in_ok-alight.ensures.takes t.footpaths steps outs was between (grows_none was) (grows_none between))))) in
-    let second = from_to (told t.footpaths between) (told t.footpaths between) in
+    let second = from_to (spelling_of t.footpaths between) (spelling_of t.footpaths between) in
     let none = no_trip_points c.alight.new.self.labels hop.connection.trip (ap length (sym c.labels_of-labels.ensures) ∙ c.if-labels-eq0.true) in
     let none_there : (p : Point g.row.C-V.Denot) → Contains (new trip) p → ⊥ = subst
     (λ (x : Connection). (p : Point g.row.C-V.Denot) → Contains (new x.trip) p → ⊥) at.is none in
     record {
-      between = told t.footpaths between;
+      between = spelling_of t.footpaths between;
       kept_first = grows_keeps t.footpaths was between grows_first;
       kept_then = grows_keeps t.footpaths between between (grows_none between);
       changing = carried rules values bag;

@@ -3,7 +3,7 @@ use Rattle.std.proofs.lemmas.Bool.{true≢false}
 use Rattle.reasoning.proofs.ListLemmas.{extends_none, extends_one}
 use Rattle.bags.specs.Bag.{points_of}
 use Rattle.profile_scan.specs.Matching.{from_to}
-use Rattle.profile_scan.specs.Story.{told}
+use Rattle.profile_scan.specs.Story.{spelling_of}
 use Rattle.profile_scan.specs.Adding.{set_out_way}
 use Rattle.profile_scan.proofs.Offers.{inserted_under}
 use Rattle.profile_scan.proofs.StoryLemmas.{set_out_next}
@@ -12,7 +12,7 @@ use Rattle.profile_scan.proofs.origin.Origin.offer.Goals as goal
 pub returns-in_ok-push-clause-takes : goal.returns-in_ok-push-clause-takes
 returns-in_ok-push-clause-takes g c walks exits steps before all ext_before ext =
     let tag_is = c.len-tag.ensures ∙ c.args.self.now.set_outs.ok.0 in
-    let way = set_out_way (from_to (told walks before) (told walks all)) c.args.departure c.args.value c.args.set_out in
+    let way = set_out_way (from_to (spelling_of walks before) (spelling_of walks all)) c.args.departure c.args.value c.args.set_out in
     inserted_under g.C.Criterion.rules c.args.self.now.found.criterion c.args.criterion.now
     (g.met.C.Criterion.laws c.args.criterion.now) (points_of c.args.self.now.found) (points_of c.insert.new.self)
     (record { departure = c.args.departure; value = c.args.value; tag = c.len-tag.result }) (way.fits_tag tt) c.in_ok-stands.stands
@@ -23,7 +23,7 @@ returns-in_ok-push-clause-takes g c walks exits steps before all ext_before ext 
 
 pub returns-else-stands-clause-takes : goal.returns-else-stands-clause-takes
 returns-else-stands-clause-takes g c walks exits steps before all ext_before ext =
-    let way = set_out_way (from_to (told walks before) (told walks all)) c.args.departure c.args.value c.args.set_out in
+    let way = set_out_way (from_to (spelling_of walks before) (spelling_of walks all)) c.args.departure c.args.value c.args.set_out in
     inserted_under g.C.Criterion.rules c.args.self.now.found.criterion c.args.criterion.now
     (g.met.C.Criterion.laws c.args.criterion.now) (points_of c.args.self.now.found) (points_of c.insert.new.self)
     (record { departure = c.args.departure; value = c.args.value; tag = c.len-tag.result }) (way.fits_tag tt) c.in_ok-stands.stands

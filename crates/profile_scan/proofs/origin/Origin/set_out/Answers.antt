@@ -3,7 +3,7 @@ use Rattle.reasoning.proofs.ListLemmas.{extends_none}
 use Rattle.bags.specs.Bag.{points_of}
 use Rattle.profile_scan.specs.Between.{question}
 use Rattle.profile_scan.specs.Matching.{from_to}
-use Rattle.profile_scan.specs.Story.{story, told}
+use Rattle.profile_scan.specs.Story.{story, spelling_of}
 use Rattle.profile_scan.specs.Steps.{TakesIn}
 use Rattle.profile_scan.specs.Adding.{label_points, each_of, IsTried, settings_out_by}
 use Rattle.profile_scan.proofs.StoryLemmas.{grows_on, set_outs_grow}
@@ -21,7 +21,7 @@ loop-place-init g c =
     record {
       origin = c.in_ok-set_out_by.ensures.origin;
       takes = λ exits steps before all ext_before ext.
-          starts_first rules walks (settings_out_by rules (from_to (told walks before) (told walks all))
+          starts_first rules walks (settings_out_by rules (from_to (spelling_of walks before) (spelling_of walks all))
           c.args.hop.now.place c.args.hop.now.connection (question c.args.asked.now.query) (label_points c.args.labels.now))
           c.walks_into-begin.result.0 (points_of c.args.self.now.found) (points_of c.set_out_by.new.self.found)
           (c.in_ok-set_out_by.ensures.takes walks exits steps before all ext_before ext);
@@ -45,7 +45,7 @@ loop-place-preserved g c =
           starts_next (g.C.Criterion.rules c.args.asked.now.criterion)
           (g.met.C.Criterion.laws c.args.asked.now.criterion) t (g.met.S.ConnSource.limits c.args.source.now)
           (label_points c.args.labels.now) c.requires.labels
-          (from_to (told t.footpaths before) (told t.footpaths all)) c.args.hop.now.place c.args.hop.now.connection
+          (from_to (spelling_of t.footpaths before) (spelling_of t.footpaths all)) c.args.hop.now.place c.args.hop.now.connection
           (question c.args.asked.now.query) c.walks_into-begin.result.0 c.loop-place.place walk
           (points_of c.args.self.now.found) (points_of c.loop-place.self.found)
           (points_of c.set_out_by-in-loop-place.new.self.found)
@@ -62,7 +62,7 @@ returns-clause-takes g c exits steps before all ext_before ext =
     let rules = g.C.Criterion.rules c.args.asked.now.criterion in
     let t = g.S.ConnSource.timetable c.args.source.now in
     let labels = label_points c.args.labels.now in
-    let tags = from_to (told t.footpaths before) (told t.footpaths all) in
+    let tags = from_to (spelling_of t.footpaths before) (spelling_of t.footpaths all) in
     let begin = c.walks_into-begin.result.0 in
     let over = c.loop-place-test.false in
     let within = c.loop-place.auto.place-end c.walks_into-begin.ensures.order in
@@ -81,7 +81,7 @@ returns-then-not-hop-2-clause-takes g c exits steps before all ext_before ext =
     let t = g.S.ConnSource.timetable c.args.source.now in
     let hop = c.args.hop.now in
     alone_taken (g.C.Criterion.rules c.args.asked.now.criterion) t
-    (from_to (told t.footpaths before) (told t.footpaths all)) hop.place (question c.args.asked.now.query)
+    (from_to (spelling_of t.footpaths before) (spelling_of t.footpaths all)) hop.place (question c.args.asked.now.query)
     (label_points c.args.labels.now) (points_of c.args.self.now.found) (points_of c.set_out_by.new.self.found)
     hop.connection c.requires.hop.stands.is c.if-not-hop.false hop.lead.led c.if-not-hop-2.true c.requires.hop.lead.led
     (c.in_ok-set_out_by.ensures.takes t.footpaths exits steps before all ext_before ext)

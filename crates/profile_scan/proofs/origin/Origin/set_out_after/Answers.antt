@@ -8,7 +8,7 @@ use Rattle.bags.specs.declared.point.Point.{Point}
 use Rattle.profile_scan.specs.Values.{started}
 use Rattle.profile_scan.specs.Adding.{label_points, set_out_way}
 use Rattle.profile_scan.specs.Matching.{from_to}
-use Rattle.profile_scan.specs.Story.{story, told}
+use Rattle.profile_scan.specs.Story.{story, spelling_of}
 use Rattle.profile_scan.specs.declared.story.SetOut.{SetOut}
 use Rattle.profile_scan.proofs.Offers.{start_admits, takes_first, takes_next, takes_worth, takes_all}
 use Rattle.profile_scan.proofs.PartLemmas.{origin_on}
@@ -46,7 +46,7 @@ loop-place-preserved g c =
           let was = story exits steps c.args.self.now.set_outs.items in
           let mid = story exits steps c.loop-place.self.set_outs.items in
           let now = story exits steps c.offer.new.self.set_outs.items in
-          let tags = from_to (told walks before) (told walks all) in
+          let tags = from_to (spelling_of walks before) (spelling_of walks all) in
           let set_out : SetOut = record { start = c.args.departure.start; first = c.args.hop.now.place; label = x.tag } in
           takes_next rules (label_points c.args.labels.now)
           (λ (label : Point g.row.C-V.Denot). set_out_way tags c.args.departure.time
@@ -74,7 +74,7 @@ loop-place-preserved g c =
 pub returns-clause-takes : goal.returns-clause-takes
 returns-clause-takes g c walks exits steps before all ext_before ext =
     let rules = g.C.Criterion.rules c.args.asked.now.criterion in
-    let tags = from_to (told walks before) (told walks all) in
+    let tags = from_to (spelling_of walks before) (spelling_of walks all) in
     let labels = c.args.labels.now in
     let long : length (label_points labels) ≡ length labels = length-map labels _ in
     let over = c.loop-place-test.false in

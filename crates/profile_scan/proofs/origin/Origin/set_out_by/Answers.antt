@@ -7,7 +7,7 @@ use Rattle.timetable.specs.Journeys.{start_secs}
 use Rattle.profile_scan.specs.Between.{question}
 use Rattle.profile_scan.specs.Steps.{TakesIn}
 use Rattle.profile_scan.specs.Matching.{from_to}
-use Rattle.profile_scan.specs.Story.{told}
+use Rattle.profile_scan.specs.Story.{spelling_of}
 use Rattle.profile_scan.specs.Adding.{label_points, MayStart, settings_out_after}
 use Rattle.reasoning.proofs.BoolLemmas.{where_true, where_false}
 use Rattle.profile_scan.proofs.Offers.{on_ok_more, takes_if, takes_unless}
@@ -27,7 +27,7 @@ returns-in-Some-clause-takes g c =
     let from = where_true c.is_from_source.result _ _ c.if-not-is_from_source.false c.is_from_source.ensures in
     on_ok_more c.set_out_after.result _ _
     (λ takes walks exits steps before all ext_before ext.
-    let tags = from_to (told walks before) (told walks all) in
+    let tags = from_to (spelling_of walks before) (spelling_of walks all) in
     takes_if rules (MayStart (question c.args.asked.now.query) c.args.hop.now.connection c.args.start)
     (settings_out_after rules tags c.args.hop.now.place (c.args.hop.now.connection.dep - start_secs c.args.start) c.args.start labels) old new
     (may_start (question c.args.asked.now.query) c.args.hop.now.connection c.args.start from is.0)
@@ -45,7 +45,7 @@ pub returns-in-None-clause-takes : goal.returns-in-None-clause-takes
 returns-in-None-clause-takes g c walks exits steps before all ext_before ext =
     let rules = g.C.Criterion.rules c.args.asked.now.criterion in
     takes_unless rules (MayStart (question c.args.asked.now.query) c.args.hop.now.connection c.args.start)
-    (settings_out_after rules (from_to (told walks before) (told walks all)) c.args.hop.now.place
+    (settings_out_after rules (from_to (spelling_of walks before) (spelling_of walks all)) c.args.hop.now.place
     (c.args.hop.now.connection.dep - start_secs c.args.start) c.args.start (label_points c.args.labels.now))
     (points_of c.args.self.now.found)
     (λ may. c.in-None.ensures (in_time (question c.args.asked.now.query) c.args.hop.now.connection c.args.start may))
@@ -56,7 +56,7 @@ returns-then-not-is_from_source-clause-takes g c walks exits steps before all ex
     let rules = g.C.Criterion.rules c.args.asked.now.criterion in
     let not_from = where_false c.is_from_source.result _ _ c.if-not-is_from_source.true c.is_from_source.ensures in
     takes_unless rules (MayStart (question c.args.asked.now.query) c.args.hop.now.connection c.args.start)
-    (settings_out_after rules (from_to (told walks before) (told walks all)) c.args.hop.now.place
+    (settings_out_after rules (from_to (spelling_of walks before) (spelling_of walks all)) c.args.hop.now.place
     (c.args.hop.now.connection.dep - start_secs c.args.start) c.args.start (label_points c.args.labels.now))
     (points_of c.args.self.now.found)
     (λ may. not_from may.starts)

@@ -1,7 +1,7 @@
 use Rattle.std.proofs.Common.{◌≡◌, ◌<◌, ℕ, sym, ◌∙◌, subst, arith}
 use Rattle.profile_scan.specs.Between.{question}
 use Rattle.profile_scan.specs.Matching.{from_to}
-use Rattle.profile_scan.specs.Story.{story, told}
+use Rattle.profile_scan.specs.Story.{story, spelling_of}
 use Rattle.profile_scan.specs.Steps.{TakesIn}
 use Rattle.profile_scan.specs.Adding.{label_points, each_of, IsTried, settings_out_by}
 use Rattle.profile_scan.specs.Origins.{found_from, from_stop, set_outs_from}
@@ -50,7 +50,7 @@ loop-place-init g c =
     record {
       origins = c.in_ok-set_out_by.ensures.origins;
       takes = λ stop exits steps before all ext_before ext. starts_first rules walks
-          (settings_out_by rules (from_to (told walks before) (told walks all)) c.args.hop.now.place c.args.hop.now.connection
+          (settings_out_by rules (from_to (spelling_of walks before) (spelling_of walks all)) c.args.hop.now.place c.args.hop.now.connection
           (from_stop (question c.args.asked.now.query) stop) (label_points c.args.labels.now)) c.walks_into-begin.result.0 (found_from c.args.self.now stop)
           (found_from c.set_out_by.new.self stop) (c.in_ok-set_out_by.ensures.takes walks stop exits steps before all ext_before ext);
     }
@@ -74,7 +74,7 @@ loop-place-preserved g c =
           let s2 = story exits steps new_outs in
           starts_next (g.C.Criterion.rules c.args.asked.now.criterion) (g.met.C.Criterion.laws c.args.asked.now.criterion) t
           (g.met.S.ConnSource.limits c.args.source.now) (label_points c.args.labels.now) c.requires.labels
-          (from_to (told t.footpaths before) (told t.footpaths all)) c.args.hop.now.place c.args.hop.now.connection
+          (from_to (spelling_of t.footpaths before) (spelling_of t.footpaths all)) c.args.hop.now.place c.args.hop.now.connection
           (from_stop (question c.args.asked.now.query) stop) c.walks_into-begin.result.0 c.loop-place.place walk (found_from old stop) (found_from mid stop)
           (found_from new stop)
           c.loop-place.auto.place c.footpath_into-walk.ensures
@@ -90,7 +90,7 @@ returns-clause-takes g c stop exits steps before all ext_before ext =
     let t = g.S.ConnSource.timetable c.args.source.now in
     let labels = label_points c.args.labels.now in
     let q = from_stop (question c.args.asked.now.query) stop in
-    let tags = from_to (told t.footpaths before) (told t.footpaths all) in
+    let tags = from_to (spelling_of t.footpaths before) (spelling_of t.footpaths all) in
     let begin = c.walks_into-begin.result.0 in
     let over = c.loop-place-test.false in
     let within = c.loop-place.auto.place-end c.walks_into-begin.ensures.order in

@@ -7,7 +7,7 @@ use Rattle.timetable.specs.Journeys.{start_secs}
 use Rattle.profile_scan.specs.Between.{question}
 use Rattle.profile_scan.specs.Steps.{TakesIn}
 use Rattle.profile_scan.specs.Matching.{from_to}
-use Rattle.profile_scan.specs.Story.{told}
+use Rattle.profile_scan.specs.Story.{spelling_of}
 use Rattle.profile_scan.specs.Adding.{label_points, MayStart, only_if, settings_out_after}
 use Rattle.profile_scan.specs.Origins.{SourceTakes, found_from, from_stop}
 use Rattle.profile_scan.proofs.Offers.{on_ok_both, on_ok_more, takes_if}
@@ -39,7 +39,7 @@ returns-in-Some-clause-takes g c =
           subst (λ (n : ℕ). SourceTakes rules walks n (λ tags. only_if (MayStart (from_stop q n) cn start)
           (settings_out_after rules tags c.args.hop.now.place (cn.dep - start_secs start) start labels)) old new) (sym same)
           (λ exits steps before all ext_before ext.
-          let tags = from_to (told walks before) (told walks all) in
+          let tags = from_to (spelling_of walks before) (spelling_of walks all) in
           takes_if rules (MayStart (from_stop q here) cn start)
           (settings_out_after rules tags c.args.hop.now.place (cn.dep - start_secs start) start labels) (found_from old here) (found_from new here)
           (subst (λ (n : ℕ). MayStart (from_stop q n) cn start) (sym c.source_of-stop.ensures) (own_start q cn start not_loop is.0))

@@ -6,13 +6,13 @@ use Rattle.timetable.specs.declared.query.Query.{Query}
 use Rattle.fronts.specs.Lists.{steps_of}
 use Rattle.profile_scan.specs.Points.{untagged}
 use Rattle.profile_scan.specs.Story.{story}
-use Rattle.profile_scan.specs.Telling.{IsJourneyTold, IsRetold}
+use Rattle.profile_scan.specs.Telling.{IsJourneySpelled, IsSpelledAgain}
 use Rattle.profile_scan.specs.Kept.{IsWay}
 use Rattle.profile_scan.specs.Answered.{IsAnswered}
 use Rattle.profile_scan.specs.Destinations.{query_from}
 use Rattle.profile_scan.specs.Origins.{set_outs_by}
 use Rattle.profile_scan.specs.Everywhere.{criterion_of_profiles, destination_of, listed_from, story_from}
-use Rattle.profile_scan.proofs.EverywhereLemmas.{answered_in_nodes, attained_told}
+use Rattle.profile_scan.proofs.EverywhereLemmas.{answered_in_nodes, attained_spelled}
 use Rattle.profile_scan.proofs.profiles.Profiles.found_from.Given as given
 use Rattle.profile_scan.proofs.profiles.Profiles.found_from.Goals.{After-index-origin, After-of}
 use Rattle.profile_scan.proofs.profiles.Profiles.found_from.Goals as goal
@@ -46,16 +46,16 @@ tell_journeys-requires g c =
     let steps = steps_of state.stops.lists in
     let listed = listed_from profiles c.args.stop in
     let answers = c.requires.answered.each c.args.stop c.requires.stop c.requires.differ in
-    subst (λ (ps : List (Point g.row.C-V.Denot)). (p : Point g.row.C-V.Denot) → Contains ps p → IsJourneyTold t.footpaths
+    subst (λ (ps : List (Point g.row.C-V.Denot)). (p : Point g.row.C-V.Denot) → Contains ps p → IsJourneySpelled t.footpaths
     (story exits steps c.index-origin.result.now.set_outs.items) p.tag) (sym c.points-points.ensures)
-    (subst (λ (x : Option _). (p : Point g.row.C-V.Denot) → Contains listed p → IsJourneyTold t.footpaths (story exits steps (set_outs_by x)) p.tag)
+    (subst (λ (x : Option _). (p : Point g.row.C-V.Denot) → Contains listed p → IsJourneySpelled t.footpaths (story exits steps (set_outs_by x)) p.tag)
     (at_stop g (goal.at.tell_journeys-requires g c).After-index-origin)
-    (attained_told rules t q (story_from state c.args.stop) listed answers.attained))
+    (attained_spelled rules t q (story_from state c.args.stop) listed answers.attained))
 
 -- what was told answers the query
 made : (g : given.Over) (c : goal.After-of g) → IsAnswered (g.C.Criterion.rules (criterion_of_profiles c.args.self.now))
-    (g.S.ConnSource.timetable c.args.source.now) (query_from (destination_of c.args.self.now) c.args.stop) c.in_ok-told.told.points.items
-    c.in_ok-told.told.nodes.items c.secs_from.result
+    (g.S.ConnSource.timetable c.args.source.now) (query_from (destination_of c.args.self.now) c.args.stop) c.in_ok-spelled.spelled.points.items
+    c.in_ok-spelled.spelled.nodes.items c.secs_from.result
 made g c =
     let profiles = c.args.self.now in
     let t = g.S.ConnSource.timetable c.args.source.now in
@@ -65,15 +65,15 @@ made g c =
     let exits = state.trips.exits.items in
     let steps = steps_of state.stops.lists in
     let listed = listed_from profiles c.args.stop in
-    let points = c.in_ok-told.told.points.items in
-    let nodes = c.in_ok-told.told.nodes.items in
+    let points = c.in_ok-spelled.spelled.points.items in
+    let nodes = c.in_ok-spelled.spelled.nodes.items in
     let answers = c.requires.answered.each c.args.stop c.requires.stop c.requires.differ in
-    let same = subst (λ (ps : List (Point g.row.C-V.Denot)). map untagged points ≡ map untagged ps) c.points-points.ensures c.in_ok-told.ensures.same in
+    let same = subst (λ (ps : List (Point g.row.C-V.Denot)). map untagged points ≡ map untagged ps) c.points-points.ensures c.in_ok-spelled.ensures.same in
     let says =
-    subst (λ (x : Option _). (p : Point g.row.C-V.Denot) → Contains points p → IsRetold t.footpaths
+    subst (λ (x : Option _). (p : Point g.row.C-V.Denot) → Contains points p → IsSpelledAgain t.footpaths
     (story exits steps (set_outs_by x)) listed nodes p) (sym (at_stop g (goal.at.After-of g c).After-index-origin))
-    (subst (λ (ps : List (Point g.row.C-V.Denot)). (p : Point g.row.C-V.Denot) → Contains points p → IsRetold t.footpaths
-    (story exits steps c.index-origin.result.now.set_outs.items) ps nodes p) c.points-points.ensures c.in_ok-told.ensures.says) in
+    (subst (λ (ps : List (Point g.row.C-V.Denot)). (p : Point g.row.C-V.Denot) → Contains points p → IsSpelledAgain t.footpaths
+    (story exits steps c.index-origin.result.now.set_outs.items) ps nodes p) c.points-points.ensures c.in_ok-spelled.ensures.says) in
     let way = subst (IsWay t q.target q.source) (sym c.secs_from.ensures) answers.direct in
     answered_in_nodes rules t q (story_from state c.args.stop) nodes listed points c.secs_from.result answers.answer answers.attained same says way
 
@@ -82,8 +82,8 @@ pub invariant_of-result : goal.invariant_of-result
 invariant_of-result g c =
     let profiles = c.args.self.now in
     let rules = g.C.Criterion.rules (criterion_of_profiles profiles) in
-    let points = c.in_ok-told.told.points.items in
-    let nodes = c.in_ok-told.told.nodes.items in
+    let points = c.in_ok-spelled.spelled.points.items in
+    let nodes = c.in_ok-spelled.spelled.nodes.items in
     let q = query_from (destination_of profiles) c.args.stop in
     let at_t = subst (λ (x : TimetableValue). IsAnswered rules x q points nodes c.secs_from.result) (sym c.timetable_of.ensures)
     (made g (goal.at.invariant_of-result g c).After-of) in

@@ -10,7 +10,7 @@ use Rattle.profile_scan.specs.Bound.{AreBounds, carried}
 use Rattle.profile_scan.specs.Matching.{from_to}
 use Rattle.profile_scan.specs.Steps.{TakesIn, leavings, boardings, settings_out}
 use Rattle.profile_scan.specs.Adding.{label_points, trip_points}
-use Rattle.profile_scan.specs.Story.{told}
+use Rattle.profile_scan.specs.Story.{spelling_of}
 use Rattle.profile_scan.specs.Kept.{AreStops, IsWayTo, kept_by, points_at, story_of}
 use Rattle.profile_scan.proofs.Admitted.{AreAdmitted}
 use Rattle.profile_scan.proofs.Offers.{bag_under}
@@ -79,7 +79,7 @@ returns-then-is_idle-clause-step g c =
     let t = g.S.ConnSource.timetable c.args.source.now in
     let state = c.args.self.now.state in
     step_idle_at (g.C.Criterion.rules c.args.asked.now.criterion) t (question c.args.asked.now.query)
-    (told t.footpaths (story_of state)) c.args.place (kept_by state) _ c.args.connection.now c.requires.stands.is
+    (spelling_of t.footpaths (story_of state)) c.args.place (kept_by state) _ c.args.connection.now c.requires.stands.is
     (way_is g (goal.at.returns-then-is_idle-clause-step g c).After-way_from-way) (c.is_idle.ensures c.if-is_idle.true)
 
 pub returns-then-is_idle-clause-scan : goal.returns-then-is_idle-clause-scan
@@ -157,8 +157,8 @@ returns-clause-step g c =
     let mid = taken.between in
     let values = c.renew.new.self.values.items in
     let values_is = c.deref.ensures.value in
-    let first = from_to (told t.footpaths was) (told t.footpaths mid) in
-    let second = from_to (told t.footpaths mid) (told t.footpaths now) in
+    let first = from_to (spelling_of t.footpaths was) (spelling_of t.footpaths mid) in
+    let second = from_to (spelling_of t.footpaths mid) (spelling_of t.footpaths now) in
     let old_found = points_of state.origin.found in
     let new_found = points_of next.origin.found in
     let sets_out = taken.sets_out mid now (grows_none mid) (grows_none now) in
@@ -179,7 +179,7 @@ returns-clause-step g c =
     let new = trip_points next.trips.labels in
     let trip = (connection_at t i).trip in
     record {
-      between = told t.footpaths mid;
+      between = spelling_of t.footpaths mid;
       kept_first = grows_keeps t.footpaths was mid taken.grows_first;
       kept_then = grows_keeps t.footpaths mid now taken.grows_then;
       changing = carried rules values bag;

@@ -10,7 +10,7 @@ use Rattle.profile_scan.specs.Steps.{leavings, boardings, settings_out, TakesIn}
 use Rattle.profile_scan.specs.Adding.{label_points, trip_points}
 use Rattle.profile_scan.specs.Bound.{carried}
 use Rattle.profile_scan.specs.Matching.{from_to}
-use Rattle.profile_scan.specs.Story.{story, told}
+use Rattle.profile_scan.specs.Story.{story, spelling_of}
 use Rattle.profile_scan.specs.Kept.{AreStops, points_at}
 use Rattle.profile_scan.proofs.LabelLemmas.{no_trip_points, trip_admitted}
 use Rattle.profile_scan.proofs.BoundLemmas.{from_carried}
@@ -124,20 +124,20 @@ returns-clause-takes g c =
       grows_then = grows_on between set_out after out_grows in_grows;
       labels = c.in_ok-alight.ensures.trip.labels;
       leaves = λ before all ext_before ext.
-          let tags = from_to (told t.footpaths before) (told t.footpaths all) in
+          let tags = from_to (spelling_of t.footpaths before) (spelling_of t.footpaths all) in
           subst (λ (points : List (Point g.row.C-V.Denot)). TakesIn rules (leavings rules t q tags hop.place points) old new) bag_is
           (leavings_taken rules laws t q can tags hop.place hop.connection at.is hop.way c.requires.hop.way bag old new
           (trip_admitted rules c.alight.new.self.labels c.in_ok-alight.ensures.trip.labels.labels hop.connection.trip)
           (c.in_ok-alight.ensures.takes t.footpaths steps outs before all ext_before ext));
       boards = λ stop before all ext_before ext.
           subst (λ (xs : List (Label g.row.C-V.Denot)). TakesIn rules
-          (boardings rules t (from_to (told t.footpaths before) (told t.footpaths all)) hop.place stop
+          (boardings rules t (from_to (spelling_of t.footpaths before) (spelling_of t.footpaths all)) hop.place stop
           (carried rules hop.bound.now (label_points xs))) (points_at stops stop) (points_at c.board.new.self stop))
           c.labels_of-labels.ensures
           (c.in_ok-board.ensures.takes stop mid now_outs before all (grows_on before between set_out ext_before out_grows) ext);
       sets_out = λ before all ext_before ext.
           subst (λ (xs : List (Label g.row.C-V.Denot)). TakesIn rules
-          (settings_out rules t q (from_to (told t.footpaths before) (told t.footpaths all)) hop.place
+          (settings_out rules t q (from_to (spelling_of t.footpaths before) (spelling_of t.footpaths all)) hop.place
           (label_points xs)) (points_of origin.found) (points_of c.set_out.new.self.found)) c.labels_of-labels.ensures
           (c.in_ok-set_out.ensures.takes mid steps before all ext_before (grows_on set_out after all in_grows ext));
     }
@@ -173,16 +173,17 @@ returns-then-labels-eq0-clause-takes g c =
       grows_then = grows_none between;
       labels = c.in_ok-alight.ensures.trip.labels;
       leaves = λ before all ext_before ext.
-          let tags = from_to (told t.footpaths before) (told t.footpaths all) in
+          let tags = from_to (spelling_of t.footpaths before) (spelling_of t.footpaths all) in
           subst (λ (points : List (Point g.row.C-V.Denot)). TakesIn rules (leavings rules t q tags hop.place points) old new) bag_is
           (leavings_taken rules laws t q can tags hop.place hop.connection at.is hop.way c.requires.hop.way bag old new
           (trip_admitted rules c.alight.new.self.labels c.in_ok-alight.ensures.trip.labels.labels hop.connection.trip)
           (c.in_ok-alight.ensures.takes t.footpaths steps outs before all ext_before ext));
       boards = λ stop before all ext_before ext.
-          takes_none rules (boardings rules t (from_to (told t.footpaths before) (told t.footpaths all)) hop.place stop
+          takes_none rules (boardings rules t (from_to (spelling_of t.footpaths before) (spelling_of t.footpaths all)) hop.place stop
           (carried rules hop.bound.now new)) (points_at stops stop)
           (λ way may. none way.label (from_carried rules hop.bound.now new way.label may.is_label).0);
       sets_out = λ before all ext_before ext.
-          takes_none rules (settings_out rules t q (from_to (told t.footpaths before) (told t.footpaths all)) hop.place new) (points_of origin.found)
+          takes_none rules (settings_out rules t q (from_to (spelling_of t.footpaths before) (spelling_of t.footpaths all)) hop.place new)
+          (points_of origin.found)
           (λ way may. none way.label may.is_label);
     }

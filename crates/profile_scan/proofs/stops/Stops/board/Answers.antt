@@ -3,7 +3,7 @@ use Rattle.std.proofs.lemmas.List.Elements.{Contains-push}
 use Rattle.reasoning.proofs.ListLemmas.{extends_none}
 use Rattle.fronts.specs.Lists.{steps_of}
 use Rattle.profile_scan.specs.Matching.{from_to}
-use Rattle.profile_scan.specs.Story.{told}
+use Rattle.profile_scan.specs.Story.{spelling_of}
 use Rattle.profile_scan.specs.Steps.{boardings}
 use Rattle.profile_scan.specs.Adding.{label_points}
 use Rattle.profile_scan.specs.Bound.{carried}
@@ -62,7 +62,7 @@ returns-clause-takes g c stop exits set_outs before all ext_before ext =
     let t = g.S.ConnSource.timetable c.args.source.now in
     let all_labels = label_points c.args.labels.now in
     let values = c.args.hop.now.bound.now in
-    boardings_taken rules t (from_to (told t.footpaths before) (told t.footpaths all)) c.args.hop.now.place
+    boardings_taken rules t (from_to (spelling_of t.footpaths before) (spelling_of t.footpaths all)) c.args.hop.now.place
     c.args.hop.now.connection c.requires.hop.stands.is c.if-not-hop.false c.walks_into-begin.result.0
     c.walks_into-begin.result.1 c.walks_into-begin.ensures.exact (carried rules values all_labels)
     stop (points_at c.args.self.now stop) (points_at c.board_walks.new.self stop)
@@ -76,7 +76,7 @@ returns-then-len-eq0-clause-takes g c stop exits set_outs before all ext_before 
     let rules = g.C.Criterion.rules c.args.asked.now.criterion in
     let t = g.S.ConnSource.timetable c.args.source.now in
     let labels = carried rules c.args.hop.now.bound.now (label_points c.args.labels.now) in
-    takes_none rules (boardings rules t (from_to (told t.footpaths before) (told t.footpaths all)) c.args.hop.now.place
+    takes_none rules (boardings rules t (from_to (spelling_of t.footpaths before) (spelling_of t.footpaths all)) c.args.hop.now.place
     stop labels) (points_at c.args.self.now stop)
     (λ way may. no_ridden rules labels c.ride_labels.new.ridden.items c.in_ok-ride_labels.ensures (omega arith) way.label may.is_label)
 

@@ -1,6 +1,6 @@
 use Rattle.std.proofs.Common.{◌≡◌, ◌<◌, ◌-◌, ◌∙◌, List, length, slice_get, slice_index, Some, refl, subst, sym}
 use Rattle.fronts.specs.Lists.{lists_criterion, entries_of, list_points, steps_of, TakesRidden}
-use Rattle.fronts.specs.declared.entry.Ridden.{Ridden}
+use Rattle.fronts.specs.declared.entry.RiddenLabel.{RiddenLabel}
 use Rattle.profile_scan.specs.Story.{story}
 use Rattle.profile_scan.proofs.StoryLemmas.{grows_on, steps_grow}
 use Rattle.profile_scan.proofs.StopLemmas.{heads_within}
@@ -20,7 +20,7 @@ returns-clause-takes g c labels are walks at stop exits set_outs before all ext_
     let was = story exits (steps_of lists) set_outs in
     let now = story exits (steps_of c.insert.new.self) set_outs in
     let takes =
-    subst (λ (rs : List (Ridden g.row.C-V.Denot)). TakesRidden (g.C.Criterion.rules (lists_criterion lists))
+    subst (λ (rs : List (RiddenLabel g.row.C-V.Denot)). TakesRidden (g.C.Criterion.rules (lists_criterion lists))
     (steps_of c.insert.new.self) (c.args.hop.now.connection.dep - walk.secs) c.args.hop.now.place
     c.in_ok-number.number walk.secs rs (list_points lists c.head-head.result)
     (list_points c.insert.new.self c.in_ok-new.new)) c.deref.ensures.value

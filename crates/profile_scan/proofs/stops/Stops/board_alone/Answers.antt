@@ -1,10 +1,10 @@
 use Rattle.std.proofs.Common.{◌<◌, [], ◌∷◌, ◌∙◌, refl, sym, subst}
-use Rattle.fronts.specs.declared.entry.Ridden.{Ridden}
+use Rattle.fronts.specs.declared.entry.RiddenLabel.{RiddenLabel}
 use Rattle.reasoning.proofs.ListLemmas.{extends_none}
 use Rattle.criteria.specs.Laws.{Admits}
 use Rattle.fronts.specs.Lists.{steps_of}
 use Rattle.profile_scan.specs.Matching.{from_to}
-use Rattle.profile_scan.specs.Story.{told}
+use Rattle.profile_scan.specs.Story.{spelling_of}
 use Rattle.profile_scan.specs.Steps.{boardings}
 use Rattle.profile_scan.specs.Adding.{label_points}
 use Rattle.profile_scan.specs.Bound.{carried}
@@ -57,7 +57,7 @@ returns-then-is_bettered-clause-takes g c stop exits set_outs before all ext_bef
     let labels = carried rules values (label_points (c.args.label.now ∷ [])) in
     let none = alone_bettered rules values (as_point c.args.label.now) c.ride-value.result c.ride-value.ensures
     (sym c.is_bettered.ensures ∙ c.if-is_bettered.true) in
-    takes_none rules (boardings rules t (from_to (told t.footpaths before) (told t.footpaths all)) c.args.hop.now.place
+    takes_none rules (boardings rules t (from_to (spelling_of t.footpaths before) (spelling_of t.footpaths all)) c.args.hop.now.place
     stop labels) (points_at c.args.self.now stop) (λ way may. no_ridden rules labels [] none refl way.label may.is_label)
 
 pub returns-clause-stops : goal.returns-clause-stops
@@ -72,11 +72,11 @@ returns-clause-takes g c stop exits set_outs before all ext_before ext =
     let label = as_point c.args.label.now in
     let values = c.args.hop.now.bound.now in
     let labels = carried rules values (label_points (c.args.label.now ∷ [])) in
-    let ride : Ridden g.row.C-V.Denot = record { value = c.ride-value.result; label = c.args.label.now.tag } in
+    let ride : RiddenLabel g.row.C-V.Denot = record { value = c.ride-value.result; label = c.args.label.now.tag } in
     let are = alone_ridden rules values label ride (sym c.is_bettered.ensures ∙ c.if-is_bettered.false)
     c.ride-value.ensures refl in
     let boards = c.in_ok-board_one.ensures.takes in
-    boardings_taken rules t (from_to (told t.footpaths before) (told t.footpaths all)) c.args.hop.now.place
+    boardings_taken rules t (from_to (spelling_of t.footpaths before) (spelling_of t.footpaths all)) c.args.hop.now.place
     c.args.hop.now.connection c.requires.hop.stands.is c.requires.boards c.walks_into-begin.result.0
     c.walks_into-begin.result.1 c.walks_into-begin.ensures.exact labels stop (points_at c.args.self.now stop)
     (points_at c.board_one.new.self stop)

@@ -1,7 +1,7 @@
 use Rattle.std.proofs.Common.{◌≡◌, ◌<◌, ℕ, sym, subst, arith}
 use Rattle.fronts.specs.Lists.{steps_of}
 use Rattle.profile_scan.specs.Matching.{from_to}
-use Rattle.profile_scan.specs.Story.{story, told}
+use Rattle.profile_scan.specs.Story.{story, spelling_of}
 use Rattle.profile_scan.specs.Steps.{TakesIn}
 use Rattle.profile_scan.specs.Adding.{each_of, StandsBetween, boardings_by}
 use Rattle.profile_scan.specs.Kept.{AreStops, points_at}
@@ -19,7 +19,7 @@ loop-place-init g c =
           c.args.self.now c.requires.stops;
       takes = λ labels are admitted stop exits set_outs before all ext_before ext.
           walks_first (g.C.Criterion.rules criterion) walks (boardings_by (g.C.Criterion.rules criterion)
-          (from_to (told walks before) (told walks all)) c.args.hop.now.place c.args.hop.now.connection stop labels)
+          (from_to (spelling_of walks before) (spelling_of walks all)) c.args.hop.now.place c.args.hop.now.connection stop labels)
           c.args.walks.start (points_at c.args.self.now stop);
     }
 
@@ -56,7 +56,7 @@ loop-place-preserved g c =
           let s2 = story exits new_steps set_outs in
           walks_next (g.C.Criterion.rules criterion) (g.met.C.Criterion.laws criterion) t
           (g.met.S.ConnSource.limits c.args.source.now) labels admitted
-          (from_to (told t.footpaths before) (told t.footpaths all)) c.args.hop.now.place
+          (from_to (spelling_of t.footpaths before) (spelling_of t.footpaths all)) c.args.hop.now.place
           c.args.hop.now.connection stop c.args.walks.start c.loop-place.place walk (points_at c.args.self.now stop)
           (points_at mid stop) (points_at new stop) c.loop-place.auto.place c.footpath_into-walk.ensures
           (inv.takes labels are admitted stop exits set_outs before all ext_before
@@ -73,7 +73,7 @@ returns-clause-takes g c labels are admitted stop exits set_outs before all ext_
     let within = c.loop-place.auto.place-end c.requires.walks.order in
     let at_end : c.loop-place.place ≡ c.args.walks.end = omega arith in
     subst (λ (n : ℕ). TakesIn rules (each_of (StandsBetween t.footpaths c.args.walks.start n)
-    (boardings_by rules (from_to (told t.footpaths before) (told t.footpaths all)) c.args.hop.now.place
+    (boardings_by rules (from_to (spelling_of t.footpaths before) (spelling_of t.footpaths all)) c.args.hop.now.place
     c.args.hop.now.connection stop labels)) (points_at c.args.self.now stop) (points_at c.loop-place.self stop))
     at_end
     (c.loop-place.invariant.takes labels are admitted stop exits set_outs before all ext_before ext)

@@ -6,7 +6,7 @@ use Rattle.bags.specs.Dominance.{IsCovered}
 use Rattle.fronts.specs.Lists.{lists_criterion, entries_of, list_points, steps_of}
 use Rattle.profile_scan.specs.Story.{story}
 use Rattle.profile_scan.proofs.StoryLemmas.{grows_on, steps_grow}
-use Rattle.profile_scan.specs.declared.last_offers.Offered.{Offered}
+use Rattle.profile_scan.specs.declared.last_offers.LastOffer.{LastOffer}
 use Rattle.profile_scan.specs.Kept.{IsOffered, points_at}
 use Rattle.profile_scan.proofs.StopLemmas.{heads_within}
 use Rattle.profile_scan.proofs.OfferedLemmas.{before_next, covered_earlier, kept_under, offered_put, takes_as_it_is}
@@ -61,7 +61,7 @@ returns-clause-stops g c =
     let covers = subst (IsCovered (rules_of criterion) points departure) (sym c.walk-value.ensures)
     (subst (λ k. IsCovered (rules_of k) points departure ((rules_of k).walk c.args.walk.secs c.args.ride.value)) are.under
     (c.in_ok-new.ensures.takes.covered c.args.ride (Contains-push [] c.args.ride))) in
-    let put : Offered g.row.C-V.Denot = record { before = c.saturating_add.result; value = c.walk-value.result } in
+    let put : LastOffer g.row.C-V.Denot = record { before = c.saturating_add.result; value = c.walk-value.result } in
     let fits : IsOffered (rules_of criterion) points put = record {
       admitted = subst (Admits (rules_of criterion)) (sym c.walk-value.ensures)
           ((g.met.C.Criterion.laws criterion).walk_admits c.args.walk.secs c.args.ride.value c.requires.secs c.requires.ride);

@@ -1,9 +1,9 @@
 use Rattle.std.proofs.Common.{◌≡◌, ◌<◌, ℕ, List, Contains, sym, subst, arith}
 use Rattle.criteria.specs.Laws.{Admits}
-use Rattle.fronts.specs.declared.entry.Ridden.{Ridden}
+use Rattle.fronts.specs.declared.entry.RiddenLabel.{RiddenLabel}
 use Rattle.fronts.specs.Lists.{steps_of}
 use Rattle.profile_scan.specs.Matching.{from_to}
-use Rattle.profile_scan.specs.Story.{story, told}
+use Rattle.profile_scan.specs.Story.{story, spelling_of}
 use Rattle.profile_scan.specs.Steps.{TakesIn}
 use Rattle.profile_scan.specs.Adding.{AreRidden, each_of, StandsBetween, boardings_by}
 use Rattle.profile_scan.specs.Kept.{AreStops, points_at}
@@ -20,7 +20,7 @@ loop-place-init g c =
       stops = lists_none g.C.Criterion.rules c.args.asked.now.criterion
           (g.S.ConnSource.timetable c.args.source.now).stops c.args.self.now c.requires.ready.stops;
       takes = λ labels are admitted stop exits set_outs before all ext_before ext.
-          walks_first rules walks (boardings_by rules (from_to (told walks before) (told walks all))
+          walks_first rules walks (boardings_by rules (from_to (spelling_of walks before) (spelling_of walks all))
           c.args.hop.now.place c.args.hop.now.connection stop labels) c.args.walks.start
           (points_at c.args.self.now stop);
     }
@@ -38,7 +38,7 @@ board_after-requires-clause-ready g c =
     let inv = c.loop-place.invariant.stops in
     record {
       stops = subst (λ (n : ℕ). AreStops g.C.Criterion.rules c.args.asked.now.criterion n c.loop-place.self) (sym inv.stops.long) inv.stops;
-      ridden = subst (λ (rs : List (Ridden g.row.C-V.Denot)). (r : Ridden g.row.C-V.Denot) → Contains rs r
+      ridden = subst (λ (rs : List (RiddenLabel g.row.C-V.Denot)). (r : RiddenLabel g.row.C-V.Denot) → Contains rs r
           → Admits (g.C.Criterion.rules c.args.asked.now.criterion) r.value) (sym inv.ridden) c.requires.ready.ridden;
     }
 
@@ -59,7 +59,7 @@ loop-place-preserved g c =
           let s2 = story exits new_steps set_outs in
           walks_next (g.C.Criterion.rules c.args.asked.now.criterion)
           (g.met.C.Criterion.laws c.args.asked.now.criterion) t (g.met.S.ConnSource.limits c.args.source.now) labels
-          admitted (from_to (told t.footpaths before) (told t.footpaths all)) c.args.hop.now.place
+          admitted (from_to (spelling_of t.footpaths before) (spelling_of t.footpaths all)) c.args.hop.now.place
           c.args.hop.now.connection stop c.args.walks.start c.loop-place.place walk (points_at c.args.self.now stop)
           (points_at c.loop-place.self stop) (points_at c.board_after.new.self stop)
           c.loop-place.auto.place c.footpath_into-walk.ensures
@@ -80,7 +80,7 @@ returns-clause-takes g c labels are admitted stop exits set_outs before all ext_
     let within = c.loop-place.auto.place-end c.requires.walks.order in
     let at_end : c.loop-place.place ≡ c.args.walks.end = omega arith in
     subst (λ (n : ℕ). TakesIn rules (each_of (StandsBetween t.footpaths c.args.walks.start n)
-    (boardings_by rules (from_to (told t.footpaths before) (told t.footpaths all)) c.args.hop.now.place
+    (boardings_by rules (from_to (spelling_of t.footpaths before) (spelling_of t.footpaths all)) c.args.hop.now.place
     c.args.hop.now.connection stop labels)) (points_at c.args.self.now stop) (points_at c.loop-place.self stop))
     at_end
     (c.loop-place.invariant.takes labels are admitted stop exits set_outs before all ext_before ext)

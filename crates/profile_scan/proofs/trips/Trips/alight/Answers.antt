@@ -1,7 +1,7 @@
 use Rattle.std.proofs.Common.{◌≡◌, true}
 use Rattle.profile_scan.specs.Between.{question}
 use Rattle.profile_scan.specs.Matching.{from_to}
-use Rattle.profile_scan.specs.Story.{story, told}
+use Rattle.profile_scan.specs.Story.{story, spelling_of}
 use Rattle.profile_scan.specs.Kept.{points_at}
 use Rattle.profile_scan.specs.Bound.{carried}
 use Rattle.profile_scan.specs.Adding.{trip_points, endings, changes_from, endings_and_changes}
@@ -23,10 +23,10 @@ returns-clause-takes g c walks steps set_outs before all ext_before ext =
     let old = trip_points c.args.self.now.labels c.args.hop.now.connection.trip in
     let mid = trip_points c.end.new.self.labels c.args.hop.now.connection.trip in
     let new = trip_points c.change.new.self.labels c.args.hop.now.connection.trip in
-    takes_if rules (cn.alight ≡ true) (endings_and_changes rules (from_to (told walks before) (told walks all))
+    takes_if rules (cn.alight ≡ true) (endings_and_changes rules (from_to (spelling_of walks before) (spelling_of walks all))
     c.args.hop.now.place cn q c.args.hop.now.way bag) old new c.if-not-hop.false
-    (takes_either rules (endings rules (from_to (told walks before) (told walks all)) c.args.hop.now.place cn q
-    c.args.hop.now.way) (changes_from (from_to (told walks before) (told walks all)) c.args.hop.now.place cn.arr
+    (takes_either rules (endings rules (from_to (spelling_of walks before) (spelling_of walks all)) c.args.hop.now.place cn q
+    c.args.hop.now.way) (changes_from (from_to (spelling_of walks before) (spelling_of walks all)) c.args.hop.now.place cn.arr
     bag) old mid new
     (λ walk ends. end_admits rules (g.met.C.Criterion.laws c.args.asked.now.criterion) cn q c.args.hop.now.way walk
     c.requires.hop.arrival c.requires.hop.by c.requires.hop.secs ends)

@@ -3,7 +3,7 @@ use Rattle.timetable.proofs.LegalLemmas.{Contains-At}
 use Rattle.fronts.specs.Lists.{lists_criterion, entries_of, front_at, list_points}
 use Rattle.fronts.proofs.Mapped.{list_admitted}
 use Rattle.profile_scan.specs.Matching.{from_to}
-use Rattle.profile_scan.specs.Story.{story, told}
+use Rattle.profile_scan.specs.Story.{story, spelling_of}
 use Rattle.profile_scan.specs.Adding.{changes_from, trip_points}
 use Rattle.profile_scan.specs.Bound.{carried}
 use Rattle.profile_scan.specs.Steps.{TakesIn}
@@ -33,7 +33,7 @@ loop-k-init g c =
     record {
       trip = c.in_ok-change_by.ensures.trip;
       takes = λ walks steps set_outs before all ext_before ext.
-          let way = change_way rules (from_to (told walks before) (told walks all)) c.args.hop.now.place c.args.hop.now.bound.now in
+          let way = change_way rules (from_to (spelling_of walks before) (spelling_of walks all)) c.args.hop.now.place c.args.hop.now.bound.now in
           takes_next rules front way 0 c.front_point-own.result labels labels
           (trip_points c.change_by.new.self.labels c.args.hop.now.connection.trip) c.front_point-own.ensures
           (λ y way is opened. (are y is).2) (takes_first rules front way labels)
@@ -66,7 +66,7 @@ loop-k-preserved g c =
           let was = story c.args.self.now.exits.items steps set_outs in
           let mid = story c.loop-k.self.exits.items steps set_outs in
           let now = story c.change_by-in-loop-k.new.self.exits.items steps set_outs in
-          takes_next rules front (change_way rules (from_to (told walks before) (told walks all)) c.args.hop.now.place c.args.hop.now.bound.now)
+          takes_next rules front (change_way rules (from_to (spelling_of walks before) (spelling_of walks all)) c.args.hop.now.place c.args.hop.now.bound.now)
           c.loop-k.k x (trip_points c.args.self.now.labels c.args.hop.now.connection.trip)
           (trip_points c.loop-k.self.labels c.args.hop.now.connection.trip)
           (trip_points c.change_by-in-loop-k.new.self.labels c.args.hop.now.connection.trip) c.front_point-point.ensures
@@ -89,12 +89,12 @@ returns-then-count-eq0-clause-takes g c walks steps set_outs before all ext_befo
     (list_admitted (g.C.Criterion.rules (lists_criterion lists)) lists.entries.items lists.items.items
     c.requires.stop.stops.sound c.head-head.result) in
     subst (λ (n : ℕ). TakesIn (g.C.Criterion.rules c.args.asked.now.criterion)
-    (changes_from (from_to (told walks before) (told walks all)) c.args.hop.now.place c.args.hop.now.connection.arr
+    (changes_from (from_to (spelling_of walks before) (spelling_of walks all)) c.args.hop.now.place c.args.hop.now.connection.arr
     (carried (g.C.Criterion.rules c.args.asked.now.criterion) c.args.hop.now.bound.now (list_points lists n)))
     (trip_points c.args.self.now.labels c.args.hop.now.connection.trip)
     (trip_points c.args.self.now.labels c.args.hop.now.connection.trip)) c.head-head.ensures
     (changes_under g.C.Criterion.rules (lists_criterion lists) c.args.asked.now.criterion c.requires.stop.stops.under
-    points laws admitted (from_to (told walks before) (told walks all)) c.args.hop.now.place
+    points laws admitted (from_to (spelling_of walks before) (spelling_of walks all)) c.args.hop.now.place
     c.args.hop.now.connection.arr c.args.hop.now.bound.now c.requires.hop.bound front 0
     (trip_points c.args.self.now.labels c.args.hop.now.connection.trip)
     (trip_points c.args.self.now.labels c.args.hop.now.connection.trip)
@@ -102,7 +102,8 @@ returns-then-count-eq0-clause-takes g c walks steps set_outs before all ext_befo
     c.requires.trip.labels c.args.hop.now.connection.trip)
     c.front_from-place.ensures.made_of c.front_from-place.ensures.betters (omega arith)
     (takes_first (g.C.Criterion.rules c.args.asked.now.criterion) front
-    (change_way (g.C.Criterion.rules c.args.asked.now.criterion) (from_to (told walks before) (told walks all)) c.args.hop.now.place c.args.hop.now.bound.now)
+    (change_way (g.C.Criterion.rules c.args.asked.now.criterion)
+    (from_to (spelling_of walks before) (spelling_of walks all)) c.args.hop.now.place c.args.hop.now.bound.now)
     (trip_points c.args.self.now.labels c.args.hop.now.connection.trip)))
 
 pub returns-clause-takes : goal.returns-clause-takes
@@ -115,12 +116,12 @@ returns-clause-takes g c walks steps set_outs before all ext_before ext =
     (list_admitted (g.C.Criterion.rules (lists_criterion lists)) lists.entries.items lists.items.items
     c.requires.stop.stops.sound c.head-head.result) in
     subst (λ (n : ℕ). TakesIn (g.C.Criterion.rules c.args.asked.now.criterion)
-    (changes_from (from_to (told walks before) (told walks all)) c.args.hop.now.place c.args.hop.now.connection.arr
+    (changes_from (from_to (spelling_of walks before) (spelling_of walks all)) c.args.hop.now.place c.args.hop.now.connection.arr
     (carried (g.C.Criterion.rules c.args.asked.now.criterion) c.args.hop.now.bound.now (list_points lists n)))
     (trip_points c.args.self.now.labels c.args.hop.now.connection.trip)
     (trip_points c.loop-k.self.labels c.args.hop.now.connection.trip)) c.head-head.ensures
     (changes_under g.C.Criterion.rules (lists_criterion lists) c.args.asked.now.criterion c.requires.stop.stops.under
-    points laws admitted (from_to (told walks before) (told walks all)) c.args.hop.now.place
+    points laws admitted (from_to (spelling_of walks before) (spelling_of walks all)) c.args.hop.now.place
     c.args.hop.now.connection.arr c.args.hop.now.bound.now c.requires.hop.bound front c.loop-k.k
     (trip_points c.args.self.now.labels c.args.hop.now.connection.trip)
     (trip_points c.loop-k.self.labels c.args.hop.now.connection.trip)

@@ -7,7 +7,7 @@ use Rattle.fronts.specs.Offered.{is_beaten}
 use Rattle.fronts.proofs.Slots.{labels_admitted}
 use Rattle.profile_scan.specs.Bound.{is_bettered}
 use Rattle.profile_scan.specs.Matching.{from_to}
-use Rattle.profile_scan.specs.Story.{IsExit, told}
+use Rattle.profile_scan.specs.Story.{IsExit, spelling_of}
 use Rattle.profile_scan.specs.Adding.{one_way, trip_points}
 use Rattle.profile_scan.specs.declared.story.Exit.TheVariants.{Changes}
 use Rattle.profile_scan.proofs.LabelLemmas.{beaten_takes}
@@ -27,7 +27,7 @@ returns-then-some_no_worse-clause-takes g c walks steps set_outs before all ext_
     let labels = labels_at c.args.self.now.labels c.args.hop.now.connection.trip in
     let above = ap (λ (ls : List (Label g.row.C-V.Denot)). is_beaten rules ls p.value) (sym c.labels_of-labels.ensures)
     ∙ sym c.some_no_worse.ensures ∙ c.if-some_no_worse.true in
-    beaten_takes rules labels p.value (IsExit (from_to (told walks before) (told walks all)) (Changes c.args.hop.now.place p.tag))
+    beaten_takes rules labels p.value (IsExit (from_to (spelling_of walks before) (spelling_of walks all)) (Changes c.args.hop.now.place p.tag))
     (is_bettered rules c.args.hop.now.bound.now (rules.ride p.value) ≡ false) above
 
 pub returns-then-some_no_worse-clause-trip : goal.returns-then-some_no_worse-clause-trip
@@ -46,7 +46,7 @@ returns-then-is_bettered-clause-takes g c walks steps set_outs before all ext_be
     let p = c.args.point.now in
     let bettered = ap (is_bettered rules c.args.hop.now.bound.now) (sym c.ride-ridden.ensures) ∙ sym c.is_bettered.ensures ∙ c.if-is_bettered.true in
     takes_unless rules (is_bettered rules c.args.hop.now.bound.now (rules.ride p.value)
-    ≡ false) (one_way 0 p.value (IsExit (from_to (told walks before) (told walks all))
+    ≡ false) (one_way 0 p.value (IsExit (from_to (spelling_of walks before) (spelling_of walks all))
     (Changes c.args.hop.now.place p.tag))) (trip_points c.args.self.now.labels c.args.hop.now.connection.trip)
     (λ free. true≢false (sym bettered ∙ free))
 
@@ -58,7 +58,7 @@ returns-clause-takes g c =
     on_ok_more c.offer.result _ _
     (λ takes walks steps set_outs before all ext_before ext.
     takes_if rules (is_bettered rules c.args.hop.now.bound.now (rules.ride p.value)
-    ≡ false) (one_way 0 p.value (IsExit (from_to (told walks before) (told walks all))
+    ≡ false) (one_way 0 p.value (IsExit (from_to (spelling_of walks before) (spelling_of walks all))
     (Changes c.args.hop.now.place p.tag)))
     (trip_points c.args.self.now.labels c.args.hop.now.connection.trip)
     (trip_points c.offer.new.self.labels c.args.hop.now.connection.trip) free

@@ -4,7 +4,7 @@ use Rattle.profile_scan.specs.Between.{question}
 use Rattle.profile_scan.specs.Values.{started}
 use Rattle.profile_scan.specs.Adding.{trip_points}
 use Rattle.profile_scan.specs.Matching.{from_to}
-use Rattle.profile_scan.specs.Story.{told}
+use Rattle.profile_scan.specs.Story.{spelling_of}
 use Rattle.profile_scan.proofs.Offers.{on_ok_more}
 use Rattle.profile_scan.proofs.PartLemmas.{changes_none}
 use Rattle.profile_scan.proofs.EndLemmas.{end_admits, takes_the_end}
@@ -17,7 +17,7 @@ returns-in-Some-clause-takes g c =
     let is = c.in-Some.ensures in
     on_ok_more c.offer.result _ _
     (λ takes walks steps set_outs before all ext_before ext.
-    takes_the_end rules (from_to (told walks before) (told walks all)) c.args.hop.now.place
+    takes_the_end rules (from_to (spelling_of walks before) (spelling_of walks all)) c.args.hop.now.place
     c.args.hop.now.connection (question c.args.asked.now.query) c.args.hop.now.way end.walk c.value_at_end-value.result
     end.time (trip_points c.args.self.now.labels c.args.hop.now.connection.trip)
     (trip_points c.offer.new.self.labels c.args.hop.now.connection.trip)

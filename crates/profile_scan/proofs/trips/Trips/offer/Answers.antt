@@ -3,7 +3,7 @@ use Rattle.std.proofs.lemmas.Bool.{true≢false}
 use Rattle.reasoning.proofs.ListLemmas.{extends_none, extends_one}
 use Rattle.fronts.specs.Labels.{labels_at}
 use Rattle.profile_scan.specs.Matching.{from_to}
-use Rattle.profile_scan.specs.Story.{IsExit, told}
+use Rattle.profile_scan.specs.Story.{IsExit, spelling_of}
 use Rattle.profile_scan.proofs.LabelLemmas.{offered_takes, trip_admitted}
 use Rattle.profile_scan.proofs.StoryLemmas.{exit_next}
 use Rattle.profile_scan.proofs.trips.Trips.offer.Goals as goal
@@ -26,10 +26,10 @@ returns-in_ok-push-clause-takes g c walks steps set_outs before all ext_before e
     let tag_is = c.len-tag.ensures ∙ c.args.self.now.exits.ok.0 in
     offered_takes rules (g.met.C.Criterion.laws c.args.criterion.now) (labels_at c.args.self.now.labels c.args.trip)
     (labels_at c.offer_label.new.labels c.args.trip) c.args.value c.len-tag.result
-    (IsExit (from_to (told walks before) (told walks all)) c.args.exit)
+    (IsExit (from_to (spelling_of walks before) (spelling_of walks all)) c.args.exit)
     c.in_ok-stands.stands (trip_admitted rules c.args.self.now.labels c.requires.trip.labels c.args.trip)
     c.requires.admitted c.in_ok-stands.ensures.stands c.in_ok-stands.ensures.taken
-    (λ _. subst (IsExit (from_to (told walks before) (told walks all)) c.args.exit) (sym tag_is)
+    (λ _. subst (IsExit (from_to (spelling_of walks before) (spelling_of walks all)) c.args.exit) (sym tag_is)
     (exit_next walks c.args.self.now.exits.items c.push.new.self.items steps set_outs before all c.args.exit
     c.in_ok-push.ensures.items ext_before ext))
 
@@ -38,7 +38,7 @@ returns-else-stands-clause-takes g c walks steps set_outs before all ext_before 
     let rules = g.C.Criterion.rules c.args.criterion.now in
     offered_takes rules (g.met.C.Criterion.laws c.args.criterion.now) (labels_at c.args.self.now.labels c.args.trip)
     (labels_at c.offer_label.new.labels c.args.trip) c.args.value c.len-tag.result
-    (IsExit (from_to (told walks before) (told walks all)) c.args.exit)
+    (IsExit (from_to (spelling_of walks before) (spelling_of walks all)) c.args.exit)
     c.in_ok-stands.stands (trip_admitted rules c.args.self.now.labels c.requires.trip.labels c.args.trip)
     c.requires.admitted c.in_ok-stands.ensures.stands c.in_ok-stands.ensures.taken
     (λ is. absurd (true≢false (sym is ∙ c.if-stands.false)))

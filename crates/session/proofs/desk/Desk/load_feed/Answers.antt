@@ -5,15 +5,15 @@ use Rattle.session.proofs.desk.Desk.load_feed.Goals as goal
 
 pub returns-in-Ok-loaded_line-clause-met : goal.returns-in-Ok-loaded_line-clause-met
 returns-in-Ok-loaded_line-clause-met g c =
-    let told = c.in-Ok.ensures in
-    let same = sym (c.requires.notices c.in-Ok.notice) ∙ told.notice in
-    (_, told.asked, version_met _ _ _ _ c.in-Ok.version _ _ same c.take_notice.ensures.joined (inl (c.made.ensures ∙ c.in-Ok-loaded_line.ensures)))
+    let fact = c.in-Ok.ensures in
+    let same = sym (c.requires.notices c.in-Ok.notice) ∙ fact.notice in
+    (_, fact.asked, version_met _ _ _ _ c.in-Ok.version _ _ same c.take_notice.ensures.joined (inl (c.made.ensures ∙ c.in-Ok-loaded_line.ensures)))
 
 pub returns-in-Err-loaded_line-clause-met : goal.returns-in-Err-loaded_line-clause-met
 returns-in-Err-loaded_line-clause-met g c =
-    let told = c.in-Ok.ensures in
-    let same = sym (c.requires.notices c.in-Ok.notice) ∙ told.notice in
-    (_, told.asked, version_met _ _ _ _ c.in-Ok.version _ _ same c.take_notice.ensures.joined (inr c.refusal.ensures))
+    let fact = c.in-Ok.ensures in
+    let same = sym (c.requires.notices c.in-Ok.notice) ∙ fact.notice in
+    (_, fact.asked, version_met _ _ _ _ c.in-Ok.version _ _ same c.take_notice.ensures.joined (inr c.refusal.ensures))
 
 pub returns-in-Err-clause-met : goal.returns-in-Err-clause-met
 returns-in-Err-clause-met g c = (_, c.in-Err.ensures.asked, no_version_met _ _ _ _ _ c.order_fault.ensures)

@@ -11,14 +11,14 @@ returns-in-Err-clause-met g c = pin_refused _ _ _ _ _ c.in-Err.ensures.pin c.pin
 
 pub returns-in-Ok-clause-met : goal.returns-in-Ok-clause-met
 returns-in-Ok-clause-met g c =
-    let told : string_bytes c.in-Ok.line ≡ pin_text (arc_value c.in-Some.edition.now.image).names.base
+    let reply_made : string_bytes c.in-Ok.line ≡ pin_text (arc_value c.in-Some.edition.now.image).names.base
     c.in-Some.edition.now.version ++ 10 ∷ [] = search rules in
     let known = subst (λ n. HoldsInSome n (g.T.Versions.value c.pin.new.seat).held) c.in_default.ensures.number
     (g.T.Versions.known c.pin.new.seat, c.in_default.ensures.known) in
-    pin_met _ _ _ _ _ _ c.in_default.ensures.pin known c.in-Some.ensures.lent (c.made.ensures ∙ told)
+    pin_met _ _ _ _ _ _ c.in_default.ensures.pin known c.in-Some.ensures.lent (c.made.ensures ∙ reply_made)
 
-pub returns-in-Err-told-clause-met : goal.returns-in-Err-told-clause-met
-returns-in-Err-told-clause-met g c =
+pub returns-in-Err-reply_made-clause-met : goal.returns-in-Err-reply_made-clause-met
+returns-in-Err-reply_made-clause-met g c =
     let known = subst (λ n. HoldsInSome n (g.T.Versions.value c.pin.new.seat).held) c.in_default.ensures.number
     (g.T.Versions.known c.pin.new.seat, c.in_default.ensures.known) in
     pin_given_back _ _ _ _ _ _ _ _ c.in_default.ensures.pin known c.in-Some.ensures.lent c.release.ensures.release c.refusal.ensures
@@ -29,7 +29,7 @@ returns-in-Err-clause-learns g c = learns_unpinned _ _ _ _ c.in-Err.fault c.in-E
 pub returns-in-Ok-clause-learns : goal.returns-in-Ok-clause-learns
 returns-in-Ok-clause-learns g c = let e = c.in_default.ensures in learns_pinned _ _ _ _ _ e.pin e.grows e.known
 
-pub returns-in-Err-told-clause-learns : goal.returns-in-Err-told-clause-learns
-returns-in-Err-told-clause-learns g c =
+pub returns-in-Err-reply_made-clause-learns : goal.returns-in-Err-reply_made-clause-learns
+returns-in-Err-reply_made-clause-learns g c =
     let e = c.in_default.ensures in
     learns_once _ _ _ _ _ _ _ _ e.pin e.grows e.known c.release.ensures.release c.release.ensures.grows

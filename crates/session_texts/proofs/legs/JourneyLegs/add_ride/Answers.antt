@@ -4,6 +4,6 @@ use Rattle.session_texts.proofs.legs.JourneyLegs.add_ride.Goals as goal
 
 pub invariant_of-self : goal.invariant_of-self
 invariant_of-self c = record {
-  plain = points_stay_plain _ _ _ c.in_ok-told.told _ c.args.self.now.plain c.in_ok-told.ensures
+  plain = points_stay_plain _ _ _ c.in_ok-object.object _ c.args.self.now.plain c.in_ok-object.ensures
       (ride_has_no_float (ride_value c.args.ride)) c.push.ensures.items;
 }

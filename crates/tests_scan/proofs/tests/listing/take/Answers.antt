@@ -4,15 +4,15 @@ use Rattle.std.proofs.lemmas.List.Elements.{Contains-push_cases}
 use Rattle.reasoning.proofs.ListLemmas.{not_in_nil}
 use Rattle.criteria.specs.Laws.{time_limit}
 use Rattle.criteria.specs.declared.arrival_trips.TimeTrips.{TimeTrips}
-use Rattle.fronts.specs.declared.entry.Ridden.{Ridden}
+use Rattle.fronts.specs.declared.entry.RiddenLabel.{RiddenLabel}
 use Rattle.tests_scan.proofs.tests.listing.take.Goals as goal
 
-of_one : (x r : Ridden TimeTrips) → Contains (x ∷ []) r
+of_one : (x r : RiddenLabel TimeTrips) → Contains (x ∷ []) r
     → (nat_lt x.value.time time_limit && nat_le x.value.trips 65535) ≡ true
     → (nat_lt r.value.time time_limit && nat_le r.value.trips 65535) ≡ true
 of_one x r h a = elim (Contains-push_cases [] x r h) [
   | inl none ↦ absurd (not_in_nil r none)
-  | inr e ↦ subst (λ (z : Ridden TimeTrips). (nat_lt z.value.time time_limit && nat_le z.value.trips 65535) ≡ true) e a
+  | inr e ↦ subst (λ (z : RiddenLabel TimeTrips). (nat_lt z.value.time time_limit && nat_le z.value.trips 65535) ≡ true) e a
 ]
 
 pub insert-requires-clause-ridden : goal.insert-requires-clause-ridden

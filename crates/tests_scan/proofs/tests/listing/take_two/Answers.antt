@@ -4,19 +4,19 @@ use Rattle.std.proofs.lemmas.List.Elements.{Contains-push_cases}
 use Rattle.reasoning.proofs.ListLemmas.{not_in_nil}
 use Rattle.criteria.specs.Laws.{time_limit}
 use Rattle.criteria.specs.declared.arrival_trips.TimeTrips.{TimeTrips}
-use Rattle.fronts.specs.declared.entry.Ridden.{Ridden}
+use Rattle.fronts.specs.declared.entry.RiddenLabel.{RiddenLabel}
 use Rattle.tests_scan.proofs.tests.listing.take_two.Goals as goal
 
-of_two : (x y r : Ridden TimeTrips) → Contains (x ∷ y ∷ []) r
+of_two : (x y r : RiddenLabel TimeTrips) → Contains (x ∷ y ∷ []) r
     → (nat_lt x.value.time time_limit && nat_le x.value.trips 65535) ≡ true
     → (nat_lt y.value.time time_limit && nat_le y.value.trips 65535) ≡ true
     → (nat_lt r.value.time time_limit && nat_le r.value.trips 65535) ≡ true
 of_two x y r h a b = elim (Contains-push_cases (x ∷ []) y r h) [
   | inl first ↦ elim (Contains-push_cases [] x r first) [
     | inl none ↦ absurd (not_in_nil r none)
-    | inr e ↦ subst (λ (z : Ridden TimeTrips). (nat_lt z.value.time time_limit && nat_le z.value.trips 65535) ≡ true) e a
+    | inr e ↦ subst (λ (z : RiddenLabel TimeTrips). (nat_lt z.value.time time_limit && nat_le z.value.trips 65535) ≡ true) e a
   ]
-  | inr e ↦ subst (λ (z : Ridden TimeTrips). (nat_lt z.value.time time_limit && nat_le z.value.trips 65535) ≡ true) e b
+  | inr e ↦ subst (λ (z : RiddenLabel TimeTrips). (nat_lt z.value.time time_limit && nat_le z.value.trips 65535) ≡ true) e b
 ]
 
 fair : (time trips : ℕ) → time < time_limit → trips ≤ 65535 → (nat_lt time time_limit && nat_le trips 65535) ≡ true

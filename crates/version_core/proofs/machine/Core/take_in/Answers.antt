@@ -12,7 +12,7 @@ bounds-self-inside-worker c = settled_small _ c.args.worker c.self.invariant (rw
 pub remove-requires : goal.remove-requires
 remove-requires c =
     let size : vec_len c.self.inside.notices ≡ length c.self.inside.notices.items = omega (arith, c.self.inside.notices.ok.0) in
-    let within = slice_get_within c.self.inside.notices.items c.args.place c.args.version (rw (← c.self.view_is) at c.requires.there) in
+    let within = slice_get_within c.self.inside.notices.items c.args.index c.args.version (rw (← c.self.view_is) at c.requires.there) in
     omega arith
 
 pub offset_bounds-self-inside-worker-2 : goal.offset_bounds-self-inside-worker-2
@@ -24,5 +24,5 @@ bounds-self-inside-worker-2 c = settled_small _ c.args.worker c.self.invariant (
 pub invariant_of-self : goal.invariant_of-self
 invariant_of-self c =
     rw (c.remove.ensures.items, c.greater-seen.ensures)
-    (join_kept _ c.args.worker c.args.version c.args.place c.self.invariant (rw (← c.self.view_is) at c.requires.settled) (rw
+    (join_kept _ c.args.worker c.args.version c.args.index c.self.invariant (rw (← c.self.view_is) at c.requires.settled) (rw
     (← c.self.view_is) at c.requires.there))

@@ -5,4 +5,4 @@ use Rattle.tests_version.proofs.tests.shelves.stages.named_seats.Given as goal
 abbrev pub invariant-loop-seat : goal.invariant-loop-seat
 invariant-loop-seat g l =
     (goal.iterator-loop-seat g).can_next l.seat-iterator × (goal.iterator-loop-seat g).is_finite l.seat-iterator
-    × All (λ seat. seat.table ≡ g.B.Named.table) l.seat-iterator.rest.items
+    × All (λ seat. seat.table ≡ g.B.ShelvesName.table) l.seat-iterator.rest.items

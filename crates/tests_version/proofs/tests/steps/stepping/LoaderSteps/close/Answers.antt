@@ -9,5 +9,5 @@ invariant_of-self c =
     let is : get_or c.self.inside.memory.shelves c.args.shelf Shelf.Free ≡ (Shelf.Open c.in-Open.version) = search rules in
     let at = got_at c.self.inside.memory.shelves c.args.shelf Shelf.Free (Shelf.Open c.in-Open.version) eight c.requires.1 is in
     (closed_so c.args.shelf c.in-Open.version c.self.inside.memory.current c.self.inside.memory.newest
-    c.self.inside.memory.shelves c.self.inside.place.me c.self.invariant at c.if-version-self.true).1
+    c.self.inside.memory.shelves c.self.inside.index.me c.self.invariant at c.if-version-self.true).1
     c.close.new.loader.me c.close.ensures.close

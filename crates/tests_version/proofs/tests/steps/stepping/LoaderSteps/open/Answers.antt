@@ -15,7 +15,7 @@ open-requires-clause-ready c =
     let left : c.self.inside.memory.newest < 1000000000 = search rules in
     may_open_so c.args.shelf c.self.inside.memory.current c.self.inside.memory.newest c.self.inside.memory.shelves
     (arc_value c.args.source.now.image) (laid c.in_ok-editions.editions.items (16 * c.args.shelf))
-    c.self.inside.place.me c.gather.new.loader.me c.fill_block.new.loader.me
+    c.self.inside.index.me c.gather.new.loader.me c.fill_block.new.loader.me
     c.self.invariant at same left (laid_have (c.self.inside.memory.newest + 1) (arc_value c.args.source.now.image)
     c.in_ok-editions.editions.items c.args.shelf c.in_ok-editions.ensures) c.gather.ensures.gather
     c.fill_block.ensures.block
@@ -24,6 +24,6 @@ pub invariant_of-self : goal.invariant_of-self
 invariant_of-self c =
     let left : c.self.inside.memory.newest < 1000000000 = search rules in
     opened_so c.args.shelf c.self.inside.memory.current c.self.inside.memory.newest c.self.inside.memory.shelves
-    (laid c.in_ok-editions.editions.items (16 * c.args.shelf)) c.self.inside.place.me c.gather.new.loader.me
+    (laid c.in_ok-editions.editions.items (16 * c.args.shelf)) c.self.inside.index.me c.gather.new.loader.me
     c.fill_block.new.loader.me c.open.new.loader.me
     c.self.invariant c.requires.1 left c.gather.ensures.gather c.fill_block.ensures.block c.open.ensures.open

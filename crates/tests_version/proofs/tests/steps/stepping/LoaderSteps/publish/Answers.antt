@@ -10,7 +10,7 @@ publish-requires-clause-numbers c =
     let at = got_at c.self.inside.memory.shelves c.args.shelf Shelf.Free (Shelf.Open c.in-Open.version) eight c.requires.1 is in (
       c.requires.1,
       (published_so c.args.shelf c.in-Open.version c.self.inside.memory.current c.self.inside.memory.newest
-          c.self.inside.memory.shelves c.self.inside.place.me c.self.invariant at c.if-self-version.true).0,
+          c.self.inside.memory.shelves c.self.inside.index.me c.self.invariant at c.if-self-version.true).0,
     )
 
 pub publish-requires-clause-ready : goal.publish-requires-clause-ready
@@ -19,4 +19,4 @@ publish-requires-clause-ready c =
     let is : get_or c.self.inside.memory.shelves c.args.shelf Shelf.Free ≡ (Shelf.Open c.in-Open.version) = search rules in
     let at = got_at c.self.inside.memory.shelves c.args.shelf Shelf.Free (Shelf.Open c.in-Open.version) eight c.requires.1 is in
     (published_so c.args.shelf c.in-Open.version c.self.inside.memory.current c.self.inside.memory.newest
-    c.self.inside.memory.shelves c.self.inside.place.me c.self.invariant at c.if-self-version.true).1
+    c.self.inside.memory.shelves c.self.inside.index.me c.self.invariant at c.if-self-version.true).1
