@@ -2,4 +2,4 @@
 
 /// The sum of all sources but this file, as `release/sources --program` prints it. `release/stamp` writes it, and
 /// `.ci/run` compares it with the sources.
-pub const SOURCES: &str = "84c3b4bc088aca0abad582f0d9967a8b5c5095a9f50b2f0b2171f8765dcdb043";
+pub const SOURCES: &str = "8447bb3a0f447147654beab21b761f2b23d3578cc6dec7836ce3d7b8a4ccc995";

@@ -255,12 +255,12 @@ TZif2\0\0\0\0\0\0\0\0\0\0\0\0\0\0\0\
 const ZONE_FILE: &str = "
 # One stop, and a day that begins an hour earlier in the east, by a zone file.
 folder east
-rows east/agency.txt agency_timezone | Nowhere
+rows east/agency.txt agency_timezone | zone_file
 rows east/stops.txt stop_id | A
 rows east/trips.txt service_id,trip_id
 rows east/stop_times.txt trip_id,arrival_time,departure_time,stop_id,stop_sequence
 rows east/calendar_dates.txt service_id,date,exception_type
-run build east east.csa --first 20240115 --days 1 --zone file:zone_file
+run build east east.csa --first 20240115 --days 1 --zone file:./zone_file
 tells csa: warning: no trip runs on these days, so no query has a departure \
 (`csa days FOLDER` prints the days on which trips run)
 answers stops 1 runs 0 connections 0 footpaths 1 lifted 0 flex 0 frequencies 0 skipped 0
