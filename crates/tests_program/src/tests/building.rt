@@ -39,14 +39,13 @@ ends 0
 holds built.csa
 
 # A day begins an hour earlier in the east.
-rows base_feed/agency.txt agency_timezone | Nowhere
-run build base_feed built.csa --first 20240115 --days 1 --zone fixed:3600
+run build base_feed built.csa --first 20240115 --days 1 --zone fixed:3600 --no-warnings
 answers stops 3 runs 2 connections 3 footpaths 3 lifted 0 flex 0 frequencies 0 skipped 0
 set 7 1705273200
 holds built.csa
 
 # A day begins an hour later in the west.
-run build base_feed built.csa --first 20240115 --days 1 --zone fixed:-3600
+run build base_feed built.csa --first 20240115 --days 1 --zone fixed:-3600 --no-warnings
 answers stops 3 runs 2 connections 3 footpaths 3 lifted 0 flex 0 frequencies 0 skipped 0
 set 7 1705280400
 holds built.csa
@@ -66,9 +65,7 @@ run build base_feed today.csa --first today --days 1 --zone fixed:0
 tells csa: warning: no trip runs on these days, so no query has a departure \
 (`csa days FOLDER` prints the days on which trips run)
 answers stops 3 runs 0 connections 0 footpaths 3 lifted 0 flex 0 frequencies 0 skipped 0
-run build base_feed today.csa --first today-1 --days 14 --zone posix:CET-1CEST,M3.5.0,M10.5.0/3
-tells csa: warning: no trip runs on these days, so no query has a departure \
-(`csa days FOLDER` prints the days on which trips run)
+run build base_feed today.csa --first today-1 --days 14 --zone posix:CET-1CEST,M3.5.0,M10.5.0/3 --no-warnings
 answers stops 3 runs 0 connections 0 footpaths 3 lifted 0 flex 0 frequencies 0 skipped 0
 run build base_feed today.csa --first today --days 1 --zone posix:none
 tells csa: --zone: file:PATH must be a time zone file (TZif), posix:TEXT a rule such as CET-1CEST,M3.5.0,M10.5.0/3
@@ -119,7 +116,7 @@ remove base_feed
 const FEEDS: &str = "
 # One trip that stands still for a while, as its times are told: each hop takes a second at least, or is refused.
 folder feed
-rows feed/agency.txt agency_timezone | Nowhere
+rows feed/agency.txt agency_timezone | Etc/UTC
 rows feed/stops.txt stop_id | A | B | C | D
 rows feed/trips.txt service_id,trip_id | S,T
 rows feed/stop_times.txt trip_id,arrival_time,departure_time,stop_id,stop_sequence | T,08:00:00,08:00:00,A,1 | T,08:00:00,08:00:00,B,2 | T,08:00:00,08:00:00,C,3 | T,08:01:00,08:01:00,D,4
@@ -139,7 +136,7 @@ lacks feed.csa
 rows feed/stops.txt stop_id | A | B
 rows feed/trips.txt service_id,trip_id | S,T | S,N
 rows feed/stop_times.txt trip_id,arrival_time,departure_time,stop_id,stop_sequence | T,08:00:00,08:00:00,A,1 | T,08:10:00,08:10:00,B,2 | N,25:10:00,25:10:00,A,1 | N,25:20:00,25:20:00,B,2
-run build feed feed.csa --first 20240330 --days 2 --zone posix:CET-1CEST,M3.5.0,M10.5.0/3
+run build feed feed.csa --first 20240330 --days 2 --zone posix:CET-1CEST,M3.5.0,M10.5.0/3 --no-warnings
 answers stops 2 runs 4 connections 4 footpaths 2 lifted 0 flex 0 frequencies 0 skipped 0
 asks profile feed.csa --from A --to B --after 25:00:00 --until 32:00:00 --by 32:00:00 --criterion arrival
 prints dep 25:10:00 arr 25:20:00 : ride 1 1
