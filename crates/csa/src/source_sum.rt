@@ -2,4 +2,4 @@
 
 /// The sum of all sources but this file, as `release/sources --program` prints it. `release/stamp` writes it, and
 /// `.ci/run` compares it with the sources.
-pub const SOURCES: &str = "b765ce2141bcde486e1ddac9600c62df7f92e0aa64a294605286a88b4ad876c6";
+pub const SOURCES: &str = "a95fc34bda4ef5509462d6b09b691a94d1416076d2a5ace590def6fe8ec97750";

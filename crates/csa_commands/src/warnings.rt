@@ -14,7 +14,7 @@ use service_days::{Zone, day_after, day_start};
 use std::alloc::{AllocError, Global};
 use std::fmt::Write as _;
 use std::fs;
-use std::io::Write;
+use std::io::{ErrorKind, Write};
 use std::rt::Files;
 
 /// Where systems have their time zone files.
@@ -257,7 +257,7 @@ fn of_zone<H: Files + AllocGlobal>(
 
 /// The warning that the feed's own zone is none of the system's, if the system has any.
 fn no_zone<H: Files + AllocGlobal>(rt: &H, name: &str) -> Option<String> {
-    if !is_folder(rt, ZONES) {
+    if !is_folder(rt, ZONES) || !is_unknown_zone(rt, name)? {
         return None;
     }
     let name = quoted(rt.alloc(), name.as_bytes()).ok()?;
@@ -303,6 +303,21 @@ pub fn zone_path<H: Files + AllocGlobal>(rt: &H, name: &str) -> Option<String> {
         Some(path)
     } else {
         None
+    }
+}
+
+/// Whether the system has no zone of this name. None if that isn't known: memory ran out, or the system can't say.
+fn is_unknown_zone<H: Files + AllocGlobal>(rt: &H, name: &str) -> Option<bool> {
+    if !is_zone_name(name) {
+        return Some(true);
+    }
+    let path = format!(in rt.alloc(); "{ZONES}/{name}").ok()?;
+    match fs::metadata(rt, path.as_str()) {
+        Ok(metadata) => Some(!metadata.is_file()),
+        Err(error) => match error.kind() {
+            ErrorKind::NotFound | ErrorKind::NotADirectory => Some(true),
+            _ => None,
+        },
     }
 }
 
