@@ -479,10 +479,10 @@ def program_that_serves() -> str | None:
     return None
 
 
-def has_legs() -> bool:
-    """Whether that program knows `serve --legs`."""
+def has_option(option: str) -> bool:
+    """Whether the `serve` of that program knows the option."""
     program = program_that_serves()
-    return program is not None and "--legs" in subprocess.run([program, "serve", "--help"], capture_output=True, text=True).stdout
+    return program is not None and option in subprocess.run([program, "serve", "--help"], capture_output=True, text=True).stdout
 
 
 @unittest.skipUnless(program_that_serves(), "no program with the command serve is built")
@@ -573,7 +573,7 @@ class RealServer(unittest.TestCase):
             self.assertEqual((refused.exception.number, refused.exception.name), (92, "AlreadyPinned"))
 
 
-@unittest.skipUnless(has_legs(), "no program with serve --legs is built")
+@unittest.skipUnless(has_option("--legs"), "no program with serve --legs is built")
 class RealServerWithLegs(RealServer):
     """All that holds without legs, and the legs."""
 
@@ -585,6 +585,26 @@ class RealServerWithLegs(RealServer):
             client.load_and_wait("slow")
             ride = NamedRide("T1", 20240115, "A", "08:00:00", "C", "08:30:00")
             self.assertEqual(client.profile("A", "C", **WINDOW), Profile(2, (replace(SLOW, named_legs=(ride,)),), None))
+
+
+@unittest.skipUnless(has_option("--sets"), "no program with serve --sets is built")
+class RealServerWithSets(RealServer):
+    """All that holds without arrays, and that an answer by one request is that of the pairs."""
+
+    OPTIONS = ["--sets"]
+
+    def test_both_ways_are_equal(self) -> None:
+        def told(answer: Profile) -> object:
+            return answer.version, answer.walk, [(point.dep, point.arr, point.trips, point.walked) for point in answer.points]
+
+        sides = [(source, target) for source in (["A"], ["A", "B"], ["B", "A"]) for target in (["C"], ["B", "C"], ["C", "B"])]
+        with CsaClient(port=self.port, sets=True) as at_once, CsaClient(port=self.port) as by_pairs:
+            for source, target in [(source, target) for source, target in sides if not set(source) & set(target)]:
+                for criterion in ("arrival", "arrival+trips", "arrival+trips+walk"):
+                    answers = [client.profile(source, target, **WINDOW, criterion=criterion) for client in (at_once, by_pairs)]
+                    self.assertEqual(*map(told, answers))
+            # no array was refused
+            self.assertTrue(at_once._sets)
 
 
 if __name__ == "__main__":

@@ -1,3 +1,4 @@
 pub mod Legs
 pub mod Valuing
 pub mod Replying
+pub mod OneStop

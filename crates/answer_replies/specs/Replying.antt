@@ -4,14 +4,13 @@ use Rattle.serde_json.specs.Data.{Data}
 use Rattle.criteria.specs.Laws.{Rules}
 use Rattle.criteria.specs.declared.name.CriterionName.{CriterionName}
 use Rattle.criteria.specs.declared.figures.Figures.{Figures}
-use Rattle.timetable.specs.declared.query.Query.{Query}
 use Rattle.image_layout.specs.Image.{ImageValue}
-use Rattle.profile_scan.specs.Kept.{IsWay}
-use Rattle.profile_scan.specs.Points.{IsAnswer}
+use Rattle.profile_scan.specs.Between.{BetweenValue, IsAnswerBetween}
 use Rattle.journeys.specs.Answer.{point_of}
-use Rattle.journeys.specs.Extracted.{Attains}
+use Rattle.journeys.specs.Extracted.{AttainsBetween}
 use Rattle.journeys.specs.Texts.{text_of}
 use Rattle.journeys.specs.declared.answering.Departure.{Departure}
+use Rattle.station_answers.specs.Walks.{IsDirectTime}
 use Rattle.session_texts.specs.Replies.{legged_data, line_of, point_data, profile_data}
 use Rattle.answer_replies.specs.declared.point_form.PointForm.{PointForm}
 use Rattle.answer_replies.specs.Legs.{legs_data}
@@ -30,19 +29,21 @@ abbrev pub departures_data : {V : Type 0} → PointForm → ImageValue → (V �
 departures_data PointForm.Bare image figures departures = map (bare_data figures) departures
 departures_data PointForm.WithLegs image figures departures = map (data_with_legs image figures) departures
 
--- the query is answered over the image: its points are exactly the undominated points of all journeys that count for it, in order, each
--- once, and no journey that counts is unbeaten by them; the reply has each with a journey that attains it, and the direct footpath
-pub record IsAnswered {V : Type 0} (form : PointForm) (figures : V → Figures) (rules : Rules V) (image : ImageValue) (version : ℕ) (q : Query)
+-- a query between sets of stops is answered over the image: its points are exactly the undominated points of all journeys that count for one of the sources
+-- and one of the targets, in order, each once, and no such journey is unbeaten by them; the reply has each with a journey that attains it, and the seconds
+-- of the direct walk
+pub record IsAnswered {V : Type 0} (form : PointForm) (figures : V → Figures) (rules : Rules V) (image : ImageValue) (version : ℕ) (b : BetweenValue)
     (reply : List ℕ) : Type 0 where
   pub departures : List (Departure V)
   pub walk : Option ℕ
-  pub answer : IsAnswer rules image.timetable q (map point_of departures)
-  pub attained : (departure : Departure V) → Contains departures departure → Attains rules image.timetable q (point_of departure) departure.journey
-  pub direct : IsWay image.timetable q.target q.source walk
+  pub answer : IsAnswerBetween rules image.timetable b (map point_of departures)
+  pub attained : (departure : Departure V) → Contains departures departure
+      → AttainsBetween rules image.timetable b (point_of departure) departure.journey
+  pub direct : IsDirectTime image.timetable b walk
   pub reply_is : reply ≡ line_of (profile_data (departures_data form image figures departures) version walk)
 
 -- the same by the criterion that is asked for
-abbrev pub IsAnsweredBy : PointForm → CriterionName → ImageValue → ℕ → Query → List ℕ → Type 0
-IsAnsweredBy form CriterionName.Arrival image version q reply = IsAnswered form arrival_figures by_arrival image version q reply
-IsAnsweredBy form CriterionName.ArrivalTrips image version q reply = IsAnswered form trips_figures by_trips image version q reply
-IsAnsweredBy form CriterionName.ArrivalTripsWalk image version q reply = IsAnswered form walking_figures by_walking image version q reply
+abbrev pub IsAnsweredBy : PointForm → CriterionName → ImageValue → ℕ → BetweenValue → List ℕ → Type 0
+IsAnsweredBy form CriterionName.Arrival image version b reply = IsAnswered form arrival_figures by_arrival image version b reply
+IsAnsweredBy form CriterionName.ArrivalTrips image version b reply = IsAnswered form trips_figures by_trips image version b reply
+IsAnsweredBy form CriterionName.ArrivalTripsWalk image version b reply = IsAnswered form walking_figures by_walking image version b reply

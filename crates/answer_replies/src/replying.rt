@@ -1,7 +1,7 @@
 //! A query's answer as a line of reply.
 
 ghost use Rattle.std.specs.Prelude.{◌≡◌, IfOk, map, string_bytes};
-ghost use Rattle.timetable.specs.Queries.{IsAskable};
+ghost use Rattle.profile_scan.specs.Between.{IsAskableBetween, question};
 ghost use Rattle.session_texts.specs.Replies.{line_of, profile_data};
 ghost use Rattle.session_texts.specs.Telling.{points_of};
 ghost use Rattle.answer_replies.specs.Replying.{IsAnswered, IsAnsweredBy};
@@ -11,13 +11,15 @@ use crate::legs::journey_legs;
 use crate::point_form::PointForm;
 use criteria::{Arrival, ArrivalTrips, ArrivalTripsWalk, CriterionName, ShowsFigures};
 use image_verifier::Verified;
-use journeys::{Answer, Departure, answer_query, journey_string};
+use journeys::{Answer, Departure, journey_string};
+use profile_scan::Between;
 use session_texts::Points;
 use sources::InPlace;
+use station_answers::answer_between;
 use std::alloc::{AllocError, Global};
-use timetable::Query;
 
-/// The line that replies to a query over the image of version `version`, by the criterion of this name.
+/// The line that replies to a query between sets of stops over the image of version `version`, by the criterion of this
+/// name.
 ///
 /// # Errors
 ///
@@ -27,11 +29,12 @@ pub fn reply_by_name(
     form: PointForm,
     image: &Verified,
     criterion: CriterionName,
-    query: &Query,
+    query: &Between,
     version: u64,
 ) -> Result<String, AllocError>
-    requires { IsAskable image.now.timetable.stops query.now }
-    ensures { IfOk result (λ line. IsAnsweredBy form criterion image.now version query.now (string_bytes line)) }
+    requires { IsAskableBetween image.now.timetable.stops (question query.now) }
+    ensures { IfOk result (λ line. IsAnsweredBy form criterion image.now version (question query.now)
+        (string_bytes line)) }
 {
     match criterion {
         CriterionName::Arrival => line_by(alloc, form, image, &Arrival, query, version),
@@ -53,15 +56,15 @@ fn line_by<C: ShowsFigures>(
     form: PointForm,
     image: &Verified,
     criterion: &C,
-    query: &Query,
+    query: &Between,
     version: u64,
 ) -> Result<String, AllocError>
-    requires { IsAskable image.now.timetable.stops query.now }
-    ensures { IfOk result (λ line. IsAnswered form C.figures (C.rules criterion.now) image.now version query.now
-        (string_bytes line)) }
+    requires { IsAskableBetween image.now.timetable.stops (question query.now) }
+    ensures { IfOk result (λ line. IsAnswered form C.figures (C.rules criterion.now) image.now version
+        (question query.now) (string_bytes line)) }
 {
     let mut source = InPlace::new(image);
-    let answer = answer_query(alloc, &mut source, criterion, query)?;
+    let answer = answer_between(alloc, &mut source, criterion, query)?;
     profile_reply(alloc, form, image, version, criterion, &answer)
 }
 

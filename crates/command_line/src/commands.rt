@@ -62,6 +62,13 @@ const DESTINATION: [Argument; 1] = [Argument::Option(
     "The stop_id of the stop where the journey ends",
 )];
 
+/// Where queries from all stops end.
+const DESTINATIONS: [Argument; 1] = [Argument::Options(
+    "to",
+    "STOP_ID",
+    "The stop_id of the stop where journeys end; given several times, at any of these stops (at most 1000)",
+)];
+
 /// Where queries begin and end.
 const STATIONS: [Argument; 2] = [
     Argument::Options(
@@ -159,6 +166,15 @@ const FOLDER: [Argument; 1] = [Argument::Positional(
     "The folder with the feed's unpacked files",
 )];
 
+const STATIONS_OF_FEED: [Argument; 2] = [
+    Argument::MaybeWord(
+        "text",
+        "TEXT",
+        "A part of an id or a name, in any case and without accents; without it all stations are listed",
+    ),
+    Argument::Flag("json", "Print an array of JSON"),
+];
+
 const OUT: [Argument; 1] = [Argument::Positional(
     "out",
     "OUT",
@@ -196,7 +212,7 @@ const WARNINGS: [Argument; 1] = [Argument::Flag(
     "Write no warnings on standard error",
 )];
 
-const SERVER: [Argument; 9] = [
+const SERVER: [Argument; 10] = [
     Argument::Option(
         "image",
         "IMAGE",
@@ -234,6 +250,10 @@ const SERVER: [Argument; 9] = [
         "longest",
         "SECS",
         "Refuse a profile with 33 if more than SECS seconds are from its earliest departure to its latest arrival",
+    ),
+    Argument::Flag(
+        "sets",
+        "Answer profiles between sets of stops: \"from\" and \"to\" may be arrays of stop_ids",
     ),
     Argument::Words(
         "feeds",
@@ -276,11 +296,11 @@ const IMAGE_TASKS: [Task; 6] = [
     },
     Task {
         name: "departures",
-        about: "Prints every best departure from each stop to one stop within a time window",
+        about: "Prints every best departure from each stop to one stop, or to any of several, within a time window",
         notes: texts::DEPARTURES,
         arguments: &[
             &IMAGE,
-            &DESTINATION,
+            &DESTINATIONS,
             &TIMES,
             &CRITERION,
             &DEPARTURES,
@@ -297,7 +317,7 @@ const IMAGE_TASKS: [Task; 6] = [
 
 /// The other commands, in the order of the help. There are two lists, since a single one is too large a term for a
 /// proof.
-const OTHER_TASKS: [Task; 5] = [
+const OTHER_TASKS: [Task; 6] = [
     Task {
         name: "tables",
         about: "Checks the files of a GTFS feed, and prints how many records each has",
@@ -309,6 +329,12 @@ const OTHER_TASKS: [Task; 5] = [
         about: "Prints the first and the last service day of a GTFS feed, and how many trips run on each day",
         notes: texts::DAYS,
         arguments: &[&FOLDER],
+    },
+    Task {
+        name: "stations",
+        about: "Prints the stations of a GTFS feed whose ids or names contain TEXT, with their stops",
+        notes: texts::STATIONS,
+        arguments: &[&FOLDER, &STATIONS_OF_FEED],
     },
     Task {
         name: "build",

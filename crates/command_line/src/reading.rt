@@ -7,7 +7,7 @@ use clap::{ArgMatches, Error};
 use command_requests::{
     AnswerForm, BetweenRequest, BuildRequest, CommandRequest, DeparturesForm, DeparturesRequest,
     FirstDay, JourneyRequest, NamedFolder, PictureRows, PlanText, ProfileRequest, Question,
-    Seconds, ServeRequest, StopsRequest, UpgradeRequest, Workers, days_of,
+    Seconds, ServeRequest, StationsRequest, StopsRequest, UpgradeRequest, Workers, days_of,
 };
 use criteria::CriterionName;
 use std::alloc::{AllocError, Global};
@@ -223,6 +223,7 @@ fn request_in<'a>(
         },
         Some(("serve", inner)) => serve_request(alloc, inner),
         Some(("profile", inner)) if has_several(inner) => between_request(alloc, inner),
+        Some(("departures", inner)) => departures_request(alloc, inner),
         Some((name, inner)) => match plain_request(name, inner) {
             Some(request) => Ok(request),
             None => Err(wrong_value(alloc, name, inner)),
@@ -238,10 +239,10 @@ fn plain_request<'a>(name: &str, matches: &ArgMatches<'a>) -> Option<CommandRequ
         "info" => matches.get_str("image").map(CommandRequest::Info),
         "journey" => journey_request(matches).map(CommandRequest::Journey),
         "profile" => profile_request(matches).map(CommandRequest::Profile),
-        "departures" => departures_request(matches).map(CommandRequest::Departures),
         "stops" => stops_request(matches).map(CommandRequest::Stops),
         "tables" => matches.get_str("folder").map(CommandRequest::Tables),
         "days" => matches.get_str("folder").map(CommandRequest::Days),
+        "stations" => stations_request(matches).map(CommandRequest::Stations),
         "upgrade" => upgrade_request(matches).map(CommandRequest::Upgrade),
         _ => None,
     }
@@ -327,6 +328,14 @@ fn stops_request<'a>(matches: &ArgMatches<'a>) -> Option<StopsRequest<'a>> {
     })
 }
 
+fn stations_request<'a>(matches: &ArgMatches<'a>) -> Option<StationsRequest<'a>> {
+    Some(StationsRequest {
+        folder: matches.get_str("folder")?,
+        text: matches.get_str("text").unwrap_or(""),
+        json: matches.get_flag("json"),
+    })
+}
+
 fn upgrade_request<'a>(matches: &ArgMatches<'a>) -> Option<UpgradeRequest<'a>> {
     Some(UpgradeRequest {
         image: matches.get_str("image")?,
@@ -377,8 +386,8 @@ fn between_request<'a>(
     if matches.get_str("picture").is_some() {
         return Err(no_picture(alloc));
     }
-    let from = stops_of(alloc, matches, "from")?;
-    let to = stops_of(alloc, matches, "to")?;
+    let from = stops_of(alloc, "profile", matches, "from")?;
+    let to = stops_of(alloc, "profile", matches, "to")?;
     match between_of(matches, from, to) {
         Some(request) => Ok(CommandRequest::Between(request)),
         None => Err(wrong_value(alloc, "profile", matches)),
@@ -403,9 +412,10 @@ fn between_of<'a>(
     })
 }
 
-/// The stop_ids that an option has, each once and at most 1000 of them.
+/// The stop_ids that an option of a command has, each once and at most 1000 of them.
 fn stops_of<'a>(
     alloc: Global,
+    command: &str,
     matches: &ArgMatches<'a>,
     option: &str,
 ) -> Result<Vec<&'a str>, NoCommand> {
@@ -414,14 +424,16 @@ fn stops_of<'a>(
         return Ok(stops);
     };
     if words.len() > MOST_STOPS {
-        return Err(too_many_stops(alloc, option, words.len()));
+        return Err(too_many_stops(alloc, command, option, words.len()));
     }
     let mut given_at = BTreeMap::new(alloc);
     for index in 0..words.len() {
         let word = words[index];
         match given_at.insert(word, index) {
             Ok(None) => {}
-            Ok(Some(first)) => return Err(stop_given_twice(alloc, option, word, first, index)),
+            Ok(Some(first)) => return Err(stop_given_twice(
+                alloc, command, option, word, first, index,
+            )),
             Err(_) => return Err(NoCommand::OutOfMemory),
         }
         if stops.push(word).is_err() {
@@ -431,10 +443,10 @@ fn stops_of<'a>(
     Ok(stops)
 }
 
-fn too_many_stops(alloc: Global, option: &str, count: usize) -> NoCommand {
+fn too_many_stops(alloc: Global, command: &str, option: &str, count: usize) -> NoCommand {
     mistake(
         alloc,
-        "profile",
+        command,
         format!(in alloc;
             "error: --{option} is given {count} times: at most {MOST_STOPS} stops can be asked for\n"
         ),
@@ -444,6 +456,7 @@ fn too_many_stops(alloc: Global, option: &str, count: usize) -> NoCommand {
 /// The message about a stop_id that is given at two places, counted from 0.
 fn stop_given_twice(
     alloc: Global,
+    command: &str,
     option: &str,
     stop: &str,
     first: usize,
@@ -452,7 +465,7 @@ fn stop_given_twice(
     let (first, index) = (first.saturating_add(1), index.saturating_add(1));
     mistake(
         alloc,
-        "profile",
+        command,
         format!(in alloc;
             "error: --{option} {stop:?}: number {index} is the same stop as number {first}\n"
         ),
@@ -475,10 +488,23 @@ fn rows(matches: &ArgMatches<'_>) -> Option<PictureRows> {
     }
 }
 
-fn departures_request<'a>(matches: &ArgMatches<'a>) -> Option<DeparturesRequest<'a>> {
+/// The request of `csa departures`.
+fn departures_request<'a>(
+    alloc: Global,
+    matches: &ArgMatches<'a>,
+) -> Result<CommandRequest<'a>, NoCommand> {
+    let to = stops_of(alloc, "departures", matches, "to")?;
+    match departures_to(matches, to) {
+        Some(request) => Ok(CommandRequest::Departures(request)),
+        None => Err(wrong_value(alloc, "departures", matches)),
+    }
+}
+
+/// The request of departures to these stops; `None` if a value has a wrong form.
+fn departures_to<'a>(matches: &ArgMatches<'a>, to: Vec<&'a str>) -> Option<DeparturesRequest<'a>> {
     Some(DeparturesRequest {
         image: matches.get_str("image")?,
-        to: matches.get_str("to")?,
+        to,
         after: clock(matches.get_str("after")?)?,
         until: clock(matches.get_str("until")?)?,
         by: clock(matches.get_str("by")?)?,
@@ -570,6 +596,7 @@ fn serve_request<'a>(
         log: matches.get_flag("log"),
         idle,
         longest,
+        sets: matches.get_flag("sets"),
         plan,
         feeds: named_folders(alloc, matches)?,
     }))

@@ -1,7 +1,7 @@
 //! What the help prints below the arguments of each command.
 
 /// The program's version, as `--version` prints it.
-pub(crate) const VERSION: &str = "1.2.0";
+pub(crate) const VERSION: &str = "1.3.0";
 
 pub(crate) const STATUSES: &str = "Exit status:\n\
 \x20 0   accepted\n\
@@ -59,6 +59,18 @@ A feed that csa tables refuses is refused.\n\
 \n\
 Example: csa days examples/base";
 
+pub(crate) const STATIONS: &str =
+    "Each line is a station, or a stop without one, in the order of stops.txt, with tabs between its parts:\n\
+\x20 station  or stop\n\
+\x20 STOP_ID  its stop_id\n\
+\x20 NAME     its stop_name\n\
+and then for each of its stops the stop_id, as --from and --to take it, and the platform_code, blank if none.\n\
+A stop without a station is its own only stop. TEXT is looked for in the ids and names of the station and its stops.\n\
+With --json: [{\"id\":\"C\",\"name\":\"C\",\"stops\":[{\"id\":\"C\",\"platform\":\"\"}],\"type\":\"stop\"}]\n\
+Only stops.txt is read and checked; csa tables checks the whole feed.\n\
+\n\
+Example: csa stations examples/base c";
+
 pub(crate) const UPGRADE: &str = "Standard output has the line of csa verify.\n\
 \n\
 Example: csa upgrade examples/base.csa base.csa";
@@ -97,12 +109,14 @@ With --picture answer.svg --rows 50 the first 50 journeys are drawn too.";
 
 pub(crate) const DEPARTURES: &str =
     "Each line is one of `csa profile` from a stop, with the stop_id before it. There are lines from every stop\n\
-except the one where journeys end; a stop without departures has no line. Stops come in the image's order, as\n\
+except those where journeys end; a stop without departures has no line. Stops come in the image's order, as\n\
 `csa stops` prints them. The last line `stops N points N read N` has the number of stops that have a line, the number\n\
 of their departures, and the number of connections that were read.\n\
 Journeys have the image's numbers; `csa profile --names` prints those from one stop with ids.\n\
 A journey has at least one ride, so a direct walk is not among the departures: --summary and --json give its seconds\n\
 for the stops that have a line.\n\
+With --to given several times, at most 1000 times, journeys may end at any of these stops: the departures from a stop\n\
+are the best to all of them, the walk is the shortest.\n\
 If a line of FILE is not a stop_id of the image, nothing is printed, standard error has its number and its text, and\n\
 the status is 2; if FILE cannot be read, it is 3.\n\
 A warning says if no connection departs in the window, or if it ends after the last day on which one does;\n\

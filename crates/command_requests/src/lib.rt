@@ -15,6 +15,6 @@ pub use plans::{
 };
 pub use requests::{
     AnswerForm, BetweenRequest, BuildRequest, CommandRequest, DeparturesForm, DeparturesRequest,
-    JourneyRequest, NamedFolder, ProfileRequest, Question, ServeRequest, StopsRequest,
-    UpgradeRequest,
+    JourneyRequest, NamedFolder, ProfileRequest, Question, ServeRequest, StationsRequest,
+    StopsRequest, UpgradeRequest,
 };

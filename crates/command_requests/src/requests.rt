@@ -16,12 +16,14 @@ pub enum CommandRequest<'a> {
     Profile(ProfileRequest<'a>),
     /// To answer a question between several stops over an image.
     Between(BetweenRequest<'a>),
-    /// To answer the queries from every stop to one over an image.
+    /// To answer the queries from every stop to one, or to any of several, over an image.
     Departures(DeparturesRequest<'a>),
     /// To read the tables of a feed's folder.
     Tables(&'a str),
     /// To print which service days the feed of a folder has.
     Days(&'a str),
+    /// To list the stations of a feed's folder, with their stops.
+    Stations(StationsRequest<'a>),
     /// To make the image of a feed's folder.
     Build(BuildRequest<'a>),
     /// To list stops by their names.
@@ -68,12 +70,12 @@ pub enum DeparturesForm {
     JsonPoints,
 }
 
-/// The image; the stop to go to, by its name; when, in seconds after the image's base; the criterion; and what is
-/// printed, for every stop or for those that a file names.
-#[derive(Clone, Copy, Drop)]
+/// The image; the stops to go to, to any of which journeys may lead, by their names; when, in seconds after the image's
+/// base; the criterion; and what is printed, for every stop or for those that a file names.
+#[derive(Drop)]
 pub struct DeparturesRequest<'a> {
     pub image: &'a str,
-    pub to: &'a str,
+    pub to: Vec<&'a str>,
     /// The earliest departure.
     pub after: u32,
     /// The latest departure.
@@ -136,6 +138,15 @@ pub struct StopsRequest<'a> {
     pub text: &'a str,
 }
 
+/// A feed's folder, the text that the ids or the names of the listed stations contain, and whether they are listed as
+/// JSON.
+#[derive(Clone, Copy, Drop)]
+pub struct StationsRequest<'a> {
+    pub folder: &'a str,
+    pub text: &'a str,
+    pub json: bool,
+}
+
 /// Which image is rewritten, and where to.
 #[derive(Clone, Copy, Drop)]
 pub struct UpgradeRequest<'a> {
@@ -176,6 +187,8 @@ pub struct ServeRequest<'a> {
     pub idle: Option<Seconds>,
     /// How long a window may be, from the earliest departure to the latest arrival. `None`: of any length.
     pub longest: Option<Seconds>,
+    /// Whether a profile may name several stops on a side.
+    pub sets: bool,
     pub plan: PlanText<'a>,
     pub feeds: Vec<NamedFolder<'a>>,
 }

@@ -1,6 +1,7 @@
 mod AnswerLemmas
-mod BetweenLemmas
 mod Appended
+mod BetweenLemmas
+mod MissingFile
 mod OfFolder
 mod Picturing
 mod StopLines

@@ -19,7 +19,7 @@ path_of (Info image) = image.now
 path_of (Journey request) = request.image.now
 path_of (Profile request) = request.image.now
 path_of (Between request) = request.now.image.now
-path_of (Departures request) = request.image.now
+path_of (Departures request) = request.now.image.now
 path_of (Stops request) = request.image.now
 path_of (Upgrade request) = request.image.now
 
@@ -30,7 +30,7 @@ IsDone image (Info path) before after = IsInformed image before after
 IsDone image (Journey request) before after = IsAccepted image request.question request.text.now before after
 IsDone image (Profile request) before after = IsPrinted image request before after
 IsDone image (Between request) before after = IsPrintedBetween image request.now before after
-IsDone image (Departures request) before after = AreAllPrinted image request before after
+IsDone image (Departures request) before after = AreAllPrinted image request.now before after
 IsDone image (Stops request) before after = AreStopsPrinted image request.text.now before after
 IsDone image (Upgrade request) before after = Appends before after (counts_line image)
 
@@ -42,6 +42,6 @@ IsRefusedAs image (Info path) before after = ⊥
 IsRefusedAs image (Journey request) before after = IsFaulty image request.question request.text.now before after
 IsRefusedAs image (Profile request) before after = IsNoRequest image request before after
 IsRefusedAs image (Between request) before after = IsNoneBetween image request.now before after
-IsRefusedAs image (Departures request) before after = IsNoneAsked image request before after
+IsRefusedAs image (Departures request) before after = IsNoneAsked image request.now before after
 IsRefusedAs image (Stops request) before after = ⊥
 IsRefusedAs image (Upgrade request) before after = ⊥

@@ -1,5 +1,5 @@
 -- What `csa departures` prints of an image.
-use Rattle.std.specs.Prelude.{◌≡◌, ◌≢◌, ◌⊎◌, ℕ, List, Option, None}
+use Rattle.std.specs.Prelude.{◌≡◌, ◌≢◌, ◌⊎◌, ℕ, List, [], Option, None, map}
 use Rattle.std.specs.Io.KnownBytes.{Appends}
 use Rattle.std.specs.Str.Lines.{lines}
 use Rattle.std.specs.declared.io.ErrorKind.{ErrorKind}
@@ -8,9 +8,8 @@ use Rattle.criteria.specs.declared.name.CriterionName.{CriterionName}
 use Rattle.timetable.specs.NamesValue.{NamesValue}
 use Rattle.timetable.specs.declared.query.QueryFault.{QueryFault}
 use Rattle.image_layout.specs.Image.{ImageValue}
-use Rattle.profile_scan.specs.Destinations.{CanBeAsked}
-use Rattle.profile_scan.specs.declared.destination.Destination.{Destination}
-use Rattle.journeys.specs.Questions.{AsksAll, IsRefusedOfAll}
+use Rattle.profile_scan.specs.Between.{BetweenValue, IsAskableBetween}
+use Rattle.station_answers.specs.Naming.{AsksBetween, IsFaultBetween}
 use Rattle.journeys.specs.declared.question.Window.{Window}
 use Rattle.answer_replies.specs.Valuing.{arrival_figures, by_arrival, by_trips, by_walking, trips_figures, walking_figures}
 use Rattle.command_requests.specs.declared.requests.DeparturesForm.{DeparturesForm}
@@ -35,12 +34,15 @@ form_of DeparturesForm.Json = LineForm.Json
 form_of DeparturesForm.JsonPoints = LineForm.JsonPoints
 
 -- the text shows the departures from the stops that are wanted, under the criterion of this name
-abbrev pub AreShownBy : CriterionName → DeparturesForm → ImageValue → Destination → WantedStops → List ℕ → Type 0
-AreShownBy CriterionName.Arrival form image d wanted printed = AreShown arrival_figures by_arrival (form_of form) image d wanted printed
-AreShownBy CriterionName.ArrivalTrips form image d wanted printed = AreShown trips_figures by_trips (form_of form) image d wanted printed
-AreShownBy CriterionName.ArrivalTripsWalk form image d wanted printed = AreShown walking_figures by_walking (form_of form) image d wanted printed
+abbrev pub AreShownBy : CriterionName → DeparturesForm → ImageValue → BetweenValue → WantedStops → List ℕ → Type 0
+AreShownBy CriterionName.Arrival form image b wanted printed = AreShown arrival_figures by_arrival (form_of form) image b wanted printed
+AreShownBy CriterionName.ArrivalTrips form image b wanted printed = AreShown trips_figures by_trips (form_of form) image b wanted printed
+AreShownBy CriterionName.ArrivalTripsWalk form image b wanted printed = AreShown walking_figures by_walking (form_of form) image b wanted printed
 
--- the window that the command line asks for
+-- the names of the stops to go to, and the window that the command line asks for
+abbrev pub targets_asked : DeparturesRequest → List (List ℕ)
+targets_asked request = map (λ name. name.now) request.to.items
+
 abbrev pub window_asked : DeparturesRequest → Window
 window_asked request = record { from = request.after; until = request.until; by = request.by }
 
@@ -75,21 +77,21 @@ list_status NotText = INPUT_OUTPUT
 list_status OutOfMemory = OUT_OF_MEMORY
 
 -- the departures from the stops that are wanted were added to what was printed before, and nothing else
-abbrev pub ArePrinted : CriterionName → DeparturesForm → ImageValue → Destination → WantedStops → Option (List ℕ) → Option (List ℕ) → Type 0
-ArePrinted criterion form image d wanted before after =
-    (printed : List ℕ) × AreShownBy criterion form image d wanted printed × Appends before after printed
+abbrev pub ArePrinted : CriterionName → DeparturesForm → ImageValue → BetweenValue → WantedStops → Option (List ℕ) → Option (List ℕ) → Type 0
+ArePrinted criterion form image b wanted before after =
+    (printed : List ℕ) × AreShownBy criterion form image b wanted printed × Appends before after printed
 
--- the departures for the destination that is asked for, and which can be asked, were printed
+-- the departures to the stops that are asked for, and which can be asked, were printed
 abbrev pub AreAllPrinted : ImageValue → DeparturesRequest → Option (List ℕ) → Option (List ℕ) → Type 0
 AreAllPrinted image request before after =
-    (d : Destination) × (wanted : WantedStops) × CanBeAsked image.timetable.stops d
-    × AsksAll image.names request.to.now (window_asked request) d × IsWantedFrom image.names request.from wanted
-    × ArePrinted request.criterion request.form image d wanted before after
+    (b : BetweenValue) × (wanted : WantedStops) × IsAskableBetween image.timetable.stops b
+    × AsksBetween image.names [] (targets_asked request) (window_asked request) b × IsWantedFrom image.names request.from wanted
+    × ArePrinted request.criterion request.form image b wanted before after
 
--- the request makes no destination of the image: it has a fault, whose line was added to what was printed before, and nothing else
+-- the request can't be asked of the image: it has a fault, whose line was added to what was printed before, and nothing else
 abbrev pub IsBadQueryOfAll : ImageValue → DeparturesRequest → Option (List ℕ) → Option (List ℕ) → Type 0
 IsBadQueryOfAll image request before after =
-    (fault : QueryFault) × IsRefusedOfAll image request.to.now (window_asked request) fault
+    (fault : QueryFault) × IsFaultBetween image [] (targets_asked request) (window_asked request) fault
     × Appends before after (refusal_line (Query fault))
 
 -- the request has such a fault; or a file is given, some list has a line that is no stop_id, and nothing was printed

@@ -15,6 +15,7 @@ pub mod Newlines
 pub mod Opening
 pub mod Picturing
 pub mod Refusing
+pub mod Stations
 pub mod StopLines
 pub mod Tabling
 pub mod Writing

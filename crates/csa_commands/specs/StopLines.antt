@@ -5,10 +5,7 @@ use Rattle.std.specs.List.{AllZip, flat_map, range_with_len}
 use Rattle.timetable.specs.NamesValue.{NamesValue}
 use Rattle.image_layout.specs.Image.{ImageValue}
 use Rattle.answer_pictures.specs.Naming.{stop_bytes}
-
--- the text is somewhere in the name
-abbrev pub IsIn : List ℕ → List ℕ → Type 0
-IsIn text name = (before : List ℕ) × (after : List ℕ) × (name ≡ (before ++ text) ++ after)
+use Rattle.feed_stations.specs.Finding.{IsIn}
 
 -- each stop below `stops`, with its number and its name
 abbrev pub numbered : NamesValue → ℕ → List (ℕ × List ℕ)

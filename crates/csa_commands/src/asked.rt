@@ -28,7 +28,7 @@ pub enum ImageRequest<'a> {
     /// Answer a question between several stops over it.
     Between(&'a BetweenRequest<'a>),
     /// Answer the queries from every stop over it.
-    Departures(DeparturesRequest<'a>),
+    Departures(&'a DeparturesRequest<'a>),
     /// List those of its stops whose names contain a text.
     Stops(StopsRequest<'a>),
     /// Write it anew, in the current layout.

@@ -12,7 +12,7 @@ ghost use Rattle.csa_commands.specs.Refusing.{refusal_line};
 ghost use Rattle.csa_commands.specs.declared.refusal.CommandRefusal.TheVariants.{Query as OfQuery};
 
 use crate::profile::text_in_form;
-use crate::question::{explain_end, window_reason};
+use crate::question::{explain_ends, window_reason};
 use crate::refusal::CommandRefusal;
 use crate::status;
 use command_requests::BetweenRequest;
@@ -145,13 +145,6 @@ fn explain_between<E: Write>(
             let reason = window_reason(request.after, request.until, request.by);
             explain(errors, &["csa: ", reason]);
         }
-    }
-}
-
-// Says of each of these values of an option that isn't a stop of the image that it is none.
-fn explain_ends<E: Write>(image: &Verified, option: &str, stops: &[&str], errors: &mut E) {
-    for stop in stops {
-        explain_end(image, option, stop, errors);
     }
 }
 

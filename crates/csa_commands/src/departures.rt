@@ -1,17 +1,18 @@
-//! `csa departures IMAGE --to STOP_ID --after .. --until .. --by .. --criterion NAME [--from FILE]
+//! `csa departures IMAGE --to STOP_ID.. --after .. --until .. --by .. --criterion NAME [--from FILE]
 //! [--summary | [--json] [--no-journeys]]`.
 
-ghost use Rattle.std.specs.Prelude.{◌≡◌, ◌≢◌, ℕ, IfOk, MatchResult, string_bytes};
-ghost use Rattle.profile_scan.specs.Destinations.{CanBeAsked};
-ghost use Rattle.journeys.specs.Questions.{AsksAll, IsRefusedOfAll};
+ghost use Rattle.std.specs.Prelude.{◌≡◌, ◌≢◌, ℕ, [], IfOk, MatchResult, string_bytes};
+ghost use Rattle.profile_scan.specs.Between.{IsAskableBetween, question};
+ghost use Rattle.profile_scan.specs.Destinations.{question_to_any};
+ghost use Rattle.station_answers.specs.Naming.{AsksBetween, IsNoQuestion};
 ghost use Rattle.command_requests.specs.declared.statuses.TheConstants.{ACCEPTED, OUT_OF_MEMORY, REFUSED};
 ghost use Rattle.departure_lines.specs.declared.form.LineForm.{LineForm};
 ghost use Rattle.csa_commands.specs.declared.wanted_stops.NoList.TheVariants.{UnknownStop};
 ghost use Rattle.csa_commands.specs.Ending.{Ends, EndsUndone};
 ghost use Rattle.csa_commands.specs.Departing.{AreAllPrinted, ArePrinted, AreShownBy, IsNoneAsked};
-ghost use Rattle.csa_commands.specs.Departing.{form_of, list_status, window_asked};
+ghost use Rattle.csa_commands.specs.Departing.{form_of, list_status, targets_asked, window_asked};
 
-use crate::question::{explain_end, window_reason};
+use crate::question::{explain_ends, window_reason};
 use crate::refusal::CommandRefusal;
 use crate::status;
 use crate::wanted_stops::{NoList, wanted_from};
@@ -20,8 +21,9 @@ use criteria::{Arrival, ArrivalTrips, ArrivalTripsWalk, CriterionName};
 use departure_lines::{LineForm, WantedStops, departures_text};
 use feed_messages::{explain, is_file};
 use image_verifier::Verified;
-use journeys::{Window, destination_named};
-use profile_scan::Destination;
+use journeys::Window;
+use profile_scan::{Between, Destinations};
+use station_answers::{NoQuestion, question_between};
 use std::alloc::{AllocError, Global};
 use std::io::Write;
 use std::rt::Files;
@@ -33,29 +35,30 @@ use timetable::QueryFault;
 pub fn run<H: Files + AllocGlobal, O: Write, E: Write>(
     rt: &H,
     image: &Verified,
-    request: DeparturesRequest<'_>,
+    request: &DeparturesRequest<'_>,
     output: &mut O,
     errors: &mut E,
 ) -> u8
     ensures status { Ends result }
     ensures printed { result ≡ ACCEPTED
-        → AreAllPrinted image.now request.entry (O.contents output.old) (O.contents output.new) }
+        → AreAllPrinted image.now request.now (O.contents output.old) (O.contents output.new) }
     ensures refused { result ≡ REFUSED
-        → IsNoneAsked image.now request.entry (O.contents output.old) (O.contents output.new) }
+        → IsNoneAsked image.now request.now (O.contents output.old) (O.contents output.new) }
     ensures silent { result ≡ OUT_OF_MEMORY → O.contents output.new ≡ O.contents output.old }
 {
-    let destination = match destination_asked(image, &request) {
-        Ok(destination) => destination,
-        Err(fault) => {
+    let destinations = match destinations_asked(rt.alloc(), image, request) {
+        Ok(destinations) => destinations,
+        Err(NoQuestion::OutOfMemory) => return status::OUT_OF_MEMORY,
+        Err(NoQuestion::Bad(fault)) => {
             let status = status::print_refusal(rt.alloc(), output, CommandRefusal::Query(fault));
             if status == status::REFUSED {
-                explain_fault(image, &request, fault, errors);
+                explain_fault(image, request, fault, errors);
             }
             return status;
         }
     };
     match wanted_from(rt, image, request.from, errors) {
-        Ok(wanted) => print_all(rt.alloc(), image, &destination, request, &wanted, output),
+        Ok(wanted) => print_all(rt.alloc(), image, &destinations, request, &wanted, output),
         Err(failure) => explain_list(rt, request, failure, errors),
     }
 }
@@ -64,27 +67,26 @@ pub fn run<H: Files + AllocGlobal, O: Write, E: Write>(
 fn print_all<O: Write>(
     alloc: Global,
     image: &Verified,
-    destination: &Destination,
-    request: DeparturesRequest<'_>,
+    destinations: &Destinations,
+    request: &DeparturesRequest<'_>,
     wanted: &WantedStops,
     output: &mut O,
 ) -> u8
-    requires { CanBeAsked image.now.timetable.stops destination.now }
+    requires { IsAskableBetween image.now.timetable.stops (question_to_any destinations.now) }
     ensures status { Ends result }
     ensures not_refused { result ≢ REFUSED }
-    ensures printed { result ≡ ACCEPTED → ArePrinted request.entry.criterion request.entry.form image.now
-        destination.now
-        wanted.now
+    ensures printed { result ≡ ACCEPTED → ArePrinted request.now.criterion request.now.form image.now
+        (question_to_any destinations.now) wanted.now
         (O.contents output.old) (O.contents output.new) }
     ensures silent { result ≡ OUT_OF_MEMORY → O.contents output.new ≡ O.contents output.old }
 {
-    match text_by_name(alloc, image, destination, request, wanted) {
+    match text_by_name(alloc, image, destinations, request, wanted) {
         Ok(text) => status::write_text(output, text.as_str(), status::ACCEPTED),
         Err(_) => status::OUT_OF_MEMORY,
     }
 }
 
-// Says that the target is no stop of the image, or what is wrong with the window.
+// Says which targets are no stops of the image, or what is wrong with the window.
 fn explain_fault<E: Write>(
     image: &Verified,
     request: &DeparturesRequest<'_>,
@@ -93,7 +95,7 @@ fn explain_fault<E: Write>(
 ) {
     match fault {
         QueryFault::UnknownStop | QueryFault::SameStop => {
-            explain_end(image, "--to", request.to, errors);
+            explain_ends(image, "--to", &request.to, errors);
         }
         QueryFault::BadWindow => {
             let reason = window_reason(request.after, request.until, request.by);
@@ -106,7 +108,7 @@ fn explain_fault<E: Write>(
 // shown when the list was read.
 fn explain_list<H: Files + AllocGlobal, E: Write>(
     rt: &H,
-    request: DeparturesRequest<'_>,
+    request: &DeparturesRequest<'_>,
     failure: NoList,
     errors: &mut E,
 ) -> u8
@@ -138,36 +140,53 @@ fn explain_from<H: Files, E: Write>(rt: &H, path: &str, errors: &mut E) {
     }
 }
 
-// The target and the window of the queries from every stop, or their first fault.
-fn destination_asked(
+// The targets and the window of the queries from every stop, or why they can't be asked.
+fn destinations_asked(
+    alloc: Global,
     image: &Verified,
     request: &DeparturesRequest<'_>,
-) -> Result<Destination, QueryFault>
+) -> Result<Destinations, NoQuestion>
     ensures { MatchResult result
-        (λ d. CanBeAsked image.now.timetable.stops d
-        × AsksAll image.now.names request.now.to.now (window_asked request.now) d)
-        (IsRefusedOfAll image.now request.now.to.now (window_asked request.now)) }
+        (λ destinations. IsAskableBetween image.now.timetable.stops (question_to_any destinations)
+        × AsksBetween image.now.names [] (targets_asked request.now) (window_asked request.now)
+        (question_to_any destinations))
+        (IsNoQuestion image.now [] (targets_asked request.now) (window_asked request.now)) }
 {
     let window = Window {
         from: request.after,
         until: request.until,
         by: request.by,
     };
-    destination_named(image, request.to.as_bytes(), window)
+    match question_between(alloc, image, &[], &request.to, window) {
+        Ok(query) => Ok(without_sources(query)),
+        Err(failure) => Err(failure),
+    }
+}
+
+// A question without sources, as one from every stop.
+fn without_sources(query: Between) -> Destinations
+    requires { (question query).sources ≡ [] }
+    ensures { question_to_any result ≡ question query }
+{
+    Destinations {
+        targets: query.targets,
+        from: query.from,
+        until: query.until,
+        by: query.by,
+    }
 }
 
 // The text of the answer, under the criterion that the request names.
 fn text_by_name(
     alloc: Global,
     image: &Verified,
-    destination: &Destination,
-    request: DeparturesRequest<'_>,
+    destinations: &Destinations,
+    request: &DeparturesRequest<'_>,
     wanted: &WantedStops,
 ) -> Result<String, AllocError>
-    requires { CanBeAsked image.now.timetable.stops destination.now }
-    ensures { IfOk result (λ text. AreShownBy request.entry.criterion request.entry.form image.now destination.now
-        wanted.now
-        (string_bytes text)) }
+    requires { IsAskableBetween image.now.timetable.stops (question_to_any destinations.now) }
+    ensures { IfOk result (λ text. AreShownBy request.now.criterion request.now.form image.now
+        (question_to_any destinations.now) wanted.now (string_bytes text)) }
 {
     let form = form_of(request.form);
     match request.criterion {
@@ -175,15 +194,15 @@ fn text_by_name(
             alloc,
             image,
             &Arrival,
-            destination,
+            destinations,
             form,
             wanted,
         ),
         CriterionName::ArrivalTrips => {
-            departures_text(alloc, image, &ArrivalTrips, destination, form, wanted)
+            departures_text(alloc, image, &ArrivalTrips, destinations, form, wanted)
         }
         CriterionName::ArrivalTripsWalk => {
-            departures_text(alloc, image, &ArrivalTripsWalk, destination, form, wanted)
+            departures_text(alloc, image, &ArrivalTripsWalk, destinations, form, wanted)
         }
     }
 }

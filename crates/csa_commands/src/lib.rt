@@ -23,6 +23,7 @@ mod question;
 mod reading;
 mod refusal;
 mod replying;
+pub mod stations;
 pub mod status;
 mod stops;
 pub mod tables;

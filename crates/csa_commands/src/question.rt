@@ -103,6 +103,13 @@ pub fn explain_end<E: Write>(image: &Verified, option: &str, stop: &str, errors:
     }
 }
 
+/// Says of each of these values of an option that is no stop of the image that it is none.
+pub fn explain_ends<E: Write>(image: &Verified, option: &str, stops: &[&str], errors: &mut E) {
+    for stop in stops {
+        explain_end(image, option, stop, errors);
+    }
+}
+
 /// Says that a line of the file of `--from` is no stop of the image, and shows the line, if there is memory for that.
 pub fn explain_line<E: Write>(
     alloc: Global,

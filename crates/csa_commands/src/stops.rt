@@ -1,14 +1,15 @@
 //! `csa stops IMAGE [TEXT]`.
 
-ghost use Rattle.std.specs.Prelude.{◌≡◌, ◌≢◌, ◌+◌, ◌++◌, ℕ, List, decimal, IfOk, MatchBool, OnOk, string_bytes};
+ghost use Rattle.std.specs.Prelude.{◌≡◌, ◌≢◌, ◌+◌, ◌++◌, ℕ, List, decimal, IfOk, OnOk, string_bytes};
 ghost use Rattle.command_requests.specs.declared.statuses.TheConstants.{ACCEPTED, OUT_OF_MEMORY, REFUSED};
-ghost use Rattle.csa_commands.specs.StopLines.{AreStopLines, AreStopsPrinted, IsFound, IsIn, stop_line};
+ghost use Rattle.csa_commands.specs.StopLines.{AreStopLines, AreStopsPrinted, IsFound, stop_line};
 ghost use Rattle.csa_commands.specs.Ending.{Ends};
 
 use crate::status;
 use answer_pictures::stop_name;
 use command_requests::StopsRequest;
 use feed_messages::{explain, quoted};
+use feed_stations::is_in;
 use image_verifier::Verified;
 use std::alloc::{AllocError, Global};
 use std::io::Write;
@@ -51,7 +52,8 @@ fn explain_none<E: Write>(alloc: Global, lines: &str, text: &str, errors: &mut E
 }
 
 fn lines_of(alloc: Global, image: &Verified, text: &str) -> Result<String, AllocError>
-    ensures { IfOk result (λ lines. AreStopLines image.now.names text.now image.now.timetable.stops (string_bytes lines)) }
+    ensures { IfOk result (λ lines. AreStopLines image.now.names text.now image.now.timetable.stops
+        (string_bytes lines)) }
 {
     let mut lines = String::new(alloc);
     for stop in 0..image.stops() {
@@ -86,13 +88,6 @@ fn append_if_found(lines: &mut String, stop: u32, name: &str, text: &str) -> Res
     }
     append_stop(lines, stop, name)?;
     Ok(())
-}
-
-// Whether a text is in a name.
-fn is_in(text: &str, name: &str) -> bool
-    ensures { MatchBool result (IsIn text.now name.now) (¬ (IsIn text.now name.now)) }
-{
-    name.contains(text)
 }
 
 fn append_stop(lines: &mut String, stop: u32, name: &str) -> Result<(), AllocError>

@@ -150,7 +150,7 @@ struct TransfersLeftOut {
 /// The columns of `transfers.txt` that restrict a row to trips or routes.
 const TRIPS_AND_ROUTES: [&str; 4] = ["from_route_id", "to_route_id", "from_trip_id", "to_trip_id"];
 
-/// The places of the columns that say whether a transfer is left out.
+/// The indices of the columns that say whether a transfer is left out.
 #[derive(Clone, Copy, Drop)]
 struct TransferColumns {
     trips_and_routes: [Option<usize>; 4],

@@ -19,9 +19,9 @@ abbrev pub points_with : Bool → PointForm
 points_with true = PointForm.WithLegs
 points_with false = PointForm.Bare
 
--- and with `--longest` no window may last longer than so many seconds
-abbrev pub form_with : Bool → Option Seconds → ReplyForm
-form_with legs longest = record { points = points_with legs; longest = option_map (λ seconds. seconds.number) longest }
+-- with `--longest` no window may last longer than so many seconds, and with `--sets` a profile may name several stops on a side
+abbrev pub form_with : Bool → Option Seconds → Bool → ReplyForm
+form_with legs longest sets = record { points = points_with legs; longest = option_map (λ seconds. seconds.number) longest; sets = sets }
 
 -- at which port it listens
 abbrev pub port_text : ℕ → List ℕ

@@ -17,7 +17,7 @@ const SILENT_SECONDS: u64 = 1;
 /// Lets a client have all replies that were written, although not all of its bytes were read: if a socket is closed
 /// then, the system discards what the client hasn't got yet.
 ///
-/// The client is told that no more replies come. Then what it sends is read and dropped: until it ends the connection,
+/// The client sees that no more replies come. Then what it sends is read and dropped: until it ends the connection,
 /// or sends nothing for a second, but at most 268,435,456 bytes, and for some ten seconds.
 pub fn drain<L: Host>(stream: &TcpStream, reader: &mut TcpStream, host: &L) {
     let silence = Some(Duration::from_secs(SILENT_SECONDS));

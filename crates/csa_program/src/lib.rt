@@ -19,9 +19,10 @@ pub use crate::explaining::Explains;
 pub use crate::machine::Machine;
 use crate::watching::WatchedWriter;
 use command_line::{NoCommand, read, wants_warnings};
-use command_requests::{BetweenRequest, CommandRequest};
+use command_requests::{BetweenRequest, CommandRequest, DeparturesRequest};
 use csa_commands::{
-    ImageRequest, answer, build, days, explain, explain_zone, open_image, reason_of, status, tables,
+    ImageRequest, answer, build, days, explain, explain_zone, open_image, reason_of, stations,
+    status, tables,
 };
 pub use feed_files::Disk;
 use std::convert::AsStr;
@@ -109,6 +110,25 @@ fn answer_between<H: Files + AllocGlobal, I: Read, O: Write, E: Write>(
     )
 }
 
+// Answers the queries from every stop.
+fn answer_departures<H: Files + AllocGlobal, I: Read, O: Write, E: Write>(
+    rt: &H,
+    request: DeparturesRequest<'_>,
+    input: &mut I,
+    output: &mut O,
+    errors: &mut E,
+    warnings: bool,
+) -> u8 {
+    answer_over(
+        rt,
+        ImageRequest::Departures(&request),
+        input,
+        output,
+        errors,
+        warnings,
+    )
+}
+
 // Runs the command; the status says where memory ran out.
 fn run_command<
     H: Machine + Net<Listener = TcpListener, Stream = TcpStream>,
@@ -163,14 +183,7 @@ fn run_command<
             answer_between(rt, request, input, output, errors, warnings)
         }
         Ok(CommandRequest::Departures(request)) => {
-            answer_over(
-                rt,
-                ImageRequest::Departures(request),
-                input,
-                output,
-                errors,
-                warnings,
-            )
+            answer_departures(rt, request, input, output, errors, warnings)
         }
         Ok(CommandRequest::Stops(request)) => {
             answer_over(
@@ -184,6 +197,7 @@ fn run_command<
         }
         Ok(CommandRequest::Tables(folder)) => tables::run(rt, folder, output, errors),
         Ok(CommandRequest::Days(folder)) => days::run(rt, folder, output, errors),
+        Ok(CommandRequest::Stations(request)) => stations::run(rt, request, output, errors),
         Ok(CommandRequest::Build(request)) => {
             build::run(rt, request, output, errors, is_terminal, warnings)
         }

@@ -1,4 +1,4 @@
-//! `csa serve --image IMAGE --port P --workers W --sessions N [--legs] [--log] [--idle SECS] [--longest SECS]
+//! `csa serve --image IMAGE --port P --workers W --sessions N [--legs] [--log] [--idle SECS] [--longest SECS] [--sets]
 //! --first DAY --days N --zone ZONE [NAME=FOLDER]..`.
 
 ghost use Rattle.std.specs.Prelude.{◌≡◌, ◌≢◌, ◌≤◌, ◌⊎◌, [], All, length, map};
@@ -245,7 +245,8 @@ fn listen<'d, 'f, 'e, H: Disk + Explains + Clock + Threads + Wait + Sync, O: Wri
     ensures many { IfSome result.1 (λ hosted.
         AreAsMany folders.now.request.now.sessions (length hosted.served) hosted.door.failed) }
     ensures hosted { IfSome result.1 (λ hosted. AreHosted
-        (form_with folders.now.request.now.legs folders.now.request.now.longest)
+        (form_with folders.now.request.now.legs folders.now.request.now.longest
+        folders.now.request.now.sets)
         ⟦<Visitor<'d, SharedErrors<'e, H>> as Client>⟧.opens
         ⟦<Requests<TcpStream, Visit<'d, SharedErrors<'e, H>>> as Read>⟧.remaining
         ⟦<TcpStream as Write>⟧.contents
@@ -303,11 +304,12 @@ fn serve_door<
         door.entry.is_endless door.entry.failed []
         → IfOk result (λ hosted. AreAsMany wanted (length hosted.served) hosted.door.failed) }
     ensures sessions { IfOk result (λ hosted. AreSessionsOf
-        (form_with folders.now.request.now.legs folders.now.request.now.longest)
+        (form_with folders.now.request.now.legs folders.now.request.now.longest
+        folders.now.request.now.sets)
         ⟦<Visitor<'d, L> as Client>⟧.opens ⟦<Requests<TcpStream, Visit<'d, L>> as Read>⟧.remaining
         ⟦<TcpStream as Write>⟧.contents made.2.items hosted.door.came hosted.served) }
 {
-    let form = form_of(folders.request.legs, folders.request.longest);
+    let form = form_of(folders.request);
     let ran = serve_all::<B, _, _, _, _>(door, made, folders, form, errors)?;
     Ok(HostingOutcome {
         served: ran.served,
@@ -405,13 +407,14 @@ fn bound_at<H: Net<Listener = TcpListener, Stream = TcpStream>>(
     })
 }
 
-// In which form profiles are replied, and for which windows.
-fn form_of(legs: bool, longest: Option<Seconds>) -> ReplyForm
-    ensures { result ≡ form_with legs longest }
+// In which form profiles are replied, for which windows, and whether between several stops.
+fn form_of(request: &ServeRequest<'_>) -> ReplyForm
+    ensures { result ≡ form_with request.now.legs request.now.longest request.now.sets }
 {
     ReplyForm {
-        points: points_of(legs),
-        longest: number_of(longest),
+        points: points_of(request.legs),
+        longest: number_of(request.longest),
+        sets: request.sets,
     }
 }
 

@@ -1,9 +1,7 @@
 -- Stops shown one by one.
-use Rattle.std.proofs.Common.{◌≡◌, ◌≢◌, ◌<◌, ◌+◌, ◌&&◌, eqb, ℕ, zero, suc, Bool, true, false, not, List, [], ◌∷◌, ◌++◌, Contains, length}
+use Rattle.std.proofs.Common.{◌≡◌, ◌<◌, ◌+◌, ◌&&◌, nat_eq, ℕ, zero, suc, Bool, true, false, not, List, [], ◌∷◌, ◌++◌, Contains, length}
 use Rattle.std.proofs.Common.{map, filter, refl, sym, ◌∙◌, ap, subst, inl, inr, append_assoc, arith}
-use Rattle.std.specs.List.{AllZip, flat_map, range_with_len}
-use Rattle.std.proofs.lemmas.Bool.{ne_eqb}
-use Rattle.std.proofs.lemmas.Bool.Decides.{eqb_tells}
+use Rattle.std.specs.List.{AllZip, flat_map, list_any, range_with_len}
 use Rattle.std.proofs.lemmas.Grind.{flat_map-append}
 use Rattle.std.proofs.lemmas.List.{append-nil, length-map}
 use Rattle.std.proofs.lemmas.List.Elements.{filter-append}
@@ -12,16 +10,14 @@ use Rattle.std.proofs.lemmas.Slice.Zip.{all_zipped_more}
 use Rattle.criteria.specs.Laws.{Rules}
 use Rattle.criteria.specs.declared.figures.Figures.{Figures}
 use Rattle.image_layout.specs.Image.{ImageValue}
-use Rattle.profile_scan.specs.Destinations.{query_from}
-use Rattle.profile_scan.specs.Points.{IsAnswer}
-use Rattle.profile_scan.specs.Everywhere.{AnswerAll, criterion_of_profiles, destination_of, listed_from, walk_from}
-use Rattle.profile_scan.specs.declared.destination.Destination.{Destination}
-use Rattle.profile_scan.specs.declared.profiles.Profiles.{Profiles}
+use Rattle.profile_scan.specs.Between.{BetweenValue, IsAnswerBetween, secs_of}
+use Rattle.profile_scan.specs.Everywhere.{AnswerToAny, asked_to_any, criterion_to_any, listed_to_any, walk_to_any}
+use Rattle.profile_scan.specs.Origins.{from_stop}
+use Rattle.profile_scan.specs.declared.to_any.ProfilesToAny.{ProfilesToAny}
 use Rattle.bags.specs.declared.point.Point.{Point}
 use Rattle.timetable.specs.TimetableValue.{TimetableValue}
-use Rattle.timetable.specs.declared.query.Query.{Query}
 use Rattle.journeys.specs.Answer.{point_of}
-use Rattle.journeys.specs.Extracted.{Attains}
+use Rattle.journeys.specs.Extracted.{AttainsBetween}
 use Rattle.journeys.specs.declared.answering.Departure.{Departure}
 use Rattle.departure_lines.specs.Naming.{is_wanted}
 use Rattle.departure_lines.specs.Showing.{AddsStops, HasJourneys, IsInForm, IsShownFrom, ShowsStop}
@@ -42,24 +38,26 @@ counting_more n = ap (range_with_len 0) (next n) ∙ counted_more 0 n n (omega a
     next k = omega arith
 
 -- one stop more, that is shown or not
-stop_taken : (wanted : WantedStops) (target n : ℕ) → is_shown wanted target n ≡ true → shown_stops wanted target (n + 1) ≡ shown_stops wanted target n ++ n ∷ []
-stop_taken wanted target n is =
-    ap (filter (is_shown wanted target)) (counting_more n) ∙ filter-append (is_shown wanted target) (range_with_len 0 n) (n ∷ [])
-    ∙ ap (λ (ks : List ℕ). shown_stops wanted target n ++ ks) (kept is)
+stop_taken : (wanted : WantedStops) (targets : List ℕ) (n : ℕ) → is_shown wanted targets n ≡ true
+    → shown_stops wanted targets (n + 1) ≡ shown_stops wanted targets n ++ n ∷ []
+stop_taken wanted targets n is =
+    ap (filter (is_shown wanted targets)) (counting_more n) ∙ filter-append (is_shown wanted targets) (range_with_len 0 n) (n ∷ [])
+    ∙ ap (λ (ks : List ℕ). shown_stops wanted targets n ++ ks) (kept is)
   where
-    kept : is_shown wanted target n ≡ true → filter (is_shown wanted target) (n ∷ []) ≡ n ∷ []
+    kept : is_shown wanted targets n ≡ true → filter (is_shown wanted targets) (n ∷ []) ≡ n ∷ []
     kept h = rw h refl
 
-stop_left : (wanted : WantedStops) (target n : ℕ) → is_shown wanted target n ≡ false → shown_stops wanted target (n + 1) ≡ shown_stops wanted target n
-stop_left wanted target n is =
-    ap (filter (is_shown wanted target)) (counting_more n) ∙ filter-append (is_shown wanted target) (range_with_len 0 n) (n ∷ [])
-    ∙ ap (λ (ks : List ℕ). shown_stops wanted target n ++ ks) (dropped is) ∙ append-nil (shown_stops wanted target n)
+stop_left : (wanted : WantedStops) (targets : List ℕ) (n : ℕ) → is_shown wanted targets n ≡ false
+    → shown_stops wanted targets (n + 1) ≡ shown_stops wanted targets n
+stop_left wanted targets n is =
+    ap (filter (is_shown wanted targets)) (counting_more n) ∙ filter-append (is_shown wanted targets) (range_with_len 0 n) (n ∷ [])
+    ∙ ap (λ (ks : List ℕ). shown_stops wanted targets n ++ ks) (dropped is) ∙ append-nil (shown_stops wanted targets n)
   where
-    dropped : is_shown wanted target n ≡ false → filter (is_shown wanted target) (n ∷ []) ≡ []
+    dropped : is_shown wanted targets n ≡ false → filter (is_shown wanted targets) (n ∷ []) ≡ []
     dropped h = rw h refl
 
-module _ {V : Type 0} (figures : V → Figures) (rules : Rules V) (form : LineForm) (image : ImageValue) (d : Destination) (wanted : WantedStops) where
-  pub none_added : (text : List ℕ) → AddsStops figures rules form image d wanted 0 text text (record { stops = 0; points = 0 })
+module _ {V : Type 0} (figures : V → Figures) (rules : Rules V) (form : LineForm) (image : ImageValue) (b : BetweenValue) (wanted : WantedStops) where
+  pub none_added : (text : List ℕ) → AddsStops figures rules form image b wanted 0 text text (record { stops = 0; points = 0 })
   none_added text = record {
     text = [];
     added = sym (append-nil text);
@@ -67,15 +65,15 @@ module _ {V : Type 0} (figures : V → Figures) (rules : Rules V) (form : LineFo
   }
 
   -- a stop that isn't shown changes nothing
-  pub stop_skipped : (n : ℕ) (old new : List ℕ) (counts : StopCounts) → is_shown wanted d.target n ≡ false
-      → AddsStops figures rules form image d wanted n old new counts → AddsStops figures rules form image d wanted (n + 1) old new counts
+  pub stop_skipped : (n : ℕ) (old new : List ℕ) (counts : StopCounts) → is_shown wanted b.targets n ≡ false
+      → AddsStops figures rules form image b wanted n old new counts → AddsStops figures rules form image b wanted (n + 1) old new counts
   stop_skipped n old new counts not_shown adds = record {
     text = adds.text;
     added = adds.added;
     listed = record {
       parts = adds.listed.parts;
-      each = subst (λ (ks : List ℕ). AllZip (λ stop (part : ℕ × List ℕ). IsShownFrom figures rules form image (query_from d stop) part.0 part.1) ks
-          adds.listed.parts) (sym (stop_left wanted d.target n not_shown)) adds.listed.each;
+      each = subst (λ (ks : List ℕ). AllZip (λ stop (part : ℕ × List ℕ). IsShownFrom figures rules form image b stop part.0 part.1) ks
+          adds.listed.parts) (sym (stop_left wanted b.targets n not_shown)) adds.listed.each;
       text_is = adds.listed.text_is;
       stops_are = adds.listed.stops_are;
       points_are = adds.listed.points_are;
@@ -83,21 +81,21 @@ module _ {V : Type 0} (figures : V → Figures) (rules : Rules V) (form : LineFo
   }
 
   -- one that is shown adds its text, and counts
-  pub stop_added : (n : ℕ) (old mid new : List ℕ) (counts next : StopCounts) (points : ℕ) → is_shown wanted d.target n ≡ true
-      → AddsStops figures rules form image d wanted n old mid counts → ShowsStop figures rules form image (query_from d n) mid new points
+  pub stop_added : (n : ℕ) (old mid new : List ℕ) (counts next : StopCounts) (points : ℕ) → is_shown wanted b.targets n ≡ true
+      → AddsStops figures rules form image b wanted n old mid counts → ShowsStop figures rules form image b n mid new points
       → next.stops ≡ counts.stops + one_if_some points → next.points ≡ counts.points + points
-      → AddsStops figures rules form image d wanted (n + 1) old new next
+      → AddsStops figures rules form image b wanted (n + 1) old new next
   stop_added n old mid new counts next points is adds shows stops_now points_now =
       let parts = adds.listed.parts in
       let part : ℕ × List ℕ = (points, shows.text) in
-      let R : ℕ → ℕ × List ℕ → Type 0 = λ stop p. IsShownFrom figures rules form image (query_from d stop) p.0 p.1 in
+      let R : ℕ → ℕ × List ℕ → Type 0 = λ stop p. IsShownFrom figures rules form image b stop p.0 p.1 in
       record {
         text = adds.text ++ shows.text;
         added = shows.added ∙ ap (λ (z : List ℕ). z ++ shows.text) adds.added ∙ regroup old adds.text shows.text;
         listed = record {
           parts = parts ++ part ∷ [];
-          each = subst (λ (ks : List ℕ). AllZip R ks (parts ++ part ∷ [])) (sym (stop_taken wanted d.target n is))
-              (all_zipped_more R (shown_stops wanted d.target n) parts n part adds.listed.each shows.shown);
+          each = subst (λ (ks : List ℕ). AllZip R ks (parts ++ part ∷ [])) (sym (stop_taken wanted b.targets n is))
+              (all_zipped_more R (shown_stops wanted b.targets n) parts n part adds.listed.each shows.shown);
           text_is = ap (λ (z : List ℕ). z ++ shows.text) adds.listed.text_is
               ∙ ap (λ (z : List ℕ). flat_map (λ (p : ℕ × List ℕ). p.1) parts ++ z) (sym (append-nil shows.text))
               ∙ sym (flat_map-append (λ (p : ℕ × List ℕ). p.1) parts (part ∷ []));
@@ -111,36 +109,34 @@ module _ {V : Type 0} (figures : V → Figures) (rules : Rules V) (form : LineFo
       regroup : (a b c : List ℕ) → (a ++ b) ++ c ≡ a ++ (b ++ c)
       regroup a b c = append_assoc a b c
 
--- the target isn't shown
-pub target_not_shown : (wanted : WantedStops) (target stop : ℕ) → stop ≡ target → false ≡ is_shown wanted target stop
-target_not_shown wanted target stop same = ap (λ b. not b && is_wanted wanted stop) (sym (eqb_same stop target same))
-  where
-    eqb_same : (a b : ℕ) → a ≡ b → eqb a b ≡ true
-    eqb_same a b e = elim (eqb_tells a b) [ inl yes_same ↦ yes_same.0 | inr other ↦ absurd (other.1 e) ]
+-- a target isn't shown, and another stop is if it is wanted
+pub target_not_shown : (wanted : WantedStops) (targets : List ℕ) (stop : ℕ) (any : Bool) → any ≡ list_any (λ target. nat_eq target stop) targets
+    → any ≡ true → false ≡ is_shown wanted targets stop
+target_not_shown wanted targets stop any is yes_any = ap (λ b. not b && is_wanted wanted stop) (sym yes_any ∙ is)
 
--- another one is if it is wanted
-pub other_shown : (wanted : WantedStops) (target stop : ℕ) (has : Bool) → (stop ≡ target → ⊥) → has ≡ is_wanted wanted stop → has ≡ is_shown wanted target stop
-other_shown wanted target stop has other is = is ∙ ap (λ b. not b && is_wanted wanted stop) (sym (ne_eqb stop target other))
+pub other_shown : (wanted : WantedStops) (targets : List ℕ) (stop : ℕ) (any has : Bool) → any ≡ list_any (λ target. nat_eq target stop) targets
+    → any ≡ false → has ≡ is_wanted wanted stop → has ≡ is_shown wanted targets stop
+other_shown wanted targets stop any has is none wants = wants ∙ ap (λ b. not b && is_wanted wanted stop) (sym none ∙ is)
 
 -- the text of a stop's points, without journeys
 pub points_shown : {K V : Type 0} {c : _} (rules_of : K → Rules V) (figures : V → Figures) (form : LineForm) (image : ImageValue)
-    (profiles : Profiles K V c) (criterion : K) (stop : ℕ) (points : List (Point V)) (text old new : List ℕ)
-    → stop < image.timetable.stops → stop ≢ (destination_of profiles).target → criterion_of_profiles profiles ≡ criterion
-    → AnswerAll rules_of image.timetable profiles → points ≡ listed_from profiles stop
-    → IsInForm figures (rules_of criterion) form image (query_from (destination_of profiles) stop) points (walk_from profiles stop) text → new ≡ old ++ text
-    → ShowsStop figures (rules_of criterion) form image (query_from (destination_of profiles) stop) old new (length points)
+    (profiles : ProfilesToAny K V c) (criterion : K) (stop : ℕ) (points : List (Point V)) (text old new : List ℕ)
+    → stop < image.timetable.stops → (Contains (asked_to_any profiles).targets stop → ⊥) → criterion_to_any profiles ≡ criterion
+    → AnswerToAny rules_of image.timetable profiles → points ≡ listed_to_any profiles stop
+    → IsInForm figures (rules_of criterion) form image (asked_to_any profiles) stop points (secs_of (walk_to_any profiles stop)) text → new ≡ old ++ text
+    → ShowsStop figures (rules_of criterion) form image (asked_to_any profiles) stop old new (length points)
 points_shown {K} {V} {c} rules_of figures form image profiles criterion stop points text old new lt other same all is in_form added =
-    let q = query_from (destination_of profiles) stop in
-    let from = all.each stop lt other in
+    let q = from_stop (asked_to_any profiles) stop in
+    let from = all.each stop lt in
     record {
       text = text;
       added = added;
       shown = record {
         points = points;
-        walk = walk_from profiles stop;
-        answer = subst (λ (k : K). IsAnswer (rules_of k) image.timetable q points) same
-            (subst (λ (ps : List (Point V)). IsAnswer (rules_of (criterion_of_profiles profiles)) image.timetable q ps) (sym is) from.answer);
-        direct = from.direct;
+        walk = walk_to_any profiles stop;
+        answer = subst (λ (k : K). IsAnswerBetween (rules_of k) image.timetable q points) same
+            (subst (λ (ps : List (Point V)). IsAnswerBetween (rules_of (criterion_to_any profiles)) image.timetable q ps) (sym is) from.answer);
+        direct = all.direct stop lt other;
         counted = refl;
         shown = in_form;
       };
@@ -148,37 +144,37 @@ points_shown {K} {V} {c} rules_of figures form image profiles criterion stop poi
 
 -- the text of a stop's departures, with journeys
 pub journeys_shown : {K V : Type 0} {c : _} (rules_of : K → Rules V) (figures : V → Figures) (form : LineForm) (image : ImageValue)
-    (profiles : Profiles K V c) (criterion : K) (stop : ℕ) (departures : List (Departure V)) (count : ℕ)
-    (text old new : List ℕ) → count ≡ length departures → stop < image.timetable.stops → stop ≢ (destination_of profiles).target
-    → criterion_of_profiles profiles ≡ criterion
-    → AnswerAll rules_of image.timetable profiles
-    → IsAnswer (rules_of (criterion_of_profiles profiles)) image.timetable (query_from (destination_of profiles) stop) (map point_of departures)
-    → IsInForm figures (rules_of criterion) form image (query_from (destination_of profiles) stop) (map point_of departures) (walk_from profiles stop) text
+    (profiles : ProfilesToAny K V c) (criterion : K) (stop : ℕ) (departures : List (Departure V)) (count : ℕ)
+    (text old new : List ℕ) → count ≡ length departures → stop < image.timetable.stops → (Contains (asked_to_any profiles).targets stop → ⊥)
+    → criterion_to_any profiles ≡ criterion
+    → AnswerToAny rules_of image.timetable profiles
+    → IsAnswerBetween (rules_of (criterion_to_any profiles)) image.timetable (from_stop (asked_to_any profiles) stop) (map point_of departures)
+    → IsInForm figures (rules_of criterion) form image (asked_to_any profiles) stop (map point_of departures) (secs_of (walk_to_any profiles stop)) text
     → new ≡ old ++ text
-    → ShowsStop figures (rules_of criterion) form image (query_from (destination_of profiles) stop) old new count
+    → ShowsStop figures (rules_of criterion) form image (asked_to_any profiles) stop old new count
 journeys_shown {K} {V} {c} rules_of figures form image profiles criterion stop departures count text old new many lt other same all answer in_form added =
-    let q = query_from (destination_of profiles) stop in
+    let q = from_stop (asked_to_any profiles) stop in
     record {
       text = text;
       added = added;
       shown = record {
         points = map point_of departures;
-        walk = walk_from profiles stop;
-        answer = subst (λ (k : K). IsAnswer (rules_of k) image.timetable q (map point_of departures)) same answer;
-        direct = (all.each stop lt other).direct;
+        walk = walk_to_any profiles stop;
+        answer = subst (λ (k : K). IsAnswerBetween (rules_of k) image.timetable q (map point_of departures)) same answer;
+        direct = all.direct stop lt other;
         counted = many ∙ sym (length-map departures point_of);
         shown = in_form;
       };
     }
 
 -- departures have journeys that attain them, by one criterion's rules and by the same one's
-pub has_journeys : {K V : Type 0} (rules_of : K → Rules V) (t : TimetableValue) (q : Query) (old criterion : K) (departures : List (Departure V))
+pub has_journeys : {K V : Type 0} (rules_of : K → Rules V) (t : TimetableValue) (q : BetweenValue) (old criterion : K) (departures : List (Departure V))
     (said : List (Departure V) → Type 0) → old ≡ criterion
-    → ((d : Departure V) → Contains departures d → Attains (rules_of old) t q (point_of d) d.journey) → said departures
+    → ((d : Departure V) → Contains departures d → AttainsBetween (rules_of old) t q (point_of d) d.journey) → said departures
     → HasJourneys (rules_of criterion) t q (map point_of departures) said
 has_journeys {K} {V} rules_of t q old criterion departures said same attained holds = record {
   departures = departures;
   are = refl;
-  attained = λ d has. subst (λ (k : K). Attains (rules_of k) t q (point_of d) d.journey) same (attained d has);
+  attained = λ d has. subst (λ (k : K). AttainsBetween (rules_of k) t q (point_of d) d.journey) same (attained d has);
   holds = holds;
 }

@@ -1,20 +1,18 @@
--- The text of the best departures from all stops to one.
+-- The text of the best departures from all stops to any of several.
 use Rattle.std.specs.Prelude.{◌≡◌, ℕ, Bool, not, ◌&&◌, nat_eq, List, ◌++◌, Option, Contains, filter, length, map, min}
-use Rattle.std.specs.List.{AllZip, flat_map, range_with_len, sum_by}
+use Rattle.std.specs.List.{AllZip, flat_map, list_any, range_with_len, sum_by}
 use Rattle.criteria.specs.Laws.{Rules}
 use Rattle.criteria.specs.declared.figures.Figures.{Figures}
 use Rattle.bags.specs.declared.point.Point.{Point}
 use Rattle.timetable.specs.TimetableValue.{TimetableValue}
-use Rattle.timetable.specs.declared.query.Query.{Query}
+use Rattle.timetable.specs.declared.network.Footpath.{Footpath}
 use Rattle.image_layout.specs.Image.{ImageValue}
 use Rattle.answer_pictures.specs.Naming.{stop_bytes}
-use Rattle.profile_scan.specs.Destinations.{query_from}
-use Rattle.profile_scan.specs.Kept.{IsWay}
-use Rattle.profile_scan.specs.Points.{IsAnswer}
-use Rattle.profile_scan.specs.Window.{window}
-use Rattle.profile_scan.specs.declared.destination.Destination.{Destination}
+use Rattle.profile_scan.specs.Between.{BetweenValue, IsAnswerBetween, IsDirectWalk, secs_of}
+use Rattle.profile_scan.specs.Origins.{from_stop}
+use Rattle.profile_scan.specs.Window.{window_of}
 use Rattle.journeys.specs.Answer.{point_of}
-use Rattle.journeys.specs.Extracted.{Attains}
+use Rattle.journeys.specs.Extracted.{AttainsBetween}
 use Rattle.journeys.specs.declared.answering.Departure.{Departure}
 use Rattle.departure_lines.specs.Json.{counts_json_line, journey_json, json_if_some, point_json}
 use Rattle.departure_lines.specs.Lines.{IsSummary, counts_line, line_from, point_line}
@@ -24,69 +22,70 @@ use Rattle.departure_lines.specs.declared.stop_lines.StopCounts.{StopCounts}
 use Rattle.departure_lines.specs.declared.stop_lists.WantedStops.{WantedStops}
 
 -- points with journeys: there are departures, one for each point in order, each with a journey that attains it, of which `said` holds
-pub record HasJourneys {V : Type 0} (rules : Rules V) (t : TimetableValue) (q : Query) (points : List (Point V))
+pub record HasJourneys {V : Type 0} (rules : Rules V) (t : TimetableValue) (b : BetweenValue) (points : List (Point V))
     (said : List (Departure V) → Type 0) : Type 0 where
   pub departures : List (Departure V)
   pub are : points ≡ map point_of departures
-  pub attained : (departure : Departure V) → Contains departures departure → Attains rules t q (point_of departure) departure.journey
+  pub attained : (departure : Departure V) → Contains departures departure → AttainsBetween rules t b (point_of departure) departure.journey
   pub holds : said departures
 
 -- the text of a stop's points, in a form
-abbrev pub IsInForm : {V : Type 0} → (V → Figures) → Rules V → LineForm → ImageValue → Query → List (Point V) → Option ℕ → List ℕ → Type 0
-IsInForm figures rules LineForm.Journeys image q points walk text =
-    HasJourneys rules image.timetable q points (λ departures. text ≡ flat_map (line_from figures (stop_bytes image.names q.source)) departures)
-IsInForm figures rules LineForm.Points image q points walk text = text ≡ flat_map (point_line figures (stop_bytes image.names q.source)) points
-IsInForm figures rules LineForm.Summary image q points walk text = IsSummary figures (stop_bytes image.names q.source) points walk text
-IsInForm figures rules LineForm.Json image q points walk text =
-    HasJourneys rules image.timetable q points
-    (λ departures. text ≡ json_if_some (stop_bytes image.names q.source) (map (journey_json figures) departures) walk)
-IsInForm figures rules LineForm.JsonPoints image q points walk text =
-    text ≡ json_if_some (stop_bytes image.names q.source) (map (point_json figures) points) walk
+abbrev pub IsInForm : {V : Type 0} → (V → Figures) → Rules V → LineForm → ImageValue → BetweenValue → ℕ → List (Point V) → Option ℕ → List ℕ → Type 0
+IsInForm figures rules LineForm.Journeys image b stop points walk text =
+    HasJourneys rules image.timetable (from_stop b stop) points
+    (λ departures. text ≡ flat_map (line_from figures (stop_bytes image.names stop)) departures)
+IsInForm figures rules LineForm.Points image b stop points walk text = text ≡ flat_map (point_line figures (stop_bytes image.names stop)) points
+IsInForm figures rules LineForm.Summary image b stop points walk text = IsSummary figures (stop_bytes image.names stop) points walk text
+IsInForm figures rules LineForm.Json image b stop points walk text =
+    HasJourneys rules image.timetable (from_stop b stop) points
+    (λ departures. text ≡ json_if_some (stop_bytes image.names stop) (map (journey_json figures) departures) walk)
+IsInForm figures rules LineForm.JsonPoints image b stop points walk text =
+    text ≡ json_if_some (stop_bytes image.names stop) (map (point_json figures) points) walk
 
--- the answer of the query has `count` points, and the text shows them
-pub record IsShownFrom {V : Type 0} (figures : V → Figures) (rules : Rules V) (form : LineForm) (image : ImageValue) (q : Query)
-    (count : ℕ) (text : List ℕ) : Type 0 where
+-- the answer of the query from a stop has `count` points, and the text shows them
+pub record IsShownFrom {V : Type 0} (figures : V → Figures) (rules : Rules V) (form : LineForm) (image : ImageValue) (b : BetweenValue)
+    (stop count : ℕ) (text : List ℕ) : Type 0 where
   pub points : List (Point V)
-  pub walk : Option ℕ
-  pub answer : IsAnswer rules image.timetable q points
-  pub direct : IsWay image.timetable q.target q.source walk
+  pub walk : Option Footpath
+  pub answer : IsAnswerBetween rules image.timetable (from_stop b stop) points
+  pub direct : IsDirectWalk image.timetable (from_stop b stop) walk
   pub counted : count ≡ length points
-  pub shown : IsInForm figures rules form image q points walk text
+  pub shown : IsInForm figures rules form image b stop points (secs_of walk) text
 
 -- such a text was added
-pub record ShowsStop {V : Type 0} (figures : V → Figures) (rules : Rules V) (form : LineForm) (image : ImageValue) (q : Query)
-    (old new : List ℕ) (count : ℕ) : Type 0 where
+pub record ShowsStop {V : Type 0} (figures : V → Figures) (rules : Rules V) (form : LineForm) (image : ImageValue) (b : BetweenValue)
+    (stop : ℕ) (old new : List ℕ) (count : ℕ) : Type 0 where
   pub text : List ℕ
   pub added : new ≡ old ++ text
-  pub shown : IsShownFrom figures rules form image q count text
+  pub shown : IsShownFrom figures rules form image b stop count text
 
--- the stops that are wanted, except the target
-abbrev pub is_shown : WantedStops → ℕ → ℕ → Bool
-is_shown wanted target stop = not (nat_eq stop target) && is_wanted wanted stop
+-- the stops that are wanted, except the targets
+abbrev pub is_shown : WantedStops → List ℕ → ℕ → Bool
+is_shown wanted targets stop = not (list_any (λ target. nat_eq target stop) targets) && is_wanted wanted stop
 
 -- those below n, in ascending order
-abbrev pub shown_stops : WantedStops → ℕ → ℕ → List ℕ
-shown_stops wanted target n = filter (is_shown wanted target) (range_with_len 0 n)
+abbrev pub shown_stops : WantedStops → List ℕ → ℕ → List ℕ
+shown_stops wanted targets n = filter (is_shown wanted targets) (range_with_len 0 n)
 
 -- a stop counts if it has points
 abbrev pub one_if_some : ℕ → ℕ
 one_if_some points = min points 1
 
 -- the text shows the stops below n, one after the other: `stops` of them have points, and `points` points in all
-pub record AreListed {V : Type 0} (figures : V → Figures) (rules : Rules V) (form : LineForm) (image : ImageValue) (d : Destination)
+pub record AreListed {V : Type 0} (figures : V → Figures) (rules : Rules V) (form : LineForm) (image : ImageValue) (b : BetweenValue)
     (wanted : WantedStops) (n stops points : ℕ) (text : List ℕ) : Type 0 where
   pub parts : List (ℕ × List ℕ)
-  pub each : AllZip (λ stop part. IsShownFrom figures rules form image (query_from d stop) part.0 part.1) (shown_stops wanted d.target n) parts
+  pub each : AllZip (λ stop part. IsShownFrom figures rules form image b stop part.0 part.1) (shown_stops wanted b.targets n) parts
   pub text_is : text ≡ flat_map (λ part. part.1) parts
   pub stops_are : stops ≡ sum_by (λ part. one_if_some part.0) parts
   pub points_are : points ≡ sum_by (λ part. part.0) parts
 
 -- such a text was added
-pub record AddsStops {V : Type 0} (figures : V → Figures) (rules : Rules V) (form : LineForm) (image : ImageValue) (d : Destination)
+pub record AddsStops {V : Type 0} (figures : V → Figures) (rules : Rules V) (form : LineForm) (image : ImageValue) (b : BetweenValue)
     (wanted : WantedStops) (n : ℕ) (old new : List ℕ) (counts : StopCounts) : Type 0 where
   pub text : List ℕ
   pub added : new ≡ old ++ text
-  pub listed : AreListed figures rules form image d wanted n counts.stops counts.points text
+  pub listed : AreListed figures rules form image b wanted n counts.stops counts.points text
 
 -- the last line, in a form
 abbrev pub last_line : LineForm → ℕ → ℕ → ℕ → List ℕ
@@ -96,11 +95,11 @@ last_line LineForm.Journeys stops points read = counts_line stops points read
 last_line LineForm.Points stops points read = counts_line stops points read
 last_line LineForm.Summary stops points read = counts_line stops points read
 
--- all wanted stops except the target are shown, and then the counts, with the number of connections of the window
-pub record AreShown {V : Type 0} (figures : V → Figures) (rules : Rules V) (form : LineForm) (image : ImageValue) (d : Destination)
+-- all wanted stops except the targets are shown, and then the counts, with the number of connections of the window
+pub record AreShown {V : Type 0} (figures : V → Figures) (rules : Rules V) (form : LineForm) (image : ImageValue) (b : BetweenValue)
     (wanted : WantedStops) (printed : List ℕ) : Type 0 where
   pub stops : ℕ
   pub points : ℕ
   pub text : List ℕ
-  pub listed : AreListed figures rules form image d wanted image.timetable.stops stops points text
-  pub printed_is : printed ≡ text ++ last_line form stops points (length (window image.timetable (query_from d d.target)))
+  pub listed : AreListed figures rules form image b wanted image.timetable.stops stops points text
+  pub printed_is : printed ≡ text ++ last_line form stops points (length (window_of image.timetable b.from b.by))

@@ -1,12 +1,12 @@
 //! The lines of all stops' best departures.
 
-ghost use Rattle.std.specs.Prelude.{◌≡◌, ◌≢◌, ◌<◌, ◌+◌, ℕ, List, true, Contains, IfOk, map, string_bytes};
-ghost use Rattle.profile_scan.specs.Points.{IsAnswer};
+ghost use Rattle.std.specs.Prelude.{◌≡◌, ◌<◌, ◌+◌, ℕ, List, true, Contains, IfOk, map, string_bytes};
+ghost use Rattle.profile_scan.specs.Between.{IsAnswerBetween, secs_of};
 ghost use Rattle.journeys.specs.Answer.{point_of};
-ghost use Rattle.journeys.specs.Extracted.{Attains};
+ghost use Rattle.journeys.specs.Extracted.{AttainsBetween};
 ghost use Rattle.departure_lines.specs.declared.form.LineForm.{LineForm};
-ghost use Rattle.profile_scan.specs.Destinations.{query_from};
-ghost use Rattle.profile_scan.specs.Everywhere.{AnswerAll, criterion_of_profiles, destination_of};
+ghost use Rattle.profile_scan.specs.Everywhere.{AnswerToAny, asked_to_any, criterion_to_any, walk_to_any};
+ghost use Rattle.profile_scan.specs.Origins.{from_stop};
 ghost use Rattle.departure_lines.specs.Showing.{AddsStops, ShowsStop, is_shown, one_if_some};
 
 use crate::form::LineForm;
@@ -17,16 +17,16 @@ use answer_pictures::stop_name;
 use criteria::ShowsFigures;
 use image_verifier::Verified;
 use journeys::{Departure, departures_from};
-use profile_scan::{InPlace, Profiles};
+use profile_scan::{InPlace, ProfilesToAny};
 use std::alloc::{AllocError, Global};
 
-/// The answers from every stop of an image, and what is needed to print them.
+/// The answers from every stop of an image to any of several, and what is needed to print them.
 #[derive(Clone, Copy)]
 pub struct AnswersToPrint<'a, C: ShowsFigures> {
     pub alloc: Global,
     pub image: &'a Verified,
     pub criterion: &'a C,
-    pub profiles: &'a Profiles<C>,
+    pub profiles: &'a ProfilesToAny<C>,
 }
 
 /// The number of stops that have departures, and the number of all their departures.
@@ -36,17 +36,17 @@ pub struct StopCounts {
     pub points: usize,
 }
 
-/// Adds the lines of each wanted stop except the target, in order, and returns the counts.
+/// Adds the lines of each wanted stop except the targets, in order, and returns the counts.
 pub fn append_stops<C: ShowsFigures>(
     lines: &mut String,
     shown: &AnswersToPrint<'_, C>,
     form: LineForm,
     wanted: &WantedStops,
 ) -> Result<StopCounts, AllocError>
-    requires same { criterion_of_profiles shown.now.profiles.now ≡ shown.now.criterion.now }
-    requires answered { AnswerAll C.rules shown.now.image.now.timetable shown.now.profiles.now }
+    requires same { criterion_to_any shown.now.profiles.now ≡ shown.now.criterion.now }
+    requires answered { AnswerToAny C.rules shown.now.image.now.timetable shown.now.profiles.now }
     ensures { IfOk result (λ counts. AddsStops C.figures (C.rules shown.now.criterion.now) form shown.now.image.now
-        (destination_of shown.now.profiles.now) wanted.now shown.now.image.now.timetable.stops
+        (asked_to_any shown.now.profiles.now) wanted.now shown.now.image.now.timetable.stops
         (string_bytes lines.old) (string_bytes lines.new) counts) }
 {
     let mut counts = StopCounts {
@@ -69,16 +69,15 @@ fn append_next<C: ShowsFigures>(
     counts: StopCounts,
 ) -> Result<StopCounts, AllocError>
     requires stop { stop < shown.now.image.now.timetable.stops }
-    requires same { criterion_of_profiles shown.now.profiles.now ≡ shown.now.criterion.now }
-    requires answered { AnswerAll C.rules shown.now.image.now.timetable shown.now.profiles.now }
+    requires same { criterion_to_any shown.now.profiles.now ≡ shown.now.criterion.now }
+    requires answered { AnswerToAny C.rules shown.now.image.now.timetable shown.now.profiles.now }
     ensures { IfOk result (λ next. (before : List ℕ)
         → AddsStops C.figures (C.rules shown.now.criterion.now) form shown.now.image.now
-        (destination_of shown.now.profiles.now) wanted.now stop before (string_bytes lines.old) counts
+        (asked_to_any shown.now.profiles.now) wanted.now stop before (string_bytes lines.old) counts
         → AddsStops C.figures (C.rules shown.now.criterion.now) form shown.now.image.now
-        (destination_of shown.now.profiles.now) wanted.now (stop + 1) before (string_bytes lines.new) next) }
+        (asked_to_any shown.now.profiles.now) wanted.now (stop + 1) before (string_bytes lines.new) next) }
 {
-    let target = shown.profiles.destination().target;
-    if !is_shown(wanted, target, stop) {
+    if !is_shown(wanted, shown.profiles.targets(), stop) {
         return Ok(counts);
     }
     let points = append_stop(lines, shown, form, stop)?;
@@ -86,12 +85,12 @@ fn append_next<C: ShowsFigures>(
     Ok(next)
 }
 
-// Whether a stop is wanted, and isn't the target.
-fn is_shown(wanted: &WantedStops, target: u32, stop: u32) -> bool
-    ensures shown { result ≡ is_shown wanted.now target stop }
-    ensures differ { result ≡ true → stop ≢ target }
+// Whether a stop is wanted, and is no target.
+fn is_shown(wanted: &WantedStops, targets: &[u32], stop: u32) -> bool
+    ensures shown { result ≡ is_shown wanted.now targets.now stop }
+    ensures differ { result ≡ true → Contains targets.now stop → ⊥ }
 {
-    if stop == target {
+    if targets.contains(&stop) {
         return false;
     }
     wanted.has(stop)
@@ -125,11 +124,11 @@ fn append_stop<C: ShowsFigures>(
     stop: u32,
 ) -> Result<usize, AllocError>
     requires stop { stop < shown.now.image.now.timetable.stops }
-    requires differ { stop ≢ (destination_of shown.now.profiles.now).target }
-    requires same { criterion_of_profiles shown.now.profiles.now ≡ shown.now.criterion.now }
-    requires answered { AnswerAll C.rules shown.now.image.now.timetable shown.now.profiles.now }
+    requires differ { Contains (asked_to_any shown.now.profiles.now).targets stop → ⊥ }
+    requires same { criterion_to_any shown.now.profiles.now ≡ shown.now.criterion.now }
+    requires answered { AnswerToAny C.rules shown.now.image.now.timetable shown.now.profiles.now }
     ensures { IfOk result (ShowsStop C.figures (C.rules shown.now.criterion.now) form shown.now.image.now
-        (query_from (destination_of shown.now.profiles.now) stop) (string_bytes lines.old) (string_bytes lines.new)) }
+        (asked_to_any shown.now.profiles.now) stop (string_bytes lines.old) (string_bytes lines.new)) }
 {
     match form {
         LineForm::Journeys => append_journeys(lines, shown, stop),
@@ -146,12 +145,12 @@ fn append_journeys<C: ShowsFigures>(
     stop: u32,
 ) -> Result<usize, AllocError>
     requires stop { stop < shown.now.image.now.timetable.stops }
-    requires differ { stop ≢ (destination_of shown.now.profiles.now).target }
-    requires same { criterion_of_profiles shown.now.profiles.now ≡ shown.now.criterion.now }
-    requires answered { AnswerAll C.rules shown.now.image.now.timetable shown.now.profiles.now }
+    requires differ { Contains (asked_to_any shown.now.profiles.now).targets stop → ⊥ }
+    requires same { criterion_to_any shown.now.profiles.now ≡ shown.now.criterion.now }
+    requires answered { AnswerToAny C.rules shown.now.image.now.timetable shown.now.profiles.now }
     ensures { IfOk result (ShowsStop C.figures (C.rules shown.now.criterion.now) LineForm.Journeys
         shown.now.image.now
-        (query_from (destination_of shown.now.profiles.now) stop) (string_bytes lines.old) (string_bytes lines.new)) }
+        (asked_to_any shown.now.profiles.now) stop (string_bytes lines.old) (string_bytes lines.new)) }
 {
     let name = stop_name(shown.alloc, shown.image, stop)?;
     let departures = journeys_from(shown, stop)?;
@@ -171,11 +170,11 @@ fn append_bare<C: ShowsFigures>(
     stop: u32,
 ) -> Result<usize, AllocError>
     requires stop { stop < shown.now.image.now.timetable.stops }
-    requires differ { stop ≢ (destination_of shown.now.profiles.now).target }
-    requires same { criterion_of_profiles shown.now.profiles.now ≡ shown.now.criterion.now }
-    requires answered { AnswerAll C.rules shown.now.image.now.timetable shown.now.profiles.now }
+    requires differ { Contains (asked_to_any shown.now.profiles.now).targets stop → ⊥ }
+    requires same { criterion_to_any shown.now.profiles.now ≡ shown.now.criterion.now }
+    requires answered { AnswerToAny C.rules shown.now.image.now.timetable shown.now.profiles.now }
     ensures { IfOk result (ShowsStop C.figures (C.rules shown.now.criterion.now) LineForm.Points shown.now.image.now
-        (query_from (destination_of shown.now.profiles.now) stop) (string_bytes lines.old) (string_bytes lines.new)) }
+        (asked_to_any shown.now.profiles.now) stop (string_bytes lines.old) (string_bytes lines.new)) }
 {
     let name = stop_name(shown.alloc, shown.image, stop)?;
     let points = shown.profiles.points(stop);
@@ -189,15 +188,15 @@ fn append_summed<C: ShowsFigures>(
     stop: u32,
 ) -> Result<usize, AllocError>
     requires stop { stop < shown.now.image.now.timetable.stops }
-    requires differ { stop ≢ (destination_of shown.now.profiles.now).target }
-    requires same { criterion_of_profiles shown.now.profiles.now ≡ shown.now.criterion.now }
-    requires answered { AnswerAll C.rules shown.now.image.now.timetable shown.now.profiles.now }
+    requires differ { Contains (asked_to_any shown.now.profiles.now).targets stop → ⊥ }
+    requires same { criterion_to_any shown.now.profiles.now ≡ shown.now.criterion.now }
+    requires answered { AnswerToAny C.rules shown.now.image.now.timetable shown.now.profiles.now }
     ensures { IfOk result (ShowsStop C.figures (C.rules shown.now.criterion.now) LineForm.Summary shown.now.image.now
-        (query_from (destination_of shown.now.profiles.now) stop) (string_bytes lines.old) (string_bytes lines.new)) }
+        (asked_to_any shown.now.profiles.now) stop (string_bytes lines.old) (string_bytes lines.new)) }
 {
     let name = stop_name(shown.alloc, shown.image, stop)?;
     let points = shown.profiles.points(stop);
-    let walk = shown.profiles.direct_walk(stop);
+    let walk = direct_secs(shown, stop);
     append_summary(lines, shown.criterion, name.as_str(), points, walk)?;
     Ok(points.len())
 }
@@ -208,15 +207,15 @@ fn append_as_json<C: ShowsFigures>(
     stop: u32,
 ) -> Result<usize, AllocError>
     requires stop { stop < shown.now.image.now.timetable.stops }
-    requires differ { stop ≢ (destination_of shown.now.profiles.now).target }
-    requires same { criterion_of_profiles shown.now.profiles.now ≡ shown.now.criterion.now }
-    requires answered { AnswerAll C.rules shown.now.image.now.timetable shown.now.profiles.now }
+    requires differ { Contains (asked_to_any shown.now.profiles.now).targets stop → ⊥ }
+    requires same { criterion_to_any shown.now.profiles.now ≡ shown.now.criterion.now }
+    requires answered { AnswerToAny C.rules shown.now.image.now.timetable shown.now.profiles.now }
     ensures { IfOk result (ShowsStop C.figures (C.rules shown.now.criterion.now) LineForm.Json shown.now.image.now
-        (query_from (destination_of shown.now.profiles.now) stop) (string_bytes lines.old) (string_bytes lines.new)) }
+        (asked_to_any shown.now.profiles.now) stop (string_bytes lines.old) (string_bytes lines.new)) }
 {
     let name = stop_name(shown.alloc, shown.image, stop)?;
     let departures = journeys_from(shown, stop)?;
-    let walk = shown.profiles.direct_walk(stop);
+    let walk = direct_secs(shown, stop);
     append_json(lines, shown.alloc, shown.criterion, name, &departures, walk)?;
     Ok(departures.len())
 }
@@ -227,18 +226,30 @@ fn append_bare_json<C: ShowsFigures>(
     stop: u32,
 ) -> Result<usize, AllocError>
     requires stop { stop < shown.now.image.now.timetable.stops }
-    requires differ { stop ≢ (destination_of shown.now.profiles.now).target }
-    requires same { criterion_of_profiles shown.now.profiles.now ≡ shown.now.criterion.now }
-    requires answered { AnswerAll C.rules shown.now.image.now.timetable shown.now.profiles.now }
+    requires differ { Contains (asked_to_any shown.now.profiles.now).targets stop → ⊥ }
+    requires same { criterion_to_any shown.now.profiles.now ≡ shown.now.criterion.now }
+    requires answered { AnswerToAny C.rules shown.now.image.now.timetable shown.now.profiles.now }
     ensures { IfOk result (ShowsStop C.figures (C.rules shown.now.criterion.now) LineForm.JsonPoints
         shown.now.image.now
-        (query_from (destination_of shown.now.profiles.now) stop) (string_bytes lines.old) (string_bytes lines.new)) }
+        (asked_to_any shown.now.profiles.now) stop (string_bytes lines.old) (string_bytes lines.new)) }
 {
     let name = stop_name(shown.alloc, shown.image, stop)?;
     let points = shown.profiles.points(stop);
-    let walk = shown.profiles.direct_walk(stop);
+    let walk = direct_secs(shown, stop);
     append_json_points(lines, shown.alloc, shown.criterion, name, points, walk)?;
     Ok(points.len())
+}
+
+// The seconds of the shortest footpath from a stop to a target, if there is one.
+fn direct_secs<C: ShowsFigures>(shown: &AnswersToPrint<'_, C>, stop: u32) -> Option<u32>
+    requires stop { stop < shown.now.image.now.timetable.stops }
+    requires answered { AnswerToAny C.rules shown.now.image.now.timetable shown.now.profiles.now }
+    ensures { result ≡ secs_of (walk_to_any shown.now.profiles.now stop) }
+{
+    match shown.profiles.direct_walk(stop) {
+        None => None,
+        Some(walk) => Some(walk.secs),
+    }
 }
 
 // The best departures from a stop, each with a journey.
@@ -247,14 +258,14 @@ fn journeys_from<C: ShowsFigures>(
     stop: u32,
 ) -> Result<Vec<Departure<C::V>>, AllocError>
     requires stop { stop < shown.now.image.now.timetable.stops }
-    requires differ { stop ≢ (destination_of shown.now.profiles.now).target }
-    requires answered { AnswerAll C.rules shown.now.image.now.timetable shown.now.profiles.now }
-    ensures points { IfOk result (λ departures. IsAnswer (C.rules (criterion_of_profiles shown.now.profiles.now))
+    requires differ { Contains (asked_to_any shown.now.profiles.now).targets stop → ⊥ }
+    requires answered { AnswerToAny C.rules shown.now.image.now.timetable shown.now.profiles.now }
+    ensures points { IfOk result (λ departures. IsAnswerBetween (C.rules (criterion_to_any shown.now.profiles.now))
         shown.now.image.now.timetable
-        (query_from (destination_of shown.now.profiles.now) stop) (map point_of departures.items)) }
+        (from_stop (asked_to_any shown.now.profiles.now) stop) (map point_of departures.items)) }
     ensures journeys { IfOk result (λ departures. (departure : _) → Contains departures.items departure
-        → Attains (C.rules (criterion_of_profiles shown.now.profiles.now)) shown.now.image.now.timetable
-        (query_from (destination_of shown.now.profiles.now) stop) (point_of departure) departure.journey) }
+        → AttainsBetween (C.rules (criterion_to_any shown.now.profiles.now)) shown.now.image.now.timetable
+        (from_stop (asked_to_any shown.now.profiles.now) stop) (point_of departure) departure.journey) }
 {
     let source = InPlace::new(shown.image);
     departures_from(shown.alloc, &source, shown.profiles, stop)

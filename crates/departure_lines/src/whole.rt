@@ -1,7 +1,9 @@
 //! The text of the best departures from all stops.
 
-ghost use Rattle.std.specs.Prelude.{◌≡◌, ◌++◌, IfOk, OnOk, string_bytes};
-ghost use Rattle.profile_scan.specs.Destinations.{CanBeAsked};
+ghost use Rattle.std.specs.Prelude.{◌≡◌, ◌++◌, IfOk, OnOk, length, string_bytes};
+ghost use Rattle.profile_scan.specs.Between.{IsAskableBetween};
+ghost use Rattle.profile_scan.specs.Destinations.{question_to_any};
+ghost use Rattle.profile_scan.specs.Window.{window_of};
 ghost use Rattle.departure_lines.specs.Showing.{AreShown, last_line};
 
 use crate::form::LineForm;
@@ -12,28 +14,29 @@ use crate::stop_words::append_counts;
 use criteria::ShowsFigures;
 use image_verifier::Verified;
 use journeys::window_len;
-use profile_scan::{Destination, InPlace, profiles_to};
+use profile_scan::{ConnSource, Destinations, InPlace, profiles_to_any};
 use std::alloc::{AllocError, Global};
+use timetable::Query;
 
-/// The text of the best departures from each wanted stop except the target, in order and in the given form; then the
-/// numbers of stops that have departures, of these departures, and of connections read.
+/// The text of the best departures to any of several targets from each wanted stop except the targets, in order and in
+/// the given form; then the numbers of stops that have departures, of these departures, and of connections read.
 ///
 /// One scan answers for all stops; it reads the image in place. The only error is that memory runs out.
 pub fn departures_text<C: ShowsFigures>(
     alloc: Global,
     image: &Verified,
     criterion: &C,
-    destination: &Destination,
+    destinations: &Destinations,
     form: LineForm,
     wanted: &WantedStops,
 ) -> Result<String, AllocError>
-    requires { CanBeAsked image.now.timetable.stops destination.now }
-    ensures { IfOk result (λ text. AreShown C.figures (C.rules criterion.now) form image.now destination.now wanted.now
-        (string_bytes text)) }
+    requires { IsAskableBetween image.now.timetable.stops (question_to_any destinations.now) }
+    ensures { IfOk result (λ text. AreShown C.figures (C.rules criterion.now) form image.now
+        (question_to_any destinations.now) wanted.now (string_bytes text)) }
 {
     let mut source = InPlace::new(image);
-    let read = window_len(&source, &destination.query_from(destination.target));
-    let profiles = profiles_to(alloc, &mut source, criterion, destination)?;
+    let read = window_size(&source, destinations);
+    let profiles = profiles_to_any(alloc, &mut source, criterion, destinations)?;
     let shown = AnswersToPrint {
         alloc,
         image,
@@ -44,6 +47,21 @@ pub fn departures_text<C: ShowsFigures>(
     let counts = append_stops(&mut lines, &shown, form, wanted)?;
     append_last(&mut lines, form, counts, read)?;
     Ok(lines)
+}
+
+// The number of connections that the window of what is asked has.
+fn window_size<S: ConnSource>(source: &S, destinations: &Destinations) -> usize
+    ensures { result ≡ length
+        (window_of (S.timetable source.now) destinations.now.from destinations.now.by) }
+{
+    let times = Query {
+        source: 0,
+        target: 0,
+        from: destinations.from,
+        until: destinations.until,
+        by: destinations.by,
+    };
+    window_len(source, &times)
 }
 
 // Adds the last line.

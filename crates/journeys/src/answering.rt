@@ -1,21 +1,19 @@
 //! The answer of a profile query, each point with a journey.
 
-ghost use Rattle.std.specs.Prelude.{◌≡◌, ◌≢◌, ◌<◌, ◌++◌, ℕ, Contains, IfOk, OnOk, OnErr, length, map, reverse, take};
+ghost use Rattle.std.specs.Prelude.{◌≡◌, ◌++◌, ℕ, Contains, IfOk, OnOk, OnErr, length, map, reverse, take};
 ghost use Rattle.timetable.specs.TimetableValue.{TimetableValue};
 ghost use Rattle.timetable.specs.declared.query.Query.{Query};
 ghost use Rattle.timetable.specs.Queries.{IsAskable};
 ghost use Rattle.profile_scan.specs.Window.{window};
 ghost use Rattle.profile_scan.specs.Points.{IsAnswer};
 ghost use Rattle.profile_scan.specs.Kept.{IsWay};
-ghost use Rattle.profile_scan.specs.Destinations.{query_from};
 ghost use Rattle.profile_scan.specs.Found.{Answers};
-ghost use Rattle.profile_scan.specs.Everywhere.{AnswerAll, criterion_of_profiles, destination_of};
 ghost use Rattle.journeys.specs.Answer.{AreAttained, point_of, points_of, walk_of_answer};
 ghost use Rattle.journeys.specs.Extracted.{Attains};
 
 use crate::extraction::extract;
 use criteria::Criterion;
-use profile_scan::{ConnSource, Found, Profiles, profile};
+use profile_scan::{ConnSource, Found, profile};
 use std::alloc::{AllocError, Global};
 use timetable::{Journey, Query};
 
@@ -104,28 +102,4 @@ fn departures_of<C: Criterion>(
         })?;
     }
     Ok(departures)
-}
-
-/// Returns the best departures from one stop, which isn't the target, out of the answers from all stops, each with a
-/// journey that counts, departs when the point does, and is worth the point's value. So journeys are made stop by
-/// stop, and needn't be in memory all at once.
-///
-/// The source has to be one of the timetable that was scanned. The only error is that memory runs out.
-pub fn departures_from<S: ConnSource, C: Criterion>(
-    alloc: Global,
-    source: &S,
-    profiles: &Profiles<C>,
-    stop: u32,
-) -> Result<Vec<Departure<C::V>>, AllocError>
-    requires stop { stop < (S.timetable source.now).stops }
-    requires differ { stop ≢ (destination_of profiles.now).target }
-    requires answered { AnswerAll C.rules (S.timetable source.now) profiles.now }
-    ensures points { IfOk result (λ departures. IsAnswer (C.rules (criterion_of_profiles profiles.now))
-        (S.timetable source.now) (query_from (destination_of profiles.now) stop) (map point_of departures.items)) }
-    ensures journeys { IfOk result (λ departures. (departure : _) → Contains departures.items departure
-        → Attains (C.rules (criterion_of_profiles profiles.now)) (S.timetable source.now)
-        (query_from (destination_of profiles.now) stop) (point_of departure) departure.journey) }
-{
-    let found = profiles.found_from(alloc, source, stop)?;
-    departures_of(alloc, &found)
 }

@@ -4,6 +4,7 @@
 
 mod answering;
 mod counts;
+mod departures;
 mod destinations;
 mod ends;
 mod extraction;
@@ -17,8 +18,9 @@ mod text_fault;
 mod walks;
 mod way;
 
-pub use answering::{Answer, Departure, answer_query, departures_from, window_len};
+pub use answering::{Answer, Departure, answer_query, window_len};
 pub use counts::{check, faultless_counts};
+pub use departures::{departures_between, departures_from};
 pub use destinations::destination_named;
 pub use extraction::{extract, extract_between};
 pub use fault::JourneyFault;

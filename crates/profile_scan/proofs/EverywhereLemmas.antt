@@ -5,38 +5,43 @@ use Rattle.std.specs.Global.{Vec}
 use Rattle.std.proofs.lemmas.Bool.{cases_eq}
 use Rattle.std.proofs.lemmas.List.{length_push}
 use Rattle.std.proofs.lemmas.Option.{slice_get_cases}
-use Rattle.reasoning.proofs.ListLemmas.{slice_get-front, slice_get-last}
+use Rattle.reasoning.proofs.ListLemmas.{contains_first, contains_only, slice_get-front, slice_get-last}
 use Rattle.criteria.specs.Laws.{Rules, Laws}
 use Rattle.bags.specs.Bag.{points_of}
 use Rattle.bags.specs.Dominance.{IsBag}
 use Rattle.bags.specs.declared.point.Point.{Point}
 use Rattle.timetable.specs.TimetableValue.{TimetableValue}
-use Rattle.timetable.specs.declared.query.Query.{Query}
-use Rattle.timetable.specs.Journeys.{Counts}
+use Rattle.timetable.specs.declared.network.Footpath.{Footpath}
 use Rattle.sources.specs.FirstAt.{IsFirstAt}
-use Rattle.profile_scan.specs.Between.{BetweenValue, CountsBetween, IsAnswerBetween}
+use Rattle.profile_scan.specs.Between.{BetweenValue, CountsBetween, IsAnswerBetween, IsAskableBetween, IsDirectWalk}
+use Rattle.profile_scan.specs.Between.{IsPointBetween}
 use Rattle.profile_scan.specs.Values.{journey_value}
 use Rattle.profile_scan.specs.Continuations.{CountsFrom}
-use Rattle.profile_scan.specs.Plain.{IsPlain, IsPlainOf}
-use Rattle.profile_scan.specs.Points.{IsAnswer, IsPoint, untagged}
+use Rattle.profile_scan.specs.Plain.{IsPlainOf}
+use Rattle.profile_scan.specs.Points.{untagged}
 use Rattle.profile_scan.specs.Matching.{IsAttained, Matches, Spellings}
 use Rattle.profile_scan.specs.Steps.{AreCarried, Leaving, MayLeave, TakesIn, changes, ends, ends_after, leavings}
 use Rattle.profile_scan.specs.Bound.{carried, is_bettered}
 use Rattle.profile_scan.specs.Story.{Story, spelling_of}
 use Rattle.profile_scan.specs.Telling.{IsJourneySpelled, IsSpelledAgain}
 use Rattle.profile_scan.specs.Kept.{IsWay}
-use Rattle.profile_scan.specs.Answered.{IsAnswered}
+use Rattle.profile_scan.specs.Answered.{IsAnsweredBetween}
+use Rattle.profile_scan.specs.Destinations.{CanBeAsked, query_from, question_to}
 use Rattle.profile_scan.specs.LawStatements.{CanScan}
 use Rattle.profile_scan.specs.Origins.{found_by, found_from, from_stop}
-use Rattle.profile_scan.specs.Everywhere.{AreInOrder, points_in}
+use Rattle.profile_scan.specs.Everywhere.{AnswerAll, AnswerToAny, AnswersFrom, AreInOrder, asked_to_any, criterion_of_profiles, listed_from, points_in}
+use Rattle.profile_scan.specs.Everywhere.{story_from, walk_from, walk_to_any}
+use Rattle.profile_scan.specs.declared.destination.Destination.{Destination}
 use Rattle.profile_scan.specs.declared.nodes.Node.{Node}
 use Rattle.profile_scan.specs.declared.origin.Origin.{Origin}
 use Rattle.profile_scan.specs.declared.origins.Origins.{Origins}
+use Rattle.profile_scan.specs.declared.profiles.Profiles.{Profiles}
 use Rattle.profile_scan.proofs.Answer.{match_is_the_answer}
 use Rattle.profile_scan.proofs.AnsweredLemmas.{spelled_again_answer}
 use Rattle.profile_scan.proofs.BoundLemmas.{from_carried, into_carried}
 use Rattle.profile_scan.proofs.Offers.{takes_as}
 use Rattle.profile_scan.proofs.OrderLemmas.{listed_bag, listed_match}
+use Rattle.profile_scan.proofs.Single.{answer_from, attained_one, direct_one}
 
 -- by no bound all is carried
 pub carried_by_none : {V : Type 0} (rules : Rules V) (t : TimetableValue) (found : List (Point V)) (i : ℕ) (values : List V) → values ≡ [] →
@@ -141,21 +146,22 @@ answered_from rules laws t q can start is_start s found points matches bag are =
     )
 
 -- told in nodes they still are
-pub answered_in_nodes : {V : Type 0} (rules : Rules V) (t : TimetableValue) (q : Query) (s : Story) (nodes : List Node)
-    (points spelled_again : List (Point V)) (walk : Option ℕ)
-    → IsAnswer rules t q points → ((p : Point V) → Contains points p → IsAttained (spelling_of t.footpaths s).journey (Counts t q) (IsPlain t q.target)
+pub answered_in_nodes : {V : Type 0} (rules : Rules V) (t : TimetableValue) (q : BetweenValue) (s : Story) (nodes : List Node)
+    (points spelled_again : List (Point V)) (walk : Option Footpath)
+    → IsAnswerBetween rules t q points
+    → ((p : Point V) → Contains points p → IsAttained (spelling_of t.footpaths s).journey (CountsBetween t q) (IsPlainOf t (Contains q.targets))
     (journey_value rules t) p)
     → map untagged spelled_again ≡ map untagged points → ((p : Point V) → Contains spelled_again p → IsSpelledAgain t.footpaths s points nodes p)
-    → IsWay t q.target q.source walk → IsAnswered rules t q spelled_again nodes walk
+    → IsDirectWalk t q walk → IsAnsweredBetween rules t q spelled_again nodes walk
 answered_in_nodes rules t q s nodes points spelled_again walk answer attained same says way = record {
-  answer = spelled_again_answer rules (IsPoint rules t q) points spelled_again same answer;
+  answer = spelled_again_answer rules (IsPointBetween rules t q) points spelled_again same answer;
   attained = λ p h.
       let r = says p h in
       let a = attained r.of r.is_there in
       record {
         way = a.way;
         spells = r.says a.way a.spells;
-        there = subst (λ (n : ℕ). Counts t q n a.way)
+        there = subst (λ (n : ℕ). CountsBetween t q n a.way)
             (sym r.departs) a.there;
         plain = a.plain;
         worth = r.worth ∙ a.worth;
@@ -164,7 +170,54 @@ answered_in_nodes rules t q s nodes points spelled_again walk answer attained sa
 }
 
 -- of each point a journey is told
-pub attained_spelled : {V : Type 0} (rules : Rules V) (t : TimetableValue) (q : Query) (s : Story) (points : List (Point V)) →
-    ((p : Point V) → Contains points p → IsAttained (spelling_of t.footpaths s).journey (Counts t q) (IsPlain t q.target) (journey_value rules t) p) →
-    (p : Point V) → Contains points p → IsJourneySpelled t.footpaths s p.tag
+pub attained_spelled : {V : Type 0} (rules : Rules V) (t : TimetableValue) (q : BetweenValue) (s : Story) (points : List (Point V))
+    → ((p : Point V) → Contains points p → IsAttained (spelling_of t.footpaths s).journey (CountsBetween t q) (IsPlainOf t (Contains q.targets))
+    (journey_value rules t) p)
+    → (p : Point V) → Contains points p → IsJourneySpelled t.footpaths s p.tag
 attained_spelled rules t q s points attained p h = let a = attained p h in (a.way, a.spells)
+
+-- a destination that can be asked is a query between sets that can
+pub asked_to_one : (stops : ℕ) (d : Destination) → CanBeAsked stops d → IsAskableBetween stops (question_to d)
+asked_to_one stops d can = record {
+  sources = λ stop is. let lt = is.1 in absurd (omega (arith, lt));
+  targets = λ stop is. subst (λ (n : ℕ). n < stops) (sym (contains_only d.target stop is)) can.target;
+  differ = λ stop is _. let lt = is.1 in omega (arith, lt);
+  window = can.window;
+  in_time = can.in_time;
+  small = can.small;
+}
+
+-- answers to any of several targets, where there is one, are those to it
+module _ {K V : Type 0} {c : _} (rules_of : K → Rules V) (t : TimetableValue) (profiles : Profiles K V c)
+    (asked : asked_to_any profiles.to_any ≡ question_to profiles.destination) (all : AnswerToAny rules_of t profiles.to_any) where
+  from_one_stop : (stop : ℕ) → stop < t.stops → IsWay t profiles.destination.target stop (walk_from profiles stop)
+      → AnswersFrom (rules_of (criterion_of_profiles profiles)) t (query_from profiles.destination stop) profiles
+  from_one_stop stop lt way =
+      let rules = rules_of (criterion_of_profiles profiles) in
+      let q = query_from profiles.destination stop in
+      let is = all.each stop lt in
+      record {
+        answer = answer_from rules t q (listed_from profiles stop)
+            (subst (λ (b : BetweenValue). IsAnswerBetween rules t (from_stop b stop) (listed_from profiles stop)) asked is.answer);
+        attained = λ p h. attained_one rules t q (spelling_of t.footpaths (story_from profiles.to_any.state stop)).journey p
+            (subst (λ (b : BetweenValue). IsAttained (spelling_of t.footpaths (story_from profiles.to_any.state stop)).journey
+            (CountsBetween t (from_stop b stop)) (IsPlainOf t (Contains b.targets)) (journey_value rules t) p) asked (is.attained p h));
+        direct = way;
+      }
+
+  pub all_to_one : profiles.destination.target < t.stops → AnswerAll rules_of t profiles
+  all_to_one target =
+      let d = profiles.destination in
+      let is_target : Contains (asked_to_any profiles.to_any).targets d.target =
+      subst (λ (b : BetweenValue). Contains b.targets d.target) (sym asked) (contains_first d.target []) in
+      record {
+        each = λ stop lt other. from_one_stop stop lt (direct_one t (query_from d stop) (walk_to_any profiles.to_any stop)
+            (subst (λ (b : BetweenValue). IsDirectWalk t (from_stop b stop) (walk_to_any profiles.to_any stop)) asked
+            (all.direct stop lt (λ is. other (contains_only d.target stop
+            (subst (λ (b : BetweenValue). Contains b.targets stop) asked is))))));
+        at_target = from_one_stop d.target target (all.loops d.target target is_target);
+        long = all.long;
+        ways = all.ways;
+        asked = asked;
+        to_any = all;
+      }

@@ -135,7 +135,7 @@ attained_one rules t q spelled p a =
     }
 
 -- the direct walk between single stops is the footpath from the one to the other
-direct_one : (t : TimetableValue) (q : Query) (walk : Option Footpath) → IsDirectWalk t (between_one q) walk
+pub direct_one : (t : TimetableValue) (q : Query) (walk : Option Footpath) → IsDirectWalk t (between_one q) walk
     → IsWay t q.target q.source (secs_of walk)
 direct_one t q None none = λ f is from to. none 0 0 f (record {
   is_footpath = is;

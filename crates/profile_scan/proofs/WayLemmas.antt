@@ -14,10 +14,11 @@ use Rattle.timetable.specs.declared.limits.TheConstants.{MAX_WALK_SECS}
 use Rattle.timetable.specs.Legal.{At, IsLegal}
 use Rattle.timetable.proofs.LegalLemmas.{Contains-At, At-Contains}
 use Rattle.profile_scan.specs.Adding.{StandsBetween}
-use Rattle.profile_scan.specs.Between.{BetweenValue, IsDirect, IsDirectWalk, IsTakenBefore}
-use Rattle.profile_scan.specs.Kept.{IsNearest, IsWay, IsWayTo, AreWays, way_if, way_in, way_secs}
+use Rattle.profile_scan.specs.Between.{BetweenValue, IsDirect, IsDirectWalk, IsTakenBefore, secs_of}
+use Rattle.profile_scan.specs.Kept.{IsNearest, IsWay, IsWayTo, AreWays, walk_by, way_if, way_in}
 use Rattle.profile_scan.specs.Nearest.{AreNearest, IsDoneTo, IsDoneWay, IsInto, IsNearestDone, IsShortestWay, Replaces, TakesWalk, if_shorter}
 use Rattle.profile_scan.specs.Nearest.{no_word, shorter_of, way_by}
+use Rattle.profile_scan.specs.Origins.{from_stop}
 use Rattle.profile_scan.specs.declared.ways.Way.{Way}
 use Rattle.profile_scan.proofs.BoardLemmas.{between_split}
 
@@ -299,12 +300,27 @@ direct_is t b ways are within differ (Some f) is =
               ]
         ]
 
--- the seconds of the way from a stop to a single target are those of the footpath there
-pub one_way_is : (t : TimetableValue) (target stop : ℕ) (way : Option Way) → IsWayTo t (target ∷ []) stop way → IsWay t target stop (way_secs way)
-one_way_is t target stop None none = λ f is from to. none.1 f is from (subst (Contains (target ∷ [])) (sym to) (contains_first target []))
-one_way_is t target stop (Some way) near =
-    subst (λ (n : ℕ). Contains t.footpaths (record { from = stop; to = n; secs = way.secs }))
-    (contains_only target way.to (contains_at (target ∷ []) near.place way.to near.leads)) near.is_footpath
+-- the way from a stop that is no target is the direct walk from there
+pub nearest_direct : (t : TimetableValue) (b : BetweenValue) (stop : ℕ) → (Contains b.targets stop → ⊥) → (way : Option Way)
+    → IsWayTo t b.targets stop way → IsDirectWalk t (from_stop b stop) (walk_by stop way)
+nearest_direct t b stop other None none = λ i k f d.
+    none.1 f d.is_footpath (contains_only stop f.from (contains_at (stop ∷ []) i f.from d.leaves)) (contains_at b.targets k f.to d.leads)
+nearest_direct t b stop other (Some way) near = (
+  0,
+  near.place,
+  record { is_footpath = near.is_footpath; leaves = refl; leads = near.leads },
+  λ m n g d. elim (near.least other n g d.leads d.is_footpath (contains_only stop g.from (contains_at (stop ∷ []) m g.from d.leaves))) [
+    | inl lt ↦ inl lt
+    | inr same ↦ inr (same.0, elim (cases_eq 0 m) [ inl first ↦ inr (first, same.1) | inr later ↦ inl (omega (arith, later)) ])
+  ],
+)
+
+-- the way from a target is its loop
+pub target_loop : (t : TimetableValue) (targets : List ℕ) (stop : ℕ) → Contains targets stop → (way : Option Way) → IsWayTo t targets stop way
+    → IsWay t stop stop (secs_of (walk_by stop way))
+target_loop t targets stop is None none = absurd (none.0 is)
+target_loop t targets stop is (Some way) near =
+    subst (λ (n : ℕ). Contains t.footpaths (record { from = stop; to = n; secs = way.secs })) (near.own is) near.is_footpath
 
 -- words that say which footpaths are found
 pub words_set : (words : List Way) (stop : ℕ) (way : Way) → way.secs ≤ MAX_WALK_SECS → map way_in (set words stop way) ≡ set (map way_in words) stop (Some way)

@@ -7,12 +7,17 @@ use Rattle.timetable.specs.declared.query.QueryFault.TheVariants.{UnknownStop, S
 use Rattle.timetable.specs.Queries.{HasBadWindow}
 use Rattle.profile_scan.specs.Between.{BetweenValue}
 use Rattle.profile_scan.specs.declared.destination.Destination.{Destination}
+use Rattle.profile_scan.specs.declared.destinations.Destinations.{Destinations}
 
 -- the query from a stop
 abbrev pub query_from : Destination → ℕ → Query
 query_from d stop = record { source = stop; target = d.target; from = d.from; until = d.until; by = d.by }
 
--- the query between no source and the target, for a scan that finds answers from every stop
+-- the query between no source and the targets, for a scan that finds answers from every stop
+abbrev pub question_to_any : Destinations → BetweenValue
+question_to_any d = record { sources = []; targets = d.targets.items; from = d.from; until = d.until; by = d.by }
+
+-- the same to a single target
 abbrev pub question_to : Destination → BetweenValue
 question_to d = record { sources = []; targets = d.target ∷ []; from = d.from; until = d.until; by = d.by }
 

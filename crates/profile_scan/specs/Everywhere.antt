@@ -6,10 +6,11 @@ use Rattle.criteria.specs.Laws.{Rules}
 use Rattle.bags.specs.declared.point.Point.{Point}
 use Rattle.timetable.specs.TimetableValue.{TimetableValue}
 use Rattle.timetable.specs.declared.query.Query.{Query}
+use Rattle.timetable.specs.declared.network.Footpath.{Footpath}
 use Rattle.timetable.specs.Journeys.{Counts}
 use Rattle.fronts.specs.Labels.{AreLabels, trips_of}
 use Rattle.fronts.specs.Lists.{steps_of}
-use Rattle.profile_scan.specs.Between.{BetweenValue}
+use Rattle.profile_scan.specs.Between.{BetweenValue, CountsBetween, IsAnswerBetween, IsDirectWalk, question, secs_of}
 use Rattle.profile_scan.specs.Values.{journey_value}
 use Rattle.profile_scan.specs.Continuations.{CountsFrom}
 use Rattle.profile_scan.specs.Plain.{IsPlain, IsPlainOf}
@@ -17,12 +18,13 @@ use Rattle.profile_scan.specs.Points.{Before, IsAnswer}
 use Rattle.profile_scan.specs.Matching.{IsAttained, Matches, ScanValue}
 use Rattle.profile_scan.specs.Adding.{trip_points}
 use Rattle.profile_scan.specs.Story.{Story, story, spelling_of}
-use Rattle.profile_scan.specs.Kept.{AreStops, IsWay, points_at, way_secs, ways_of}
-use Rattle.profile_scan.specs.Destinations.{query_from}
+use Rattle.profile_scan.specs.Kept.{AreStops, IsWay, points_at, walk_by, ways_of}
+use Rattle.profile_scan.specs.Destinations.{query_from, question_to}
 use Rattle.profile_scan.specs.Origins.{AreOrigins, found_from, from_stop, set_outs_from}
 use Rattle.profile_scan.specs.declared.destination.Destination.{Destination}
 use Rattle.profile_scan.specs.declared.everywhere.StateOfAll.{StateOfAll}
 use Rattle.profile_scan.specs.declared.profiles.Profiles.{Profiles}
+use Rattle.profile_scan.specs.declared.to_any.ProfilesToAny.{ProfilesToAny}
 
 -- what is kept, as one source sees it
 abbrev pub kept_from : {K V : Type 0} {c : _} → StateOfAll K V c → ℕ → ScanValue V
@@ -62,22 +64,60 @@ points_in None = []
 points_in (Some points) = points.items
 
 -- the points of a stop, in order
-abbrev pub listed_from : {K V : Type 0} {c : _} → Profiles K V c → ℕ → List (Point V)
-listed_from profiles stop = points_in (slice_get profiles.lists.items stop)
+abbrev pub listed_to_any : {K V : Type 0} {c : _} → ProfilesToAny K V c → ℕ → List (Point V)
+listed_to_any profiles stop = points_in (slice_get profiles.lists.items stop)
 
--- what was asked from every stop, and how many stops there are
+-- what was asked from every stop, by which criterion, and how many stops there are
+abbrev pub asked_to_any : {K V : Type 0} {c : _} → ProfilesToAny K V c → BetweenValue
+asked_to_any profiles = question profiles.asked.query
+
+abbrev pub criterion_to_any : {K V : Type 0} {c : _} → ProfilesToAny K V c → K
+criterion_to_any profiles = profiles.asked.criterion
+
+abbrev pub stops_to_any : {K V : Type 0} {c : _} → ProfilesToAny K V c → ℕ
+stops_to_any profiles = length profiles.lists.items
+
+-- the footpath from a stop to the nearest target, if there is one
+abbrev pub walk_to_any : {K V : Type 0} {c : _} → ProfilesToAny K V c → ℕ → Option Footpath
+walk_to_any profiles stop = walk_by stop (slice_index_or (ways_of profiles.asked.ways) stop None)
+
+-- from a stop alone: its list is the answer of the query from there to the targets, and each point's tag tells a journey that counts, with the point's
+-- departure and value, and is plain with regard to all targets: after its last leg it walks on only if that leg ends at none of them
+pub record AnswersFromStop {K V : Type 0} {c : _} (rules : Rules V) (t : TimetableValue) (profiles : ProfilesToAny K V c)
+    (stop : ℕ) : Type 0 where
+  pub answer : IsAnswerBetween rules t (from_stop (asked_to_any profiles) stop) (listed_to_any profiles stop)
+  pub attained : (p : Point V) → Contains (listed_to_any profiles stop) p
+      → IsAttained (spelling_of t.footpaths (story_from profiles.state stop)).journey
+      (CountsBetween t (from_stop (asked_to_any profiles) stop)) (IsPlainOf t (Contains (asked_to_any profiles).targets)) (journey_value rules t) p
+
+-- the same from every stop, also from a target, for which no query can be asked: there the journeys are those that come back to it or go on to another. And the
+-- direct walk from every stop that is no target, and from a target its loop
+pub record AnswerToAny {K V : Type 0} {c : _} (rules_of : K → Rules V) (t : TimetableValue)
+    (profiles : ProfilesToAny K V c) : Type 0 where
+  pub each : (stop : ℕ) → stop < t.stops → AnswersFromStop (rules_of (criterion_to_any profiles)) t profiles stop
+  pub direct : (stop : ℕ) → stop < t.stops → (Contains (asked_to_any profiles).targets stop → ⊥)
+      → IsDirectWalk t (from_stop (asked_to_any profiles) stop) (walk_to_any profiles stop)
+  pub loops : (stop : ℕ) → stop < t.stops → Contains (asked_to_any profiles).targets stop → IsWay t stop stop (secs_of (walk_to_any profiles stop))
+  pub long : stops_to_any profiles ≡ t.stops
+  pub origins : AreOrigins (criterion_to_any profiles) t.stops profiles.state.origins
+  pub ways : length (ways_of profiles.asked.ways) ≡ t.stops
+
+-- answers to a single target: the points of a stop, what was asked from every stop, by which criterion, and how many stops there are
+abbrev pub listed_from : {K V : Type 0} {c : _} → Profiles K V c → ℕ → List (Point V)
+listed_from profiles = listed_to_any profiles.to_any
+
 abbrev pub destination_of : {K V : Type 0} {c : _} → Profiles K V c → Destination
 destination_of profiles = profiles.destination
 
-abbrev pub stops_of : {K V : Type 0} {c : _} → Profiles K V c → ℕ
-stops_of profiles = length profiles.lists.items
-
 abbrev pub criterion_of_profiles : {K V : Type 0} {c : _} → Profiles K V c → K
-criterion_of_profiles profiles = profiles.asked.criterion
+criterion_of_profiles profiles = criterion_to_any profiles.to_any
+
+abbrev pub stops_of : {K V : Type 0} {c : _} → Profiles K V c → ℕ
+stops_of profiles = stops_to_any profiles.to_any
 
 -- the seconds of the footpath from a stop to the target, if there is one
 abbrev pub walk_from : {K V : Type 0} {c : _} → Profiles K V c → ℕ → Option ℕ
-walk_from profiles stop = way_secs (slice_index_or (ways_of profiles.asked.ways) stop None)
+walk_from profiles stop = secs_of (walk_to_any profiles.to_any stop)
 
 -- from the query's source: its list is the answer of the query, each point's tag tells a plain journey that counts, with the point's departure and value, and
 -- the walk is the footpath from there to the target
@@ -85,7 +125,7 @@ pub record AnswersFrom {K V : Type 0} {c : _} (rules : Rules V) (t : TimetableVa
     (profiles : Profiles K V c) : Type 0 where
   pub answer : IsAnswer rules t q (listed_from profiles q.source)
   pub attained : (p : Point V) → Contains (listed_from profiles q.source) p
-      → IsAttained (spelling_of t.footpaths (story_from profiles.state q.source)).journey
+      → IsAttained (spelling_of t.footpaths (story_from profiles.to_any.state q.source)).journey
       (Counts t q) (IsPlain t q.target) (journey_value rules t) p
   pub direct : IsWay t q.target q.source (walk_from profiles q.source)
 
@@ -98,5 +138,6 @@ pub record AnswerAll {K V : Type 0} {c : _} (rules_of : K → Rules V) (t : Time
   pub at_target : AnswersFrom (rules_of (criterion_of_profiles profiles)) t
       (query_from (destination_of profiles) (destination_of profiles).target) profiles
   pub long : stops_of profiles ≡ t.stops
-  pub origins : AreOrigins (criterion_of_profiles profiles) t.stops profiles.state.origins
-  pub ways : length (ways_of profiles.asked.ways) ≡ t.stops
+  pub ways : length (ways_of profiles.to_any.asked.ways) ≡ t.stops
+  pub asked : asked_to_any profiles.to_any ≡ question_to (destination_of profiles)
+  pub to_any : AnswerToAny rules_of t profiles.to_any

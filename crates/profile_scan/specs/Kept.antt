@@ -59,10 +59,10 @@ way_in word = way_if (nat_le word.secs MAX_WALK_SECS) word
 abbrev pub ways_of : Ways → List (Option Way)
 ways_of ways = map way_in ways.words.items
 
--- the seconds of a way, if there is one
-abbrev pub way_secs : Option Way → Option ℕ
-way_secs None = None
-way_secs (Some way) = Some way.secs
+-- the footpath that a way from a stop is, if there is one
+abbrev pub walk_by : ℕ → Option Way → Option Footpath
+walk_by stop None = None
+walk_by stop (Some way) = Some (record { from = stop; to = way.to; secs = way.secs })
 
 -- a way from a stop leads to the target at index `place`. From a target it is the loop; from another stop no footpath to a target is shorter, and of equal ones
 -- it leads to the target that is named first

@@ -21,6 +21,7 @@ pub struct Between {
 impl Between {
     ghost use Rattle.std.specs.Prelude.{◌≡◌, IfOk};
     ghost use Rattle.profile_scan.specs.Between.{between_one, question};
+    ghost use Rattle.profile_scan.specs.Origins.{from_stop};
 
     // A copy of the query.
     pub(crate) fn copy(&self) -> Result<Self, AllocError>
@@ -28,6 +29,19 @@ impl Between {
     {
         Ok(Between {
             sources: self.sources.clone()?,
+            targets: self.targets.clone()?,
+            from: self.from,
+            until: self.until,
+            by: self.by,
+        })
+    }
+
+    // The same query from one stop alone.
+    pub(crate) fn from_stop(&self, alloc: Global, stop: u32) -> Result<Self, AllocError>
+        ensures { IfOk result (λ query. question query ≡ from_stop (question self.now) stop) }
+    {
+        Ok(Between {
+            sources: vec![in alloc; stop]?,
             targets: self.targets.clone()?,
             from: self.from,
             until: self.until,

@@ -91,7 +91,7 @@ impl<C: Criterion> FoundBetween<C> {
 }
 
 // The seconds of a footpath, if there is one.
-fn secs_of(walk: Option<Footpath>) -> Option<u32>
+pub(crate) fn secs_of(walk: Option<Footpath>) -> Option<u32>
     ensures { result ≡ secs_of walk }
 {
     match walk {

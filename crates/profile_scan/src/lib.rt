@@ -33,15 +33,16 @@
 //! offer's tag is the vector's length before the offer, and the record is pushed only if the offer is accepted; these
 //! vectors only grow while a scan runs, so a tag keeps its meaning.
 //!
-//! `profiles_to` answers from every stop to one target by another scan, `everywhere::scan_for_all`: the same steps, but
-//! points found for each stop, and no bound. Its loop carries `MatchesFrom` for every stop as the source (`matched` in
-//! proofs/everywhere/scan_for_all/Invariants.antt).
+//! `profiles_to_any` answers from every stop to any of several targets by another scan, `everywhere::scan_for_all`: the
+//! same steps, but points found for each stop, and no bound. Its loop carries `MatchesFrom` for every stop as the
+//! source (`matched` in proofs/everywhere/scan_for_all/Invariants.antt). `profiles_to` is this scan to a single target.
 #![tactic(auto)]
 
 mod answering;
 mod between;
 mod bound;
 mod destination;
+mod destinations;
 mod everywhere;
 mod found;
 mod found_between;
@@ -58,6 +59,7 @@ mod starts;
 mod stops;
 mod story;
 mod telling;
+mod to_any;
 mod trips;
 mod view;
 mod ways;
@@ -65,8 +67,10 @@ mod ways;
 pub use answering::{profile, profile_between};
 pub use between::Between;
 pub use destination::Destination;
+pub use destinations::Destinations;
 pub use found::{Found, in_order};
 pub use found_between::FoundBetween;
 pub use nodes::Node;
 pub use profiles::{Profiles, profiles_to};
 pub use sources::{ConnSource, Decoded, InPlace};
+pub use to_any::{ProfilesToAny, profiles_to_any};

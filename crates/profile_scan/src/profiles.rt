@@ -1,40 +1,27 @@
 //! The answers from all stops to one target, by one scan.
 
-ghost use Rattle.std.specs.Prelude.{◌≡◌, ◌++◌, ℕ, IfOk, OnOk, OnErr, length, reverse, slice_get, take};
-ghost use Rattle.profile_scan.specs.Between.{question};
-ghost use Rattle.profile_scan.specs.Destinations.{CanBeAsked, query_from, question_to};
-ghost use Rattle.profile_scan.specs.Hops.{IsAsked};
+ghost use Rattle.std.specs.Prelude.{◌≡◌, ◌++◌, ℕ, IfOk, OnOk, OnErr, reverse, take};
+ghost use Rattle.profile_scan.specs.Destinations.{CanBeAsked, query_from};
 ghost use Rattle.profile_scan.specs.Window.{window};
-ghost use Rattle.profile_scan.specs.Origins.{AreUnder, found_from};
-ghost use Rattle.profile_scan.specs.Everywhere.{AnswerAll, AreInOrder, criterion_of_profiles, destination_of};
-ghost use Rattle.profile_scan.specs.Everywhere.{points_in};
+ghost use Rattle.profile_scan.specs.Everywhere.{AnswerAll, criterion_of_profiles, destination_of};
 
-use crate::answering::timetable_of;
-use crate::between::Between;
 use crate::destination::Destination;
-use crate::everywhere::{StateOfAll, scan_for_all};
-use crate::found::{Found, in_order};
-use crate::hop::ScanQuery;
-use crate::origins::Origins;
-use crate::starts::starts_from;
-use crate::telling::tell_journeys;
-use crate::view::ScanView;
-use crate::ways::ways_to;
+use crate::destinations::Destinations;
+use crate::found::Found;
+use crate::found_between::secs_of;
+use crate::to_any::{ProfilesToAny, profiles_to_any};
 use bags::Point;
 use criteria::Criterion;
 use sources::ConnSource;
 use std::alloc::{AllocError, Global};
-use timetable::GhostValue;
 
 /// The answers from every stop, for one target, window and criterion. The scan's story of how journeys go is kept as
 /// it is; `found_from` spells those from one stop.
 #[derive(Drop)]
 pub struct Profiles<C: Criterion> {
     destination: Destination,
-    asked: ScanQuery<C>,
-    state: StateOfAll<C>,
-    // the points of each stop, in order; a point's tag is the index of how one sets out for it
-    lists: Vec<Vec<Point<C::V>>>,
+    // the same as answers to any of several targets, of which there is one
+    to_any: ProfilesToAny<C>,
 }
 
 impl<C: Criterion> Profiles<C> {
@@ -59,15 +46,16 @@ impl<C: Criterion> Profiles<C> {
         requires { stop < stops_of self.now }
         ensures { result.now ≡ listed_from self.now stop }
     {
-        &self.lists[stop as usize]
+        self.to_any.points(stop)
     }
 
     /// The seconds of the footpath from a stop to the target, if there is one; of the target itself those of its loop.
     pub fn direct_walk(&self, stop: u32) -> Option<u32>
-        requires { stop < length (ways_of self.now.asked.ways) }
+        requires { stop < length (ways_of self.now.to_any.asked.ways) }
         ensures { result ≡ walk_from self.now stop }
     {
-        self.asked.ways.secs_from(stop)
+        let walk = self.to_any.direct_walk(stop);
+        secs_of(walk)
     }
 
     /// Returns the answer of the query from one stop, which isn't the target, with its journeys. The source has to be
@@ -85,73 +73,10 @@ impl<C: Criterion> Profiles<C> {
             (C.rules (criterion_of_profiles self.now)) (S.timetable source.now)
             (query_from (destination_of self.now) stop) found) }
     {
-        let origin = &self.state.origins.each[stop as usize];
-        let view = ScanView {
-            trips: &self.state.trips,
-            stops: &self.state.stops,
-            origin,
-        };
-        let points = self.points(stop);
-        let spelled = tell_journeys(alloc, source, &view, points)?;
+        let found = self.to_any.found_from(alloc, source, stop)?;
         let query = self.destination.query_from(stop);
-        Ok(Found {
-            criterion: self.asked.criterion,
-            points: spelled.points,
-            nodes: spelled.nodes,
-            walk: self.asked.ways.secs_from(stop),
-            timetable: timetable_of(source),
-            query: GhostValue::of(&query),
-        })
+        Ok(found.of_one(&query))
     }
-}
-
-// Makes what a scan for all sources asks: a query without sources, to one target.
-fn ask_from_all<S: ConnSource, C: Criterion>(
-    alloc: Global,
-    source: &S,
-    criterion: &C,
-    destination: &Destination,
-) -> Result<ScanQuery<C>, AllocError>
-    requires { CanBeAsked (S.timetable source.now).stops destination.now }
-    ensures asked { IfOk result (λ asked. IsAsked (S.timetable source.now) asked) }
-    ensures keeps { IfOk result (λ asked. (asked.criterion ≡ criterion.now)
-        × (question asked.query ≡ question_to destination.now)) }
-{
-    let query = Between {
-        sources: Vec::new(alloc),
-        targets: vec![in alloc; destination.target]?,
-        from: destination.from,
-        until: destination.until,
-        by: destination.by,
-    };
-    let starts = starts_from(alloc, source, &query.sources)?;
-    let ways = ways_to(alloc, source, &query.targets)?;
-    Ok(ScanQuery {
-        criterion: *criterion,
-        query,
-        starts,
-        ways,
-    })
-}
-
-// Returns the points found from each stop, in order.
-fn lists_in_order<C: Criterion>(
-    alloc: Global,
-    criterion: &C,
-    origins: &Origins<C>,
-) -> Result<Vec<Vec<Point<C::V>>>, AllocError>
-    requires { AreUnder criterion.now origins.now }
-    ensures long { IfOk result (λ lists. length lists.items ≡ length origins.now.each.items) }
-    ensures lists { IfOk result (λ lists. (stop : ℕ)
-        → AreInOrder (C.rules criterion.now) (found_from origins.now stop) (points_in (slice_get lists.items stop))) }
-{
-    let mut lists = Vec::with_capacity(alloc, origins.each.len())?;
-    for stop in 0..origins.each.len() {
-        let origin = &origins.each[stop];
-        let points = in_order(alloc, criterion, &origin.found)?;
-        lists.push(points)?;
-    }
-    Ok(lists)
 }
 
 /// Answers a query from every stop, the target included, by one scan: for each, exactly the points of all journeys
@@ -177,15 +102,10 @@ pub fn profiles_to<S: ConnSource, C: Criterion>(
     ensures err { OnErr result ((n : ℕ) × (S.log source.new ≡ S.log source.old
         ++ take n (reverse (window (S.timetable source.old) (query_from destination.now destination.now.target))))) }
 {
-    let start = source.first_at(destination.from);
-    let end = source.first_at(destination.by);
-    let asked = ask_from_all(alloc, source, criterion, destination)?;
-    let state = scan_for_all(alloc, source, &asked, start..end)?;
-    let lists = lists_in_order(alloc, criterion, &state.origins)?;
+    let destinations = Destinations::one(alloc, destination)?;
+    let to_any = profiles_to_any(alloc, source, criterion, &destinations)?;
     Ok(Profiles {
         destination: *destination,
-        asked,
-        state,
-        lists,
+        to_any,
     })
 }

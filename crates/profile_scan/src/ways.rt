@@ -29,7 +29,7 @@ pub struct Ways {
 
 impl Ways {
     ghost use Rattle.std.specs.Prelude.{◌≡◌, ◌<◌, ℕ, Contains, None, length, slice_index_or};
-    ghost use Rattle.profile_scan.specs.Kept.{way_secs, ways_of};
+    ghost use Rattle.profile_scan.specs.Kept.{walk_by, ways_of};
     ghost use Rattle.profile_scan.specs.Nearest.{IsShortestWay};
 
     /// The footpath from a stop to the nearest target, if there is one.
@@ -40,13 +40,17 @@ impl Ways {
         way_of(self.words[stop as usize])
     }
 
-    /// The seconds of the footpath from a stop to the nearest target, if there is one.
-    pub fn secs_from(&self, stop: u32) -> Option<u32>
+    /// The same as a footpath.
+    pub fn walk_from(&self, stop: u32) -> Option<Footpath>
         requires { stop < length (ways_of self.now) }
-        ensures { result ≡ way_secs (slice_index_or (ways_of self.now) stop None) }
+        ensures { result ≡ walk_by stop (slice_index_or (ways_of self.now) stop None) }
     {
         let way = self.way_from(stop)?;
-        Some(way.secs)
+        Some(Footpath {
+            from: stop,
+            to: way.to,
+            secs: way.secs,
+        })
     }
 
     /// The shortest of the ways from these stops, none of which is a target, if there is any; of equal ones the first.

@@ -167,10 +167,10 @@ answers_in-append [] ys = refl
 answers_in-append (answered answer ∷ xs) ys = ap (λ (zs : List SeatAnswer). answer ∷ zs) (answers_in-append xs ys)
 answers_in-append (joined version ∷ xs) ys = answers_in-append xs ys
 
-asked_from : (k : KnownHistory) (form : ReplyForm) (held : Option (ℕ × ImageValue)) (asked : Asked) (t : Turn) → IsAsked t.line asked
+asked_from : (k : KnownHistory) (form : ReplyForm) (held : Option (ℕ × ImageValue)) (asked : Asked) (t : Turn) → IsAsked form.sets t.line asked
     → WantsMemory asked t.moves t.orders t.reply ⊎ Meets form held asked t.moves t.orders t.reply
     → IsPublishedIfHeld k held → ArePublished k (answers_in t.moves)
-    → (t.reply ≡ memory_line) ⊎ ((asked : Asked) × IsAsked t.line asked × IsFromPublished k form asked t.reply)
+    → (t.reply ≡ memory_line) ⊎ ((asked : Asked) × IsAsked form.sets t.line asked × IsFromPublished k form asked t.reply)
 asked_from k form held asked t is (inl memory) published are = inl memory.0
 asked_from k form held asked t is (inr met) published are =
     inr (asked, is, request_from k form held asked t.moves t.orders t.reply met published are)
@@ -182,7 +182,7 @@ turns_from k form number a b asked asked_then [] same held are = tt
 turns_from k form number a b asked asked_then (t ∷ turns) (m, between, turn, rest) held are =
     let parts = published_parts k (answers_in t.moves) (answers_in (moves_of turns))
     (subst (λ (xs : List SeatAnswer). ArePublished k xs) (answers_in-append t.moves (moves_of turns)) are) in
-    let first : (t.reply ≡ memory_line) ⊎ ((asked : Asked) × IsAsked t.line asked × IsFromPublished k form asked t.reply) =
+    let first : (t.reply ≡ memory_line) ⊎ ((asked : Asked) × IsAsked form.sets t.line asked × IsFromPublished k form asked t.reply) =
     elim turn.is [
       | inl memory ↦ inl memory.0
       | inr met ↦ asked_from k form a.held met.0 t met.1 met.2 held parts.0

@@ -6,3 +6,5 @@ pub mod TurnLemmas
 mod LineLemmas
 mod LoadLemmas
 mod FeedLemmas
+pub mod SideLemmas
+mod OneLemmas

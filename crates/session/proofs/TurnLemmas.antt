@@ -51,43 +51,43 @@ bad_json_turn {form} number a asked bytes line reply here bad fact =
     idle_turn number a asked line reply (inr (no_json, (here.1, subst IsNoJson here.0 bad), inr (refl, refl, fact)))
 
 pub bad_request_turn : {form : ReplyForm} (number : ℕ) (a : SeatValue) (asked : List OrderValue) (bytes line reply : List ℕ) (d : Data)
-    → (bytes ≡ line) × (length line ≤ 65_536) → IsJson bytes d → ((request : RequestValue) → ¬ Asks d request)
+    → (bytes ≡ line) × (length line ≤ 65_536) → IsJson bytes d → ((request : RequestValue) → ¬ Asks form.sets d request)
     → reply ≡ refusal_line Refusal.BadRequest → HasTurn form number line reply a asked a asked
 bad_request_turn {form} number a asked bytes line reply d here json none fact =
-    let is : IsAsked line no_request = (here.1, (d, subst (λ (xs : List ℕ). IsJson xs d) here.0 json, none)) in
+    let is : IsAsked form.sets line no_request = (here.1, (d, subst (λ (xs : List ℕ). IsJson xs d) here.0 json, none)) in
     idle_turn number a asked line reply (inr (no_request, is, inr (refl, refl, fact)))
 
 -- a request is one of these
-pub asks_known : (d : Data) (shown known : Request) → shown ≡ known → Asks d (request_value shown) → Asks d (request_value known)
-asks_known d shown known is asks_it = subst (λ (r : Request). Asks d (request_value r)) is asks_it
+pub asks_known : (sets : Bool) (d : Data) (shown known : Request) → shown ≡ known → Asks sets d (request_value shown) → Asks sets d (request_value known)
+asks_known sets d shown known is asks_it = subst (λ (r : Request). Asks sets d (request_value r)) is asks_it
 
 -- and a load is waited for, or isn't
-pub waits_for : (d : Data) (feed : List ℕ) (waits : Bool) → waits ≡ true → Asks d (load feed waits) → Asks d (load feed true)
-waits_for d feed waits is asks_it = subst (λ (b : Bool). Asks d (load feed b)) is asks_it
+pub waits_for : (sets : Bool) (d : Data) (feed : List ℕ) (waits : Bool) → waits ≡ true → Asks sets d (load feed waits) → Asks sets d (load feed true)
+waits_for sets d feed waits is asks_it = subst (λ (b : Bool). Asks sets d (load feed b)) is asks_it
 
-pub waits_not : (d : Data) (feed : List ℕ) (waits : Bool) → waits ≡ false → Asks d (load feed waits) → Asks d (load feed false)
-waits_not d feed waits is asks_it = subst (λ (b : Bool). Asks d (load feed b)) is asks_it
+pub waits_not : (sets : Bool) (d : Data) (feed : List ℕ) (waits : Bool) → waits ≡ false → Asks sets d (load feed waits) → Asks sets d (load feed false)
+waits_not sets d feed waits is asks_it = subst (λ (b : Bool). Asks sets d (load feed b)) is asks_it
 
 -- a request of the seat is met
-meets_turn : {form : ReplyForm} (number : ℕ) (a b : SeatValue) (what : Asked) (line reply : List ℕ) → IsAsked line what
+meets_turn : {form : ReplyForm} (number : ℕ) (a b : SeatValue) (what : Asked) (line reply : List ℕ) → IsAsked form.sets line what
     → (met : IsMet form number a what reply b)
     → IsTurn form a.held (turn_of line met.moves [] reply)
 meets_turn {form} number a b what line reply is met = inr (what, is, met.meets)
 
 pub seat_turn : {form : ReplyForm} (number : ℕ) (a b : SeatValue) (asked : List OrderValue) (bytes line reply : List ℕ) (d : Data) (request : RequestValue)
-    → (bytes ≡ line) × (length line ≤ 65_536) → IsJson bytes d → Asks d request
+    → (bytes ≡ line) × (length line ≤ 65_536) → IsJson bytes d → Asks form.sets d request
     → IsMet form number a (asks request) reply b → HasTurn form number line reply a asked b asked
 seat_turn {form} number a b asked bytes line reply d request here json asks_it met =
-    let is : IsAsked line (asks request) = (here.1, (d, subst (λ (xs : List ℕ). IsJson xs d) here.0 json, asks_it)) in
+    let is : IsAsked form.sets line (asks request) = (here.1, (d, subst (λ (xs : List ℕ). IsJson xs d) here.0 json, asks_it)) in
     has_turn number a b asked asked (turn_of line met.moves [] reply) (meets_turn number a b (asks request) line reply is met) met.seat (sym (append-nil asked))
 
 -- a feed is ordered
 pub order_turn : {form : ReplyForm} (number : ℕ) (a : SeatValue) (asked asked_then put : List OrderValue) (bytes line reply feed : List ℕ) (d : Data)
     → (bytes ≡ line)
-    × (length line ≤ 65_536) → IsJson bytes d → Asks d (load feed false)
+    × (length line ≤ 65_536) → IsJson bytes d → Asks form.sets d (load feed false)
     → asked_then ≡ asked ++ put → OrderIsMet feed put reply ⊎ ((put ≡ []) × (reply ≡ memory_line)) → HasTurn form number line reply a asked a asked_then
 order_turn {form} number a asked asked_then put bytes line reply feed d here json asks_it grown (inl met) =
-    let is : IsAsked line (asks (load feed false)) = (here.1, (d, subst (λ (xs : List ℕ). IsJson xs d) here.0 json, asks_it)) in
+    let is : IsAsked form.sets line (asks (load feed false)) = (here.1, (d, subst (λ (xs : List ℕ). IsJson xs d) here.0 json, asks_it)) in
     has_turn number a a asked asked_then (turn_of line [] put reply) (inr (asks (load feed false), is, inr (refl, met))) refl grown
 order_turn {form} number a asked asked_then put bytes line reply feed d here json asks_it grown (inr memory) =
     has_turn number a a asked asked_then (turn_of line [] put reply) (inl (memory.1, memory.0, refl)) refl grown
@@ -95,10 +95,10 @@ order_turn {form} number a asked asked_then put bytes line reply feed d here jso
 -- and is waited for
 pub load_turn : {form : ReplyForm} (number : ℕ) (a b : SeatValue) (asked asked_then put : List OrderValue) (bytes line reply feed : List ℕ) (d : Data)
     → (bytes ≡ line)
-    × (length line ≤ 65_536) → IsJson bytes d → Asks d (load feed true)
+    × (length line ≤ 65_536) → IsJson bytes d → Asks form.sets d (load feed true)
     → asked_then ≡ asked ++ put → IsLoaded number a feed put reply b → HasTurn form number line reply a asked b asked_then
 load_turn {form} number a b asked asked_then put bytes line reply feed d here json asks_it grown loaded =
-    let is : IsAsked line (asks (load feed true)) = (here.1, (d, subst (λ (xs : List ℕ). IsJson xs d) here.0 json, asks_it)) in
+    let is : IsAsked form.sets line (asks (load feed true)) = (here.1, (d, subst (λ (xs : List ℕ). IsJson xs d) here.0 json, asks_it)) in
     has_turn number a b asked asked_then (turn_of line loaded.moves put reply) (inr (asks (load feed true), is, inr loaded.meets)) loaded.seat grown
 
 -- turns, and one more

@@ -1,4 +1,4 @@
--- The numbers and names by which faults are told.
+-- The numbers and names under which faults are reported.
 use Rattle.std.specs.Prelude.{ℕ, List, codes}
 use Rattle.session.specs.declared.fault.SessionFault.{SessionFault}
 

@@ -1,4 +1,4 @@
--- What a seat comes to know of the history of its shelves, and what is told of it.
+-- What a seat comes to know of the history of its shelves, and what replies say of it.
 use Rattle.std.specs.Prelude.{◌≡◌, ◌⊎◌, ℕ, List, [], ◌∷◌, ◌++◌, Option, IfSome}
 use Rattle.image_layout.specs.Image.{ImageValue}
 use Rattle.shelf_steps.specs.declared.views.KnownHistory.{KnownHistory}
@@ -34,7 +34,7 @@ pub record Learns (known : KnownHistory) (a : SeatValue) (known_then : KnownHist
   pub answers_are : b.answers ≡ a.answers ++ answers
   pub published : ArePublished known_then answers
 
--- a profile is answered over the image that this history published as the version that is told; or no version could be pinned
+-- a profile is answered over the image that this history published as the version that the reply names; or no version could be pinned
 abbrev pub IsFromPublished : KnownHistory → ReplyForm → Asked → List ℕ → Type 0
 IsFromPublished known form (asks (profile ask)) reply =
     ((version : ℕ) × (image : ImageValue) × IsPublished known version image × IsProfileReply form image version ask reply)
@@ -45,7 +45,8 @@ IsFromPublished known form _ reply = Unit {0}
 abbrev pub AreFromPublished : KnownHistory → ReplyForm → List Turn → Type 0
 AreFromPublished known form [] = Unit {0}
 AreFromPublished known form (t ∷ turns) =
-    ((t.reply ≡ memory_line) ⊎ ((asked : Asked) × IsAsked t.line asked × IsFromPublished known form asked t.reply)) × AreFromPublished known form turns
+    ((t.reply ≡ memory_line) ⊎ ((asked : Asked) × IsAsked form.sets t.line asked × IsFromPublished known form asked t.reply))
+    × AreFromPublished known form turns
 
 -- for all turns that, with the last release after them, lead the seat from `a` to `b`: each profile in them is answered from what this history
 -- published, if what the seat held before them was published in it

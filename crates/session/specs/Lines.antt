@@ -1,5 +1,5 @@
--- What a line asks, and the lines that tell why it isn't met.
-use Rattle.std.specs.Prelude.{◌<◌, ◌≤◌, ℕ, List, length, string_bytes}
+-- What a line asks, and the lines that say why it isn't met.
+use Rattle.std.specs.Prelude.{◌<◌, ◌≤◌, ℕ, Bool, List, length, string_bytes}
 use Rattle.serde_json.specs.Data.{Data}
 use Rattle.timetable.specs.declared.query.QueryFault.{QueryFault}
 use Rattle.timetable.specs.Queries.{numbered_fault}
@@ -7,6 +7,7 @@ use Rattle.epochs.specs.declared.faults.PinFault.{PinFault}
 use Rattle.epochs.specs.FaultNumber.{pin_fault_name, pin_fault_number}
 use Rattle.orders.specs.declared.fault.OrderFault.{OrderFault}
 use Rattle.orders.specs.Ordering.{order_fault_name, order_fault_number}
+use Rattle.station_answers.specs.declared.naming.NoQuestion.{NoQuestion}
 use Rattle.session_texts.specs.Judging.{IsJson, IsNoJson}
 use Rattle.session_texts.specs.Refusals.{error_line, load_refused_text, moved_text, refusal_name, refusal_number}
 use Rattle.session_texts.specs.Requests.{Asks, RequestValue}
@@ -20,17 +21,17 @@ pub data Asked : Type 0 where
   no_request : Asked
   asks : RequestValue → Asked
 
--- a line asks this
-abbrev pub IsAsked : List ℕ → Asked → Type 0
-IsAsked line too_long = 65_536 < length line
-IsAsked line no_json = (length line ≤ 65_536) × IsNoJson line
-IsAsked line no_request = (length line ≤ 65_536) × ((d : Data) × IsJson line d × ((request : RequestValue) → ¬ Asks d request))
-IsAsked line (asks request) = (length line ≤ 65_536) × ((d : Data) × IsJson line d × Asks d request)
+-- a line asks this, where `sets` says whether a profile may name several stops on a side
+abbrev pub IsAsked : Bool → List ℕ → Asked → Type 0
+IsAsked sets line too_long = 65_536 < length line
+IsAsked sets line no_json = (length line ≤ 65_536) × IsNoJson line
+IsAsked sets line no_request = (length line ≤ 65_536) × ((d : Data) × IsJson line d × ((request : RequestValue) → ¬ Asks sets d request))
+IsAsked sets line (asks request) = (length line ≤ 65_536) × ((d : Data) × IsJson line d × Asks sets d request)
 
 abbrev pub refusal_line : Refusal → List ℕ
 refusal_line refusal = error_line (refusal_number refusal) (refusal_name refusal)
 
--- the line that tells want of memory
+-- the line that reports that memory ran out
 abbrev pub memory_line : List ℕ
 memory_line = refusal_line Refusal.OutOfMemory
 
@@ -43,6 +44,10 @@ pin_fault_line PinFault.OutOfMemory = memory_line
 
 abbrev pub query_fault_line : QueryFault → List ℕ
 query_fault_line fault = error_line (numbered_fault fault).0 (numbered_fault fault).1
+
+abbrev pub no_question_line : NoQuestion → List ℕ
+no_question_line (NoQuestion.Bad fault) = query_fault_line fault
+no_question_line NoQuestion.OutOfMemory = memory_line
 
 abbrev pub order_fault_line : OrderFault → List ℕ
 order_fault_line (OrderFault.LoadRefused refusal) = load_refused_text refusal

@@ -1,11 +1,10 @@
--- What the reply to a profile tells.
+-- What the reply to a profile says.
 use Rattle.std.specs.Prelude.{◌≡◌, ◌⊎◌, ◌-◌, ℕ, List}
-use Rattle.timetable.specs.Queries.{IsAskable}
-use Rattle.timetable.specs.declared.query.Query.{Query}
 use Rattle.timetable.specs.declared.query.QueryFault.{QueryFault}
 use Rattle.image_layout.specs.Image.{HasImage, ImageValue}
-use Rattle.journeys.specs.Questions.{Asks, IsRefused}
+use Rattle.profile_scan.specs.Between.{BetweenValue, IsAskableBetween}
 use Rattle.journeys.specs.declared.question.Window.{Window}
+use Rattle.station_answers.specs.Naming.{AsksBetween, IsFaultBetween}
 use Rattle.session_texts.specs.Requests.{AskValue}
 use Rattle.answer_replies.specs.Replying.{IsAnsweredBy}
 use Rattle.session.specs.Forms.{IsLonger}
@@ -18,21 +17,22 @@ window_of ask = record { from = ask.after; until = ask.until; by = ask.by }
 -- the request is no query of this image, and the reply says why
 pub record IsNoQuery (image : ImageValue) (ask : AskValue) (reply : List ℕ) : Type 0 where
   pub fault : QueryFault
-  pub refused : IsRefused image ask.from ask.to (window_of ask) fault
+  pub refused : IsFaultBetween image ask.from ask.to (window_of ask) fault
   pub reply_is : reply ≡ query_fault_line fault
 
 -- the request is a query of this image, but its window is longer than windows may be, and the reply says that it is none
 pub record IsTooLong (form : ReplyForm) (image : ImageValue) (ask : AskValue) (reply : List ℕ) : Type 0 where
-  pub query : Query
-  pub asked : Asks image.names ask.from ask.to (window_of ask) query
+  pub query : BetweenValue
+  pub can_be : IsAskableBetween image.timetable.stops query
+  pub asked : AsksBetween image.names ask.from ask.to (window_of ask) query
   pub longer : IsLonger form.longest (ask.by - ask.after)
   pub reply_is : reply ≡ query_fault_line QueryFault.BadWindow
 
 -- the request is a query of this image, with a window that isn't too long, and the reply answers it
 pub record AnswersQuery (form : ReplyForm) (image : ImageValue) (version : ℕ) (ask : AskValue) (reply : List ℕ) : Type 0 where
-  pub query : Query
-  pub can_be : IsAskable image.timetable.stops query
-  pub asked : Asks image.names ask.from ask.to (window_of ask) query
+  pub query : BetweenValue
+  pub can_be : IsAskableBetween image.timetable.stops query
+  pub asked : AsksBetween image.names ask.from ask.to (window_of ask) query
   pub short : ¬ (IsLonger form.longest (ask.by - ask.after))
   pub answered : IsAnsweredBy form.points ask.criterion image version query reply
 

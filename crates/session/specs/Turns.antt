@@ -27,7 +27,7 @@ pub record PinIsRefused (moves : List SeatMove) (reply : List ℕ) : Type 0 wher
   pub moves_are : moves ≡ answered (SeatAnswer.PinRefused fault) ∷ []
   pub reply_is : reply ≡ pin_fault_line fault
 
--- a version is pinned, and told with the base from which its clock texts count
+-- a version is pinned, and the reply names it with the base from which its clock texts count
 pub record PinIsMet (moves : List SeatMove) (reply : List ℕ) : Type 0 where
   pub version : ℕ
   pub image : Snapshot ImageValue
@@ -45,7 +45,7 @@ OrderIsMet feed orders reply =
     ((orders ≡ order_value feed (Ok tt) ∷ []) × (reply ≡ line_of (load_data feed)))
     ⊎ ((fault : OrderFault) × IsNotTaken fault × (orders ≡ order_value feed (Err fault) ∷ []) × (reply ≡ order_fault_line fault))
 
--- a version came of the order: a notice of it is joined, and the reply tells the version, or want of memory for such a reply
+-- a version came of the order: a notice of it is joined, and the reply names the version, or says that memory for such a reply ran out
 pub record VersionIsMet (feed : List ℕ) (moves : List SeatMove) (orders : List OrderValue) (reply : List ℕ) : Type 0 where
   pub version : ℕ
   pub moves_are : moves ≡ joined version ∷ []
@@ -76,7 +76,7 @@ abbrev pub ProfileIsMet : ReplyForm → Option (ℕ × ImageValue) → AskValue 
 ProfileIsMet form (Some held) ask moves reply = (moves ≡ []) × IsProfileReply form held.1 held.0 ask reply
 ProfileIsMet form None ask moves reply = ProfileIsMetOnce form ask moves reply ⊎ PinIsRefused moves reply
 
--- nothing was done, and the refusal is told
+-- nothing was done, and the refusal is reported
 abbrev pub IsRefused : Refusal → List SeatMove → List OrderValue → List ℕ → Type 0
 IsRefused refusal moves orders reply = (moves ≡ []) × (orders ≡ []) × (reply ≡ refusal_line refusal)
 
@@ -103,7 +103,7 @@ WantsMemory asked moves orders reply =
     (reply ≡ memory_line) × (orders ≡ [])
     × ((moves ≡ []) ⊎ (MayPin asked × ((version : ℕ) × (image : ImageValue) × PinsOnce moves version image)))
 
--- what was asked is met without an order, with this reply, or want of memory is told; the moves that this takes lead the seat from `a` to `b`
+-- what was asked is met without an order, with this reply, or the reply says that memory ran out; the moves that this takes lead the seat from `a` to `b`
 pub record IsMet (form : ReplyForm) (number : ℕ) (a : SeatValue) (asked : Asked) (reply : List ℕ) (b : SeatValue) : Type 0 where
   pub moves : List SeatMove
   pub meets : WantsMemory asked moves [] reply ⊎ Meets form a.held asked moves [] reply
@@ -123,7 +123,7 @@ AgreeOnNotices {N} published_as noted = (notice : N) → published_as notice ≡
 abbrev pub IsTurn : ReplyForm → Option (ℕ × ImageValue) → Turn → Type 0
 IsTurn form held t =
     ((t.reply ≡ memory_line) × (t.orders ≡ []) × (t.moves ≡ []))
-    ⊎ ((asked : Asked) × IsAsked t.line asked
+    ⊎ ((asked : Asked) × IsAsked form.sets t.line asked
     × (WantsMemory asked t.moves t.orders t.reply ⊎ Meets form held asked t.moves t.orders t.reply))
 
 -- the turn's moves lead the seat from `a` to `b`, and the list of orders grows by the turn's orders

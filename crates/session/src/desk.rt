@@ -20,7 +20,7 @@ pub struct Desk<'a, T, G> {
 }
 
 impl<'a, T, G> Desk<'a, T, G> {
-    /// With these shelves and this gate; its replies are bare, over windows of any length.
+    /// With these shelves and this gate; its replies are bare, over windows of any length, from one stop to one other.
     pub fn new(alloc: Global, shelves: &'a T, gate: &'a G) -> Desk<'a, T, G>
         ensures shelves { result.shelves.now ≡ shelves.now }
         ensures form { result.form ≡ bare }

@@ -25,14 +25,14 @@ pub enum SessionFault {
 }
 
 impl SessionFault {
-    /// The number by which the fault is told, from 117 to 119.
+    /// The number under which the fault is reported, from 117 to 119.
     pub fn number(self) -> u8
         ensures { result ≡ (numbered_session_fault self).0 }
     {
         self as u8
     }
 
-    /// The name by which the fault is told, as `ReadFailed`.
+    /// The name under which the fault is reported, as `ReadFailed`.
     pub fn name(self) -> &'static str
         ensures { result.now ≡ (numbered_session_fault self).1 }
     {

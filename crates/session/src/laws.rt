@@ -1,20 +1,25 @@
 //! Laws of sessions. The functions do nothing: their contracts are the laws.
 
-ghost use Rattle.std.specs.Prelude.{◌≡◌, ◌++◌, ℕ, List};
+ghost use Rattle.std.specs.Prelude.{◌≡◌, ◌++◌, ℕ, Bool, List};
 ghost use Rattle.epochs.specs.Seats.{SeatValue};
 ghost use Rattle.orders.specs.Ordering.{OrderValue};
 ghost use Rattle.session.specs.Learning.{LearningTells};
+ghost use Rattle.image_layout.specs.Image.{ImageValue};
+ghost use Rattle.session_texts.specs.Requests.{AskValue};
 ghost use Rattle.session.specs.Lines.{Asked, IsAsked};
+ghost use Rattle.session.specs.OneStop.{IsFromOne, TellsOfOne};
 ghost use Rattle.session.specs.declared.reply_form.ReplyForm.{ReplyForm};
 ghost use Rattle.session.specs.SeatSteps.{Follows, NeverFalls, SeatMove, answers_in};
 ghost use Rattle.session.specs.Sessions.{AreTurns, moves_of, orders_of};
 ghost use Rattle.session.specs.Turns.{Turn};
 
+use answer_replies::laws::one_stop_is_plain;
 use session_texts::laws::{one_request, one_value};
 
 /// A line asks one thing.
 pub fn one_thing_is_asked()
-    ensures { (line : List ℕ) (asked other : Asked) → IsAsked line asked → IsAsked line other → asked ≡ other }
+    ensures { (sets : Bool) (line : List ℕ) (asked other : Asked) → IsAsked sets line asked → IsAsked sets line other
+        → asked ≡ other }
 {
     one_value();
     one_request();
@@ -40,9 +45,18 @@ pub fn lists_grow_by_the_turns()
         → asked_then ≡ asked ++ orders_of turns }
 {}
 
-/// Each profile in a seat's turns is answered over the image that was published as the version that the reply tells, in
+/// Each profile in a seat's turns is answered over the image that was published as the version that the reply names, in
 /// the history that the seat knows after these turns; unless memory was wanting, or no version could be pinned. What
 /// the seat held before the turns has to be published in that history too.
 pub fn profiles_are_from_published()
     ensures { LearningTells }
 {}
+
+/// What the reply to a profile from one stop to one other tells, it tells of the plain query from the one to the other:
+/// that this is refused, that its window is too long, or its answer.
+pub fn one_stop_is_asked_plainly()
+    ensures { (form : ReplyForm) (image : ImageValue) (version : ℕ) (ask : AskValue) (from to reply : List ℕ)
+        → IsFromOne ask from to → TellsOfOne form image version ask from to reply }
+{
+    one_stop_is_plain();
+}

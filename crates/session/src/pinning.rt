@@ -12,7 +12,7 @@ use epochs::Versions;
 use session_texts::{Refusal, pin_line, release_line};
 
 impl<'a, T: Versions, G> Desk<'a, T, G> {
-    /// Pins the current version, and tells it in the reply. If there is no memory for the reply, the version is given
+    /// Pins the current version, and names it in the reply. If there is no memory for the reply, the version is given
     /// back.
     pub(crate) fn pin(&self, seat: &mut T::Seat) -> SessionReply
         requires { T.fits self.now.shelves.now seat.old }

@@ -1,11 +1,13 @@
 //! Profiles, answered from an edition of an image.
 
-ghost use Rattle.std.specs.Prelude.{◌≡◌, ◌⊎◌, None};
+ghost use Rattle.std.specs.Prelude.{◌≡◌, ◌⊎◌, MatchResult, None};
 ghost use Rattle.std.specs.Arc.{arc_value};
+ghost use Rattle.profile_scan.specs.Between.{IsAskableBetween, question};
+ghost use Rattle.station_answers.specs.Naming.{AsksBetween, IsNoQuestion};
 ghost use Rattle.session_texts.specs.Requests.{ask_value, profile};
 ghost use Rattle.session.specs.Learning.{Learns};
 ghost use Rattle.session.specs.Lines.{asks, memory_line, text_of_reply};
-ghost use Rattle.session.specs.Profiles.{IsProfileReply};
+ghost use Rattle.session.specs.Profiles.{IsProfileReply, window_of};
 ghost use Rattle.session.specs.Turns.{IsMet};
 
 use crate::desk::Desk;
@@ -14,9 +16,11 @@ use crate::reply_form::ReplyForm;
 use answer_replies::reply_by_name;
 use epochs::{Edition, Versions};
 use image_verifier::Verified;
-use journeys::{Window, query_of};
+use journeys::Window;
 use orders::Gate;
+use profile_scan::Between;
 use session_texts::{Ask, Refusal};
+use station_answers::{NoQuestion, question_between};
 use std::alloc::Global;
 use timetable::QueryFault;
 
@@ -75,14 +79,9 @@ fn answer_from<G: Gate>(
     let image: &Verified = &edition.image;
     // Called only for its contract, which says that the image is one that was accepted.
     image.stops();
-    let window = Window {
-        from: ask.after,
-        until: ask.until,
-        by: ask.by,
-    };
-    let query = match query_of(image, ask.from.as_bytes(), ask.to.as_bytes(), window) {
+    let query = match question_of(alloc, image, ask) {
         Ok(query) => query,
-        Err(fault) => return SessionReply::query_fault(fault),
+        Err(fault) => return SessionReply::no_question(fault),
     };
     if form.excludes(ask.after, ask.by) {
         return SessionReply::query_fault(QueryFault::BadWindow);
@@ -99,4 +98,22 @@ fn answer_from<G: Gate>(
         Ok(line) => SessionReply::made(line).after_scan(),
         Err(_) => SessionReply::refusal(Refusal::OutOfMemory).after_scan(),
     }
+}
+
+// The query that a profile asks of an image, from any of its stops to any others.
+fn question_of(alloc: Global, image: &Verified, ask: &Ask<'_>) -> Result<Between, NoQuestion>
+    ensures { MatchResult result
+        (λ query. IsAskableBetween image.now.timetable.stops (question query)
+        × AsksBetween image.now.names (ask_value ask.now).from (ask_value ask.now).to (window_of (ask_value ask.now))
+        (question query))
+        (IsNoQuestion image.now (ask_value ask.now).from (ask_value ask.now).to (window_of (ask_value ask.now))) }
+{
+    let from: &[&str] = &ask.from;
+    let to: &[&str] = &ask.to;
+    let window = Window {
+        from: ask.after,
+        until: ask.until,
+        by: ask.by,
+    };
+    question_between(alloc, image, from, to, window)
 }

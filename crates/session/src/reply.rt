@@ -1,12 +1,14 @@
 //! Replies, as whole lines.
 
 ghost use Rattle.std.specs.Prelude.{◌≡◌, string_bytes};
-ghost use Rattle.session.specs.Lines.{order_fault_line, pin_fault_line, query_fault_line, refusal_line, text_of_reply};
+ghost use Rattle.session.specs.Lines.{no_question_line, order_fault_line, pin_fault_line, query_fault_line};
+ghost use Rattle.session.specs.Lines.{refusal_line, text_of_reply};
 
 use arrayvec::ArrayString;
 use epochs::PinFault;
 use orders::OrderFault;
 use session_texts::{Refusal, load_refused_line, moved_line};
+use station_answers::NoQuestion;
 use timetable::QueryFault;
 
 // A line with its LF.
@@ -86,6 +88,15 @@ impl SessionReply {
             PinFault::NotPinned => SessionReply::refusal(Refusal::NotPinned),
             PinFault::SeatLost => SessionReply::refusal(Refusal::SeatLost),
             PinFault::OutOfMemory => SessionReply::refusal(Refusal::OutOfMemory),
+        }
+    }
+
+    pub(crate) fn no_question(fault: NoQuestion) -> SessionReply
+        ensures { text_of_reply result ≡ no_question_line fault }
+    {
+        match fault {
+            NoQuestion::Bad(fault) => SessionReply::query_fault(fault),
+            NoQuestion::OutOfMemory => SessionReply::refusal(Refusal::OutOfMemory),
         }
     }
 

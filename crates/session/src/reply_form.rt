@@ -1,28 +1,32 @@
 //! In which form a session replies to profiles.
 
-ghost use Rattle.std.specs.Prelude.{◌≡◌, ◌↔◌, ◌-◌, IsTrue, None};
+ghost use Rattle.std.specs.Prelude.{◌≡◌, ◌↔◌, ◌-◌, IsTrue, None, false};
 ghost use Rattle.session.specs.Forms.{IsLonger};
 
 use answer_replies::PointForm;
 
-/// In which form profiles are replied, and for which windows.
+/// In which form profiles are replied, for which windows, and whether they may be asked between several stops.
 #[derive(Clone, Copy, Drop)]
 pub struct ReplyForm {
     /// In which form each point is replied.
     pub points: PointForm,
     /// How many seconds a window may last, from the earliest departure to the latest arrival. `None`: any number.
     pub longest: Option<u32>,
+    /// Whether a profile may name several stops on a side.
+    pub sets: bool,
 }
 
 impl ReplyForm {
-    /// With points in this form, for windows of any length.
+    /// With points in this form, for windows of any length, from one stop to one other.
     pub fn of(points: PointForm) -> ReplyForm
         ensures points { result.points ≡ points }
         ensures longest { result.longest ≡ None }
+        ensures sets { result.sets ≡ false }
     {
         ReplyForm {
             points,
             longest: None,
+            sets: false,
         }
     }
 

@@ -11,7 +11,7 @@ use crate::reply::SessionReply;
 use epochs::Versions;
 use lines::Line;
 use orders::{Gate, Orders};
-use session_texts::{LineFault, Refusal, Request, read_line, request_of};
+use session_texts::{LineFault, Refusal, Request, RequestFault, read_line, request_of};
 
 impl<'a, N: Drop, T: Versions<Notice = N>, G: Gate> Desk<'a, T, G> {
     /// Does what a line asks, and makes the reply.
@@ -41,13 +41,14 @@ impl<'a, N: Drop, T: Versions<Notice = N>, G: Gate> Desk<'a, T, G> {
             Err(LineFault::BadJson) => return SessionReply::refusal(Refusal::BadJson),
             Err(LineFault::OutOfMemory) => return SessionReply::refusal(Refusal::OutOfMemory),
         };
-        match request_of(&value) {
-            None => SessionReply::refusal(Refusal::BadRequest),
-            Some(Request::Pin) => self.pin(seat),
-            Some(Request::Release) => self.release(seat),
-            Some(Request::Profile(ask)) => self.answer_profile(seat, &ask),
-            Some(Request::Load { feed, waits: false }) => self.order_feed(orders, feed),
-            Some(Request::Load { feed, waits: true }) => self.load_feed(seat, orders, feed),
+        match request_of(self.alloc, &value, self.form.sets) {
+            Err(RequestFault::BadRequest) => SessionReply::refusal(Refusal::BadRequest),
+            Err(RequestFault::OutOfMemory) => SessionReply::refusal(Refusal::OutOfMemory),
+            Ok(Request::Pin) => self.pin(seat),
+            Ok(Request::Release) => self.release(seat),
+            Ok(Request::Profile(ask)) => self.answer_profile(seat, &ask),
+            Ok(Request::Load { feed, waits: false }) => self.order_feed(orders, feed),
+            Ok(Request::Load { feed, waits: true }) => self.load_feed(seat, orders, feed),
         }
     }
 }

@@ -1,17 +1,15 @@
 //! The answer between several stops, by one scan of the window.
 
-ghost use Rattle.std.specs.Prelude.{◌≡◌, ◌++◌, ℕ, Contains, IfOk, OnOk, OnErr, length, map, reverse, take};
-ghost use Rattle.timetable.specs.TimetableValue.{TimetableValue};
-ghost use Rattle.profile_scan.specs.Between.{BetweenValue, IsAnswerBetween, IsAskableBetween, question, secs_of};
-ghost use Rattle.profile_scan.specs.Found.{AnswersBetween};
+ghost use Rattle.std.specs.Prelude.{◌≡◌, ◌++◌, ℕ, Contains, IfOk, OnOk, OnErr, length, reverse, take};
+ghost use Rattle.profile_scan.specs.Between.{IsAnswerBetween, IsAskableBetween, question, secs_of};
 ghost use Rattle.journeys.specs.Answer.{point_of, points_of, walk_of_answer};
 ghost use Rattle.journeys.specs.Extracted.{AttainsBetween};
 ghost use Rattle.station_answers.specs.Reading.{window_between};
 ghost use Rattle.station_answers.specs.Walks.{IsDirectTime};
 
 use criteria::Criterion;
-use journeys::{Answer, Departure, extract_between, window_len};
-use profile_scan::{Between, ConnSource, FoundBetween, profile_between};
+use journeys::{Answer, departures_between, window_len};
+use profile_scan::{Between, ConnSource, profile_between};
 use std::alloc::{AllocError, Global};
 use timetable::{Footpath, Query};
 
@@ -47,39 +45,12 @@ pub fn answer_between<S: ConnSource, C: Criterion>(
 {
     let read = window_size(source, query);
     let found = profile_between(alloc, source, criterion, query)?;
-    let departures = departures_of(alloc, &found)?;
+    let departures = departures_between(alloc, &found)?;
     Ok(Answer {
         departures,
         walk: secs_of(found.direct_walk()),
         read,
     })
-}
-
-// Returns the points of an answer, each with a journey.
-fn departures_of<C: Criterion>(
-    alloc: Global,
-    found: &FoundBetween<C>,
-) -> Result<Vec<Departure<C::V>>, AllocError>
-    ensures points { IfOk result (λ departures. (criterion : _) (t : TimetableValue) (b : BetweenValue)
-        → AnswersBetween criterion (C.rules criterion) t b found.now
-        → IsAnswerBetween (C.rules criterion) t b (map point_of departures.items)) }
-    ensures journeys { IfOk result (λ departures. (criterion : _) (t : TimetableValue) (b : BetweenValue)
-        → AnswersBetween criterion (C.rules criterion) t b found.now
-        → (departure : _) → Contains departures.items departure
-        → AttainsBetween (C.rules criterion) t b (point_of departure) departure.journey) }
-{
-    let points = found.points();
-    let mut departures = Vec::with_capacity(alloc, points.len())?;
-    for i in 0..points.len() {
-        let point = points[i];
-        let journey = extract_between(alloc, found, i)?;
-        departures.push(Departure {
-            time: point.departure,
-            value: point.value,
-            journey,
-        })?;
-    }
-    Ok(departures)
 }
 
 // The seconds of a footpath, if there is one.

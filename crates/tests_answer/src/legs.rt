@@ -28,7 +28,7 @@ const BY_ARRIVAL: &str =
 fn replied_at<B: ShelvesName>(
     alloc: Global,
     solo: Solo,
-    form: PointForm,
+    form: ReplyForm,
     requests: &[u8],
 ) -> Vec<u8>
     requires { (solo.shelves ≡ B.table) × (solo.loader.table ≡ B.table) × (solo.seat.table ≡ B.table) }
@@ -40,16 +40,17 @@ fn replied_at<B: ShelvesName>(
         alloc,
         shelves: &shelves,
         gate: &OpenGate,
-        form: ReplyForm::of(form),
+        form,
     };
     let _ = desk.serve(&mut streams, &mut seat, &mut orders);
     streams.writer.into_inner().taken
 }
 
-fn replied(
+/// What is written in a session over this image, with replies in this form, that pins and asks this.
+pub(crate) fn replied(
     alloc: Global,
     first: Arc<Verified, Global>,
-    form: PointForm,
+    form: ReplyForm,
     profile: &str,
 ) -> Result<Vec<u8>, Fail> {
     let requests = lines_of(alloc, &[PIN, profile])?;
@@ -65,10 +66,11 @@ const LEGGED_REPLIES: &str =
 
 // The replies over the sample.
 fn of_sample(alloc: Global, form: PointForm) -> Result<Vec<u8>, Fail> {
-    replied(alloc, image(alloc, 0)?, form, BY_WALKING)
+    replied(alloc, image(alloc, 0)?, ReplyForm::of(form), BY_WALKING)
 }
 
-fn assert_text(rt: &impl Abort, replies: &[u8], wanted: &str) {
+/// Asserts that this was written.
+pub(crate) fn assert_text(rt: &impl Abort, replies: &[u8], wanted: &str) {
     assert_eq!(rt; str::from_utf8(replies).unwrap_or("?"), wanted);
 }
 
@@ -107,7 +109,8 @@ const QUOTED_REPLIES: &str =
 fn a_walk_a_quote_and_a_repeat(rt: HostRuntime) -> Result<(), Fail> {
     let alloc: Global = rt.alloc();
     let first = image_of_a_quote(alloc)?;
-    let replies = replied(alloc, first, PointForm::WithLegs, BY_ARRIVAL)?;
+    let form = ReplyForm::of(PointForm::WithLegs);
+    let replies = replied(alloc, first, form, BY_ARRIVAL)?;
     assert_text(&rt, &replies, QUOTED_REPLIES);
     Ok(())
 }

@@ -12,6 +12,8 @@ mod scripted;
 #[cfg(test)]
 mod sessions;
 #[cfg(test)]
+mod sets;
+#[cfg(test)]
 mod streams;
 #[cfg(test)]
 mod texts;

@@ -13,6 +13,7 @@ mod repeating;
 mod running;
 mod serving;
 mod sessions;
+mod station_names;
 mod stations;
 mod tables;
 mod town_journeys;

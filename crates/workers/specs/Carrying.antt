@@ -21,11 +21,11 @@ abbrev pub FailedAsReported : {D T : Type 0} → (D → ℕ) → (D → List (Li
 FailedAsReported failures failed files files_then outcome =
     (failures files_then ≡ failures files + failed_in (reading outcome)) × (failed files_then ≡ failed_by (failed files) (reading outcome))
 
--- for any notices with their versions; and for feeds at so many places, with their files, what these hold, what was read of them, how many reads
+-- for any notices with their versions; and for so many feeds, with their files, what these hold, what was read of them, how many reads
 -- failed and of which files, and the plans by which feeds may be loaded
 module _ {N D : Type 0} (noted : N → ℕ) (are_files : ℕ → D → Type 0) (holds : D → Holds) (reads : D → List FileRead) (failures : D → ℕ)
     (failed : D → List (List ℕ)) (is_plan : Plan → Type 0) (places : ℕ) where
-  -- the files of the feed at this place, drawn when just these orders had been taken from this queue, are loaded, and the answer is what came of
+  -- the files of the feed at this index, drawn when just these orders had been taken from this queue, are loaded, and the answer is what came of
   -- that; or there is no such feed, and none are drawn
   abbrev pub IsLoadOf : QueueId N → List OrderMark → ℕ → Option (DrawnFiles D N) → LoadAnswer N → List LoaderAnswer → List LoaderAnswer → Type 0
   IsLoadOf queue taken feed (Some drawn) answer before after =
@@ -36,7 +36,7 @@ module _ {N D : Type 0} (noted : N → ℕ) (are_files : ℕ → D → Type 0) (
       (places ≤ feed) × (after ≡ before) × (answer ≡ LoadAnswer.Refused (order_fault_number OrderFault.UnknownFeed))
 
   -- this order is carried out, once just these were taken: its own feed is loaded, from files that are drawn for it, and what came of that very
-  -- load is told by its own way back
+  -- load is sent by its own way back
   abbrev pub IsCarriedOut : QueueId N → List OrderMark → OrderMark → Option (DrawnFiles D N) → AnsweredValue N
       → List LoaderAnswer → List LoaderAnswer → Type 0
   IsCarriedOut queue taken order files answered before after =

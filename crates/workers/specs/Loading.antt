@@ -60,8 +60,8 @@ IsRefusalOf holds old new plan (LoadRefusal.Publish fault) =
     (image : ImageValue) × (report : Report) × AllWereRead old new
     × ((content : Content) → ShowsContent holds old new content → IsImageOf content plan image report)
 
--- what comes of files: each was read once, the image of what they show is published as the version that is told, with its counts, and a notice of
--- that version comes; or the first of them were read, nothing is published, and the first refusal is told
+-- what comes of files: each was read once, the image of what they show is published as the version that the answer names, with its counts, and a notice of
+-- that version comes; or the first of them were read, nothing is published, and the first refusal is reported
 abbrev pub IsOutcome : {N : Type 0} → (N → ℕ) → Holds → List FileRead → List FileRead → Plan
     → List LoaderAnswer → Result (LoadedVersion × Option N) LoadRefusal → List LoaderAnswer → Type 0
 IsOutcome noted holds old new plan before (Ok loaded) after =
@@ -70,12 +70,12 @@ IsOutcome noted holds old new plan before (Ok loaded) after =
 IsOutcome noted holds old new plan before (Err refusal) after =
     SomeWereRead old new × IsRefusalOf holds old new plan refusal × IsNotPublished before refusal after
 
--- the number by which a refusal is told
+-- the number under which a refusal is reported
 abbrev pub refusal_number : LoadRefusal → ℕ
 refusal_number (LoadRefusal.Load fault) = fault_number fault
 refusal_number (LoadRefusal.Publish fault) = publish_fault_number fault
 
--- what whoever waits for a load is told of it
+-- what whoever waits for a load hears of it
 abbrev pub notice_answer : {N : Type 0} → Option N → LoadAnswer N
 notice_answer (Some notice) = LoadAnswer.Published notice
 notice_answer None = LoadAnswer.Unnoticed

@@ -46,7 +46,7 @@ module _ {C R W : Type 0} (form : ReplyForm) (opens : C → Result (R × W) Conn
   IsServed number client None end a asked b asked_then = (fault : ConnFault) × opens client (Err fault) × IsUnopened end a asked b asked_then
 
   -- as `IsServed`; and each profile in the session's turns, unless memory or a version was wanting, is answered exactly, over the accepted image
-  -- that this history published as the version that the reply tells
+  -- that this history published as the version that the reply names
   abbrev pub IsExact : KnownHistory → ℕ → C → Option (Streams R W) → SessionEnd → SeatValue → List OrderValue → SeatValue → List OrderValue → Type 0
   IsExact history number client (Some now) end a asked b asked_then =
       (was : R × W) × opens client (Ok was)

@@ -35,7 +35,7 @@ pub(crate) struct LoadContext<'a, R, T, F> {
 
 impl<'a, R: Wait, N: Drop, T: Versions<Notice = N> + Loads, F: Feeds> LoadContext<'a, R, T, F> {
     /// Carries out the orders that come to the loader's end of their queue, which is new, until no more come: the feed
-    /// of each is loaded once, in turn, and what came of that is told by the order's own way back. Returns this end,
+    /// of each is loaded once, in turn, and what came of that is sent by the order's own way back. Returns this end,
     /// the loader's seat, the files that were used, and the error writer.
     pub(crate) fn load_all<E: Write>(
         &self,
@@ -95,8 +95,8 @@ impl<'a, R: Wait, N: Drop, T: Versions<Notice = N> + Loads, F: Feeds> LoadContex
         orders.answer(self.rt, order, answer);
     }
 
-    // Loads the feed at the place from files that are drawn now, and returns what came of it, and the files. Where
-    // there is no such place, there are no files, and the load is refused as that of an unknown feed.
+    // Loads the feed at the index from files that are drawn now, and returns what came of it, and the files. Where
+    // there is no such feed, there are no files, and the load is refused as that of an unknown feed.
     fn load_at<E: Write>(
         &self,
         index: usize,

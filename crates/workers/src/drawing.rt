@@ -26,12 +26,12 @@ pub struct DrawnFiles<D, N: Drop> {
 }
 
 /// For each order that was carried out, its feed's files as they were after the load, or none if there is no feed at
-/// the order's place. Only contracts see them.
+/// the order's index. Only contracts see them.
 pub type UsedFiles<D, N> = Notes<Option<DrawnFiles<D, N>>>;
 
 impl<D: FeedFiles, N: Drop> DrawnFiles<D, N> {
-    /// Draws the files of the feed at the place, while this end of the queue is as given. None only where there is no
-    /// such place.
+    /// Draws the files of the feed at the index, while this end of the queue is as given. None only where there is no
+    /// such feed.
     pub(crate) fn draw<F: Feeds<Files = D>>(
         feeds: &F,
         index: usize,

@@ -16,16 +16,16 @@ use std::time::Instant;
 pub trait Feeds {
     type Files: FeedFiles + Send + Drop;
 
-    // Their names, by place.
+    // Their names, by index.
     ghost named: { Self → List (String Global) };
 
-    // These are the files of the feed at that place.
+    // These are the files of the feed at that index.
     ghost are_files: { Self → ℕ → Self.Files → Type 0 } = { λ _ _ _. Unit {0} };
 
     // A feed may be loaded by this plan.
     ghost is_plan: { Self → Plan → Type 0 } = { λ _ _. Unit {0} };
 
-    /// Their names, by place.
+    /// Their names, by index.
     fn names(&self) -> &[String]
         ensures { result.now ≡ named self.now };
 
@@ -37,12 +37,12 @@ pub trait Feeds {
         ensures few { IfOk result (λ plan. plan.days ≤ MAX_DAYS) }
         ensures possible { IfErr result (λ _. (plan : Plan) × is_plan self.now plan) };
 
-    /// The files of the feed at the place, of which no read has failed yet. None only where there is no such place.
+    /// The files of the feed at the index, of which no read has failed yet. None only where there is no such feed.
     fn files(&self, index: usize) -> Option<Self::Files>
         ensures { MatchOption result (length (named self.now) ≤ index) (λ files. (Self.Files.failures files ≡ 0)
             × are_files self.now index files) };
 
-    /// Called before the feed at the place is loaded. Returns the instant at which that is, for `finish`, or none.
+    /// Called before the feed at the index is loaded. Returns the instant at which that is, for `finish`, or none.
     fn begin(&self, index: usize) -> Option<Instant>;
 
     /// Called when that load has ended and the loader has written its own line, with the writer of that line. Nothing

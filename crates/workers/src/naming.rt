@@ -27,9 +27,9 @@ use std::thread::Threads;
 /// seats come back without the shelves' name.
 ///
 /// This contract is the headline of the program, except for what a scan reads: that is a clause of
-/// `journeys::answer_query`. Clause `shares`: each profile in each session is answered exactly, over the image that was
-/// published as the version that is told. Clause `pinned`: no image is collected while a seat has it pinned. Clauses
-/// `loads` and `learns`: the published images are those of the bytes that the feeds' files gave.
+/// `station_answers::answer_between`. Clause `shares`: each profile in each session is answered exactly, over the image
+/// that was published as the version that the reply names. Clause `pinned`: no image is collected while a seat has it
+/// pinned. Clauses `loads` and `learns`: the published images are those of the bytes that the feeds' files gave.
 pub fn run_shelves<
     B: ShelvesName + Send + Sync,
     C: Client + Drop + Send,

@@ -19,7 +19,7 @@ pub enum LoadRefusal {
 }
 
 impl LoadRefusal {
-    /// The number by which the refusal is told: that of the fault within.
+    /// The number under which the refusal is reported: that of the fault within.
     pub fn number(self) -> u8
         ensures { result ≡ refusal_number self }
     {

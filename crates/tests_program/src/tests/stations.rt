@@ -109,7 +109,53 @@ ends 64
 lacks swiss.svg
 ";
 
+const DEPARTURES: &str = "
+# From every stop to any platform of Genève: the platforms are left out, and the window is read once.
+asks departures swiss.csa --to 8501008 --to ch:1:sloid:1008:2:3 --to ch:1:sloid:1008:2:5 --after 08:00:00 --until \
+08:40:00 --by 12:00:00 --criterion arrival+trips
+prints ch:1:sloid:3000:500:31 dep 08:32:00 arr 11:15:00 trips 1 : ride 1 1
+prints ch:1:sloid:3000:500:32 dep 08:02:00 arr 10:56:00 trips 2 : ride 0 0 walk 3 4 120 ride 2 2
+prints ch:1:sloid:3000:500:32 dep 08:25:00 arr 11:15:00 trips 1 : walk 1 0 420 ride 1 1
+prints 8503000 dep 08:25:00 arr 11:15:00 trips 1 : walk 2 0 420 ride 1 1
+answers stops 3 points 4 read 3
+
+# The shortest walk to any of them: two minutes from Bern 7 to Bern 8, none to Genève.
+asks departures swiss.csa --to ch:1:sloid:1008:2:3 --to ch:1:sloid:7000:1:8 --after 08:00:00 --until 09:04:00 --by \
+12:00:00 --criterion arrival --summary
+prints ch:1:sloid:3000:500:31 points 1 first 08:32:00 last 08:32:00 least 9780 walk none
+prints ch:1:sloid:3000:500:32 points 2 first 08:02:00 last 08:25:00 least 3480 walk none
+prints 8503000 points 1 first 08:25:00 last 08:25:00 least 10200 walk none
+prints ch:1:sloid:7000:1:7 points 1 first 09:02:00 last 09:02:00 least 6960 walk 120
+answers stops 4 points 5 read 3
+
+# The stops of a file, of which a target is left out.
+rows wanted ch:1:sloid:7000:1:8 | ch:1:sloid:3000:500:31
+asks departures swiss.csa --to ch:1:sloid:1008:2:3 --to ch:1:sloid:7000:1:8 --after 08:00:00 --until 09:04:00 --by \
+12:00:00 --criterion arrival --from wanted --json
+prints {\"from\":\"ch:1:sloid:3000:500:31\",\"points\":[{\"arr\":\"11:15:00\",\"dep\":\"08:32:00\",\
+\"journey\":\"ride 1 1\"}],\"walk\":null}
+answers {\"points\":1,\"read\":3,\"stops\":1}
+
+# A target that the image doesn't have is named, and one that is given twice.
+asks departures swiss.csa --to 8501008 --to X --after 08:00:00 --until 08:40:00 --by 12:00:00 --criterion arrival
+tells csa: --to \"X\": no stop of the image has this stop_id (stations aren't stops: give a platform's stop_id, \
+which `csa stops IMAGE TEXT` lists)
+answers refused 31 UnknownStop
+asks departures swiss.csa --to 8501008 --to ch:1:sloid:1008:2:3 --after 08:00:00 --until 07:59:59 --by 12:00:00 \
+--criterion arrival
+tells csa: --until is before --after
+answers refused 33 BadWindow
+asks departures swiss.csa --to A --to A --after 08:00:00 --until 08:40:00 --by 12:00:00 --criterion arrival
+tells error: --to \"A\": number 2 is the same stop as number 1
+tells 
+tells Usage: csa departures [OPTIONS] --to <STOP_ID> --after <CLOCK> --until <CLOCK> --by <CLOCK> --criterion <NAME> \
+<IMAGE>
+tells 
+tells For more information, try 'csa departures --help'.
+ends 64
+";
+
 #[test]
 fn from_any_platform_to_any_platform(rt: HostRuntime) -> Result<(), Fail> {
-    try_transcripts(&rt, &[FEED, ANSWERS, FAULTS])
+    try_transcripts(&rt, &[FEED, ANSWERS, FAULTS, DEPARTURES])
 }

@@ -1,7 +1,8 @@
 use Rattle.std.proofs.Common.{Bool, [], inl, inr, refl, string_bytes, subst, sym}
 use Rattle.std.specs.Prelude.{MatchBool}
 use Rattle.std.proofs.lemmas.List.{append-nil}
-use Rattle.csa_commands.specs.StopLines.{IsIn, stop_line}
+use Rattle.csa_commands.specs.StopLines.{stop_line}
+use Rattle.feed_stations.specs.Finding.{IsIn}
 use Rattle.csa_commands.proofs.stops.append_if_found.Goals as goal
 
 pub returns-then-not-is_in : goal.returns-then-not-is_in

@@ -1,7 +1,8 @@
 use Rattle.std.proofs.Common.{◌++◌, ◌∙◌, length, map, ap, sym, refl, string_bytes}
 use Rattle.answer_pictures.specs.Naming.{stop_bytes}
-use Rattle.profile_scan.specs.Destinations.{query_from}
-use Rattle.profile_scan.specs.Everywhere.{criterion_of_profiles, destination_of, walk_from}
+use Rattle.profile_scan.specs.Between.{secs_of}
+use Rattle.profile_scan.specs.Everywhere.{asked_to_any, criterion_to_any, walk_to_any}
+use Rattle.profile_scan.specs.Origins.{from_stop}
 use Rattle.departure_lines.specs.Json.{journey_json, json_if_some}
 use Rattle.departure_lines.proofs.Stops.{has_journeys, journeys_shown}
 use Rattle.departure_lines.proofs.stop_lines.append_as_json.Goals as goal
@@ -10,16 +11,16 @@ pub returns : goal.returns
 returns g c =
     let shown = c.args.shown.now in
     let t = shown.image.now.timetable in
-    let q = query_from (destination_of shown.profiles.now) c.args.stop in
-    let old = criterion_of_profiles shown.profiles.now in
+    let q = from_stop (asked_to_any shown.profiles.now) c.args.stop in
+    let old = criterion_to_any shown.profiles.now in
     let departures = c.in_ok-departures.departures.items in
     let texts = map (journey_json g.C.ShowsFigures.figures) departures in
-    let text = json_if_some (stop_bytes shown.image.now.names c.args.stop) texts (walk_from shown.profiles.now c.args.stop) in
+    let text = json_if_some (stop_bytes shown.image.now.names c.args.stop) texts (secs_of (walk_to_any shown.profiles.now c.args.stop)) in
     let added = c.in_ok-append_json.ensures
     ∙ ap (λ them. string_bytes c.args.lines.now ++ json_if_some (string_bytes c.in_ok-name.name) (map (journey_json g.C.ShowsFigures.figures) them)
-    c.direct_walk-walk.result) c.deref.ensures.value
-    ∙ ap (λ name. string_bytes c.args.lines.now ++ json_if_some name texts c.direct_walk-walk.result) c.in_ok-name.ensures
-    ∙ ap (λ walk. string_bytes c.args.lines.now ++ json_if_some (stop_bytes shown.image.now.names c.args.stop) texts walk) c.direct_walk-walk.ensures in
+    c.direct_secs-walk.result) c.deref.ensures.value
+    ∙ ap (λ name. string_bytes c.args.lines.now ++ json_if_some name texts c.direct_secs-walk.result) c.in_ok-name.ensures
+    ∙ ap (λ walk. string_bytes c.args.lines.now ++ json_if_some (stop_bytes shown.image.now.names c.args.stop) texts walk) c.direct_secs-walk.ensures in
     journeys_shown g.C.Criterion.rules g.C.ShowsFigures.figures _ shown.image.now shown.profiles.now shown.criterion.now c.args.stop departures c.len.result
     text
     (string_bytes c.args.lines.now) (string_bytes c.append_json.new.lines)

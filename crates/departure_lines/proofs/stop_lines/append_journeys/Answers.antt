@@ -1,8 +1,8 @@
 use Rattle.std.proofs.Common.{◌++◌, ◌∙◌, length, ap, sym, refl, string_bytes}
 use Rattle.std.specs.List.{flat_map}
 use Rattle.answer_pictures.specs.Naming.{stop_bytes}
-use Rattle.profile_scan.specs.Destinations.{query_from}
-use Rattle.profile_scan.specs.Everywhere.{criterion_of_profiles, destination_of}
+use Rattle.profile_scan.specs.Everywhere.{asked_to_any, criterion_to_any}
+use Rattle.profile_scan.specs.Origins.{from_stop}
 use Rattle.departure_lines.specs.Lines.{line_from}
 use Rattle.departure_lines.proofs.Stops.{has_journeys, journeys_shown}
 use Rattle.departure_lines.proofs.stop_lines.append_journeys.Goals as goal
@@ -11,8 +11,8 @@ pub returns : goal.returns
 returns g c =
     let shown = c.args.shown.now in
     let t = shown.image.now.timetable in
-    let q = query_from (destination_of shown.profiles.now) c.args.stop in
-    let old = criterion_of_profiles shown.profiles.now in
+    let q = from_stop (asked_to_any shown.profiles.now) c.args.stop in
+    let old = criterion_to_any shown.profiles.now in
     let departures = c.in_ok-departures.departures.items in
     let text = flat_map (line_from g.C.ShowsFigures.figures (stop_bytes shown.image.now.names c.args.stop)) departures in
     let added = c.in_ok-append_lines.ensures

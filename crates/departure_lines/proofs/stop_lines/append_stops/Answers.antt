@@ -1,5 +1,5 @@
 use Rattle.std.proofs.Common.{string_bytes}
-use Rattle.profile_scan.specs.Everywhere.{destination_of}
+use Rattle.profile_scan.specs.Everywhere.{asked_to_any}
 use Rattle.departure_lines.proofs.Stops.{none_added}
 use Rattle.departure_lines.proofs.stop_lines.append_stops.Goals as goal
 
@@ -7,7 +7,7 @@ pub loop-stop-init : goal.loop-stop-init
 loop-stop-init g c =
     let shown = c.args.shown.now in
     none_added g.C.ShowsFigures.figures (g.C.Criterion.rules shown.criterion.now) c.args.form shown.image.now
-    (destination_of shown.profiles.now) c.args.wanted.now
+    (asked_to_any shown.profiles.now) c.args.wanted.now
     (string_bytes c.args.lines.now)
 
 pub loop-stop-preserved : goal.loop-stop-preserved

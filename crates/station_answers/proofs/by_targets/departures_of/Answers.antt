@@ -5,10 +5,11 @@ use Rattle.bags.specs.Dominance.{IsBag}
 use Rattle.profile_scan.specs.Between.{IsPointBetween, question}
 use Rattle.profile_scan.specs.LawStatements.{CanScan}
 use Rattle.profile_scan.proofs.OrderLemmas.{listed_bag}
+use Rattle.journeys.proofs.TellLemmas.{HaveJourneys, all_told, no_journeys, one_more}
 use Rattle.station_answers.specs.Attaining.{AttainsPair}
 use Rattle.station_answers.specs.Merging.{IsMerged}
 use Rattle.station_answers.proofs.MergeLemmas.{merged_answers}
-use Rattle.station_answers.proofs.TellLemmas.{HaveJourneys, all_told, no_journeys, one_more, pair_tagless}
+use Rattle.station_answers.proofs.TellLemmas.{pair_tagless}
 use Rattle.station_answers.proofs.by_targets.departures_of.Goals as goal
 
 pub loop-index-init : goal.loop-index-init

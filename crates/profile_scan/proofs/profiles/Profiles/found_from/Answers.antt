@@ -1,102 +1,27 @@
-use Rattle.std.proofs.Common.{◌≡◌, ◌<◌, ℕ, List, Contains, length, map, Option, Some, slice_get, refl, sym, ◌∙◌, subst}
-use Rattle.std.proofs.lemmas.Option.{slice_get_read}
-use Rattle.bags.specs.declared.point.Point.{Point}
-use Rattle.timetable.specs.TimetableValue.{TimetableValue}
+use Rattle.std.proofs.Common.{◌≡◌, ℕ, Contains, sym, ◌∙◌, ap, subst}
+use Rattle.reasoning.proofs.ListLemmas.{contains_only}
 use Rattle.timetable.specs.declared.query.Query.{Query}
-use Rattle.fronts.specs.Lists.{steps_of}
-use Rattle.profile_scan.specs.Points.{untagged}
-use Rattle.profile_scan.specs.Story.{story}
-use Rattle.profile_scan.specs.Telling.{IsJourneySpelled, IsSpelledAgain}
-use Rattle.profile_scan.specs.Kept.{IsWay}
-use Rattle.profile_scan.specs.Answered.{IsAnswered}
-use Rattle.profile_scan.specs.Destinations.{query_from}
-use Rattle.profile_scan.specs.Origins.{set_outs_by}
-use Rattle.profile_scan.specs.Everywhere.{criterion_of_profiles, destination_of, listed_from, story_from}
-use Rattle.profile_scan.proofs.EverywhereLemmas.{answered_in_nodes, attained_spelled}
-use Rattle.profile_scan.proofs.profiles.Profiles.found_from.Given as given
-use Rattle.profile_scan.proofs.profiles.Profiles.found_from.Goals.{After-index-origin, After-of}
+use Rattle.profile_scan.specs.Between.{BetweenValue, between_one}
+use Rattle.profile_scan.specs.Found.{Answers, AnswersBetween}
+use Rattle.profile_scan.specs.Origins.{from_stop}
+use Rattle.profile_scan.specs.Everywhere.{criterion_of_profiles, destination_of}
 use Rattle.profile_scan.proofs.profiles.Profiles.found_from.Goals as goal
 
-pub index-origin-requires : goal.index-origin-requires
-index-origin-requires g c =
-    let each = c.args.self.now.state.origins.each in
-    subst (λ (n : ℕ). c.args.stop < n) (sym (each.ok.0 ∙ c.requires.answered.origins.long)) c.requires.stop
+pub found_from-requires-clause-differ : goal.found_from-requires-clause-differ
+found_from-requires-clause-differ g c is = c.requires.differ (contains_only (destination_of c.args.self.now).target c.args.stop
+    (subst (λ (b : BetweenValue). Contains b.targets c.args.stop) c.requires.answered.asked is))
 
-pub points-points-requires : goal.points-points-requires
-points-points-requires g c = subst (λ (n : ℕ). c.args.stop < n) (sym c.requires.answered.long) c.requires.stop
-
-pub secs_from-requires : goal.secs_from-requires
-secs_from-requires g c = subst (λ (n : ℕ). c.args.stop < n) (sym c.requires.answered.ways) c.requires.stop
-
--- what was found from the stop is there
-at_stop : (g : given.Over) (c : goal.After-index-origin g) → slice_get c.args.self.now.state.origins.each.items c.args.stop ≡ Some c.index-origin.result.now
-at_stop g c =
-    let each = c.args.self.now.state.origins.each.items in
-    slice_get_read each (length each) c.args.stop c.index-origin.result.now refl
-    (subst (λ (n : ℕ). c.args.stop < n) (sym c.requires.answered.origins.long) c.requires.stop) c.index-origin.ensures
-
-pub tell_journeys-requires : goal.tell_journeys-requires
-tell_journeys-requires g c =
-    let profiles = c.args.self.now in
-    let t = g.S.ConnSource.timetable c.args.source.now in
-    let q = query_from (destination_of profiles) c.args.stop in
-    let rules = g.C.Criterion.rules (criterion_of_profiles profiles) in
-    let state = profiles.state in
-    let exits = state.trips.exits.items in
-    let steps = steps_of state.stops.lists in
-    let listed = listed_from profiles c.args.stop in
-    let answers = c.requires.answered.each c.args.stop c.requires.stop c.requires.differ in
-    subst (λ (ps : List (Point g.row.C-V.Denot)). (p : Point g.row.C-V.Denot) → Contains ps p → IsJourneySpelled t.footpaths
-    (story exits steps c.index-origin.result.now.set_outs.items) p.tag) (sym c.points-points.ensures)
-    (subst (λ (x : Option _). (p : Point g.row.C-V.Denot) → Contains listed p → IsJourneySpelled t.footpaths (story exits steps (set_outs_by x)) p.tag)
-    (at_stop g (goal.at.tell_journeys-requires g c).After-index-origin)
-    (attained_spelled rules t q (story_from state c.args.stop) listed answers.attained))
-
--- what was told answers the query
-made : (g : given.Over) (c : goal.After-of g) → IsAnswered (g.C.Criterion.rules (criterion_of_profiles c.args.self.now))
-    (g.S.ConnSource.timetable c.args.source.now) (query_from (destination_of c.args.self.now) c.args.stop) c.in_ok-spelled.spelled.points.items
-    c.in_ok-spelled.spelled.nodes.items c.secs_from.result
-made g c =
-    let profiles = c.args.self.now in
-    let t = g.S.ConnSource.timetable c.args.source.now in
-    let q = query_from (destination_of profiles) c.args.stop in
-    let rules = g.C.Criterion.rules (criterion_of_profiles profiles) in
-    let state = profiles.state in
-    let exits = state.trips.exits.items in
-    let steps = steps_of state.stops.lists in
-    let listed = listed_from profiles c.args.stop in
-    let points = c.in_ok-spelled.spelled.points.items in
-    let nodes = c.in_ok-spelled.spelled.nodes.items in
-    let answers = c.requires.answered.each c.args.stop c.requires.stop c.requires.differ in
-    let same = subst (λ (ps : List (Point g.row.C-V.Denot)). map untagged points ≡ map untagged ps) c.points-points.ensures c.in_ok-spelled.ensures.same in
-    let says =
-    subst (λ (x : Option _). (p : Point g.row.C-V.Denot) → Contains points p → IsSpelledAgain t.footpaths
-    (story exits steps (set_outs_by x)) listed nodes p) (sym (at_stop g (goal.at.After-of g c).After-index-origin))
-    (subst (λ (ps : List (Point g.row.C-V.Denot)). (p : Point g.row.C-V.Denot) → Contains points p → IsSpelledAgain t.footpaths
-    (story exits steps c.index-origin.result.now.set_outs.items) ps nodes p) c.points-points.ensures c.in_ok-spelled.ensures.says) in
-    let way = subst (IsWay t q.target q.source) (sym c.secs_from.ensures) answers.direct in
-    answered_in_nodes rules t q (story_from state c.args.stop) nodes listed points c.secs_from.result answers.answer answers.attained same says way
-
--- that it answers is kept with the timetable and the query that stand beside it
-pub invariant_of-result : goal.invariant_of-result
-invariant_of-result g c =
-    let profiles = c.args.self.now in
-    let rules = g.C.Criterion.rules (criterion_of_profiles profiles) in
-    let points = c.in_ok-spelled.spelled.points.items in
-    let nodes = c.in_ok-spelled.spelled.nodes.items in
-    let q = query_from (destination_of profiles) c.args.stop in
-    let at_t = subst (λ (x : TimetableValue). IsAnswered rules x q points nodes c.secs_from.result) (sym c.timetable_of.ensures)
-    (made g (goal.at.invariant_of-result g c).After-of) in
-    let at_q = subst (λ (x : Query). IsAnswered rules c.timetable_of.result.value x points nodes c.secs_from.result)
-    (sym (c.of.ensures ∙ c.query_from-query.ensures)) at_t in
-    record { answered = ∣ at_q ∣₁ }
+-- what was asked from the stop is the query from it
+pub of_one-requires : goal.of_one-requires
+of_one-requires g c =
+    c.in_ok-found.ensures.keeps.2 ∙ ap (λ (b : BetweenValue). from_stop b c.args.stop) c.requires.answered.asked
+    ∙ ap between_one (sym c.query_from-query.ensures)
 
 pub returns : goal.returns
 returns g c =
-    let answer = made g (goal.at.returns g c).After-of in
-    record {
-      answer = answer.answer;
-      attained = answer.attained;
-      direct = answer.direct;
-      keeps = (refl, c.timetable_of.ensures, c.of.ensures ∙ c.query_from-query.ensures);
-    }
+    let t = g.S.ConnSource.timetable c.args.source.now in
+    let criterion = criterion_of_profiles c.args.self.now in
+    let rules = g.C.Criterion.rules criterion in
+    let same = ap (λ (b : BetweenValue). from_stop b c.args.stop) c.requires.answered.asked ∙ ap between_one (sym c.query_from-query.ensures) in
+    subst (λ (q : Query). Answers criterion rules t q c.of_one.result) c.query_from-query.ensures
+    (c.of_one.ensures criterion t (subst (λ (b : BetweenValue). AnswersBetween criterion rules t b c.in_ok-found.found) same c.in_ok-found.ensures))

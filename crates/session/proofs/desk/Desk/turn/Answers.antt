@@ -1,6 +1,7 @@
 use Rattle.std.proofs.Common.{Err, ap}
 use Rattle.serde_json.specs.View.{view}
 use Rattle.session_texts.specs.declared.judging.LineFault.{LineFault}
+use Rattle.session.proofs.SideLemmas.{none_asked}
 use Rattle.session.proofs.TurnLemmas.{asks_known, bad_json_turn, bad_request_turn, load_turn, memory_turn}
 use Rattle.session.proofs.TurnLemmas.{order_turn, seat_turn, too_long_turn, waits_for, waits_not, whole}
 use Rattle.session.proofs.LearnLemmas.{learns_same}
@@ -21,46 +22,51 @@ returns-in-Err-BadJson-clause-turn g c = λ l shows.
 pub returns-in-Err-OutOfMemory-clause-turn : goal.returns-in-Err-OutOfMemory-clause-turn
 returns-in-Err-OutOfMemory-clause-turn g c = λ l shows. memory_turn _ _ _ l _ c.refusal-in-Err-OutOfMemory.ensures
 
-pub returns-in-None-clause-turn : goal.returns-in-None-clause-turn
-returns-in-None-clause-turn g c = λ l shows.
+pub returns-in-Err-BadRequest-clause-turn : goal.returns-in-Err-BadRequest-clause-turn
+returns-in-Err-BadRequest-clause-turn g c = λ l shows.
     bad_request_turn _ _ _ c.in-Whole.bytes.now l _ (view c.in-Ok.value)
-    (whole c.args.line c.in-Whole.bytes l c.in-Whole.is shows) c.in-Ok.ensures.value c.in-None.ensures
-    c.refusal-in-None.ensures
+    (whole c.args.line c.in-Whole.bytes l c.in-Whole.is shows) c.in-Ok.ensures.value
+    (none_asked c.in-Err-BadRequest.field-0-is c.in-Err-BadRequest.ensures) c.refusal-in-Err-BadRequest.ensures
 
-pub returns-in-Some-Pin-clause-turn : goal.returns-in-Some-Pin-clause-turn
-returns-in-Some-Pin-clause-turn g c = λ l shows.
+pub returns-in-Err-OutOfMemory-request_of-clause-turn : goal.returns-in-Err-OutOfMemory-request_of-clause-turn
+returns-in-Err-OutOfMemory-request_of-clause-turn g c = λ l shows. memory_turn _ _ _ l _ c.refusal-in-Err-OutOfMemory-request_of.ensures
+
+pub returns-in-Ok-Pin-clause-turn : goal.returns-in-Ok-Pin-clause-turn
+returns-in-Ok-Pin-clause-turn g c = λ l shows.
     seat_turn _ _ _ _ c.in-Whole.bytes.now l _ (view c.in-Ok.value) _
     (whole c.args.line c.in-Whole.bytes l c.in-Whole.is shows) c.in-Ok.ensures.value
-    (asks_known (view c.in-Ok.value) _ _ c.in-Some-Pin.field-0-is c.in-Some-Pin.ensures) c.pin.ensures.met
+    (asks_known _ (view c.in-Ok.value) _ _ c.in-Ok-Pin.field-0-is c.in-Ok-Pin.ensures) c.pin.ensures.met
 
-pub returns-in-Some-Release-clause-turn : goal.returns-in-Some-Release-clause-turn
-returns-in-Some-Release-clause-turn g c = λ l shows.
+pub returns-in-Ok-Release-clause-turn : goal.returns-in-Ok-Release-clause-turn
+returns-in-Ok-Release-clause-turn g c = λ l shows.
     seat_turn _ _ _ _ c.in-Whole.bytes.now l _ (view c.in-Ok.value) _
     (whole c.args.line c.in-Whole.bytes l c.in-Whole.is shows) c.in-Ok.ensures.value
-    (asks_known (view c.in-Ok.value) _ _ c.in-Some-Release.field-0-is c.in-Some-Release.ensures)
+    (asks_known _ (view c.in-Ok.value) _ _ c.in-Ok-Release.field-0-is c.in-Ok-Release.ensures)
     c.release.ensures.met
 
-pub returns-in-Some-Profile-clause-turn : goal.returns-in-Some-Profile-clause-turn
-returns-in-Some-Profile-clause-turn g c = λ l shows.
+pub returns-in-Ok-Profile-clause-turn : goal.returns-in-Ok-Profile-clause-turn
+returns-in-Ok-Profile-clause-turn g c = λ l shows.
     seat_turn _ _ _ _ c.in-Whole.bytes.now l _ (view c.in-Ok.value) _
     (whole c.args.line c.in-Whole.bytes l c.in-Whole.is shows) c.in-Ok.ensures.value
-    (asks_known (view c.in-Ok.value) _ _ c.in-Some-Profile.field-0-is c.in-Some-Profile.ensures)
+    (asks_known _ (view c.in-Ok.value) _ _ c.in-Ok-Profile.field-0-is c.in-Ok-Profile.ensures)
     c.answer_profile.ensures.met
 
-pub returns-in-Some-Load-default-false-clause-turn : goal.returns-in-Some-Load-default-false-clause-turn
-returns-in-Some-Load-default-false-clause-turn g c = λ l shows.
+pub returns-in-Ok-Load-default-false-clause-turn : goal.returns-in-Ok-Load-default-false-clause-turn
+returns-in-Ok-Load-default-false-clause-turn g c = λ l shows.
     let put = c.order_feed.ensures.put in
-    let arm = c.in-Some-Load-default-false in
+    let arm = c.in-Ok-Load-default-false in
     let here = whole c.args.line c.in-Whole.bytes l c.in-Whole.is shows in
-    let asked = waits_not (view c.in-Ok.value) _ arm.field-0-1 arm.field-0-1-test (asks_known (view c.in-Ok.value) _ _ arm.field-0-is arm.ensures) in
+    let asked = waits_not c.args.self.now.form.sets (view c.in-Ok.value) _ arm.field-0-1 arm.field-0-1-test
+    (asks_known _ (view c.in-Ok.value) _ _ arm.field-0-is arm.ensures) in
     order_turn _ _ _ _ put.0 c.in-Whole.bytes.now l _ arm.feed.now (view c.in-Ok.value) here c.in-Ok.ensures.value asked put.1 put.2
 
 pub returns-clause-turn : goal.returns-clause-turn
 returns-clause-turn g c = λ l shows.
     let put = c.load_feed.ensures.met in
-    let arm = c.in-Some-Load-default-true in
+    let arm = c.in-Ok-Load-default-true in
     let here = whole c.args.line c.in-Whole.bytes l c.in-Whole.is shows in
-    let asked = waits_for (view c.in-Ok.value) _ arm.field-0-1 arm.field-0-1-test (asks_known (view c.in-Ok.value) _ _ arm.field-0-is arm.ensures) in
+    let asked = waits_for c.args.self.now.form.sets (view c.in-Ok.value) _ arm.field-0-1 arm.field-0-1-test
+    (asks_known _ (view c.in-Ok.value) _ _ arm.field-0-is arm.ensures) in
     load_turn _ _ _ _ _ put.0 c.in-Whole.bytes.now l _ arm.feed.now (view c.in-Ok.value) here c.in-Ok.ensures.value asked put.1 put.2
 
 pub returns-in-TooLong-clause-learns : goal.returns-in-TooLong-clause-learns
@@ -75,20 +81,23 @@ returns-in-Err-BadJson-clause-learns g c = learns_same _ _
 pub returns-in-Err-OutOfMemory-clause-learns : goal.returns-in-Err-OutOfMemory-clause-learns
 returns-in-Err-OutOfMemory-clause-learns g c = learns_same _ _
 
-pub returns-in-None-clause-learns : goal.returns-in-None-clause-learns
-returns-in-None-clause-learns g c = learns_same _ _
+pub returns-in-Err-BadRequest-clause-learns : goal.returns-in-Err-BadRequest-clause-learns
+returns-in-Err-BadRequest-clause-learns g c = learns_same _ _
 
-pub returns-in-Some-Pin-clause-learns : goal.returns-in-Some-Pin-clause-learns
-returns-in-Some-Pin-clause-learns g c = c.pin.ensures.learns
+pub returns-in-Ok-Pin-clause-learns : goal.returns-in-Ok-Pin-clause-learns
+returns-in-Ok-Pin-clause-learns g c = c.pin.ensures.learns
 
-pub returns-in-Some-Release-clause-learns : goal.returns-in-Some-Release-clause-learns
-returns-in-Some-Release-clause-learns g c = c.release.ensures.learns
+pub returns-in-Ok-Release-clause-learns : goal.returns-in-Ok-Release-clause-learns
+returns-in-Ok-Release-clause-learns g c = c.release.ensures.learns
 
-pub returns-in-Some-Profile-clause-learns : goal.returns-in-Some-Profile-clause-learns
-returns-in-Some-Profile-clause-learns g c = c.answer_profile.ensures.learns
+pub returns-in-Ok-Profile-clause-learns : goal.returns-in-Ok-Profile-clause-learns
+returns-in-Ok-Profile-clause-learns g c = c.answer_profile.ensures.learns
 
-pub returns-in-Some-Load-default-false-clause-learns : goal.returns-in-Some-Load-default-false-clause-learns
-returns-in-Some-Load-default-false-clause-learns g c = learns_same _ _
+pub returns-in-Ok-Load-default-false-clause-learns : goal.returns-in-Ok-Load-default-false-clause-learns
+returns-in-Ok-Load-default-false-clause-learns g c = learns_same _ _
 
 pub returns-clause-learns : goal.returns-clause-learns
 returns-clause-learns g c = c.load_feed.ensures.learns
+
+pub returns-in-Err-OutOfMemory-request_of-clause-learns : goal.returns-in-Err-OutOfMemory-request_of-clause-learns
+returns-in-Err-OutOfMemory-request_of-clause-learns g c = learns_same _ _

@@ -1,0 +1,64 @@
+-- An answer between single stops is that of a plain query.
+use Rattle.std.proofs.Common.{ℕ, List, [], ◌∷◌, Option, Some, None, Contains, map, ap, sym, subst}
+use Rattle.reasoning.proofs.ListLemmas.{contains_at, contains_only}
+use Rattle.criteria.specs.Laws.{Rules}
+use Rattle.criteria.specs.declared.name.CriterionName.{CriterionName}
+use Rattle.criteria.specs.declared.figures.Figures.{Figures}
+use Rattle.bags.specs.declared.point.Point.{Point}
+use Rattle.timetable.specs.TimetableValue.{TimetableValue}
+use Rattle.timetable.specs.JourneyValue.{JourneyValue}
+use Rattle.timetable.specs.declared.network.Footpath.{Footpath}
+use Rattle.timetable.specs.declared.query.Query.{Query}
+use Rattle.image_layout.specs.Image.{ImageValue}
+use Rattle.profile_scan.specs.Between.{IsDirectWalk, between_one, pair_of, secs_of}
+use Rattle.profile_scan.specs.Kept.{IsWay}
+use Rattle.profile_scan.proofs.Single.{answer_from}
+use Rattle.journeys.specs.Answer.{point_of}
+use Rattle.journeys.specs.Extracted.{Attains, AttainsBetween}
+use Rattle.station_answers.specs.Walks.{IsDirectTime}
+use Rattle.answer_replies.specs.declared.point_form.PointForm.{PointForm}
+use Rattle.answer_replies.specs.OneStop.{IsAnsweredOne, IsAnsweredOneBy}
+use Rattle.answer_replies.specs.Replying.{IsAnswered, IsAnsweredBy}
+
+-- a journey between single stops runs from the one to the other
+attains_one : {V : Type 0} (rules : Rules V) (t : TimetableValue) (q : Query) (p : Point V) (j : JourneyValue)
+    → AttainsBetween rules t (between_one q) p j → Attains rules t q p j
+attains_one rules t q p j a =
+    subst (λ (s : ℕ). Attains rules t (pair_of (between_one q) s q.target) p j) (contains_only q.source a.pair.source a.pair.is_source)
+    (subst (λ (s : ℕ). Attains rules t (pair_of (between_one q) a.pair.source s) p j)
+    (contains_only q.target a.pair.target a.pair.is_target) a.attains)
+
+-- the direct walk between single stops is the footpath from the one to the other
+direct_walk_one : (t : TimetableValue) (q : Query) (walk : Option Footpath) → IsDirectWalk t (between_one q) walk
+    → IsWay t q.target q.source (secs_of walk)
+direct_walk_one t q None none = λ f is from to. none 0 0 f (record {
+  is_footpath = is;
+  leaves = ap Some (sym from);
+  leads = ap Some (sym to);
+})
+direct_walk_one t q (Some f) is =
+    let from = contains_only q.source f.from (contains_at (q.source ∷ []) is.0 f.from is.2.leaves) in
+    let to = contains_only q.target f.to (contains_at (q.target ∷ []) is.1 f.to is.2.leads) in
+    subst (λ (a : ℕ). Contains t.footpaths (record { from = a; to = q.target; secs = f.secs })) from
+    (subst (λ (z : ℕ). Contains t.footpaths (record { from = f.from; to = z; secs = f.secs })) to is.2.is_footpath)
+
+direct_one : (t : TimetableValue) (q : Query) (walk : Option ℕ) → IsDirectTime t (between_one q) walk → IsWay t q.target q.source walk
+direct_one t q walk is = subst (IsWay t q.target q.source) (sym is.is) (direct_walk_one t q is.walk is.is_walk)
+
+answered_one : {V : Type 0} (form : PointForm) (figures : V → Figures) (rules : Rules V) (image : ImageValue) (version : ℕ) (q : Query)
+    (reply : List ℕ) → IsAnswered form figures rules image version (between_one q) reply
+    → IsAnsweredOne form figures rules image version q reply
+answered_one form figures rules image version q reply is = record {
+  departures = is.departures;
+  walk = is.walk;
+  answer = answer_from rules image.timetable q (map point_of is.departures) is.answer;
+  attained = λ d has. attains_one rules image.timetable q (point_of d) d.journey (is.attained d has);
+  direct = direct_one image.timetable q is.walk is.direct;
+  reply_is = is.reply_is;
+}
+
+pub answered_one_by : (form : PointForm) (criterion : CriterionName) (image : ImageValue) (version : ℕ) (q : Query) (reply : List ℕ)
+    → IsAnsweredBy form criterion image version (between_one q) reply → IsAnsweredOneBy form criterion image version q reply
+answered_one_by form CriterionName.Arrival image version q reply is = answered_one form _ _ image version q reply is
+answered_one_by form CriterionName.ArrivalTrips image version q reply is = answered_one form _ _ image version q reply is
+answered_one_by form CriterionName.ArrivalTripsWalk image version q reply is = answered_one form _ _ image version q reply is

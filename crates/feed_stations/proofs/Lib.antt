@@ -1,0 +1,7 @@
+mod Commas
+mod Counted
+mod Found
+mod Groups
+mod Labelled
+mod Marks
+mod Named

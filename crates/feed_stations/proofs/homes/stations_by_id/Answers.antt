@@ -1,0 +1,28 @@
+use Rattle.std.proofs.Common.{◌≡◌, ◌∙◌, ◌<◌, Option, None, Some, ap, arith, length, sym, ℕ}
+use Rattle.std.specs.Prelude.{if◌then◌else◌}
+use Rattle.std.specs.Option.{option_or}
+use Rattle.std.specs.Str.{bytes_eq}
+use Rattle.std.specs.String.{string_bytes}
+use Rattle.reasoning.proofs.FirstLemmas.{first_below-start}
+use Rattle.gtfs_tables.specs.Names.{held_at}
+use Rattle.gtfs_tables.proofs.NameLemmas.{held-none}
+use Rattle.feed_stations.proofs.Named.{other-more, station-more}
+use Rattle.feed_stations.proofs.homes.stations_by_id.Goals as goal
+use Rattle.feed_stations.proofs.homes.stations_by_id.Goals.{then-is_station+in_ok-add_first, else-is_station}
+
+pub loop-place-init : goal.loop-place-init
+loop-place-init c = λ id. held-none c.in_ok-stations.stations id c.in_ok-stations.ensures.empty ∙ sym (first_below-start _)
+
+pub loop-place-preserved : goal.loop-place-preserved
+loop-place-preserved c = λ id.
+    let lt : c.loop-place.place < length c.args.rows.now = omega arith in
+    elim c.if-is_station.branch [
+      | then-is_station+in_ok-add_first w ↦
+          rw (w.stations-is, w.in_ok-add_first.ensures id, c.loop-place.invariant id, w.as_str.ensures.value)
+          (sym (station-more c.args.rows.now c.loop-place.place c.index-rows-place.result id lt c.index-rows-place.is
+          (sym c.is_station.ensures ∙ w.if-is_station.true)))
+      | else-is_station w ↦
+          rw (w.stations-is, c.loop-place.invariant id)
+          (sym (other-more c.args.rows.now c.loop-place.place c.index-rows-place.result id lt c.index-rows-place.is
+          (sym c.is_station.ensures ∙ w.if-is_station.false)))
+    ]

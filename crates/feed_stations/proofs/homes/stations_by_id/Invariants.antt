@@ -1,0 +1,8 @@
+use Rattle.std.proofs.Common.{◌≡◌, ℕ, List}
+use Rattle.gtfs_tables.specs.First.{first_below}
+use Rattle.gtfs_tables.specs.Names.{held_at}
+use Rattle.feed_stations.specs.Homes.{station_with}
+use Rattle.feed_stations.proofs.homes.stations_by_id.Given as goal
+
+abbrev pub invariant-loop-place : goal.invariant-loop-place
+invariant-loop-place l = (id : List ℕ) → held_at l.stations id ≡ first_below (station_with l.rows id) l.place

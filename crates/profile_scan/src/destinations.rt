@@ -1,0 +1,49 @@
+//! Queries from every stop at once, to any of several targets.
+
+use crate::between::Between;
+use crate::destination::Destination;
+use std::alloc::{AllocError, Global};
+
+/// What is asked from every stop of those who may end at any of several stops, as the platforms of a station: journeys
+/// to any of the targets that depart between two times and arrive by a third. Times are in seconds after the base.
+#[derive(Debug, Drop)]
+pub struct Destinations {
+    pub targets: Vec<u32>,
+    /// The earliest departure.
+    pub from: u32,
+    /// The latest departure.
+    pub until: u32,
+    /// The latest arrival.
+    pub by: u32,
+}
+
+impl Destinations {
+    ghost use Rattle.std.specs.Prelude.{◌≡◌, IfOk};
+    ghost use Rattle.profile_scan.specs.Between.{question};
+    ghost use Rattle.profile_scan.specs.Destinations.{question_to, question_to_any};
+
+    // The query between no source and the targets.
+    pub(crate) fn query(&self, alloc: Global) -> Result<Between, AllocError>
+        ensures { IfOk result (λ query. question query ≡ question_to_any self.now) }
+    {
+        Ok(Between {
+            sources: Vec::new(alloc),
+            targets: self.targets.clone()?,
+            from: self.from,
+            until: self.until,
+            by: self.by,
+        })
+    }
+
+    /// The same to a single target. The only error is that memory runs out.
+    pub fn one(alloc: Global, destination: &Destination) -> Result<Self, AllocError>
+        ensures { IfOk result (λ destinations. question_to_any destinations ≡ question_to destination.now) }
+    {
+        Ok(Destinations {
+            targets: vec![in alloc; destination.target]?,
+            from: destination.from,
+            until: destination.until,
+            by: destination.by,
+        })
+    }
+}

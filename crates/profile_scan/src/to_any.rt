@@ -1,0 +1,185 @@
+//! The answers from all stops to any of several targets, by one scan.
+
+ghost use Rattle.std.specs.Prelude.{◌≡◌, ◌++◌, ℕ, IfOk, OnOk, OnErr, length, reverse, slice_get, take};
+ghost use Rattle.profile_scan.specs.Between.{IsAskableBetween, question};
+ghost use Rattle.profile_scan.specs.Destinations.{question_to_any};
+ghost use Rattle.profile_scan.specs.Hops.{IsAsked};
+ghost use Rattle.profile_scan.specs.Window.{window_of};
+ghost use Rattle.profile_scan.specs.Origins.{AreUnder, found_from};
+ghost use Rattle.profile_scan.specs.Everywhere.{AnswerToAny, AreInOrder, asked_to_any, criterion_to_any, points_in};
+
+use crate::answering::timetable_of;
+use crate::destinations::Destinations;
+use crate::everywhere::{StateOfAll, scan_for_all};
+use crate::found::in_order;
+use crate::found_between::FoundBetween;
+use crate::hop::ScanQuery;
+use crate::origins::Origins;
+use crate::starts::starts_from;
+use crate::telling::tell_journeys;
+use crate::view::ScanView;
+use crate::ways::ways_to;
+use bags::Point;
+use criteria::Criterion;
+use sources::ConnSource;
+use std::alloc::{AllocError, Global};
+use timetable::{Footpath, GhostValue};
+
+/// The answers from every stop to any of several targets, for one window and criterion. The scan's story of how
+/// journeys go is kept as it is; `found_from` spells those from one stop.
+#[derive(Drop)]
+pub struct ProfilesToAny<C: Criterion> {
+    asked: ScanQuery<C>,
+    state: StateOfAll<C>,
+    // the points of each stop, in order; a point's tag is the index of how one sets out for it
+    lists: Vec<Vec<Point<C::V>>>,
+}
+
+impl<C: Criterion> ProfilesToAny<C> {
+    ghost use Rattle.std.specs.Prelude.{◌≡◌, ◌<◌, IfOk, Contains, length};
+    ghost use Rattle.profile_scan.specs.Kept.{ways_of};
+    ghost use Rattle.profile_scan.specs.Found.{AnswersBetween};
+    ghost use Rattle.profile_scan.specs.Origins.{from_stop};
+    ghost use Rattle.profile_scan.specs.Everywhere.{AnswerToAny, asked_to_any, criterion_to_any, listed_to_any};
+    ghost use Rattle.profile_scan.specs.Everywhere.{stops_to_any, walk_to_any};
+
+    /// The targets, in the order in which they were asked for.
+    pub fn targets(&self) -> &[u32]
+        ensures { result.now ≡ (asked_to_any self.now).targets }
+    {
+        &self.asked.query.targets
+    }
+
+    /// The best departures from a stop, by departure, then by the criterion's order; from a target those of journeys
+    /// that come back to it or go on to another. Only `found_from` can read their tags.
+    pub fn points(&self, stop: u32) -> &[Point<C::V>]
+        requires { stop < stops_to_any self.now }
+        ensures { result.now ≡ listed_to_any self.now stop }
+    {
+        &self.lists[stop as usize]
+    }
+
+    /// The shortest footpath from a stop to a target, if there is one, and of equal ones that to the target that was
+    /// named first; from a target its loop.
+    pub fn direct_walk(&self, stop: u32) -> Option<Footpath>
+        requires { stop < length (ways_of self.now.asked.ways) }
+        ensures { result ≡ walk_to_any self.now stop }
+    {
+        self.asked.ways.walk_from(stop)
+    }
+
+    /// Returns the answer of the query from one stop, which is no target, to any of the targets, with its journeys.
+    /// The source has to be one of the timetable that was scanned. The only error is that memory runs out.
+    pub fn found_from<S: ConnSource>(
+        &self,
+        alloc: Global,
+        source: &S,
+        stop: u32,
+    ) -> Result<FoundBetween<C>, AllocError>
+        requires stop { stop < (S.timetable source.now).stops }
+        requires differ { Contains (asked_to_any self.now).targets stop → ⊥ }
+        requires answered { AnswerToAny C.rules (S.timetable source.now) self.now }
+        ensures { IfOk result (λ found. AnswersBetween (criterion_to_any self.now)
+            (C.rules (criterion_to_any self.now)) (S.timetable source.now)
+            (from_stop (asked_to_any self.now) stop) found) }
+    {
+        let origin = &self.state.origins.each[stop as usize];
+        let view = ScanView {
+            trips: &self.state.trips,
+            stops: &self.state.stops,
+            origin,
+        };
+        let points = self.points(stop);
+        let spelled = tell_journeys(alloc, source, &view, points)?;
+        let query = self.asked.query.from_stop(alloc, stop)?;
+        Ok(FoundBetween {
+            criterion: self.asked.criterion,
+            points: spelled.points,
+            nodes: spelled.nodes,
+            walk: self.asked.ways.walk_from(stop),
+            timetable: timetable_of(source),
+            query: GhostValue::of(&query),
+        })
+    }
+}
+
+// Makes what a scan for all sources asks: a query without sources, to the targets.
+fn ask_from_all<S: ConnSource, C: Criterion>(
+    alloc: Global,
+    source: &S,
+    criterion: &C,
+    destinations: &Destinations,
+) -> Result<ScanQuery<C>, AllocError>
+    requires { IsAskableBetween (S.timetable source.now).stops (question_to_any destinations.now) }
+    ensures asked { IfOk result (λ asked. IsAsked (S.timetable source.now) asked) }
+    ensures keeps { IfOk result (λ asked. (asked.criterion ≡ criterion.now)
+        × (question asked.query ≡ question_to_any destinations.now)) }
+{
+    let query = destinations.query(alloc)?;
+    let starts = starts_from(alloc, source, &query.sources)?;
+    let ways = ways_to(alloc, source, &query.targets)?;
+    Ok(ScanQuery {
+        criterion: *criterion,
+        query,
+        starts,
+        ways,
+    })
+}
+
+// Returns the points found from each stop, in order.
+fn lists_in_order<C: Criterion>(
+    alloc: Global,
+    criterion: &C,
+    origins: &Origins<C>,
+) -> Result<Vec<Vec<Point<C::V>>>, AllocError>
+    requires { AreUnder criterion.now origins.now }
+    ensures long { IfOk result (λ lists. length lists.items ≡ length origins.now.each.items) }
+    ensures lists { IfOk result (λ lists. (stop : ℕ)
+        → AreInOrder (C.rules criterion.now) (found_from origins.now stop) (points_in (slice_get lists.items stop))) }
+{
+    let mut lists = Vec::with_capacity(alloc, origins.each.len())?;
+    for stop in 0..origins.each.len() {
+        let origin = &origins.each[stop];
+        let points = in_order(alloc, criterion, &origin.found)?;
+        lists.push(points)?;
+    }
+    Ok(lists)
+}
+
+/// Answers a query from every stop to any of several targets by one scan: for each stop, exactly the points of all
+/// journeys from there to one of the targets that count which no other such point dominates, in order.
+///
+/// A journey that is at a target ends there, and the walk from a stop is the shortest footpath to a target. From a
+/// target, where no query can be asked, the journeys are those that come back to it or go on to another; a caller that
+/// wants only what can be asked leaves the targets out.
+///
+/// Each connection of the window is asked for once for all stops and targets, from the last to the first. The only
+/// error is that memory runs out, or that a number would need more than 32 bits; then only a first part of the
+/// connections was asked for.
+pub fn profiles_to_any<S: ConnSource, C: Criterion>(
+    alloc: Global,
+    source: &mut S,
+    criterion: &C,
+    destinations: &Destinations,
+) -> Result<ProfilesToAny<C>, AllocError>
+    requires { IsAskableBetween (S.timetable source.old).stops (question_to_any destinations.now) }
+    ensures timetable { S.timetable source.new ≡ S.timetable source.old }
+    ensures answers { IfOk result (λ profiles. AnswerToAny C.rules (S.timetable source.old) profiles) }
+    ensures keeps { IfOk result (λ profiles. (criterion_to_any profiles ≡ criterion.now)
+        × (asked_to_any profiles ≡ question_to_any destinations.now)) }
+    ensures log { OnOk result (S.log source.new ≡ S.log source.old
+        ++ reverse (window_of (S.timetable source.old) destinations.now.from destinations.now.by)) }
+    ensures err { OnErr result ((n : ℕ) × (S.log source.new ≡ S.log source.old
+        ++ take n (reverse (window_of (S.timetable source.old) destinations.now.from destinations.now.by)))) }
+{
+    let start = source.first_at(destinations.from);
+    let end = source.first_at(destinations.by);
+    let asked = ask_from_all(alloc, source, criterion, destinations)?;
+    let state = scan_for_all(alloc, source, &asked, start..end)?;
+    let lists = lists_in_order(alloc, criterion, &state.origins)?;
+    Ok(ProfilesToAny {
+        asked,
+        state,
+        lists,
+    })
+}
