@@ -5,7 +5,7 @@ use crate::values::{clock, count, month_name, named_folder, number, port, spelle
 use clap::error::ErrorKind;
 use clap::{ArgMatches, Error};
 use command_requests::{
-    AnswerForm, BetweenRequest, BuildRequest, CommandRequest, DeparturesForm, DeparturesRequest,
+    AnswerForm, BuildRequest, CommandRequest, DeparturesForm, DeparturesRequest,
     FirstDay, JourneyRequest, NamedFolder, PictureRows, PlanText, ProfileRequest, Question,
     Seconds, ServeRequest, StationsRequest, StopsRequest, UpgradeRequest, Workers, days_of,
 };
@@ -222,7 +222,7 @@ fn request_in<'a>(
             None => Err(wrong_value(alloc, "build", inner)),
         },
         Some(("serve", inner)) => serve_request(alloc, inner),
-        Some(("profile", inner)) if has_several(inner) => between_request(alloc, inner),
+        Some(("profile", inner)) => profile_request(alloc, inner),
         Some(("departures", inner)) => departures_request(alloc, inner),
         Some((name, inner)) => match plain_request(name, inner) {
             Some(request) => Ok(request),
@@ -238,7 +238,6 @@ fn plain_request<'a>(name: &str, matches: &ArgMatches<'a>) -> Option<CommandRequ
         "verify" => matches.get_str("image").map(CommandRequest::Verify),
         "info" => matches.get_str("image").map(CommandRequest::Info),
         "journey" => journey_request(matches).map(CommandRequest::Journey),
-        "profile" => profile_request(matches).map(CommandRequest::Profile),
         "stops" => stops_request(matches).map(CommandRequest::Stops),
         "tables" => matches.get_str("folder").map(CommandRequest::Tables),
         "days" => matches.get_str("folder").map(CommandRequest::Days),
@@ -351,56 +350,29 @@ fn journey_request<'a>(matches: &ArgMatches<'a>) -> Option<JourneyRequest<'a>> {
     })
 }
 
-fn profile_request<'a>(matches: &ArgMatches<'a>) -> Option<ProfileRequest<'a>> {
-    Some(ProfileRequest {
-        image: matches.get_str("image")?,
-        question: question(matches)?,
-        criterion: CriterionName::of(matches.get_str("criterion")?)?,
-        form: answer_form(matches),
-        picture: matches.get_str("picture"),
-        rows: rows(matches)?,
-    })
-}
-
 /// How many stops a side of a question may have.
 const MOST_STOPS: usize = 1000;
 
-/// Whether a question has several stops on a side.
-fn has_several(matches: &ArgMatches<'_>) -> bool {
-    count_of(matches, "from") > 1 || count_of(matches, "to") > 1
-}
-
-/// How many values an option has.
-fn count_of(matches: &ArgMatches<'_>, option: &str) -> usize {
-    match matches.get_strs(option) {
-        Some(values) => values.len(),
-        None => 0,
-    }
-}
-
-/// The request of `csa profile` with several stops on a side.
-fn between_request<'a>(
+/// The request of `csa profile`.
+fn profile_request<'a>(
     alloc: Global,
     matches: &ArgMatches<'a>,
 ) -> Result<CommandRequest<'a>, NoCommand> {
-    if matches.get_str("picture").is_some() {
-        return Err(no_picture(alloc));
-    }
     let from = stops_of(alloc, "profile", matches, "from")?;
     let to = stops_of(alloc, "profile", matches, "to")?;
-    match between_of(matches, from, to) {
-        Some(request) => Ok(CommandRequest::Between(request)),
+    match profile_between(matches, from, to) {
+        Some(request) => Ok(CommandRequest::Profile(request)),
         None => Err(wrong_value(alloc, "profile", matches)),
     }
 }
 
-/// The request between these stops; `None` if a value has a wrong form.
-fn between_of<'a>(
+/// The request of `csa profile` between these stops; `None` if a value has a wrong form.
+fn profile_between<'a>(
     matches: &ArgMatches<'a>,
     from: Vec<&'a str>,
     to: Vec<&'a str>,
-) -> Option<BetweenRequest<'a>> {
-    Some(BetweenRequest {
+) -> Option<ProfileRequest<'a>> {
+    Some(ProfileRequest {
         image: matches.get_str("image")?,
         from,
         to,
@@ -409,6 +381,8 @@ fn between_of<'a>(
         by: clock(matches.get_str("by")?)?,
         criterion: CriterionName::of(matches.get_str("criterion")?)?,
         form: answer_form(matches),
+        picture: matches.get_str("picture"),
+        rows: rows(matches)?,
     })
 }
 
@@ -469,14 +443,6 @@ fn stop_given_twice(
         format!(in alloc;
             "error: --{option} {stop:?}: number {index} is the same stop as number {first}\n"
         ),
-    )
-}
-
-fn no_picture(alloc: Global) -> NoCommand {
-    mistake(
-        alloc,
-        "profile",
-        format!(in alloc; "error: --picture: an answer between several stops can't be drawn\n"),
     )
 }
 

@@ -95,7 +95,7 @@ The last line `points N read N walk SECS` has the number of these departures, th
 were read, and the seconds of the direct walk, or `none`. A journey has at least one ride, so this walk is not\n\
 among the departures, and may be quicker than some of them.\n\
 With --from or --to given several times, at most 1000 times each, journeys may begin at any of the first stops and\n\
-end at any of the second: the departures are the best of all pairs, the walk is the shortest. Without --picture.\n\
+end at any of the second: the departures are the best of all pairs, the walk is the shortest.\n\
 Clocks are HH:MM:SS after the image's base, the start of its first service day: 55:00:00 is 07:00 on the\n\
 third day. A warning says if no connection departs in the window, or if it ends after the last day on which one\n\
 does; --no-warnings leaves it out.\n\

@@ -14,7 +14,7 @@ pub use plans::{
     Seconds, UtcOffset, Workers, ZoneText, days_of,
 };
 pub use requests::{
-    AnswerForm, BetweenRequest, BuildRequest, CommandRequest, DeparturesForm, DeparturesRequest,
+    AnswerForm, BuildRequest, CommandRequest, DeparturesForm, DeparturesRequest,
     JourneyRequest, NamedFolder, ProfileRequest, Question, ServeRequest, StationsRequest,
     StopsRequest, UpgradeRequest,
 };

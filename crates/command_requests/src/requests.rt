@@ -12,10 +12,8 @@ pub enum CommandRequest<'a> {
     Info(&'a str),
     /// To check a journey against an image.
     Journey(JourneyRequest<'a>),
-    /// To answer a profile query over an image.
+    /// To answer a question over an image.
     Profile(ProfileRequest<'a>),
-    /// To answer a question between several stops over an image.
-    Between(BetweenRequest<'a>),
     /// To answer the queries from every stop to one, or to any of several, over an image.
     Departures(DeparturesRequest<'a>),
     /// To read the tables of a feed's folder.
@@ -101,23 +99,10 @@ pub enum AnswerForm {
     JsonLegs,
 }
 
-/// The image, the query that is asked of it, the criterion, and how the answer is printed.
-#[derive(Clone, Copy, Drop)]
-pub struct ProfileRequest<'a> {
-    pub image: &'a str,
-    pub question: Question<'a>,
-    pub criterion: CriterionName,
-    pub form: AnswerForm,
-    /// The file into which the answer is drawn.
-    pub picture: Option<&'a str>,
-    /// How many of its journeys are drawn at most.
-    pub rows: PictureRows,
-}
-
 /// The image; the names of the stops to leave from, and of those to go to, at least one of each; when, in seconds after
-/// the image's base; the criterion; and how the answer is printed.
+/// the image's base; the criterion; how the answer is printed; and where it is drawn.
 #[derive(Drop)]
-pub struct BetweenRequest<'a> {
+pub struct ProfileRequest<'a> {
     pub image: &'a str,
     pub from: Vec<&'a str>,
     pub to: Vec<&'a str>,
@@ -129,6 +114,10 @@ pub struct BetweenRequest<'a> {
     pub by: u32,
     pub criterion: CriterionName,
     pub form: AnswerForm,
+    /// The file into which the answer is drawn.
+    pub picture: Option<&'a str>,
+    /// How many of its journeys are drawn at most.
+    pub rows: PictureRows,
 }
 
 /// The image, and the text that the names of the listed stops contain.

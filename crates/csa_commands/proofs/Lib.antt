@@ -1,6 +1,5 @@
 mod AnswerLemmas
 mod Appended
-mod BetweenLemmas
 mod MissingFile
 mod OfFolder
 mod Picturing

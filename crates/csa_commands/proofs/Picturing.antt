@@ -5,14 +5,13 @@ use Rattle.std.proofs.lemmas.List.{take_more}
 use Rattle.std.proofs.lemmas.Slice.Zip.{all_zipped_more}
 use Rattle.criteria.specs.declared.name.CriterionName.{CriterionName}
 use Rattle.criteria.specs.declared.figures.Figures.{Figures}
-use Rattle.timetable.specs.declared.query.Query.{Query}
 use Rattle.image_layout.specs.Image.{ImageValue}
+use Rattle.profile_scan.specs.Between.{BetweenValue}
 use Rattle.answer_pictures.specs.declared.axis.Axis.{Axis}
 use Rattle.answer_pictures.specs.LineValue.{HeadingValue, LineValue}
 use Rattle.answer_pictures.specs.Pictures.{IsPicture, LiesOn}
-use Rattle.answer_pictures.specs.JourneyLines.{IsHeadingOf}
 use Rattle.journeys.specs.declared.answering.Departure.{Departure}
-use Rattle.csa_commands.specs.Picturing.{IsDrawnAs, IsPictureOf}
+use Rattle.csa_commands.specs.Picturing.{IsDrawnAs, IsHeadingBetween, IsPictureOf}
 
 -- one more line is that of the next departure
 pub drawn_more : {A B : Type 0} (R : A → B → Type 0) (xs : List A) (i : ℕ) (x : A) (ys zs : List B) (y : B)
@@ -23,14 +22,14 @@ drawn_more R xs i x ys zs y lt there before last grown =
 
 -- a picture with the lines of the departures that are drawn
 pub picture_made : {V : Type 0} (figures : V
-    → Figures) (image : ImageValue) (name : CriterionName) (rows : ℕ) (q : Query)
+    → Figures) (image : ImageValue) (name : CriterionName) (rows : ℕ) (b : BetweenValue)
     (departures drawn : List (Departure V))
     (walk : Option ℕ) (text : List ℕ) (heading shown : HeadingValue) (axis : Axis) (lines seen drew : List LineValue) (left : ℕ)
-    → IsHeadingOf image.names name q heading → drawn ≡ take rows departures → seen ≡ lines → drew ≡ lines
+    → IsHeadingBetween image.names name b heading → drawn ≡ take rows departures → seen ≡ lines → drew ≡ lines
     → shown ≡ heading → AllZip (IsDrawnAs figures image) drawn lines
     → All (LiesOn axis) seen → left ≡ length departures - rows → IsPicture shown axis walk drew left text
-    → IsPictureOf figures image name rows q departures walk text
-picture_made figures image name rows q departures drawn walk text heading shown axis lines seen drew left asked some same last above are covered rest is =
+    → IsPictureOf figures image name rows b departures walk text
+picture_made figures image name rows b departures drawn walk text heading shown axis lines seen drew left asked some same last above are covered rest is =
     record {
       heading = heading;
       axis = axis;

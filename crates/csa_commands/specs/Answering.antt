@@ -4,59 +4,72 @@ use Rattle.std.specs.Io.KnownBytes.{Appends}
 use Rattle.criteria.specs.Laws.{Rules}
 use Rattle.criteria.specs.declared.name.CriterionName.{CriterionName}
 use Rattle.criteria.specs.declared.figures.Figures.{Figures}
-use Rattle.timetable.specs.declared.query.Query.{Query}
 use Rattle.timetable.specs.declared.query.QueryFault.{QueryFault}
-use Rattle.timetable.specs.Queries.{IsAskable}
 use Rattle.image_layout.specs.Image.{ImageValue}
-use Rattle.profile_scan.specs.Kept.{IsWay}
-use Rattle.profile_scan.specs.Points.{IsAnswer}
-use Rattle.profile_scan.specs.Window.{window}
 use Rattle.journeys.specs.Answer.{point_of}
-use Rattle.journeys.specs.Extracted.{Attains}
-use Rattle.journeys.specs.Questions.{Asks, IsRefused}
+use Rattle.journeys.specs.Extracted.{AttainsBetween}
 use Rattle.journeys.specs.declared.answering.Departure.{Departure}
+use Rattle.journeys.specs.declared.question.Window.{Window}
+use Rattle.profile_scan.specs.Between.{BetweenValue, IsAnswerBetween, IsAskableBetween}
 use Rattle.answer_replies.specs.Valuing.{arrival_figures, by_arrival, by_trips, by_walking, trips_figures, walking_figures}
+use Rattle.station_answers.specs.Naming.{AsksBetween, IsFaultBetween}
+use Rattle.station_answers.specs.Reading.{window_between}
+use Rattle.station_answers.specs.Walks.{IsDirectTime}
+use Rattle.station_answers.specs.declared.naming.NoQuestion.{NoQuestion}
+use Rattle.station_answers.specs.declared.naming.NoQuestion.TheVariants.{Bad, OutOfMemory}
 use Rattle.command_requests.specs.declared.requests.ProfileRequest.{ProfileRequest}
-use Rattle.csa_commands.specs.Asking.{window_of}
 use Rattle.csa_commands.specs.Listing.{form_text}
 use Rattle.csa_commands.specs.Picturing.{IsDrawn}
 use Rattle.csa_commands.specs.Refusing.{refusal_line}
-use Rattle.csa_commands.specs.declared.profile.Failure.{Failure}
-use Rattle.csa_commands.specs.declared.profile.Failure.TheVariants.{BadQuery, OutOfMemory}
 use Rattle.csa_commands.specs.declared.profile.Profile.{Profile}
 use Rattle.csa_commands.specs.declared.refusal.CommandRefusal.TheVariants.{Query as OfQuery}
 
--- the query is answered: the departures' points are exactly the undominated points of all journeys that count for it, in order, each once, and each departure
--- has a journey that attains its point. The text shows the departures and the direct footpath, and in lines also that as many connections were read as the
--- window has. A picture, if one is asked for, shows the same departures
-pub record IsShown {V : Type 0} (figures : V → Figures) (rules : Rules V) (request : ProfileRequest) (image : ImageValue) (q : Query)
+-- the question is answered: the departures' points are exactly the undominated points of all journeys that count for any of its pairs, in order, each once,
+-- and each departure has a journey that attains its point for one of the pairs, and that ends as soon as it is at a target. The text shows the departures and
+-- the direct walk, and in lines also how many connections the window has. A picture, if one is asked for, shows the same departures. Between a single stop and
+-- a single other this is the answer of the plain query (the law `one_is_plain` of profile_scan)
+pub record IsShown {V : Type 0} (figures : V → Figures) (rules : Rules V) (request : ProfileRequest) (image : ImageValue) (b : BetweenValue)
     (profile : Profile) : Type 0 where
   pub departures : List (Departure V)
   pub walk : Option ℕ
-  pub answer : IsAnswer rules image.timetable q (map point_of departures)
-  pub attained : (departure : Departure V) → Contains departures departure → Attains rules image.timetable q (point_of departure) departure.journey
-  pub direct : IsWay image.timetable q.target q.source walk
-  pub text_is : string_bytes profile.text ≡ form_text figures image request.form departures (length (window image.timetable q)) walk
-  pub drawn : IsDrawn figures image request q departures walk profile.picture
+  pub answer : IsAnswerBetween rules image.timetable b (map point_of departures)
+  pub attained : (departure : Departure V) → Contains departures departure
+      → AttainsBetween rules image.timetable b (point_of departure) departure.journey
+  pub direct : IsDirectTime image.timetable b walk
+  pub text_is : string_bytes profile.text ≡ form_text figures image request.form departures (length (window_between image.timetable b)) walk
+  pub drawn : IsDrawn figures image request b departures walk profile.picture
 
--- the query is answered under the criterion of this name
-abbrev pub IsShownBy : CriterionName → ProfileRequest → ImageValue → Query → Profile → Type 0
-IsShownBy CriterionName.Arrival request image q profile = IsShown arrival_figures by_arrival request image q profile
-IsShownBy CriterionName.ArrivalTrips request image q profile = IsShown trips_figures by_trips request image q profile
-IsShownBy CriterionName.ArrivalTripsWalk request image q profile = IsShown walking_figures by_walking request image q profile
+-- the question is answered under the criterion of this name
+abbrev pub IsShownBy : CriterionName → ProfileRequest → ImageValue → BetweenValue → Profile → Type 0
+IsShownBy CriterionName.Arrival request image b profile = IsShown arrival_figures by_arrival request image b profile
+IsShownBy CriterionName.ArrivalTrips request image b profile = IsShown trips_figures by_trips request image b profile
+IsShownBy CriterionName.ArrivalTripsWalk request image b profile = IsShown walking_figures by_walking request image b profile
 
--- the question makes a query that can be asked of the image, and the profile answers it
-abbrev pub AnswersRequest : ImageValue → ProfileRequest → Profile → Type 0
-AnswersRequest image request profile =
-    (q : Query) × IsAskable image.timetable.stops q
-    × Asks image.names request.question.from.now request.question.to.now (window_of request.question) q
-    × IsShownBy request.criterion request image q profile
+-- the names of the stops on each side, and the window
+abbrev pub names_from : ProfileRequest → List (List ℕ)
+names_from request = map (λ name. name.now) request.from.items
+
+abbrev pub names_to : ProfileRequest → List (List ℕ)
+names_to request = map (λ name. name.now) request.to.items
+
+abbrev pub window_of_profile : ProfileRequest → Window
+window_of_profile request = record { from = request.after; until = request.until; by = request.by }
+
+-- the request makes a question that can be asked of the image, and the profile answers it
+pub record AnswersRequest (image : ImageValue) (request : ProfileRequest) (profile : Profile) : Type 0 where
+  pub question : BetweenValue
+  pub askable : IsAskableBetween image.timetable.stops question
+  pub asks : AsksBetween image.names (names_from request) (names_to request) (window_of_profile request) question
+  pub shown : IsShownBy request.criterion request image question profile
+
+-- the request makes no question of the image: it has this fault
+abbrev pub HasFault : ImageValue → ProfileRequest → QueryFault → Type 0
+HasFault image request fault = IsFaultBetween image (names_from request) (names_to request) (window_of_profile request) fault
 
 -- the answer, or why there is none
-abbrev pub IsProfile : ImageValue → ProfileRequest → Result Profile Failure → Type 0
+abbrev pub IsProfile : ImageValue → ProfileRequest → Result Profile NoQuestion → Type 0
 IsProfile image request (Ok profile) = AnswersRequest image request profile
-IsProfile image request (Err (BadQuery fault)) =
-    IsRefused image request.question.from.now request.question.to.now (window_of request.question) fault
+IsProfile image request (Err (Bad fault)) = HasFault image request fault
 IsProfile image request (Err OutOfMemory) = Unit {0}
 
 -- the text of an answer was added to what was printed before, and nothing else. No clause says what is in the picture's file
@@ -64,8 +77,7 @@ abbrev pub IsPrinted : ImageValue → ProfileRequest → Option (List ℕ) → O
 IsPrinted image request before after =
     (profile : Profile) × AnswersRequest image request profile × Appends before after (string_bytes profile.text)
 
--- the question makes no query of the image: it has a fault, whose line was added to what was printed before, and nothing else
+-- the request makes no question of the image: the line of its fault was added to what was printed before, and nothing else
 abbrev pub IsNoRequest : ImageValue → ProfileRequest → Option (List ℕ) → Option (List ℕ) → Type 0
 IsNoRequest image request before after =
-    (fault : QueryFault) × IsRefused image request.question.from.now request.question.to.now (window_of request.question) fault
-    × Appends before after (refusal_line (OfQuery fault))
+    (fault : QueryFault) × HasFault image request fault × Appends before after (refusal_line (OfQuery fault))

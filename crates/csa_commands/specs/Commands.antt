@@ -3,22 +3,20 @@ use Rattle.std.specs.Prelude.{ℕ, List, Option}
 use Rattle.std.specs.Io.KnownBytes.{Appends}
 use Rattle.image_layout.specs.Image.{ImageValue}
 use Rattle.csa_commands.specs.Answering.{IsNoRequest, IsPrinted}
-use Rattle.csa_commands.specs.AnsweringBetween.{IsNoneBetween, IsPrintedBetween}
 use Rattle.csa_commands.specs.Counting.{counts_line}
 use Rattle.csa_commands.specs.Departing.{AreAllPrinted, IsNoneAsked}
 use Rattle.csa_commands.specs.Informing.{IsInformed}
 use Rattle.csa_commands.specs.Judging.{IsAccepted, IsFaulty}
 use Rattle.csa_commands.specs.StopLines.{AreStopsPrinted}
 use Rattle.csa_commands.specs.declared.asked.ImageRequest.{ImageRequest}
-use Rattle.csa_commands.specs.declared.asked.ImageRequest.TheVariants.{Verify, Info, Journey, Profile, Between, Departures, Stops, Upgrade}
+use Rattle.csa_commands.specs.declared.asked.ImageRequest.TheVariants.{Verify, Info, Journey, Profile, Departures, Stops, Upgrade}
 
 -- the path of the image
 abbrev pub path_of : ImageRequest → List ℕ
 path_of (Verify image) = image.now
 path_of (Info image) = image.now
 path_of (Journey request) = request.image.now
-path_of (Profile request) = request.image.now
-path_of (Between request) = request.now.image.now
+path_of (Profile request) = request.now.image.now
 path_of (Departures request) = request.now.image.now
 path_of (Stops request) = request.image.now
 path_of (Upgrade request) = request.image.now
@@ -28,8 +26,7 @@ abbrev pub IsDone : ImageValue → ImageRequest → Option (List ℕ) → Option
 IsDone image (Verify path) before after = Appends before after (counts_line image)
 IsDone image (Info path) before after = IsInformed image before after
 IsDone image (Journey request) before after = IsAccepted image request.question request.text.now before after
-IsDone image (Profile request) before after = IsPrinted image request before after
-IsDone image (Between request) before after = IsPrintedBetween image request.now before after
+IsDone image (Profile request) before after = IsPrinted image request.now before after
 IsDone image (Departures request) before after = AreAllPrinted image request.now before after
 IsDone image (Stops request) before after = AreStopsPrinted image request.text.now before after
 IsDone image (Upgrade request) before after = Appends before after (counts_line image)
@@ -40,8 +37,7 @@ abbrev pub IsRefusedAs : ImageValue → ImageRequest → Option (List ℕ) → O
 IsRefusedAs image (Verify path) before after = ⊥
 IsRefusedAs image (Info path) before after = ⊥
 IsRefusedAs image (Journey request) before after = IsFaulty image request.question request.text.now before after
-IsRefusedAs image (Profile request) before after = IsNoRequest image request before after
-IsRefusedAs image (Between request) before after = IsNoneBetween image request.now before after
+IsRefusedAs image (Profile request) before after = IsNoRequest image request.now before after
 IsRefusedAs image (Departures request) before after = IsNoneAsked image request.now before after
 IsRefusedAs image (Stops request) before after = ⊥
 IsRefusedAs image (Upgrade request) before after = ⊥

@@ -1,5 +1,4 @@
 pub mod Answering
-pub mod AnsweringBetween
 pub mod Asking
 pub mod Building
 pub mod Commands

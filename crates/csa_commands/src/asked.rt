@@ -6,9 +6,9 @@ ghost use Rattle.csa_commands.specs.Commands.{IsDone, IsRefusedAs};
 ghost use Rattle.csa_commands.specs.Ending.{Ends};
 
 use crate::windows::{DepartureRange, warn_of_window};
-use crate::{between, departures, info, journey, profile, status, stops, upgrade, verify};
+use crate::{departures, info, journey, profile, status, stops, upgrade, verify};
 use command_requests::{
-    BetweenRequest, DeparturesRequest, JourneyRequest, ProfileRequest, StopsRequest, UpgradeRequest,
+    DeparturesRequest, JourneyRequest, ProfileRequest, StopsRequest, UpgradeRequest,
 };
 use image_verifier::Verified;
 use std::io::Write;
@@ -23,10 +23,8 @@ pub enum ImageRequest<'a> {
     Info(&'a str),
     /// Check a journey against it.
     Journey(JourneyRequest<'a>),
-    /// Answer a profile query over it.
-    Profile(ProfileRequest<'a>),
-    /// Answer a question between several stops over it.
-    Between(&'a BetweenRequest<'a>),
+    /// Answer a question over it.
+    Profile(&'a ProfileRequest<'a>),
     /// Answer the queries from every stop over it.
     Departures(&'a DeparturesRequest<'a>),
     /// List those of its stops whose names contain a text.
@@ -48,7 +46,6 @@ impl<'a> ImageRequest<'a> {
             ImageRequest::Info(image) => image,
             ImageRequest::Journey(request) => request.image,
             ImageRequest::Profile(request) => request.image,
-            ImageRequest::Between(request) => request.image,
             ImageRequest::Departures(request) => request.image,
             ImageRequest::Stops(request) => request.image,
             ImageRequest::Upgrade(request) => request.image,
@@ -59,10 +56,6 @@ impl<'a> ImageRequest<'a> {
     fn departures(self) -> Option<DepartureRange> {
         match self {
             ImageRequest::Profile(request) => Some(DepartureRange {
-                first: request.question.after,
-                last: request.question.until,
-            }),
-            ImageRequest::Between(request) => Some(DepartureRange {
                 first: request.after,
                 last: request.until,
             }),
@@ -121,7 +114,6 @@ fn do_asked<H: Files + AllocGlobal, O: Write, E: Write>(
         ImageRequest::Info(_) => info::run(rt.alloc(), image, output),
         ImageRequest::Journey(request) => journey::run(rt.alloc(), image, request, output, errors),
         ImageRequest::Profile(request) => profile::run(rt, image, request, output, errors),
-        ImageRequest::Between(request) => between::run(rt.alloc(), image, request, output, errors),
         ImageRequest::Departures(request) => departures::run(rt, image, request, output, errors),
         ImageRequest::Stops(request) => stops::run(rt.alloc(), image, request, output, errors),
         ImageRequest::Upgrade(request) => upgrade::run(rt, image, request, output, errors),

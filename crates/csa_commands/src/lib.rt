@@ -3,7 +3,6 @@
 #![tactic(auto)]
 
 mod asked;
-mod between;
 pub mod build;
 pub mod days;
 mod departures;

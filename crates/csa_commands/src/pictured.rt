@@ -1,20 +1,23 @@
 //! The picture of an answer, as an SVG file.
 
-ghost use Rattle.std.specs.Prelude.{◌≡◌, ◌-◌, IfOk, OnOk, length, take, string_bytes};
+ghost use Rattle.std.specs.Prelude.{◌≡◌, ◌-◌, ◌++◌, IfOk, OnOk, length, take, string_bytes};
 ghost use Rattle.std.specs.Io.KnownBytes.{Appends};
 ghost use Rattle.std.specs.List.{AllZip};
-ghost use Rattle.csa_commands.specs.Picturing.{IsDrawn, IsDrawnAs, IsPictureOf};
+ghost use Rattle.profile_scan.specs.Between.{question};
+ghost use Rattle.csa_commands.specs.Picturing.{IsDrawn, IsDrawnAs, IsHeadingBetween, IsPictureOf, first_stop, others_text};
 
-use answer_pictures::{Axis, JourneyLine, heading_of, journey_line, picture};
+use answer_pictures::{Axis, Heading, JourneyLine, heading_of, journey_line, picture};
 use command_requests::ProfileRequest;
-use criteria::ShowsFigures;
+use criteria::{CriterionName, ShowsFigures};
 use image_verifier::Verified;
 use journeys::{Answer, Departure};
+use profile_scan::Between;
 use std::alloc::{AllocError, Global};
 use std::fs::File;
 use std::io;
 use std::io::Write;
 use std::rt::Files;
+use text_pieces::{put_number, put_text};
 use timetable::Query;
 
 /// The picture of an answer, if one is asked for.
@@ -22,11 +25,11 @@ pub fn picture_asked<C: ShowsFigures>(
     alloc: Global,
     image: &Verified,
     criterion: &C,
-    request: ProfileRequest<'_>,
-    query: &Query,
+    request: &ProfileRequest<'_>,
+    query: &Between,
     answer: &Answer<C>,
 ) -> Result<Option<String>, AllocError>
-    ensures { IfOk result (IsDrawn C.figures image.now request.entry query.now
+    ensures { IfOk result (IsDrawn C.figures image.now request.now (question query.now)
         answer.now.departures.items answer.now.walk) }
 {
     match request.picture {
@@ -43,22 +46,62 @@ fn picture_text<C: ShowsFigures>(
     alloc: Global,
     image: &Verified,
     criterion: &C,
-    request: ProfileRequest<'_>,
-    query: &Query,
+    request: &ProfileRequest<'_>,
+    query: &Between,
     answer: &Answer<C>,
 ) -> Result<String, AllocError>
-    ensures { IfOk result (λ text. IsPictureOf C.figures image.now request.entry.criterion request.entry.rows.number
-        query.now
-        answer.now.departures.items answer.now.walk (string_bytes text)) }
+    ensures { IfOk result (λ text. IsPictureOf C.figures image.now request.now.criterion request.now.rows.number
+        (question query.now) answer.now.departures.items answer.now.walk (string_bytes text)) }
 {
     let rows = request.rows.number;
-    let heading = heading_of(alloc, image, query, request.criterion)?;
+    let heading = heading_between(alloc, image, query, request.criterion)?;
     let drawn = first_of(&answer.departures, rows);
     let lines = lines_of(alloc, image, criterion, drawn)?;
     let axis = Axis::of_lines(&lines, query.from, query.until);
     let left = left_of(&answer.departures, rows);
     let text = picture(alloc, &heading, axis, answer.walk, &lines, left)?;
     Ok(text)
+}
+
+/// What is above the picture of a question between several stops: on each side the first stop, and how many more there
+/// are.
+fn heading_between(
+    alloc: Global,
+    image: &Verified,
+    query: &Between,
+    criterion: CriterionName,
+) -> Result<Heading, AllocError>
+    ensures { IfOk result (IsHeadingBetween image.now.names criterion (question query.now)) }
+{
+    let first = Query {
+        source: first_stop(&query.sources),
+        target: first_stop(&query.targets),
+        from: query.from,
+        until: query.until,
+        by: query.by,
+    };
+    let mut heading = heading_of(alloc, image, &first, criterion)?;
+    put_others(&mut heading.from, query.sources.len())?;
+    put_others(&mut heading.to, query.targets.len())?;
+    Ok(heading)
+}
+
+/// The first of at least one stop.
+fn first_stop(stops: &[u32]) -> u32
+    ensures { result ≡ first_stop stops.now }
+{
+    if stops.is_empty() { 0 } else { stops[0] }
+}
+
+/// Adds how many stops there are beside the first.
+fn put_others(out: &mut String, stops: usize) -> Result<(), AllocError>
+    ensures { OnOk result (string_bytes out.new ≡ string_bytes out.old ++ others_text stops) }
+{
+    if stops < 2 {
+        return Ok(());
+    }
+    put_number(out, " and ", stops.saturating_sub(1) as u64)?;
+    put_text(out, " more")
 }
 
 /// The departures that are drawn: the first `rows`, or all if there are fewer.

@@ -1,36 +1,34 @@
-//! `csa profile IMAGE QUERY --criterion NAME [--names | --json [--legs]] [--picture FILE [--rows N]]`.
+//! `csa profile IMAGE --from STOP_ID.. --to STOP_ID.. --after .. --until .. --by .. --criterion NAME
+//! [--names | --json [--legs]] [--picture FILE [--rows N]]`.
 
 ghost use Rattle.std.specs.Prelude.{◌≡◌, ◌≢◌, IfOk, string_bytes};
 ghost use Rattle.std.specs.Io.KnownBytes.{Appends};
-ghost use Rattle.timetable.specs.Queries.{IsAskable};
+ghost use Rattle.profile_scan.specs.Between.{IsAskableBetween, question};
 ghost use Rattle.command_requests.specs.declared.statuses.TheConstants.{ACCEPTED, OUT_OF_MEMORY, REFUSED};
-ghost use Rattle.csa_commands.specs.Ending.{Ends};
 ghost use Rattle.csa_commands.specs.Answering.{IsNoRequest, IsPrinted, IsProfile, IsShown, IsShownBy};
+ghost use Rattle.csa_commands.specs.Ending.{Ends, EndsUndone};
 ghost use Rattle.csa_commands.specs.Listing.{form_text};
+ghost use Rattle.csa_commands.specs.Refusing.{refusal_line};
+ghost use Rattle.csa_commands.specs.declared.refusal.CommandRefusal.TheVariants.{Query as OfQuery};
 
 use crate::listing::{named_lines, numbered_lines};
 use crate::pictured::{picture_asked, write_picture};
-use crate::question::{query_asked, refuse_question};
+use crate::question::{SAME_STOP, explain_ends, window_reason};
+use crate::refusal::CommandRefusal;
 use crate::replying::reply_line;
 use crate::status;
 use answer_replies::PointForm;
 use command_requests::{AnswerForm, ProfileRequest};
 use criteria::{Arrival, ArrivalTrips, ArrivalTripsWalk, CriterionName, ShowsFigures};
+use feed_messages::explain;
 use image_verifier::Verified;
-use journeys::{Answer, answer_query};
-use profile_scan::InPlace;
+use journeys::{Answer, Window};
+use profile_scan::{Between, InPlace};
+use station_answers::{NoQuestion, answer_between, question_between};
 use std::alloc::{AllocError, Global};
 use std::io::Write;
 use std::rt::Files;
-use timetable::{Query, QueryFault};
-
-/// Why a question isn't answered.
-#[derive(Drop)]
-pub enum Failure {
-    /// The question makes no query of the image.
-    BadQuery(QueryFault),
-    OutOfMemory,
-}
+use timetable::QueryFault;
 
 /// The answer to a question: a text, and a picture if one is asked for.
 #[derive(Drop)]
@@ -39,29 +37,27 @@ pub struct Profile {
     picture: Option<String>,
 }
 
-/// Prints the answer in the form that is asked for: a line for each best departure with a journey, then how many there
-/// are, how many connections were read, and the direct footpath; or what a session would reply. A picture that is asked
-/// for is written first.
+/// Prints the answer in the form that is asked for: a line for each best departure of any pair of stops with a journey,
+/// then how many there are, how many connections were read, and the shortest direct footpath; or what a session would
+/// reply. A picture that is asked for is written first.
 pub fn run<H: Files + AllocGlobal, O: Write, E: Write>(
     rt: &H,
     image: &Verified,
-    request: ProfileRequest<'_>,
+    request: &ProfileRequest<'_>,
     output: &mut O,
     errors: &mut E,
 ) -> u8
     ensures status { Ends result }
-    ensures printed { result ≡ ACCEPTED → IsPrinted image.now request.entry (O.contents output.old)
+    ensures printed { result ≡ ACCEPTED → IsPrinted image.now request.now (O.contents output.old)
         (O.contents output.new) }
-    ensures refused { result ≡ REFUSED → IsNoRequest image.now request.entry (O.contents output.old)
+    ensures refused { result ≡ REFUSED → IsNoRequest image.now request.now (O.contents output.old)
         (O.contents output.new) }
     ensures silent { result ≡ OUT_OF_MEMORY → O.contents output.new ≡ O.contents output.old }
 {
     match profile_asked(rt.alloc(), image, request) {
         Ok(profile) => print_profile(rt, &profile, request, output, errors),
-        Err(Failure::BadQuery(fault)) => {
-            refuse_question(rt.alloc(), image, &request.question, fault, output, errors)
-        }
-        Err(Failure::OutOfMemory) => status::OUT_OF_MEMORY,
+        Err(NoQuestion::Bad(fault)) => refuse(rt.alloc(), image, request, fault, output, errors),
+        Err(NoQuestion::OutOfMemory) => status::OUT_OF_MEMORY,
     }
 }
 
@@ -69,7 +65,7 @@ pub fn run<H: Files + AllocGlobal, O: Write, E: Write>(
 fn print_profile<H: Files + AllocGlobal, O: Write, E: Write>(
     rt: &H,
     profile: &Profile,
-    request: ProfileRequest<'_>,
+    request: &ProfileRequest<'_>,
     output: &mut O,
     errors: &mut E,
 ) -> u8
@@ -91,30 +87,34 @@ fn print_profile<H: Files + AllocGlobal, O: Write, E: Write>(
 fn profile_asked(
     alloc: Global,
     image: &Verified,
-    request: ProfileRequest<'_>,
-) -> Result<Profile, Failure>
-    ensures { IsProfile image.now request.entry result }
+    request: &ProfileRequest<'_>,
+) -> Result<Profile, NoQuestion>
+    ensures { IsProfile image.now request.now result }
 {
-    let query = match query_asked(image, &request.question) {
+    let window = Window {
+        from: request.after,
+        until: request.until,
+        by: request.by,
+    };
+    let query = match question_between(alloc, image, &request.from, &request.to, window) {
         Ok(query) => query,
-        Err(fault) => return Err(Failure::BadQuery(fault)),
+        Err(failure) => return Err(failure),
     };
     match profile_by_name(alloc, image, &query, request) {
         Ok(profile) => Ok(profile),
-        Err(AllocError) => Err(Failure::OutOfMemory),
+        Err(AllocError) => Err(NoQuestion::OutOfMemory),
     }
 }
 
-/// Answers a query under the criterion that the request names.
+/// Answers a question under the criterion that the request names.
 fn profile_by_name(
     alloc: Global,
     image: &Verified,
-    query: &Query,
-    request: ProfileRequest<'_>,
+    query: &Between,
+    request: &ProfileRequest<'_>,
 ) -> Result<Profile, AllocError>
-    requires { IsAskable image.now.timetable.stops query.now }
-    ensures { IfOk result (λ profile. IsShownBy request.entry.criterion request.entry image.now query.now
-        profile) }
+    requires { IsAskableBetween image.now.timetable.stops (question query.now) }
+    ensures { IfOk result (IsShownBy request.now.criterion request.now image.now (question query.now)) }
 {
     match request.criterion {
         CriterionName::Arrival => profile_by(alloc, image, &Arrival, query, request),
@@ -125,20 +125,19 @@ fn profile_by_name(
     }
 }
 
-/// Answers a query under a criterion: the text and the picture are of one and the same answer.
+/// Answers a question under a criterion: the text and the picture are of one and the same answer.
 fn profile_by<C: ShowsFigures>(
     alloc: Global,
     image: &Verified,
     criterion: &C,
-    query: &Query,
-    request: ProfileRequest<'_>,
+    query: &Between,
+    request: &ProfileRequest<'_>,
 ) -> Result<Profile, AllocError>
-    requires { IsAskable image.now.timetable.stops query.now }
-    ensures { IfOk result (λ profile. IsShown C.figures (C.rules criterion.now) request.entry image.now query.now
-        profile) }
+    requires { IsAskableBetween image.now.timetable.stops (question query.now) }
+    ensures { IfOk result (IsShown C.figures (C.rules criterion.now) request.now image.now (question query.now)) }
 {
     let mut source = InPlace::new(image);
-    let answer = answer_query(alloc, &mut source, criterion, query)?;
+    let answer = answer_between(alloc, &mut source, criterion, query)?;
     let picture = picture_asked(alloc, image, criterion, request, query, &answer)?;
     let text = text_in_form(alloc, image, criterion, &answer, request.form)?;
     Ok(Profile { text, picture })
@@ -161,4 +160,67 @@ pub(crate) fn text_in_form<C: ShowsFigures>(
         AnswerForm::Json => reply_line(alloc, PointForm::Bare, image, criterion, answer),
         AnswerForm::JsonLegs => reply_line(alloc, PointForm::WithLegs, image, criterion, answer),
     }
+}
+
+/// Prints why a question can't be asked of an image, and says in `errors` which stops or clocks are at fault.
+fn refuse<O: Write, E: Write>(
+    alloc: Global,
+    image: &Verified,
+    request: &ProfileRequest<'_>,
+    fault: QueryFault,
+    output: &mut O,
+    errors: &mut E,
+) -> u8
+    ensures status { EndsUndone result }
+    ensures printed { result ≡ REFUSED
+        → Appends (O.contents output.old) (O.contents output.new) (refusal_line (OfQuery fault)) }
+    ensures silent { result ≡ OUT_OF_MEMORY → O.contents output.new ≡ O.contents output.old }
+{
+    let status = status::print_refusal(alloc, output, CommandRefusal::Query(fault));
+    if status == status::REFUSED {
+        explain_profile(image, request, fault, errors);
+    }
+    status
+}
+
+/// Says which stops the image doesn't have or are on both sides, or what is wrong with the window.
+fn explain_profile<E: Write>(
+    image: &Verified,
+    request: &ProfileRequest<'_>,
+    fault: QueryFault,
+    errors: &mut E,
+) {
+    match fault {
+        QueryFault::UnknownStop => {
+            explain_ends(image, "--from", &request.from, errors);
+            explain_ends(image, "--to", &request.to, errors);
+        }
+        QueryFault::SameStop => explain_shared(&request.from, &request.to, errors),
+        QueryFault::BadWindow => {
+            let reason = window_reason(request.after, request.until, request.by);
+            explain(errors, &["csa: ", reason]);
+        }
+    }
+}
+
+/// Says which stops are on both sides.
+fn explain_shared<E: Write>(from: &[&str], to: &[&str], errors: &mut E) {
+    if from.len() == 1 && to.len() == 1 {
+        explain(errors, &[SAME_STOP]);
+        return;
+    }
+    for stop in from {
+        if is_among(to, stop) {
+            let _ = write!(errors, "csa: --from {stop:?}: it is given by --to too\n");
+        }
+    }
+}
+
+fn is_among(stops: &[&str], stop: &str) -> bool {
+    for other in stops {
+        if *other == stop {
+            return true;
+        }
+    }
+    false
 }

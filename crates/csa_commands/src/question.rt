@@ -61,6 +61,9 @@ pub fn refuse_question<O: Write, E: Write>(
     status
 }
 
+/// What is wrong with a question from a stop to itself.
+pub const SAME_STOP: &str = "csa: --from and --to are the same stop";
+
 /// Says which end is no stop of the image, that both ends are the same, or what is wrong with the window.
 fn explain_question<E: Write>(
     image: &Verified,
@@ -73,7 +76,7 @@ fn explain_question<E: Write>(
             explain_end(image, "--from", question.from, errors);
             explain_end(image, "--to", question.to, errors);
         }
-        QueryFault::SameStop => explain(errors, &["csa: --from and --to are the same stop"]),
+        QueryFault::SameStop => explain(errors, &[SAME_STOP]),
         QueryFault::BadWindow => {
             let reason = window_reason(question.after, question.until, question.by);
             explain(errors, &["csa: ", reason]);

@@ -19,7 +19,7 @@ pub use crate::explaining::Explains;
 pub use crate::machine::Machine;
 use crate::watching::WatchedWriter;
 use command_line::{NoCommand, read, wants_warnings};
-use command_requests::{BetweenRequest, CommandRequest, DeparturesRequest};
+use command_requests::{CommandRequest, DeparturesRequest, ProfileRequest};
 use csa_commands::{
     ImageRequest, answer, build, days, explain, explain_zone, open_image, reason_of, stations,
     status, tables,
@@ -91,10 +91,10 @@ fn explain_unwritten<E: Write>(errors: &mut E, fault: Option<ErrorKind>) {
     }
 }
 
-// Answers a question between several stops.
-fn answer_between<H: Files + AllocGlobal, I: Read, O: Write, E: Write>(
+// Answers a question.
+fn answer_profile<H: Files + AllocGlobal, I: Read, O: Write, E: Write>(
     rt: &H,
-    request: BetweenRequest<'_>,
+    request: ProfileRequest<'_>,
     input: &mut I,
     output: &mut O,
     errors: &mut E,
@@ -102,7 +102,7 @@ fn answer_between<H: Files + AllocGlobal, I: Read, O: Write, E: Write>(
 ) -> u8 {
     answer_over(
         rt,
-        ImageRequest::Between(&request),
+        ImageRequest::Profile(&request),
         input,
         output,
         errors,
@@ -170,17 +170,7 @@ fn run_command<
             )
         }
         Ok(CommandRequest::Profile(request)) => {
-            answer_over(
-                rt,
-                ImageRequest::Profile(request),
-                input,
-                output,
-                errors,
-                warnings,
-            )
-        }
-        Ok(CommandRequest::Between(request)) => {
-            answer_between(rt, request, input, output, errors, warnings)
+            answer_profile(rt, request, input, output, errors, warnings)
         }
         Ok(CommandRequest::Departures(request)) => {
             answer_departures(rt, request, input, output, errors, warnings)

@@ -2,6 +2,7 @@
 //! station have stop_ids and platform codes, one stop of the station has no trips, and a change within it takes minutes.
 
 use crate::tests::transcript::try_transcripts;
+use std::fs;
 use std::test::Fail;
 
 const FEED: &str = "
@@ -85,7 +86,7 @@ asks profile swiss.csa --from 8503000 --from ch:1:sloid:3000:500:31 --to 8501008
 tells csa: --until is before --after
 answers refused 33 BadWindow
 
-# A stop twice on a side, a side without a stop, and a picture.
+# A stop twice on a side, and a side without a stop.
 asks profile swiss.csa --from A --from B --from A --to C --after 08:00:00 --until 08:40:00 --by 12:00:00 \
 --criterion arrival
 tells error: --from \"A\": number 3 is the same stop as number 1
@@ -97,16 +98,6 @@ tells For more information, try 'csa profile --help'.
 ends 64
 asks profile swiss.csa --to A --to B --after 08:00:00 --until 08:40:00 --by 12:00:00 --criterion arrival
 complains 64
-asks profile swiss.csa --from A --from B --to C --after 08:00:00 --until 08:40:00 --by 12:00:00 --criterion \
-arrival --picture swiss.svg
-tells error: --picture: an answer between several stops can't be drawn
-tells 
-tells Usage: csa profile [OPTIONS] --from <STOP_ID> --to <STOP_ID> --after <CLOCK> --until <CLOCK> --by <CLOCK> \
---criterion <NAME> <IMAGE>
-tells 
-tells For more information, try 'csa profile --help'.
-ends 64
-lacks swiss.svg
 ";
 
 const DEPARTURES: &str = "
@@ -155,7 +146,28 @@ tells For more information, try 'csa departures --help'.
 ends 64
 ";
 
+const DRAWN: &str = "
+# The picture names the first stop of each side.
+asks profile swiss.csa --from 8503000 --from ch:1:sloid:3000:500:31 --from ch:1:sloid:3000:500:32 --to 8501008 --to \
+ch:1:sloid:1008:2:3 --to ch:1:sloid:1008:2:5 --after 08:00:00 --until 08:40:00 --by 12:00:00 --criterion arrival \
+--picture swiss.svg
+prints dep 08:02:00 arr 10:56:00 : ride 0 0 walk 3 4 120 ride 2 2
+prints dep 08:32:00 arr 11:15:00 : ride 1 1
+answers points 2 read 3 walk none
+";
+
 #[test]
 fn from_any_platform_to_any_platform(rt: HostRuntime) -> Result<(), Fail> {
-    try_transcripts(&rt, &[FEED, ANSWERS, FAULTS, DEPARTURES])
+    try_transcripts(&rt, &[FEED, ANSWERS, FAULTS, DEPARTURES, DRAWN])?;
+    let drawn = fs::read(&rt, "swiss.svg")?;
+    assert!(rt; has_heading(&drawn));
+    fs::remove_file(&rt, "swiss.svg")?;
+    Ok(())
+}
+
+fn has_heading(drawn: &[u8]) -> bool {
+    match str::from_utf8(drawn) {
+        Ok(text) => text.contains("8503000 and 2 more") && text.contains("8501008 and 2 more"),
+        Err(_) => false,
+    }
 }
