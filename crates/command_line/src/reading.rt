@@ -5,9 +5,9 @@ use crate::values::{clock, count, month_name, named_folder, number, port, spelle
 use clap::error::ErrorKind;
 use clap::{ArgMatches, Error};
 use command_requests::{
-    AnswerForm, BuildRequest, CommandRequest, DeparturesForm, DeparturesRequest,
-    FirstDay, JourneyRequest, NamedFolder, PictureRows, PlanText, ProfileRequest, Question,
-    Seconds, ServeRequest, StationsRequest, StopsRequest, UpgradeRequest, Workers, days_of,
+    AnswerForm, BuildRequest, CommandRequest, DeparturesForm, DeparturesRequest, FirstDay,
+    JourneyRequest, NamedFolder, PictureRows, PlanText, ProfileRequest, Question, Seconds,
+    ServeRequest, StationsRequest, StopsRequest, UpgradeRequest, Workers, days_of,
 };
 use criteria::CriterionName;
 use std::alloc::{AllocError, Global};

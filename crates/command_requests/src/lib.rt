@@ -14,7 +14,7 @@ pub use plans::{
     Seconds, UtcOffset, Workers, ZoneText, days_of,
 };
 pub use requests::{
-    AnswerForm, BuildRequest, CommandRequest, DeparturesForm, DeparturesRequest,
-    JourneyRequest, NamedFolder, ProfileRequest, Question, ServeRequest, StationsRequest,
-    StopsRequest, UpgradeRequest,
+    AnswerForm, BuildRequest, CommandRequest, DeparturesForm, DeparturesRequest, JourneyRequest,
+    NamedFolder, ProfileRequest, Question, ServeRequest, StationsRequest, StopsRequest,
+    UpgradeRequest,
 };
