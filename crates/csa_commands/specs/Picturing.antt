@@ -1,5 +1,5 @@
 -- The picture of an answer.
-use Rattle.std.specs.Prelude.{◌≡◌, ◌++◌, ◌-◌, nat_lt, if◌then◌else◌, codes, decimal, ℕ, List, [], Option, None, Some, String, get_or, length}
+use Rattle.std.specs.Prelude.{◌≡◌, ◌++◌, ◌-◌, nat_lt, if◌then◌else◌, codes, decimal, ℕ, List, [], ◌∷◌, Option, None, Some, String, length}
 use Rattle.std.specs.Prelude.{string_bytes, take}
 use Rattle.std.specs.Global.{Global}
 use Rattle.std.specs.List.{All, AllZip}
@@ -21,11 +21,12 @@ IsDrawnAs figures image departure line =
     IsLineOf image.timetable image.names departure.time (figures departure.value) departure.journey line
 
 -- the first of at least one stop
-pub first_stop : List ℕ → ℕ
-first_stop stops = get_or stops 0 0
+abbrev pub first_stop : List ℕ → ℕ
+first_stop [] = 0
+first_stop (stop ∷ stops) = stop
 
 -- how many stops there are beside the first
-pub others_text : ℕ → List ℕ
+abbrev pub others_text : ℕ → List ℕ
 others_text stops = if nat_lt stops 2 then [] else codes " and " ++ decimal (stops - 1) ++ codes " more"
 
 -- what is above a picture: the heading of the query between the first stop of each side, and how many more stops each side has

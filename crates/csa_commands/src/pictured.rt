@@ -90,7 +90,10 @@ fn heading_between(
 fn first_stop(stops: &[u32]) -> u32
     ensures { result ≡ first_stop stops.now }
 {
-    if stops.is_empty() { 0 } else { stops[0] }
+    match stops {
+        [] => 0,
+        [stop, ..] => *stop,
+    }
 }
 
 /// Adds how many stops there are beside the first.
