@@ -382,6 +382,11 @@ class Pages(Folder):
                 self.get(path, status, **{"from": "A", "to": "C"}, **DAY)
             self.assertEqual(self.client.open, 0)
 
+    def test_the_unit_may_read_the_folder_that_running_installs(self) -> None:
+        installed = re.search(r"^ *install -d -o root -g (\S+) -m 750 /var/lib/csa ", (TOP / "docs/RUNNING.md").read_text(), re.MULTILINE)
+        assert installed is not None
+        self.assertIn(f"SupplementaryGroups={installed[1]}", (TOP / "clients/web/csa-web.service").read_text().splitlines())
+
     def test_who_finds_all_sessions_taken_is_refused(self) -> None:
         self.open(Profile(1, (), None))
         with self.sessions.session():
