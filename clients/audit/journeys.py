@@ -21,6 +21,8 @@ USAGE = 64
 CRITERIA = ("arrival", "arrival+trips", "arrival+trips+walk")
 # the most legs of a journey, since they go onto the command line of csa
 MOST_LEGS = 1000
+# what `csa profile --names` prints before a journey
+PRINTED = re.compile(r"^dep \S+ arr \S+(?: trips \d+)?(?: walked \d+)? : ")
 
 
 class Stop(Exception):
@@ -192,7 +194,7 @@ class Reader:
         if line.lstrip().startswith("{"):
             record: dict[str, Any] = json.loads(line)
             return record
-        words, legs = line.split(), []
+        words, legs = PRINTED.sub("", line).split(), []
         while words:
             kind, *rest = words
             keys = {"ride": ("trip", "day", "dep", "from", "arr", "to"), "walk": ("from", "to", "secs")}.get(kind, ())
