@@ -100,15 +100,15 @@ class Feed:
         return [place for _, place in found[: max(most, alike)]]
 
     def find(self, text: str) -> list[Place]:
-        """The place with this label or id; otherwise the places that a name or a part of a label may mean: one if it has all stops of the others,
-        several if it isn't clear which."""
+        """The place with this label or id; otherwise the places that a name or a part of a label may mean: the first that has all stops of the
+        others, if there is one, or several if it isn't clear which."""
         wanted = folded(text)
         exact = self._by_id.get(text) or next((place for label, place in self._folded if label == wanted), None)
         if exact is not None:
             return [exact]
         found = self.complete(text)
         found = [place for place in found if _is_called(place, wanted)] or found
-        return [place for place in found if all(set(it.ids) <= set(place.ids) for it in found)] or found
+        return [place for place in found if all(set(it.ids) <= set(place.ids) for it in found)][:1] or found
 
 
 def folded(text: str) -> str:

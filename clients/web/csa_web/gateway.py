@@ -206,6 +206,7 @@ def _show(feed: Feed, fields: dict[str, str], query: Query | None, answer: Answe
         query=query,
         answer=answer,
         axis=axis_of(answer, feed.zone) if answer else None,
+        begins=answer.begins.astimezone(feed.zone).date() if answer else None,
         problem=problem,
         feed=feed,
         clock=lambda instant: clock(instant, feed.zone, day),

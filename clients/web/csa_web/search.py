@@ -22,10 +22,11 @@ LONGEST_JOURNEY = timedelta(hours=12)
 # of how many pairs of stops a search may be
 MOST_PAIRS = 10_000
 STATUS_OF_REFUSAL = {31: 404, 32: 400, 33: 400, 112: 400, 113: 400}
+OUTSIDE = "This time is outside the timetable."
 REASON_OF_REFUSAL = {
     31: "One of these stops isn't in the timetable.",
     32: "Both are the same place.",
-    33: "This time is outside the timetable.",
+    33: "This time is outside the timetable, or these are more hours than the server takes.",
 }
 
 
@@ -83,11 +84,12 @@ class Departure:
 
 @dataclass(frozen=True)
 class Answer:
-    """All best departures, and how long the direct walk takes, if there is one."""
+    """All best departures, how long the direct walk takes, if there is one, and when the timetable begins."""
 
     version: int
     departures: tuple[Departure, ...]
     walk: timedelta | None
+    begins: datetime
 
 
 class Sessions:
@@ -138,7 +140,7 @@ def _window(pinned: Pinned, query: Query) -> dict[str, str]:
             ends = query.instant, query.instant + span, query.instant + span + LONGEST_JOURNEY
         return dict(zip(("after", "until", "by"), map(pinned.clock, ends)))
     except (ValueError, OverflowError) as error:
-        raise Problem(400, REASON_OF_REFUSAL[33]) from error
+        raise Problem(400, OUTSIDE) from error
 
 
 def _answer(pinned: Pinned, profile: Profile, image: Image | None, query: Query) -> Answer:
@@ -150,7 +152,8 @@ def _answer(pinned: Pinned, profile: Profile, image: Image | None, query: Query)
         rides = sum(isinstance(leg, Ride) for leg in point.legs)
         ends = pinned.instant(point.dep), pinned.instant(point.arr)
         departures.append(Departure(*ends, rides, point.walked, legs))
-    return Answer(profile.version, tuple(departures), None if profile.walk is None else timedelta(seconds=profile.walk))
+    walk = None if profile.walk is None else timedelta(seconds=profile.walk)
+    return Answer(profile.version, tuple(departures), walk, datetime.fromtimestamp(pinned.base, timezone.utc))
 
 
 def _legs(point: Point, image: Image | None, pinned: Pinned, query: Query) -> tuple[Leg, ...] | None:

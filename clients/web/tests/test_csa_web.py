@@ -124,6 +124,10 @@ class Feeds(Folder):
         self.assertEqual([place.ids for place in feed.find("bern")], [("8", "9")])
         self.assertEqual([place.label for place in feed.complete("Bern")][:3], ["Bern", "Bern, platform 8", "Bern, platform 9"])
 
+    def test_a_station_and_its_only_stop_are_not_told_apart(self) -> None:
+        feed = self.stops("P,Évian-les-Bains,1,,", "e1,Évian-les-Bains,,P,")
+        self.assertEqual([[place.id for place in feed.find(text)] for text in ("evian", "les bains", "evian-les-bains")], [["P"], [], ["P"]])
+
     def test_two_stations_of_one_name_are_two_places(self) -> None:
         feed = self.stops("P,Neustadt,1,,", "Q,Neustadt,1,,", "p1,Neustadt,,P,1", "q1,Neustadt,,Q,2")
         self.assertEqual([(place.id, place.label) for place in feed.find("Neustadt")][:2], [("P", "Neustadt (P)"), ("Q", "Neustadt (Q)")])
@@ -379,7 +383,8 @@ class Pages(Folder):
         for fault, status in (*((it, 503) for it in gone), *((Refused(number, "Name"), it) for number, it in refused.items())):
             self.open(fault)
             for path in ("/", "/api/profile", "/"):
-                self.get(path, status, **{"from": "A", "to": "C"}, **DAY)
+                text = self.get(path, status, **{"from": "A", "to": "C"}, **DAY)
+                self.assertEqual("more hours than the server takes" in text, isinstance(fault, Refused) and fault.number == 33)
             self.assertEqual(self.client.open, 0)
 
     def test_the_unit_may_read_the_folder_that_running_installs(self) -> None:
