@@ -2,4 +2,4 @@
 
 /// The sum of all sources but this file, as `release/sources --program` prints it. `release/stamp` writes it, and
 /// `.ci/run` compares it with the sources.
-pub const SOURCES: &str = "f4cfc5cdb258983aecc7a019a1fd98ff3a08b2f0c8cf2196bb1d49b374eaccac";
+pub const SOURCES: &str = "6e863531df11ef857369be6732d9a87a0218834b8f8f12b55a55e49a8f36cced";
