@@ -34,7 +34,7 @@ pub struct Answer<C: Criterion> {
     pub read: usize,
 }
 
-/// Answers a query that can be asked: exactly the points of all journeys that count for it which no other such point
+/// Answers a query that can be asked: of the points of all journeys that count for it, exactly those that no other
 /// dominates, in order, each with a journey that counts, departs when the point does, and is worth the point's value.
 ///
 /// Each connection of the window is asked for once, from the last to the first. The only error is that memory runs

@@ -20,7 +20,7 @@ AreOf {V} rules points time front = (p : Point V) → Contains front p → Conta
 abbrev pub BettersAll : {V : Type 0} → Rules V → List (Point V) → ℕ → List (Point V) → Type 0
 BettersAll {V} rules points time front = (p : Point V) → Contains points p → time ≤ p.departure → IsBettered rules front p.value
 
--- one point of it, unless it is bettered after the ride
+-- one point of it, unless one of the bound's values is no worse than its value with the ride
 abbrev pub change_way : {V : Type 0} → Rules V → Spellings → ℕ → List V → Point V → Offer (Unit {0}) V
 change_way rules tags last values p = only_if (is_bettered rules values (rules.ride p.value) ≡ false) (one_way 0 p.value (IsExit tags (Changes last p.tag)))
 

@@ -85,7 +85,7 @@ module _ {V : Type 0} (rules : Rules V) (laws : Laws rules) (t : TimetableValue)
         arrives = a.arrives;
       }
 
-  -- labels cover a value, or the points found outdo it after the ride
+  -- labels cover a value, or the points found outdo it with the ride
   abbrev InLabels : List (Point V) → List (Point V) → V → Type 0
   InLabels found labels v = Covers rules labels 0 v ⊎ IsOutdone rules t found (i + 1) (rules.ride v)
 

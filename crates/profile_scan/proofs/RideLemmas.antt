@@ -1,4 +1,4 @@
--- Labels after the ride, and what boarding by them offers.
+-- Labels' values with the ride, and what boarding with them offers.
 use Rattle.std.proofs.Common.{◌≡◌, true, false, ℕ, ◌+◌, ◌-◌, ◌<◌, ◌≤◌, List, [], ◌∷◌, ◌++◌, length, set, Contains}
 use Rattle.std.proofs.Common.{slice_get, slice_index, Some, get_or, get_or-set_same, get_or-set_other, refl, sym, ◌∙◌, ap, subst, inl}
 use Rattle.std.proofs.Common.{inr, arith}
@@ -23,7 +23,7 @@ use Rattle.profile_scan.proofs.Admitted.{AreAdmitted}
 use Rattle.profile_scan.proofs.Offers.{stands_in, all_stand, stands_split, takes_if, takes_unless}
 use Rattle.profile_scan.proofs.StoryLemmas.{stays, step_spelled}
 
--- values are those of labels after the ride that aren't bettered, and all such labels below a place are among them
+-- values are those of labels with the ride, unless one of the bound's values is no worse, and all such labels among the first n are there
 pub record RiddenBefore {V : Type 0} (rules : Rules V) (values : List V) (labels : List (Point V)) (n : ℕ) (ridden : List (RiddenLabel V)) : Type 0 where
   pub of_label : (r : RiddenLabel V) → Contains ridden r
       → (l : Point V) × Contains (carried rules values labels) l × (r.value ≡ rules.ride l.value) × (r.label ≡ l.tag)

@@ -1,4 +1,4 @@
--- Offers made of smaller ones, and lists that take them in while a story grows.
+-- Offers made of smaller ones, and lists that take them in while records (a `Story`) are added.
 use Rattle.std.specs.Prelude.{◌≡◌, ◌≢◌, ◌⊎◌, ℕ, ◌+◌, ◌-◌, ◌<◌, ◌≤◌, List, [], ◌∷◌, length, map, Contains, slice_get}
 use Rattle.std.specs.Prelude.{Option, Some, None}
 use Rattle.std.proofs.Common.{inl, inr}
@@ -34,7 +34,7 @@ set_out_way tags departure value s = one_way departure value (λ tag. (x : Aboar
     → tags.earlier.aboard s.label ≡ Some x
     → tags.later.journey tag ≡ Some (record { start = s.start; rides = boarded s.first x }))
 
--- an offer of all ways that the elements for which `There` holds offer
+-- the offers of all elements for which `There` holds, as one offer
 abbrev pub each_of : {X A V : Type 0} → (X → Type 0) → (X → Offer A V) → Offer (X × A) V
 each_of There offer = record {
   is_open = λ way. There way.0 × (offer way.0).is_open way.1;
@@ -43,7 +43,7 @@ each_of There offer = record {
   fits_tag = λ way. (offer way.0).fits_tag way.1;
 }
 
--- labels as points; their departure is 0, since whoever sits in a trip has departed
+-- labels as points; their departure is 0, since a passenger in a trip has departed
 abbrev pub label_points : {V : Type 0} → List (Label V) → List (Point V)
 label_points labels = map (λ label. record { departure = 0; value = label.value; tag = label.tag }) labels
 
@@ -57,8 +57,8 @@ pub record IsRelabelled {V : Type 0} (rules : Rules V) (trip : ℕ) (old new : L
   pub long : trips_of new ≡ trips_of old
   pub same : (k : ℕ) → (k ≡ trip → ⊥) → labels_at new k ≡ labels_at old k
 
--- a list takes an offer in while a story grows from `was` to `now`, whatever beginning of `was` gives earlier tags their meaning, and whatever continuation of
--- `now` gives later tags theirs
+-- a list takes an offer in while records grow from `was` to `now`: for any `before` that `was` extends, by which earlier tags are read, and any `all` that
+-- extends `now`, by which later tags are
 abbrev pub Takes : {A V : Type 0} → Rules V → List Footpath → Story → Story → (Spellings → Offer A V) → List (Point V)
     → List (Point V) → Type 0
 Takes rules walks was now offer old new =
@@ -73,7 +73,7 @@ StandsBefore points n x = (k : ℕ) × (k < n) × (slice_get points k ≡ Some x
 abbrev pub StandsAtOne : {X : Type 0} → List X → List ℕ → X → Type 0
 StandsAtOne points places x = (k : ℕ) × Contains places k × (slice_get points k ≡ Some x)
 
--- offered to the points of a stop: each label of a trip, boarded at connection i after a footpath
+-- offered to the points of a stop: for each label of a trip, boarding connection i with it after a footpath
 abbrev pub boardings_after : {V : Type 0} → Rules V → Spellings → ℕ → ℕ → Footpath → List (Point V) → Offer (Point V) V
 boardings_after rules tags i departure walk labels = record {
   is_open = Contains labels;
@@ -83,7 +83,7 @@ boardings_after rules tags i departure walk labels = record {
       → tags.later.onward tag ≡ Some (record { walk = walk ∷ []; rides = boarded i x });
 }
 
--- offered to the points found: each label of a trip, boarded at connection i after a start
+-- offered to the points found: for each label of a trip, boarding connection i with it after a start
 abbrev pub settings_out_after : {V : Type 0} → Rules V → Spellings → ℕ → ℕ → Option Footpath → List (Point V)
     → Offer (Point V) V
 settings_out_after rules tags i departure start labels = record {
@@ -94,7 +94,7 @@ settings_out_after rules tags i departure start labels = record {
       → tags.later.journey tag ≡ Some (record { start = start; rides = boarded i x });
 }
 
--- the ridden values are those of the labels after the ride, each with the tag of its label
+-- the ridden values are those of the labels with the ride, each with the tag of its label
 pub record AreRidden {V : Type 0} (rules : Rules V) (labels : List (Point V)) (ridden : List (RiddenLabel V)) : Type 0 where
   pub of_label : (r : RiddenLabel V) → Contains ridden r → (l : Point V) × Contains labels l
       × (r.value ≡ rules.ride l.value) × (r.label ≡ l.tag)
@@ -165,18 +165,18 @@ abbrev pub endings_and_changes : {V : Type 0} → Rules V → Spellings → ℕ 
     → List (Point V) → Offer (Option Footpath ⊎ Point V) V
 endings_and_changes rules tags i c q way bag = either (endings rules tags i c q way) (changes_from tags i c.arr bag)
 
--- a start leads from a source to a connection in time, and departs when the query allows: none if the connection starts at a source, or else one footpath from
--- a source to another stop, which may be a source as well
+-- a start begins at a source: none, if the connection begins at one; or a footpath from a source to another stop, which may be a source as well
 abbrev pub StartsFrom : BetweenValue → Connection → Option Footpath → Type 0
 StartsFrom q c None = Contains q.sources c.from
 StartsFrom q c (Some f) = Contains q.sources f.from × (f.to ≢ f.from)
 
--- a start fits before a connection, and one departs by it between two times
+-- a start fits before a connection, and the departure with it lies between two times
 pub record IsInTime (from until : ℕ) (c : Connection) (start : Option Footpath) : Type 0 where
   pub fits : start_secs start ≤ c.dep
   pub not_early : from ≤ c.dep - start_secs start
   pub not_late : c.dep - start_secs start ≤ until
 
+-- a start begins at a source, fits before the connection, and departs when the query allows
 pub record MayStart (q : BetweenValue) (c : Connection) (start : Option Footpath) : Type 0 where
   pub starts : StartsFrom q c start
   pub fits : start_secs start ≤ c.dep

@@ -1,4 +1,4 @@
--- What a scan leaves out by a bound: values of points found, none of which departs earlier than the connections to come.
+-- What a scan leaves out because of its bound. The bound has values of points found, none of which departs earlier than the connections to come.
 use Rattle.std.specs.Prelude.{◌≡◌, ◌⊎◌, ℕ, ◌<◌, ◌≤◌, Bool, true, false, not, List, filter, Contains, slice_get, Some}
 use Rattle.std.specs.List.{list_any}
 use Rattle.criteria.specs.Laws.{Rules, Admits, RidingWorsens}
@@ -11,7 +11,7 @@ use Rattle.profile_scan.specs.Matching.{IsOutdone}
 abbrev pub is_bettered : {V : Type 0} → Rules V → List V → V → Bool
 is_bettered rules values v = list_any (λ b. rules.no_worse b v) values
 
--- the points whose value after the ride these values don't better
+-- the points carried on: each, unless one of these values is no worse than its value with the ride
 abbrev pub carried : {V : Type 0} → Rules V → List V → List (Point V) → List (Point V)
 carried rules values points = filter (λ p. not (is_bettered rules values (rules.ride p.value))) points
 
@@ -29,13 +29,13 @@ pub record IsLateValue {V : Type 0} (rules : Rules V) (found : List (Point V)) (
   pub late : time ≤ of.departure
   pub worth : of.value ≡ b
 
--- values of points found that depart at a time or later are added to others, and what the old values bettered stays bettered
+-- values of points found that depart at a time or later are added to others; if one of the old values was no worse than v, so is one of the new
 pub record IsRenewed {V : Type 0} (rules : Rules V) (found : List (Point V)) (time : ℕ) (old new : List V)
     : Type 0 where
   pub only : (b : V) → Contains new b → Contains old b ⊎ IsLateValue rules found time b
   pub kept : (v : V) → Admits rules v → is_bettered rules old v ≡ true → is_bettered rules new v ≡ true
 
--- the same, and each such point from index `from` on is bettered; of the points from there on, exactly those before `until` depart at the time or later
+-- the same; and from index `from` on, exactly the points before `until` depart at the time or later, and one of the new values is no worse than each of these
 pub record ReadsLate {V : Type 0} (rules : Rules V) (found : List (Point V)) (from time until : ℕ) (old new : List V)
     : Type 0 where
   pub only : (b : V) → Contains new b → Contains old b ⊎ IsLateValue rules found time b
@@ -45,7 +45,8 @@ pub record ReadsLate {V : Type 0} (rules : Rules V) (found : List (Point V)) (fr
   pub late : (k : ℕ) (p : Point V) → from ≤ k → k < until → slice_get found k ≡ Some p → time ≤ p.departure
   pub rest : (k : ℕ) (p : Point V) → until ≤ k → slice_get found k ≡ Some p → p.departure < time
 
--- a value is added to others: nothing else is added, what the old values bettered stays bettered, and the value is bettered too
+-- a value is added to others: nothing else is; if one of the old values was no worse than v, so is one of the new; and one of the new is no worse than the
+-- value
 pub record TakesValue {V : Type 0} (rules : Rules V) (value : V) (old new : List V) : Type 0 where
   pub only : (b : V) → Contains new b → Contains old b ⊎ (value ≡ b)
   pub kept : (v : V) → Admits rules v → is_bettered rules old v ≡ true → is_bettered rules new v ≡ true
@@ -60,7 +61,7 @@ pub record TakesPoints {V : Type 0} (rules : Rules V) (points : List (Point V)) 
   pub each : (k : ℕ) (p : Point V) → from ≤ k → k < until → slice_get points k ≡ Some p
       → is_bettered rules new p.value ≡ true
 
--- a label's value after the ride is added, unless it is bettered
+-- a label's value with the ride is added, unless one of these values is no worse
 pub record RidesLabel {V : Type 0} (rules : Rules V) (values : List V) (label : Point V)
     (old new : List (RiddenLabel V)) : Type 0 where
   pub only : (r : RiddenLabel V) → Contains new r → Contains old r

@@ -59,7 +59,7 @@ pub record CountsFrom (t : TimetableValue) (q : BetweenValue) (i departure : ℕ
   pub counts : CountsBetween t q departure j
   pub boards : BoardsFrom i j.rides
 
--- the values of these; in a trip, that of what comes after it, without the ride in it
+-- the values of ways to go on; in a trip, the value of what comes after leaving it, without the ride in it
 abbrev pub onward_value : {V : Type 0} → Rules V → TimetableValue → Onward → V
 onward_value rules t x = walked rules x.walk (ridden rules (final_time t 0 x.rides) x.rides)
 

@@ -47,7 +47,7 @@ abbrev pub IsWay : TimetableValue → ℕ → ℕ → Option ℕ → Type 0
 IsWay t target stop None = (f : Footpath) → Contains t.footpaths f → f.from ≡ stop → f.to ≡ target → ⊥
 IsWay t target stop (Some secs) = Contains t.footpaths (record { from = stop; to = target; secs = secs })
 
--- what a word says: a way, or that there is none, if its seconds are more than a footpath takes
+-- what an entry says: a way, or that there is none, if its seconds are more than a footpath takes
 abbrev pub way_if : Bool → Way → Option Way
 way_if true word = Some word
 way_if false word = None

@@ -73,7 +73,7 @@ pub record StaySpelled {V : Type 0} (a b : Spelling) (scan : ScanValue V) : Type
   pub at_source : (p : Point V) (j : JourneyValue) → Contains scan.found p → a.journey p.tag ≡ Some j
       → b.journey p.tag ≡ Some j
 
--- what matches still does if further tags come to spell something
+-- what matches goes on matching when more tags spell something
 abbrev pub TagsMayCome : {V : Type 0} → Rules V → Type 0
 TagsMayCome {V} rules =
     (t : TimetableValue) (q : BetweenValue) (a b : Spelling) (i : ℕ) (scan : ScanValue V)

@@ -64,7 +64,7 @@ pub record MatchesBut {V X : Type 0} (rules : Rules V) (spelled : ℕ → Option
   pub complete : (departure : ℕ) (x : X) → IsThere departure x → Covers rules points departure (value x)
       ⊎ Outdone (value x)
 
--- who sits in a trip has departed: labels have departure 0
+-- a passenger in a trip has departed: labels have departure 0
 pub record IsLabelled (t : TimetableValue) (q : BetweenValue) (i trip departure : ℕ) (x : Aboard) : Type 0 where
   pub departed : departure ≡ 0
   pub aboard : IsAboard t q i trip x
@@ -75,7 +75,8 @@ pub record ScanValue (V : Type 0) : Type 0 where
   pub labels : ℕ → List (Point V)
   pub found : List (Point V)
 
--- it matches every way to go on over the connections from index i on; at stops and in trips except those that the points found outdo, in a trip after the ride
+-- it matches every way to go on over the connections from index i on: at stops except those that points found outdo; in trips except those whose value with the
+-- ride they outdo
 pub record MatchesFrom {V : Type 0} (rules : Rules V) (t : TimetableValue) (q : BetweenValue) (tags : Spelling) (i : ℕ)
     (scan : ScanValue V) : Type 0 where
   pub at_stops : (stop : ℕ) → stop < t.stops

@@ -21,7 +21,8 @@ IsInto t targets k f = Contains t.footpaths f × (slice_get targets k ≡ Some f
 abbrev pub IsDoneTo : TimetableValue → List ℕ → ℕ → ℕ → Footpath → Type 0
 IsDoneTo t targets n k f = IsInto t targets k f × (k < n)
 
--- of the footpaths done a way is the loop of its stop; or there is no loop among them, none is shorter, and none as short leads to a target named before
+-- a way is the best of the footpaths taken in so far: it is its stop's loop; or no loop is among them, none is shorter, and none as short leads to a target
+-- named earlier
 pub record IsNearestDone (IsDone : ℕ → Footpath → Type 0) (stop : ℕ) (way : Way) : Type 0 where
   pub place : ℕ
   pub done : IsDone place (record { from = stop; to = way.to; secs = way.secs })
@@ -59,8 +60,7 @@ shorter_of best stop None = best
 shorter_of None stop (Some way) = Some (record { from = stop; to = way.to; secs = way.secs })
 shorter_of (Some first) stop (Some way) = if_shorter (nat_lt way.secs first.secs) (record { from = stop; to = way.to; secs = way.secs }) first
 
--- the footpath is the way from one of the first n of these stops: no longer than that from any of them, and shorter than that from each before; or none of them
--- has a way
+-- the footpath is the shortest way from the first n of these stops, and of equal ones that of the first stop; or none of them has a way
 abbrev pub IsShortestWay : List (Option Way) → List ℕ → ℕ → Option Footpath → Type 0
 IsShortestWay ways sources n None = (k stop : ℕ) → k < n → slice_get sources k ≡ Some stop → slice_index_or ways stop None ≡ None
 IsShortestWay ways sources n (Some f) = (place : ℕ) × (place < n) × (slice_get sources place ≡ Some f.from)

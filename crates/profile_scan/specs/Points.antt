@@ -16,7 +16,7 @@ use Rattle.profile_scan.specs.Values.{journey_value}
 abbrev pub IsPoint : {V : Type 0} → Rules V → TimetableValue → Query → ℕ → V → Type 0
 IsPoint rules t q departure v = (j : JourneyValue) × Counts t q departure j × (v ≡ journey_value rules t j)
 
--- a point of a set that no other one dominates: one that departs no earlier, and is no worse, is that point itself
+-- a point of a set that no other one dominates: any point of the set that departs no earlier and is no worse is the point itself
 pub record IsUndominatedOf {V : Type 0} (rules : Rules V) (IsThere : ℕ → V → Type 0) (departure : ℕ)
     (v : V) : Type 0 where
   pub is_point : IsThere departure v

@@ -21,10 +21,11 @@ IsLed t sources stop = (f : Footpath) × Contains t.footpaths f × IsFromSource 
 abbrev pub SaysLed : TimetableValue → List ℕ → ℕ → Bool → Type 0
 SaysLed t sources stop led = MatchBool led (IsLed t sources stop) (IsLed t sources stop → ⊥)
 
--- among n stops exactly the first k sources are marked
+-- a stop is one of the first k sources
 abbrev pub IsAmong : List ℕ → ℕ → ℕ → Type 0
 IsAmong sources k stop = (j : ℕ) × (j < k) × (slice_get sources j ≡ Some stop)
 
+-- among n stops exactly the first k sources are marked
 pub record AreMarked (sources : List ℕ) (k n : ℕ) (marked : List Bool) : Type 0 where
   pub long : length marked ≡ n
   pub each : (stop : ℕ) → stop < n

@@ -14,7 +14,7 @@ use Rattle.profile_scan.specs.Continuations.{Onward, Aboard}
 use Rattle.profile_scan.specs.declared.ways.Way.{Way}
 use Rattle.profile_scan.specs.Matching.{Spelling, Spellings, Keeps, from_to, IsOutdone, ScanValue}
 
--- what is offered to a list of points: those of the ways A that are open, and for each a departure, a value, and the tags that fit
+-- an offer to a list of points: the ways (elements of A) that are open; for each its departure, its value and the tags that fit
 pub record Offer (A V : Type 0) : Type 1 where
   pub is_open : A → Type 0
   pub departure : A → ℕ
@@ -95,7 +95,7 @@ pub record MayBoard {V : Type 0} (t : TimetableValue) (i stop : ℕ) (labels : L
   pub fits : way.walk.secs ≤ (connection_at t i).dep
   pub is_label : Contains labels way.label
 
--- offered to the points of a stop: each label, after each footpath from the stop to the connection
+-- offered to the points of a stop: for each label, boarding the connection with it after each footpath from the stop
 abbrev pub boardings : {V : Type 0} → Rules V → TimetableValue → Spellings → ℕ → ℕ → List (Point V)
     → Offer (Boarding V) V
 boardings rules t tags i stop labels = record {
@@ -129,7 +129,7 @@ pub record MaySetOutBy {V : Type 0} (IsOfKind : ℕ → Option Footpath → Type
 abbrev pub MaySetOut : {V : Type 0} → TimetableValue → BetweenValue → ℕ → List (Point V) → SettingOut V → Type 0
 MaySetOut t q = MaySetOutBy (IsStart t) t q
 
--- offered to the points found: each label, after each start
+-- offered to the points found: for each label, boarding the connection with it after each start
 abbrev pub settings_out : {V : Type 0} → Rules V → TimetableValue → BetweenValue → Spellings → ℕ → List (Point V)
     → Offer (SettingOut V) V
 settings_out rules t q tags i labels = record {
@@ -140,17 +140,17 @@ settings_out rules t q tags i labels = record {
       → tags.later.journey tag ≡ Some (record { start = way.start; rides = boarded i x });
 }
 
--- the points that are carried on: all, except perhaps those whose value after the ride a point found outdoes, for passengers who board connection i or an
--- earlier one
+-- the points carried on: all, but those may be left out whose value with the ride is outdone by a point found (at i + 1: it departs no earlier than connection
+-- i and all before it)
 pub record AreCarried {V : Type 0} (rules : Rules V) (t : TimetableValue) (found : List (Point V)) (i : ℕ)
     (points carried : List (Point V)) : Type 0 where
   pub only : (p : Point V) → Contains carried p → Contains points p
   pub all : (p : Point V) → Contains points p → Contains carried p
       ⊎ IsOutdone rules t found (i + 1) (rules.ride p.value)
 
--- the step of one connection, from what a scan keeps of the later ones: first the labels of its trip change, by the points of the stop where it ends; then, by
--- these labels and what their tags spell in between, the points found and the points of every stop. All labels are offered to the points found; what these
--- outdo isn't carried on to labels and stops
+-- the step of one connection, from what a scan keeps of the later ones: first the labels of its trip change, by the end and by the points of the stop where it
+-- ends; `between` is what tags spell then; by these labels and `between`, the points found and the points of every stop change. All labels are offered to the
+-- points found; what these outdo isn't carried on to labels and stops
 pub record IsStep {V : Type 0} (rules : Rules V) (t : TimetableValue) (q : BetweenValue) (tags : Spellings) (i : ℕ)
     (old new : ScanValue V) : Type 0 where
   pub between : Spelling
@@ -168,7 +168,8 @@ pub record IsStep {V : Type 0} (rules : Rules V) (t : TimetableValue) (q : Betwe
   pub sets_out : TakesIn rules
       (settings_out rules t q (from_to between tags.later) i (new.labels (connection_at t i).trip)) old.found new.found
 
--- a connection at which nothing is offered: its trip has no labels, and whoever gets off can neither end there nor go on, on foot or by a point of the stop
+-- a connection at which nothing is offered: its trip has no labels, and a passenger who gets off can neither end there nor go on, on foot or by a point of
+-- the stop
 pub record IsIdle {V : Type 0} (c : Connection) (way : Option Way)
     (labels bag : List (Point V)) : Type 0 where
   pub no_labels : labels ≡ []

@@ -61,7 +61,7 @@ spelling_of walks s = record {
   journey = λ tag. set_out_tells (label_tells walks s (length s.exits)) (slice_get s.set_outs tag);
 }
 
--- a tag tells what an exit says, by what earlier tags told
+-- in `tags.later` the tag spells what the exit means, with earlier tags read by `tags.earlier`
 abbrev pub IsExit : Spellings → Exit → ℕ → Type 0
 IsExit tags (Ends last walk) tag = SpellsEnd tags last walk tag
 IsExit tags (Changes last step) tag = SpellsChange tags last step tag

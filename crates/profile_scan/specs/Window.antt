@@ -13,7 +13,7 @@ departs_inside t from by i = nat_le from (connection_at t i).dep && nat_lt (conn
 abbrev pub window_of : TimetableValue → ℕ → ℕ → List ℕ
 window_of t from by = filter (departs_inside t from by) (range_with_len 0 (length t.connections))
 
--- those that depart no earlier than journeys may, and before they must have arrived
+-- the indices of connections that depart at `from` or later and before `by`
 abbrev pub window : TimetableValue → Query → List ℕ
 window t q = window_of t q.from q.by
 

@@ -28,13 +28,13 @@ pub fn timetable_of<S: ConnSource>(source: &S) -> GhostValue<Timetable>
     GhostValue::at(source, &())
 }
 
-/// Finds the answer of a query that can be asked: exactly the points of all journeys that count for it which no other
-/// such point dominates, in order.
+/// Finds the answer of a query that can be asked: of the points of all journeys that count for it, exactly those that
+/// no other dominates, in order.
 ///
 /// Each point has a tag that spells a journey which attains it, and the direct footpath is beside them. Each
-/// connection that departs at `from` or later and before `by` is asked for once, from the last to the first: a later
-/// leg may depart after `until`. The only error is that memory runs out, or that a number would need more than 32
-/// bits; then only a first part of these connections was asked for.
+/// connection that departs at `from` or later and before `by` is asked for once, from the last to the first (before
+/// `by`, not up to `until`, since a later leg may depart after `until`). The only error is that memory runs out, or
+/// that a number would need more than 32 bits; then only a first part of these connections was asked for.
 pub fn profile<S: ConnSource, C: Criterion>(
     alloc: Global,
     source: &mut S,
@@ -55,8 +55,8 @@ pub fn profile<S: ConnSource, C: Criterion>(
     Ok(found.of_one(query))
 }
 
-/// Finds the answer of a query between sets that can be asked: exactly the points of all journeys that count for some
-/// pair of a source and a target which no other such point dominates, in order.
+/// Finds the answer of a query between sets that can be asked: of the points of all journeys that count for some pair
+/// of a source and a target, exactly those that no other dominates, in order.
 ///
 /// Each point has a tag that spells a journey which attains it, and the direct walk is beside them: of the footpaths
 /// from a source to a target the shortest, and of equal ones the first in the order of the lists. However many stops

@@ -1,5 +1,5 @@
-//! The bound: values of points found. A change or a label isn't carried further if one of these values is no worse than
-//! its own after the ride.
+//! The bound: values of points found. A stop's point isn't carried on to labels, nor a label to stops, if one of these
+//! values is no worse than its own value with the ride.
 
 ghost use Rattle.std.specs.Prelude.{◌≡◌, ◌⊎◌, ◌<◌, ◌≤◌, ℕ, true, not, filter, length, slice_get, Some, IfOk, OnOk};
 ghost use Rattle.std.specs.Prelude.{Contains};
@@ -15,16 +15,17 @@ use std::ops::Range;
 
 /// Values of points found that depart no earlier than the connections to come.
 ///
-/// An old bound stays right, for two reasons: connections read later depart no later, and a point leaves the points
-/// found only for one that departs no earlier and is no worse. So each value here keeps a point found that outdoes it.
+/// A bound stays right as the scan goes on: connections read later depart no later, and a point is dropped only for one
+/// that departs no earlier and is no worse. So some point found always outdoes each value here.
 #[derive(Drop)]
 pub struct Bound<C: Criterion> {
     pub values: Vec<C::V>,
     // how many points had ever been found at the last reading: the list of the points found may grow shorter
     count: usize,
-    // the index of the first point to read again: points to come depart no later, so they are put in behind it
+    // the index of the first point to read again: those before it depart later than the last `time`, and points still
+    // to come depart then or earlier, so they are put in here or behind
     place: usize,
-    // the departure of the first point that wasn't late enough, or 0 if all were read
+    // the departure of the first point that wasn't late enough at the last reading, or 0 if all were read
     next: u32,
 }
 
@@ -113,7 +114,7 @@ fn stays<C: Criterion>(criterion: &C, value: &C::V, other: &C::V) -> bool
     !criterion.no_worse(value, other)
 }
 
-// Drops the values than which a value is no worse.
+// Drops each value that the given one is no worse than.
 fn drop_bettered<C: Criterion>(criterion: &C, values: &mut Vec<C::V>, value: &C::V)
     requires values { (b : _) → Contains values.old.items b → Admits (C.rules criterion.now) b }
     requires value { Admits (C.rules criterion.now) value.now }
@@ -130,7 +131,7 @@ fn drop_bettered<C: Criterion>(criterion: &C, values: &mut Vec<C::V>, value: &C:
     values.truncate(kept);
 }
 
-// Adds a value, unless one that is there is no worse, and drops those than which it is no worse.
+// Adds a value, unless one that is there is no worse, and drops each that it is no worse than.
 fn take_value<C: Criterion>(
     criterion: &C,
     value: C::V,
@@ -148,8 +149,8 @@ fn take_value<C: Criterion>(
     Ok(())
 }
 
-// The first index, from `from` on, from which on all points depart before a time. A bag's points are in order of
-// falling departure.
+// The least index, at `from` or behind it, such that all points there and behind it depart before a time. A bag's
+// points are in order of falling departure.
 fn late_until<C: Criterion>(found: &Bag<C>, from: usize, time: u32) -> usize
     requires { from ≤ length (points_of found.now) }
     ensures from { from ≤ result }

@@ -4,8 +4,8 @@ use crate::between::Between;
 use crate::destination::Destination;
 use std::alloc::{AllocError, Global};
 
-/// What is asked from every stop of those who may end at any of several stops, as the platforms of a station: journeys
-/// to any of the targets that depart between two times and arrive by a third. Times are in seconds after the base.
+/// A query from every stop to any of several targets, as the platforms of a station: journeys that depart between two
+/// times and arrive by a third. Times are in seconds after the base.
 #[derive(Debug, Drop)]
 pub struct Destinations {
     pub targets: Vec<u32>,

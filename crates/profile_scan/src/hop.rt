@@ -10,7 +10,7 @@ use timetable::Connection;
 pub struct ScanQuery<C> {
     // by which values are compared
     pub criterion: C,
-    // in a scan for all sources it has none
+    // in a scan for all sources its list of sources is empty
     pub query: Between,
     // for each stop whether it is a source, and whether a footpath that isn't a loop leads there from one
     pub starts: Starts,
@@ -31,7 +31,7 @@ pub struct Hop<'a, V> {
     // there is none
     pub way: Option<Way>,
     // the bound, renewed before this connection is taken in: values of points found that depart no earlier than it. A
-    // change or a label isn't carried further if one of them is no worse than its value after the ride. Empty in a scan
-    // for all sources
+    // stop's point isn't carried on to labels, nor a label to stops, if one of them is no worse than its value with the
+    // ride. Empty in a scan for all sources
     pub bound: &'a [V],
 }

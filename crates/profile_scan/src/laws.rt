@@ -46,13 +46,13 @@ pub fn one_index_down<C: Criterion>(_criterion: &C)
     ensures { OneIndexDown (C.rules _criterion.now) (IsStep (C.rules _criterion.now)) }
 {}
 
-/// What matches still does if further tags come to spell something.
+/// What matches goes on matching when more tags spell something.
 pub fn tags_may_come<C: Criterion>(_criterion: &C)
     ensures { TagsMayCome (C.rules _criterion.now) }
 {}
 
-/// The latest departure matters only at the source: no way to go on depends on it, and of a journey only its own
-/// departure.
+/// The latest departure matters only at the source: no way to go on depends on it, and whether a journey counts depends
+/// on it only through the journey's own departure.
 pub fn cut_is_the_sources()
     ensures { CutIsTheSources CountsBetween }
 {}
@@ -67,8 +67,8 @@ pub fn one_answer<C: Criterion>(_criterion: &C)
     ensures { OneAnswer (C.rules _criterion.now) }
 {}
 
-/// Between a single source and a single target the same journeys count as from the one to the other, and so the points
-/// and the answer are the same, and when it can be asked.
+/// A query between one source and one target asks what the plain query does: it can be asked in the same cases, the
+/// same journeys count, and points and answer are the same.
 pub fn one_is_plain<C: Criterion>(_criterion: &C)
     ensures { (t : TimetableValue) (q : Query) → OneIsPlain (C.rules _criterion.now) t q }
 {}

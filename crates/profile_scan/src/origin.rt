@@ -74,7 +74,8 @@ impl<C: Criterion> Origin<C> {
         Ok(())
     }
 
-    /// Offers to the points found each label of the connection's trip, boarded after this departure.
+    /// Offers to the points found, for each label of the connection's trip, the point of boarding the connection with
+    /// it after this departure.
     #[inline(never)]
     pub fn set_out_after(
         &mut self,
@@ -105,8 +106,8 @@ impl<C: Criterion> Origin<C> {
         Ok(())
     }
 
-    // Offers to the points found each label of the connection's trip, boarded after `start`; nothing if that isn't a
-    // start from a source, or departs at a time that the query doesn't allow.
+    // Offers to the points found, for each label of the connection's trip, the point of boarding the connection with it
+    // after `start`; nothing if that isn't a start from a source, or departs at a time that the query doesn't allow.
     #[inline(always)]
     fn set_out_by(
         &mut self,
@@ -135,9 +136,9 @@ impl<C: Criterion> Origin<C> {
         }
     }
 
-    /// Sets out for a connection, if passengers may get on there: offers to the points found each label of its trip,
-    /// without a start if it begins at a source, and after each footpath from a source to where it begins, except a
-    /// loop.
+    /// Sets out for a connection, if passengers may get on there: offers to the points found, for each label of its
+    /// trip, the point of boarding the connection with it: without a start, if the connection begins at a source; and
+    /// after each footpath, except a loop, from a source to where it begins.
     pub fn set_out<S: ConnSource>(
         &mut self,
         asked: &ScanQuery<C>,
@@ -226,7 +227,7 @@ pub fn departure_by(
     Some(SourceDeparture { start, time })
 }
 
-// The value of a start and a ride, with a label's value after them.
+// A label's value with the ride in its trip, and with a start before that.
 fn value_after<C: Criterion>(criterion: &C, start: Option<Footpath>, value: &C::V) -> C::V
     requires secs { IfSome start (λ walk. IsSecs walk.secs) }
     requires admitted { Admits (C.rules criterion.now) value.now }

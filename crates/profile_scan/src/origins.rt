@@ -42,8 +42,8 @@ impl<C: Criterion> Origins<C> {
         Ok(Origins { each })
     }
 
-    // Offers to the points found from a stop each label of the connection's trip, boarded after this departure from
-    // there.
+    // Offers to the points found from a stop, for each label of the connection's trip, the point of boarding the
+    // connection with it after this departure from there.
     fn set_out_from(
         &mut self,
         asked: &ScanQuery<C>,
@@ -67,8 +67,9 @@ impl<C: Criterion> Origins<C> {
         self.each[stop as usize].set_out_after(asked, hop, departure, labels)
     }
 
-    // Offers each label of the connection's trip, boarded after a start, to the points found from the stop where the
-    // start begins; nothing if the start is a loop, or the query doesn't allow that departure.
+    // Offers to the points found from the stop where a start begins, for each label of the connection's trip, the point
+    // of boarding the connection with it after that start; nothing if the start is a loop, or the query doesn't allow
+    // that departure.
     fn set_out_by(
         &mut self,
         asked: &ScanQuery<C>,
@@ -98,9 +99,9 @@ impl<C: Criterion> Origins<C> {
         }
     }
 
-    /// Sets out for a connection from each stop that leads there, if passengers may get on: offers each label of its
-    /// trip to the points found from where it begins, and, after each footpath to there, to those found from where
-    /// the footpath begins.
+    /// Sets out for a connection, if passengers may get on, from the stop where it begins and from each stop from which
+    /// a footpath, except a loop, leads there: offers to the points found from that stop, for each label of its trip,
+    /// the point of boarding the connection with it.
     pub fn set_out<S: ConnSource>(
         &mut self,
         asked: &ScanQuery<C>,

@@ -79,8 +79,8 @@ impl<C: Criterion> Profiles<C> {
     }
 }
 
-/// Answers a query from every stop, the target included, by one scan: for each, exactly the points of all journeys
-/// from there that count which no other such point dominates, in order. From the target, where no query can be asked,
+/// Answers a query from every stop, the target included, by one scan: for each, of the points of all journeys from
+/// there that count, exactly those that no other dominates, in order. From the target, where no query can be asked,
 /// these are the journeys that come back to it; a caller that wants only what can be asked leaves the target out.
 ///
 /// Each connection of the window is asked for once for all stops, from the last to the first. The only error is that

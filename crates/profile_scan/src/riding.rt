@@ -1,4 +1,4 @@
-//! The labels of a trip as points, and their values after the ride.
+//! The labels of a trip as points, and their values with the ride in the trip.
 
 ghost use Rattle.std.specs.Prelude.{◌≡◌, ◌<◌, OnOk, IfOk, Contains, slice_get, Some, length};
 ghost use Rattle.criteria.specs.Laws.{Admits};
@@ -42,7 +42,7 @@ pub fn label_at<V: Copy>(labels: &[Label<V>], place: usize) -> Point<V>
     label_point(label.value, label.tag)
 }
 
-// Adds a label's value after the ride to a list, unless the bound betters it.
+// Adds a label's value with the ride to a list, unless a value of the bound is no worse.
 fn ride_label<C: Criterion>(
     criterion: &C,
     bound: &[C::V],
@@ -66,7 +66,7 @@ fn ride_label<C: Criterion>(
     Ok(())
 }
 
-/// Makes a list of the labels' values after the ride, without those that the bound betters.
+/// Makes a list of the labels' values with the ride, without each that a value of the bound is no worse than.
 #[inline(always)]
 pub fn ride_labels<C: Criterion>(
     criterion: &C,

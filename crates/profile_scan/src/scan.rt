@@ -93,9 +93,10 @@ impl<C: Criterion> State<C> {
     }
 }
 
-/// Whether getting off where a connection ends leads nowhere: nobody may get off there; or that stop has no footpath to
-/// a target, as each target has, and no points by which one would go on. `way` is that footpath, `head` the head of the
-/// stop's list, which is 0 if it has no points. Whether the connection's trip has labels isn't asked.
+/// Whether getting off where a connection ends leads nowhere: passengers may not get off there; or no footpath leads
+/// from that stop to a target (from a target its own loop does), and it has no points by which a passenger would go on.
+/// `way` is that footpath, `head` the head of the stop's list, which is 0 if it has no points. Whether the connection's
+/// trip has labels isn't asked.
 pub fn ends_nothing(connection: &Connection, way: Option<Way>, head: u32) -> bool
     ensures { (result ≡ true) ↔ (connection.now.alight ≡ true → (way ≡ None) × (head ≡ 0)) }
 {

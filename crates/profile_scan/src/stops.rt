@@ -20,7 +20,7 @@ pub struct Stops<C: Criterion> {
     pub lists: FrontLists<C>,
     pub heads: Vec<u32>,
     pub offers: Vec<LastOffer<C::V>>,
-    // scratch memory: the values of a trip's labels after the ride, if it has several, overwritten by each boarding
+    // scratch memory: the values of a trip's labels with the ride, if it has several, overwritten by each boarding
     pub ridden: Vec<RiddenLabel<C::V>>,
 }
 
@@ -79,8 +79,9 @@ impl<C: Criterion> Stops<C> {
         criterion.no_worse(&offered.value, value)
     }
 
-    // Offers each ridden value, boarded after a footpath, to the list of the stop where the footpath begins. `place` is
-    // the index of the footpath; `hop.place` is that of the connection.
+    // Offers to the list of the stop where a footpath begins, for each ridden value, the point of boarding the
+    // connection with it after that footpath. `place` is the index of the footpath; `hop.place` is that of the
+    // connection.
     #[inline(always)]
     fn board_after(
         &mut self,
@@ -140,9 +141,9 @@ impl<C: Criterion> Stops<C> {
         Ok(())
     }
 
-    // Offers one ridden value, boarded after a footpath, to the list of the stop where the footpath begins, unless the
-    // last offer to the stop shows that its list covers it. `place` is the index of the footpath; `hop.place` is that
-    // of the connection.
+    // Offers to the list of the stop where a footpath begins the point of boarding the connection with one ridden value
+    // after that footpath, unless the last offer to the stop shows that its list covers it. `place` is the index of the
+    // footpath; `hop.place` is that of the connection.
     #[inline(always)]
     fn board_one_after(
         &mut self,
@@ -182,7 +183,7 @@ impl<C: Criterion> Stops<C> {
         Ok(())
     }
 
-    // Goes over the footpaths at the indices `walks`, which lead to the stop where a connection begins, and boards by
+    // Goes over the footpaths at the indices `walks`, which lead to the stop where a connection begins, and boards with
     // one ridden value after each.
     #[inline(always)]
     fn board_one<S: ConnSource>(
@@ -208,7 +209,8 @@ impl<C: Criterion> Stops<C> {
         Ok(())
     }
 
-    // Boards a connection by the only label of its trip, unless `hop.bound` betters its value after the ride.
+    // Boards a connection with the only label of its trip, unless a value of `hop.bound` is no worse than the label's
+    // value with the ride.
     #[inline(always)]
     fn board_alone<S: ConnSource>(
         &mut self,
@@ -243,8 +245,9 @@ impl<C: Criterion> Stops<C> {
         Ok(())
     }
 
-    /// Boards a connection, if passengers may get on there: offers to the list of every stop the boardings from there
-    /// by the labels of the connection's trip, except those whose value after the ride `hop.bound` betters.
+    /// Boards a connection, if passengers may get on there: offers to the list of every stop, for each label of the
+    /// connection's trip, the points of boarding from there with it, except where a value of `hop.bound` is no worse
+    /// than the label's value with the ride.
     #[inline(always)]
     pub fn board<S: ConnSource>(
         &mut self,

@@ -146,8 +146,8 @@ fn lists_in_order<C: Criterion>(
     Ok(lists)
 }
 
-/// Answers a query from every stop to any of several targets by one scan: for each stop, exactly the points of all
-/// journeys from there to one of the targets that count which no other such point dominates, in order.
+/// Answers a query from every stop to any of several targets by one scan: for each stop, of the points of all journeys
+/// from there to one of the targets that count, exactly those that no other dominates, in order.
 ///
 /// A journey that is at a target ends there, and the walk from a stop is the shortest footpath to a target. From a
 /// target, where no query can be asked, the journeys are those that come back to it or go on to another; a caller that

@@ -1,4 +1,5 @@
-//! What a scan keeps for each trip: labels, which have the value of sitting in the trip, and how one leaves it.
+//! What a scan keeps for each trip: labels, each with the value of what comes after the trip is left, without the ride
+//! in it, and how the trip is left.
 //!
 //! A trip is left where a connection ends: at a target, one footpath before one, or to change.
 
@@ -76,9 +77,9 @@ impl<C: Criterion> Trips<C> {
         Ok(())
     }
 
-    // Offers to the labels of the connection's trip one point of the stop where it ends, unless `hop.bound` betters
-    // its value after the ride. Mostly a label is no worse already: so the value is compared with the labels first,
-    // and with the bound only if none of them is no worse.
+    // Offers to the labels of the connection's trip one point of the stop where it ends, unless a value of `hop.bound`
+    // is no worse than the point's value with the ride. The value is compared with the labels first, since mostly one
+    // of them is no worse already, and otherwise with the bound.
     fn change_by(
         &mut self,
         asked: &ScanQuery<C>,
@@ -113,9 +114,10 @@ impl<C: Criterion> Trips<C> {
     }
 
     // A passenger changes: offers to the labels of the connection's trip each point of the stop where it ends that
-    // departs at the arrival or later, except those whose value after the ride `hop.bound` betters. The front from
-    // then on is enough: for each such point it has one that is no worse. The front's first point (`own`) is in the
-    // front's entry and the others are items: so the first goes ahead of the loop.
+    // departs at the arrival or later, except where a value of `hop.bound` is no worse than the point's value with the
+    // ride. The front from then on is enough: for each such point it has one that is no worse. `front_point` reads the
+    // first point of a front (`own`) from the entry and the others from the items: with the first ahead of the loop,
+    // the loop reads items only.
     #[inline(always)]
     fn change(
         &mut self,
@@ -150,7 +152,8 @@ impl<C: Criterion> Trips<C> {
         Ok(())
     }
 
-    // Offers to the labels of the connection's trip the end, if one is at a target in time.
+    // Offers to the labels of the connection's trip the end of the journey, if a passenger who gets off is at a target
+    // by `query.by`, at once or after the footpath there.
     fn end(&mut self, asked: &ScanQuery<C>, hop: &Hop<C::V>) -> Result<(), AllocError>
         requires hop { IsHop (C.rules asked.now.criterion) (question asked.now.query) hop.now }
         requires trip { HasTrip (C.rules asked.now.criterion) hop.now.connection.trip self.old }
@@ -175,8 +178,8 @@ impl<C: Criterion> Trips<C> {
     }
 
     /// Leaves a connection's trip where the connection ends, if passengers may get off there: offers to its labels
-    /// the end, and the changes by the points of that stop, except those whose value after the ride `hop.bound`
-    /// betters.
+    /// the end, and the changes by the points of that stop, except where a value of `hop.bound` is no worse than the
+    /// point's value with the ride.
     #[inline(always)]
     pub fn alight(
         &mut self,

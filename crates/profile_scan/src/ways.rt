@@ -19,8 +19,8 @@ pub struct Way {
     pub secs: u32,
 }
 
-/// For each stop the footpath from it to the nearest target, if there is one: from a target its own loop. Each stop has
-/// a word, since a scan asks for one at each connection.
+/// For each stop the footpath from it to the nearest target, if there is one: from a target its own loop. There is an
+/// entry for each stop, also for those without a way, since a scan looks one up at each connection.
 #[derive(Drop)]
 pub struct Ways {
     // a stop without one has a way of more seconds than a footpath takes
@@ -90,7 +90,7 @@ fn shorter(best: Option<Footpath>, stop: u32, way: Option<Way>) -> Option<Footpa
     }
 }
 
-// What a word says: a way, or that there is none, if it is longer than a footpath can be.
+// What an entry says: a way, or that there is none, if it is longer than a footpath can be.
 fn way_of(word: Way) -> Option<Way>
     ensures { result ≡ way_in word }
 {
@@ -100,8 +100,8 @@ fn way_of(word: Way) -> Option<Way>
     None
 }
 
-// Whether a footpath takes the place of a way from the stop where it begins: the loop always does; another does if it
-// is shorter, but not that of a loop.
+// Whether a footpath takes the place of the way from the stop where it begins: always, if there is none yet or the
+// footpath is a loop; otherwise if it is shorter, unless the old way is the loop.
 fn replaces(old: Option<Way>, walk: &Footpath) -> bool
     ensures { MatchBool result (Replaces old walk.now) (Replaces old walk.now → ⊥) }
 {
@@ -162,7 +162,7 @@ pub fn ways_to<S: ConnSource>(
     Ok(Ways { words })
 }
 
-// Returns the words of `stops` stops without a footpath.
+// Returns the entries of `stops` stops without a footpath.
 fn no_ways(alloc: Global, stops: usize) -> Result<Vec<Way>, AllocError>
     ensures { IfOk result (λ words. words.items ≡ replicate stops no_word) }
 {

@@ -13,10 +13,10 @@ use profile_scan::{Between, ConnSource, profile_between};
 use std::alloc::{AllocError, Global};
 use timetable::{Footpath, Query};
 
-/// Answers a question between several stops that can be asked: exactly the points of all journeys from any of the
-/// sources to any of the targets that count which no other such point dominates, in order, each with a journey between
-/// two of these stops that counts, departs when the point does, and is worth the point's value; and the seconds of the
-/// direct walk. A journey that is at a target ends there.
+/// Answers a question between several stops that can be asked: of the points of all journeys that count from any of the
+/// sources to any of the targets, exactly those that no other dominates, in order, each with a journey between two of
+/// these stops that counts, departs when the point does, and is worth the point's value; and the seconds of the direct
+/// walk. A journey that is at a target ends there.
 ///
 /// However many stops there are, each connection of the window is asked for once, from the last to the first; `read` is
 /// their number. The only error is that memory runs out, or that a number would need more than 32 bits; then only a
