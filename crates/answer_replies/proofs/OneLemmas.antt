@@ -11,7 +11,7 @@ use Rattle.timetable.specs.declared.network.Footpath.{Footpath}
 use Rattle.timetable.specs.declared.query.Query.{Query}
 use Rattle.image_layout.specs.Image.{ImageValue}
 use Rattle.profile_scan.specs.Between.{IsDirectWalk, between_one, pair_of, secs_of}
-use Rattle.profile_scan.specs.Kept.{IsWay}
+use Rattle.profile_scan.specs.Kept.{IsDirectSecs}
 use Rattle.profile_scan.proofs.Single.{answer_from}
 use Rattle.journeys.specs.Answer.{point_of}
 use Rattle.journeys.specs.Extracted.{Attains, AttainsBetween}
@@ -30,7 +30,7 @@ attains_one rules t q p j a =
 
 -- the direct walk between single stops is the footpath from the one to the other
 direct_walk_one : (t : TimetableValue) (q : Query) (walk : Option Footpath) → IsDirectWalk t (between_one q) walk
-    → IsWay t q.target q.source (secs_of walk)
+    → IsDirectSecs t q.target q.source (secs_of walk)
 direct_walk_one t q None none = λ f is from to. none 0 0 f (record {
   is_footpath = is;
   leaves = ap Some (sym from);
@@ -42,8 +42,8 @@ direct_walk_one t q (Some f) is =
     subst (λ (a : ℕ). Contains t.footpaths (record { from = a; to = q.target; secs = f.secs })) from
     (subst (λ (z : ℕ). Contains t.footpaths (record { from = f.from; to = z; secs = f.secs })) to is.2.is_footpath)
 
-direct_one : (t : TimetableValue) (q : Query) (walk : Option ℕ) → IsDirectTime t (between_one q) walk → IsWay t q.target q.source walk
-direct_one t q walk is = subst (IsWay t q.target q.source) (sym is.is) (direct_walk_one t q is.walk is.is_walk)
+direct_one : (t : TimetableValue) (q : Query) (walk : Option ℕ) → IsDirectTime t (between_one q) walk → IsDirectSecs t q.target q.source walk
+direct_one t q walk is = subst (IsDirectSecs t q.target q.source) (sym is.is) (direct_walk_one t q is.walk is.is_walk)
 
 answered_one : {V : Type 0} (form : PointForm) (figures : V → Figures) (rules : Rules V) (image : ImageValue) (version : ℕ) (q : Query)
     (reply : List ℕ) → IsAnswered form figures rules image version (between_one q) reply

@@ -5,7 +5,7 @@ use Rattle.criteria.specs.declared.name.CriterionName.{CriterionName}
 use Rattle.criteria.specs.declared.figures.Figures.{Figures}
 use Rattle.timetable.specs.declared.query.Query.{Query}
 use Rattle.image_layout.specs.Image.{ImageValue}
-use Rattle.profile_scan.specs.Kept.{IsWay}
+use Rattle.profile_scan.specs.Kept.{IsDirectSecs}
 use Rattle.profile_scan.specs.Points.{IsAnswer}
 use Rattle.journeys.specs.Answer.{point_of}
 use Rattle.journeys.specs.Extracted.{Attains}
@@ -23,7 +23,7 @@ pub record IsAnsweredOne {V : Type 0} (form : PointForm) (figures : V → Figure
   pub walk : Option ℕ
   pub answer : IsAnswer rules image.timetable q (map point_of departures)
   pub attained : (departure : Departure V) → Contains departures departure → Attains rules image.timetable q (point_of departure) departure.journey
-  pub direct : IsWay image.timetable q.target q.source walk
+  pub direct : IsDirectSecs image.timetable q.target q.source walk
   pub reply_is : reply ≡ line_of (profile_data (departures_data form image figures departures) version walk)
 
 -- the same by the criterion that is asked for

@@ -6,7 +6,7 @@ ghost use Rattle.timetable.specs.declared.query.Query.{Query};
 ghost use Rattle.timetable.specs.Queries.{IsAskable};
 ghost use Rattle.profile_scan.specs.Window.{window};
 ghost use Rattle.profile_scan.specs.Points.{IsAnswer};
-ghost use Rattle.profile_scan.specs.Kept.{IsWay};
+ghost use Rattle.profile_scan.specs.Kept.{IsDirectSecs};
 ghost use Rattle.profile_scan.specs.Found.{Answers};
 ghost use Rattle.journeys.specs.Answer.{AreAttained, point_of, points_of, walk_of_answer};
 ghost use Rattle.journeys.specs.Extracted.{Attains};
@@ -51,7 +51,7 @@ pub fn answer_query<S: ConnSource, C: Criterion>(
         IsAnswer (C.rules criterion.now) (S.timetable source.old) query.now (points_of answer)) }
     ensures journeys { IfOk result (λ answer.
         AreAttained (C.rules criterion.now) (S.timetable source.old) query.now answer) }
-    ensures walk { IfOk result (λ answer. IsWay (S.timetable source.old) query.now.target query.now.source
+    ensures walk { IfOk result (λ answer. IsDirectSecs (S.timetable source.old) query.now.target query.now.source
         (walk_of_answer answer)) }
     ensures read { IfOk result (λ answer. answer.read ≡ length (window (S.timetable source.old) query.now)) }
     ensures log { OnOk result (S.log source.new ≡ S.log source.old

@@ -89,8 +89,8 @@ counts_in_window t q start departure j is_start c =
           c.counts.journey.has_rides c.counts.not_early c.counts.departs;
     }
 
-pub cut_is_the_sources : CutIsTheSources CountsBetween
-cut_is_the_sources = record {
+pub until_matters_at_source : CutIsTheSources CountsBetween
+until_matters_at_source = record {
   onward = λ t q until i stop time x on. record {
     walks = on.walks;
     is_walk = on.is_walk;

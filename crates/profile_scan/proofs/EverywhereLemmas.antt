@@ -24,7 +24,7 @@ use Rattle.profile_scan.specs.Steps.{AreCarried, Leaving, MayLeave, TakesIn, cha
 use Rattle.profile_scan.specs.Bound.{carried, is_bettered}
 use Rattle.profile_scan.specs.Story.{Story, spelling_of}
 use Rattle.profile_scan.specs.Telling.{IsJourneySpelled, IsSpelledAgain}
-use Rattle.profile_scan.specs.Kept.{IsWay}
+use Rattle.profile_scan.specs.Kept.{IsDirectSecs}
 use Rattle.profile_scan.specs.Answered.{IsAnsweredBetween}
 use Rattle.profile_scan.specs.Destinations.{CanBeAsked, query_from, question_to}
 use Rattle.profile_scan.specs.LawStatements.{CanScan}
@@ -190,7 +190,7 @@ asked_to_one stops d can = record {
 -- answers to any of several targets, where there is one, are those to it
 module _ {K V : Type 0} {c : _} (rules_of : K → Rules V) (t : TimetableValue) (profiles : Profiles K V c)
     (asked : asked_to_any profiles.to_any ≡ question_to profiles.destination) (all : AnswerToAny rules_of t profiles.to_any) where
-  from_one_stop : (stop : ℕ) → stop < t.stops → IsWay t profiles.destination.target stop (walk_from profiles stop)
+  from_one_stop : (stop : ℕ) → stop < t.stops → IsDirectSecs t profiles.destination.target stop (walk_from profiles stop)
       → AnswersFrom (rules_of (criterion_of_profiles profiles)) t (query_from profiles.destination stop) profiles
   from_one_stop stop lt way =
       let rules = rules_of (criterion_of_profiles profiles) in

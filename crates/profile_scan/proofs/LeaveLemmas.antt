@@ -40,7 +40,7 @@ module _ {V : Type 0} (rules : Rules V) (laws : Laws rules) (t : TimetableValue)
     there = ends;
     is_open = (
       opened.0,
-      (subst (Contains q.targets) opened.1.0 (contains_at q.targets is.place way.to is.leads), opened.1.1),
+      (subst (Contains q.targets) opened.1.0 (contains_at q.targets is.index way.to is.leads), opened.1.1),
     );
     departs = refl;
     worth = ap rules.arrive (add-zero (connection_at t i).arr);
@@ -53,7 +53,7 @@ module _ {V : Type 0} (rules : Rules V) (laws : Laws rules) (t : TimetableValue)
       (
         subst (Contains t.footpaths) (sym opened.1.1) is.is_footpath,
         ap (λ (x : Footpath). x.from) opened.1.1,
-        subst (λ (x : Footpath). Contains q.targets x.to) (sym opened.1.1) (contains_at q.targets is.place way.to is.leads),
+        subst (λ (x : Footpath). Contains q.targets x.to) (sym opened.1.1) (contains_at q.targets is.index way.to is.leads),
         (λ here. opened.1.0 (is.own here)),
         opened.1.2,
       ),
@@ -87,7 +87,7 @@ module _ {V : Type 0} (rules : Rules V) (laws : Laws rules) (t : TimetableValue)
         | inr same ↦ (let e = same.0 in omega (arith, e))
       ] in
       let near : Footpath = record { from = (connection_at t i).to; to = way.to; secs = way.secs } in
-      let is_target : Contains q.targets way.to = contains_at q.targets is.place way.to is.leads in
+      let is_target : Contains q.targets way.to = contains_at q.targets is.index way.to is.leads in
       let other : way.to ≡ (connection_at t i).to → ⊥ = λ e. may.3 (subst (Contains q.targets) e is_target) in
       let c = takes (inl (Some near)) (alights, (other, refl, omega (arith, no_longer, by))) in
       let soon = laws.arrive_admits (arr + way.secs) (omega (arith, no_longer, by, small)) in

@@ -17,7 +17,7 @@ use Rattle.profile_scan.specs.Matching.{from_to}
 use Rattle.profile_scan.specs.Steps.{TakesIn}
 use Rattle.profile_scan.specs.Story.{Story, Grows, spelling_of}
 use Rattle.profile_scan.specs.Adding.{AreRidden, boardings_after, only_if}
-use Rattle.profile_scan.specs.Kept.{IsOffered}
+use Rattle.profile_scan.specs.Kept.{IsLastOffer}
 use Rattle.profile_scan.specs.declared.last_offers.LastOffer.{LastOffer}
 use Rattle.profile_scan.proofs.Admitted.{AreAdmitted}
 use Rattle.profile_scan.proofs.Offers.{takes_if, takes_unless}
@@ -52,8 +52,8 @@ module _ {V : Type 0} (rules : Rules V) (old new : ℕ → List (Point V)) (head
   here = ap new (sym (get_or-set_same heads stop now 0 inside))
 
   -- what a stop was offered, it was offered when another list took something in
-  pub offered_on : (k : ℕ) (offered : LastOffer V) → IsOffered rules (old (slice_index heads k)) offered
-      → IsOffered rules (new (slice_index (set heads stop now) k)) offered
+  pub offered_on : (k : ℕ) (offered : LastOffer V) → IsLastOffer rules (old (slice_index heads k)) offered
+      → IsLastOffer rules (new (slice_index (set heads stop now) k)) offered
   offered_on k offered was = record {
     admitted = was.admitted;
     covers = λ time early. elim (cases_eq k stop) [
@@ -71,15 +71,15 @@ module _ {V : Type 0} (rules : Rules V) (old new : ℕ → List (Point V)) (head
 
   -- and what it is offered then
   pub offered_put : (offers : List (LastOffer V)) → ((k : ℕ) (offered : LastOffer V) → slice_get offers k ≡ Some offered
-      → IsOffered rules (old (slice_index heads k)) offered) → (put : LastOffer V) → IsOffered rules (new now) put
+      → IsLastOffer rules (old (slice_index heads k)) offered) → (put : LastOffer V) → IsLastOffer rules (new now) put
       → (k : ℕ) (offered : LastOffer V) → slice_get (set offers stop put) k ≡ Some offered
-      → IsOffered rules (new (slice_index (set heads stop now) k)) offered
+      → IsLastOffer rules (new (slice_index (set heads stop now) k)) offered
   offered_put offers were put fits k offered at = elim (cases_eq k stop) [
     | inl e ↦ at_stop e
     | inr other ↦ offered_on k offered (were k offered (sym (slice_get-set_other offers stop k put other) ∙ at))
   ]
     where
-      at_stop : k ≡ stop → IsOffered rules (new (slice_index (set heads stop now) k)) offered
+      at_stop : k ≡ stop → IsLastOffer rules (new (slice_index (set heads stop now) k)) offered
       at_stop e =
           let there : slice_get (set offers stop put) stop ≡ Some offered =
           subst (λ (n : ℕ). slice_get (set offers stop put) n ≡ Some offered) e at in
@@ -87,9 +87,9 @@ module _ {V : Type 0} (rules : Rules V) (old new : ℕ → List (Point V)) (head
           let below : stop < length offers = omega (arith, long, length-set offers stop put) in
           let is_put : put ≡ offered = same_Some put offered
           (sym (slice_get-set_same offers stop put below) ∙ there) in
-          subst (λ (n : ℕ). IsOffered rules (new (slice_index (set heads stop now) n)) offered) (sym e)
-          (subst (λ (xs : List (Point V)). IsOffered rules xs offered) here
-          (subst (IsOffered rules (new now)) is_put fits))
+          subst (λ (n : ℕ). IsLastOffer rules (new (slice_index (set heads stop now) n)) offered) (sym e)
+          (subst (λ (xs : List (Point V)). IsLastOffer rules xs offered) here
+          (subst (IsLastOffer rules (new now)) is_put fits))
 
 -- the same under equal criteria
 pub kept_under : {K V : Type 0} (rules_of : K → Rules V) (a b : K) → a ≡ b → (old new : List (Point V))

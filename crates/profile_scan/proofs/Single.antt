@@ -16,7 +16,7 @@ use Rattle.profile_scan.specs.Values.{journey_value}
 use Rattle.profile_scan.specs.Plain.{ArePlain, IsPlain, IsPlainOf}
 use Rattle.profile_scan.specs.Matching.{IsAttained}
 use Rattle.profile_scan.specs.Nodes.{spelling}
-use Rattle.profile_scan.specs.Kept.{IsWay}
+use Rattle.profile_scan.specs.Kept.{IsDirectSecs}
 use Rattle.profile_scan.specs.Answered.{IsAnswered, IsAnsweredBetween}
 use Rattle.profile_scan.specs.declared.nodes.Node.{Node}
 
@@ -136,7 +136,7 @@ attained_one rules t q spelled p a =
 
 -- the direct walk between single stops is the footpath from the one to the other
 pub direct_one : (t : TimetableValue) (q : Query) (walk : Option Footpath) → IsDirectWalk t (between_one q) walk
-    → IsWay t q.target q.source (secs_of walk)
+    → IsDirectSecs t q.target q.source (secs_of walk)
 direct_one t q None none = λ f is from to. none 0 0 f (record {
   is_footpath = is;
   leaves = ap Some (sym from);

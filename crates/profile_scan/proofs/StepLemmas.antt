@@ -277,8 +277,8 @@ respelled_but rules a b IsThere IsPlainWay value Outdone points stay is = record
   complete = is.complete;
 }
 
-pub tags_may_come : {V : Type 0} (rules : Rules V) → TagsMayCome rules
-tags_may_come rules t q a b i scan stay is = record {
+pub more_tags_keep_matches : {V : Type 0} (rules : Rules V) → TagsMayCome rules
+more_tags_keep_matches rules t q a b i scan stay is = record {
   at_stops = λ stop in_stops. respelled_but rules a.onward b.onward (IsOnward t q i stop) (IsPlainOnward t (Contains q.targets))
       (onward_value rules t) (IsOutdone rules t scan.found i) (scan.bag stop) (stay.at_stops stop)
       (is.at_stops stop in_stops);

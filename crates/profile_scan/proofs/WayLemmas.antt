@@ -15,9 +15,9 @@ use Rattle.timetable.specs.Legal.{At, IsLegal}
 use Rattle.timetable.proofs.LegalLemmas.{Contains-At, At-Contains}
 use Rattle.profile_scan.specs.Adding.{StandsBetween}
 use Rattle.profile_scan.specs.Between.{BetweenValue, IsDirect, IsDirectWalk, IsTakenBefore, secs_of}
-use Rattle.profile_scan.specs.Kept.{IsNearest, IsWay, IsWayTo, AreWays, walk_by, way_if, way_in}
+use Rattle.profile_scan.specs.Kept.{IsNearest, IsDirectSecs, IsWayTo, AreWays, walk_by, way_if, way_in}
 use Rattle.profile_scan.specs.Nearest.{AreNearest, IsDoneTo, IsDoneWay, IsInto, IsNearestDone, IsShortestWay, Replaces, TakesWalk, if_shorter}
-use Rattle.profile_scan.specs.Nearest.{no_word, shorter_of, way_by}
+use Rattle.profile_scan.specs.Nearest.{no_entry, shorter_of, way_by}
 use Rattle.profile_scan.specs.Origins.{from_stop}
 use Rattle.profile_scan.specs.declared.ways.Way.{Way}
 use Rattle.profile_scan.proofs.BoardLemmas.{between_split}
@@ -28,11 +28,11 @@ no_way (suc n) zero = refl
 no_way (suc n) (suc stop) = no_way n stop
 
 -- words that say so
-no_words : (n : ℕ) → map way_in (replicate n no_word) ≡ replicate n None
+no_words : (n : ℕ) → map way_in (replicate n no_entry) ≡ replicate n None
 no_words zero = refl
 no_words (suc n) = ap (λ (ways : List (Option Way)). None ∷ ways) (no_words n)
 
-pub none_in_words : (n : ℕ) (words : List Way) → words ≡ replicate n no_word → map way_in words ≡ replicate n None
+pub none_in_words : (n : ℕ) (words : List Way) → words ≡ replicate n no_entry → map way_in words ≡ replicate n None
 none_in_words n words e = ap (map way_in) e ∙ no_words n
 
 -- at first there are none
@@ -54,8 +54,8 @@ module _ (t : TimetableValue) (Was Is : ℕ → Footpath → Type 0) (k : ℕ) (
     | inr same ↦ other (sym from ∙ ap (λ (x : Footpath). x.from) same.1)
   ]
   other_way stop other (Some way) is = record {
-    place = is.place;
-    done = more is.place (record { from = stop; to = way.to; secs = way.secs }) is.done;
+    index = is.index;
+    done = more is.index (record { from = stop; to = way.to; secs = way.secs }) is.done;
     best = elim is.best [
       | inl loop ↦ inl loop
       | inr least ↦ inr (λ j g done from. elim (split j g done) [
@@ -79,7 +79,7 @@ module _ (t : TimetableValue) (Was Is : ℕ → Footpath → Type 0) (k : ℕ) (
 
   replaced : (way : Option Way) → IsDoneWay Was f.from way → Replaces way f → IsNearestDone Is f.from (way_by f)
   replaced way is replaces = record {
-    place = k;
+    index = k;
     done = here;
     best = elim (cases_eq f.to f.from) [
       | inl loop ↦ inl loop
@@ -97,8 +97,8 @@ module _ (t : TimetableValue) (Was Is : ℕ → Footpath → Type 0) (k : ℕ) (
   -- where it doesn't
   stayed : (way : Way) → IsNearestDone Was f.from way → (Replaces (Some way) f → ⊥) → IsNearestDone Is f.from way
   stayed way is stays = record {
-    place = is.place;
-    done = more is.place (record { from = f.from; to = way.to; secs = way.secs }) is.done;
+    index = is.index;
+    done = more is.index (record { from = f.from; to = way.to; secs = way.secs }) is.done;
     best = elim is.best [
       | inl loop ↦ inl loop
       | inr least ↦ elim (cases_eq way.to f.from) [
@@ -109,7 +109,7 @@ module _ (t : TimetableValue) (Was Is : ℕ → Footpath → Type 0) (k : ℕ) (
               let to_is : g.to ≡ f.to = ap (λ (x : Footpath). x.to) same.1 in
               let secs_is : g.secs ≡ f.secs = ap (λ (x : Footpath). x.secs) same.1 in
               let place_is : j ≡ k = same.0 in
-              let before = low is.place (record { from = f.from; to = way.to; secs = way.secs }) is.done in (
+              let before = low is.index (record { from = f.from; to = way.to; secs = way.secs }) is.done in (
                 (λ e. stays (inl (sym to_is ∙ e))),
                 elim (cases_lt f.secs way.secs) [
                   | inl lt ↦ absurd (stays (inr (own, lt)))
@@ -166,8 +166,8 @@ nearest_as t Was Is into back ways are = record { long = are.long; each = λ sto
     done_as : (stop : ℕ) (way : Option Way) → IsDoneWay Was stop way → IsDoneWay Is stop way
     done_as stop None none = λ j g is from. none j g (back j g is) from
     done_as stop (Some way) near = record {
-      place = near.place;
-      done = into near.place (record { from = stop; to = way.to; secs = way.secs }) near.done;
+      index = near.index;
+      done = into near.index (record { from = stop; to = way.to; secs = way.secs }) near.done;
       best = elim near.best [ inl loop ↦ inl loop | inr least ↦ inr (λ j g is from. least j g (back j g is) from) ];
     }
 
@@ -238,7 +238,7 @@ all_found t legal targets ways are = record { long = are.long; each = λ stop lt
       (λ f in_f from to. let at = at_contains targets f.to to in none at.0 f (done f in_f at.0 at.1) from),
     )
     way_to stop lt (Some way) is = record {
-      place = is.place;
+      index = is.index;
       leads = is.done.0.1;
       is_footpath = is.done.0.0;
       own = λ target. elim is.best [
@@ -246,7 +246,7 @@ all_found t legal targets ways are = record { long = are.long; each = λ stop lt
         | inr least ↦ (let loop = loop_of stop lt target in absurd ((least loop.0 loop.1 loop.2 loop.3).0 loop.4))
       ];
       least = λ not_target k f at in_f from. elim is.best [
-        | inl loop ↦ absurd (not_target (subst (Contains targets) loop (contains_at targets is.place way.to is.done.0.1)))
+        | inl loop ↦ absurd (not_target (subst (Contains targets) loop (contains_at targets is.index way.to is.done.0.1)))
         | inr least ↦ (least k f (done f in_f k at) from).1
       ];
     }
@@ -263,7 +263,7 @@ direct_is t b ways are within differ (Some f) is =
     let is_source = contains_at b.sources is.0 f.from is.2 in
     let near : IsNearest t b.targets f.from (way_by f) = subst (IsWayTo t b.targets f.from) is.3 (are.each f.from (within f.from is_source)) in (
       is.0,
-      near.place,
+      near.index,
       record { is_footpath = near.is_footpath; leaves = is.2; leads = near.leads },
       λ m n g d.
           let g_source = contains_at b.sources m g.from d.leaves in
@@ -272,7 +272,7 @@ direct_is t b ways are within differ (Some f) is =
   where
     by_way : (near : IsNearest t b.targets f.from (way_by f)) → (m n : ℕ) (g : Footpath) → IsDirect t b m n g → (way : Option Way)
         → get_or ways g.from None ≡ way
-        → IsWayTo t b.targets g.from way → IsTakenBefore is.0 near.place f.secs m n g.secs
+        → IsWayTo t b.targets g.from way → IsTakenBefore is.0 near.index f.secs m n g.secs
     by_way near m n g d None e none = absurd (none.1 g d.is_footpath refl (contains_at b.targets n g.to d.leads))
     by_way near m n g d (Some way) e there =
         let shortest = is.4 m g.from way (slice_get_within b.sources m g.from d.leaves) d.leaves e in
@@ -307,7 +307,7 @@ nearest_direct t b stop other None none = λ i k f d.
     none.1 f d.is_footpath (contains_only stop f.from (contains_at (stop ∷ []) i f.from d.leaves)) (contains_at b.targets k f.to d.leads)
 nearest_direct t b stop other (Some way) near = (
   0,
-  near.place,
+  near.index,
   record { is_footpath = near.is_footpath; leaves = refl; leads = near.leads },
   λ m n g d. elim (near.least other n g d.leads d.is_footpath (contains_only stop g.from (contains_at (stop ∷ []) m g.from d.leaves))) [
     | inl lt ↦ inl lt
@@ -317,7 +317,7 @@ nearest_direct t b stop other (Some way) near = (
 
 -- the way from a target is its loop
 pub target_loop : (t : TimetableValue) (targets : List ℕ) (stop : ℕ) → Contains targets stop → (way : Option Way) → IsWayTo t targets stop way
-    → IsWay t stop stop (secs_of (walk_by stop way))
+    → IsDirectSecs t stop stop (secs_of (walk_by stop way))
 target_loop t targets stop is None none = absurd (none.0 is)
 target_loop t targets stop is (Some way) near =
     subst (λ (n : ℕ). Contains t.footpaths (record { from = stop; to = n; secs = way.secs })) (near.own is) near.is_footpath

@@ -12,7 +12,7 @@ use Rattle.profile_scan.specs.Values.{journey_value}
 use Rattle.profile_scan.specs.Plain.{IsPlain, IsPlainOf}
 use Rattle.profile_scan.specs.Matching.{IsAttained}
 use Rattle.profile_scan.specs.Nodes.{spelling}
-use Rattle.profile_scan.specs.Kept.{IsWay}
+use Rattle.profile_scan.specs.Kept.{IsDirectSecs}
 use Rattle.profile_scan.specs.declared.nodes.Node.{Node}
 
 -- points are the answer of a query over a timetable; each point's tag spells, by the nodes, a plain journey that counts, with the point's departure and value;
@@ -22,7 +22,7 @@ pub record IsAnswered {V : Type 0} (rules : Rules V) (t : TimetableValue) (q : Q
   pub answer : IsAnswer rules t q points
   pub attained : (p : Point V) → Contains points p
       → IsAttained (spelling nodes).journey (Counts t q) (IsPlain t q.target) (journey_value rules t) p
-  pub direct : IsWay t q.target q.source walk
+  pub direct : IsDirectSecs t q.target q.source walk
 
 -- points are the answer of a query between sets over a timetable; each point's tag spells, by the nodes, a journey that counts for a pair, with the point's
 -- departure and value, and is plain with regard to all targets: after its last leg it walks on only if that leg ends at none of them; and `walk` is the direct

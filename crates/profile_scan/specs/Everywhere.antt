@@ -18,7 +18,7 @@ use Rattle.profile_scan.specs.Points.{Before, IsAnswer}
 use Rattle.profile_scan.specs.Matching.{IsAttained, Matches, ScanValue}
 use Rattle.profile_scan.specs.Adding.{trip_points}
 use Rattle.profile_scan.specs.Story.{Story, story, spelling_of}
-use Rattle.profile_scan.specs.Kept.{AreStops, IsWay, points_at, walk_by, ways_of}
+use Rattle.profile_scan.specs.Kept.{AreStops, IsDirectSecs, points_at, walk_by, ways_of}
 use Rattle.profile_scan.specs.Destinations.{query_from, question_to}
 use Rattle.profile_scan.specs.Origins.{AreOrigins, found_from, from_stop, set_outs_from}
 use Rattle.profile_scan.specs.declared.destination.Destination.{Destination}
@@ -97,7 +97,7 @@ pub record AnswerToAny {K V : Type 0} {c : _} (rules_of : K → Rules V) (t : Ti
   pub each : (stop : ℕ) → stop < t.stops → AnswersFromStop (rules_of (criterion_to_any profiles)) t profiles stop
   pub direct : (stop : ℕ) → stop < t.stops → (Contains (asked_to_any profiles).targets stop → ⊥)
       → IsDirectWalk t (from_stop (asked_to_any profiles) stop) (walk_to_any profiles stop)
-  pub loops : (stop : ℕ) → stop < t.stops → Contains (asked_to_any profiles).targets stop → IsWay t stop stop (secs_of (walk_to_any profiles stop))
+  pub loops : (stop : ℕ) → stop < t.stops → Contains (asked_to_any profiles).targets stop → IsDirectSecs t stop stop (secs_of (walk_to_any profiles stop))
   pub long : stops_to_any profiles ≡ t.stops
   pub origins : AreOrigins (criterion_to_any profiles) t.stops profiles.state.origins
   pub ways : length (ways_of profiles.asked.ways) ≡ t.stops
@@ -127,7 +127,7 @@ pub record AnswersFrom {K V : Type 0} {c : _} (rules : Rules V) (t : TimetableVa
   pub attained : (p : Point V) → Contains (listed_from profiles q.source) p
       → IsAttained (spelling_of t.footpaths (story_from profiles.to_any.state q.source)).journey
       (Counts t q) (IsPlain t q.target) (journey_value rules t) p
-  pub direct : IsWay t q.target q.source (walk_from profiles q.source)
+  pub direct : IsDirectSecs t q.target q.source (walk_from profiles q.source)
 
 -- the same from every stop but the target, each by its own query; and from the target itself, for which no query can be asked: there the journeys are those
 -- that come back to it, and the walk is its loop

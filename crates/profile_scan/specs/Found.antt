@@ -10,7 +10,7 @@ use Rattle.profile_scan.specs.Values.{journey_value}
 use Rattle.profile_scan.specs.Plain.{IsPlain}
 use Rattle.profile_scan.specs.Matching.{IsAttained}
 use Rattle.profile_scan.specs.Nodes.{spelling}
-use Rattle.profile_scan.specs.Kept.{IsWay}
+use Rattle.profile_scan.specs.Kept.{IsDirectSecs}
 use Rattle.timetable.specs.declared.network.Footpath.{Footpath}
 use Rattle.profile_scan.specs.Answered.{IsAnsweredBetween}
 use Rattle.profile_scan.specs.Between.{BetweenValue, question}
@@ -49,7 +49,7 @@ pub record Answers {K V : Type 0} {c : _} (criterion : K) (rules : Rules V) (t :
   pub answer : IsAnswer rules t q (listed found)
   pub attained : (p : Point V) → Contains (listed found) p
       → IsAttained (spelling (nodes_of found)).journey (Counts t q) (IsPlain t q.target) (journey_value rules t) p
-  pub direct : IsWay t q.target q.source (walk_of_found found)
+  pub direct : IsDirectSecs t q.target q.source (walk_of_found found)
   pub keeps : (criterion_of_found found ≡ criterion) × (timetable_of found ≡ t) × (query_of found ≡ q)
 
 -- what contracts see of the answer of a query between sets: its points, nodes, direct walk, timetable, query and criterion

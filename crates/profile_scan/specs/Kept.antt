@@ -25,9 +25,8 @@ use Rattle.profile_scan.specs.declared.ways.Ways.{Ways}
 abbrev pub points_at : {K V : Type 0} → Stops K V → ℕ → List (Point V)
 points_at stops stop = list_points stops.lists (slice_index stops.heads.items stop)
 
--- what a stop was offered last: for each time before `before`, its points have one that departs then or later and is no worse than `value`. (Not to be confused
--- with IsOffered of Steps, by which a point is one of an offer.)
-pub record IsOffered {V : Type 0} (rules : Rules V) (points : List (Point V)) (offered : LastOffer V) : Type 0 where
+-- what a stop was offered last: for each time before `before`, its points have one that departs then or later and is no worse than `value`
+pub record IsLastOffer {V : Type 0} (rules : Rules V) (points : List (Point V)) (offered : LastOffer V) : Type 0 where
   pub admitted : Admits rules offered.value
   pub covers : (time : ℕ) → time < offered.before → IsCovered rules points time offered.value
 
@@ -40,39 +39,39 @@ pub record AreStops {K V : Type 0} (rules_of : K → Rules V) (criterion : K) (c
   pub within : (stop : ℕ) → slice_index stops.heads.items stop < length (entries_of stops.lists)
   pub many : length stops.offers.items ≡ count
   pub offered : (stop : ℕ) (offered : LastOffer V) → slice_get stops.offers.items stop ≡ Some offered
-      → IsOffered (rules_of criterion) (points_at stops stop) offered
+      → IsLastOffer (rules_of criterion) (points_at stops stop) offered
 
 -- the seconds of the footpath from a stop to the target, if there is one
-abbrev pub IsWay : TimetableValue → ℕ → ℕ → Option ℕ → Type 0
-IsWay t target stop None = (f : Footpath) → Contains t.footpaths f → f.from ≡ stop → f.to ≡ target → ⊥
-IsWay t target stop (Some secs) = Contains t.footpaths (record { from = stop; to = target; secs = secs })
+abbrev pub IsDirectSecs : TimetableValue → ℕ → ℕ → Option ℕ → Type 0
+IsDirectSecs t target stop None = (f : Footpath) → Contains t.footpaths f → f.from ≡ stop → f.to ≡ target → ⊥
+IsDirectSecs t target stop (Some secs) = Contains t.footpaths (record { from = stop; to = target; secs = secs })
 
 -- what an entry says: a way, or that there is none, if its seconds are more than a footpath takes
 abbrev pub way_if : Bool → Way → Option Way
-way_if true word = Some word
-way_if false word = None
+way_if true entry = Some entry
+way_if false entry = None
 
 abbrev pub way_in : Way → Option Way
-way_in word = way_if (nat_le word.secs MAX_WALK_SECS) word
+way_in entry = way_if (nat_le entry.secs MAX_WALK_SECS) entry
 
 -- the way from each stop
 abbrev pub ways_of : Ways → List (Option Way)
-ways_of ways = map way_in ways.words.items
+ways_of ways = map way_in ways.entries.items
 
 -- the footpath that a way from a stop is, if there is one
 abbrev pub walk_by : ℕ → Option Way → Option Footpath
 walk_by stop None = None
 walk_by stop (Some way) = Some (record { from = stop; to = way.to; secs = way.secs })
 
--- a way from a stop leads to the target at index `place`. From a target it is the loop; from another stop no footpath to a target is shorter, and of equal ones
+-- a way from a stop leads to the target at `index`. From a target it is the loop; from another stop no footpath to a target is shorter, and of equal ones
 -- it leads to the target that is named first
 pub record IsNearest (t : TimetableValue) (targets : List ℕ) (stop : ℕ) (way : Way) : Type 0 where
-  pub place : ℕ
-  pub leads : slice_get targets place ≡ Some way.to
+  pub index : ℕ
+  pub leads : slice_get targets index ≡ Some way.to
   pub is_footpath : Contains t.footpaths (record { from = stop; to = way.to; secs = way.secs })
   pub own : Contains targets stop → way.to ≡ stop
   pub least : (Contains targets stop → ⊥) → (k : ℕ) (f : Footpath) → slice_get targets k ≡ Some f.to → Contains t.footpaths f
-      → f.from ≡ stop → (way.secs < f.secs) ⊎ ((way.secs ≡ f.secs) × (place ≤ k))
+      → f.from ≡ stop → (way.secs < f.secs) ⊎ ((way.secs ≡ f.secs) × (index ≤ k))
 
 -- how one ends a journey at a stop: by its way; or not at all, if it isn't a target and no footpath leads from there to one
 abbrev pub IsWayTo : TimetableValue → List ℕ → ℕ → Option Way → Type 0

@@ -10,8 +10,8 @@ abbrev pub way_by : Footpath → Way
 way_by f = record { to = f.to; secs = f.secs }
 
 -- what stands in for the way of a stop without one
-abbrev pub no_word : Way
-no_word = record { to = 0; secs = 4294967295 }
+abbrev pub no_entry : Way
+no_entry = record { to = 0; secs = 4294967295 }
 
 -- a footpath to the target at index k
 abbrev pub IsInto : TimetableValue → List ℕ → ℕ → Footpath → Type 0
@@ -24,10 +24,10 @@ IsDoneTo t targets n k f = IsInto t targets k f × (k < n)
 -- a way is the best of the footpaths taken in so far: it is its stop's loop; or no loop is among them, none is shorter, and none as short leads to a target
 -- named earlier
 pub record IsNearestDone (IsDone : ℕ → Footpath → Type 0) (stop : ℕ) (way : Way) : Type 0 where
-  pub place : ℕ
-  pub done : IsDone place (record { from = stop; to = way.to; secs = way.secs })
+  pub index : ℕ
+  pub done : IsDone index (record { from = stop; to = way.to; secs = way.secs })
   pub best : (way.to ≡ stop) ⊎ ((k : ℕ) (f : Footpath) → IsDone k f → f.from ≡ stop
-      → (f.to ≢ stop) × ((way.secs < f.secs) ⊎ ((way.secs ≡ f.secs) × (place ≤ k))))
+      → (f.to ≢ stop) × ((way.secs < f.secs) ⊎ ((way.secs ≡ f.secs) × (index ≤ k))))
 
 abbrev pub IsDoneWay : (ℕ → Footpath → Type 0) → ℕ → Option Way → Type 0
 IsDoneWay IsDone stop None = (k : ℕ) (f : Footpath) → IsDone k f → f.from ≡ stop → ⊥
@@ -63,7 +63,7 @@ shorter_of (Some first) stop (Some way) = if_shorter (nat_lt way.secs first.secs
 -- the footpath is the shortest way from the first n of these stops, and of equal ones that of the first stop; or none of them has a way
 abbrev pub IsShortestWay : List (Option Way) → List ℕ → ℕ → Option Footpath → Type 0
 IsShortestWay ways sources n None = (k stop : ℕ) → k < n → slice_get sources k ≡ Some stop → slice_index_or ways stop None ≡ None
-IsShortestWay ways sources n (Some f) = (place : ℕ) × (place < n) × (slice_get sources place ≡ Some f.from)
+IsShortestWay ways sources n (Some f) = (index : ℕ) × (index < n) × (slice_get sources index ≡ Some f.from)
     × (slice_index_or ways f.from None ≡ Some (way_by f))
     × ((k stop : ℕ) (way : Way) → k < n → slice_get sources k ≡ Some stop → slice_index_or ways stop None ≡ Some way
-    → (f.secs < way.secs) ⊎ ((f.secs ≡ way.secs) × (place ≤ k)))
+    → (f.secs < way.secs) ⊎ ((f.secs ≡ way.secs) × (index ≤ k)))

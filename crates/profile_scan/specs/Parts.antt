@@ -95,9 +95,9 @@ StopTakes rules walks stop offer old new =
 -- the points of each stop take in what the footpath at an index offers them; the ridden values are those of the labels
 abbrev pub BoardsAfter : {K V : Type 0}
     → Rules V → Hop V → ℕ → Footpath → List (RiddenLabel V) → Stops K V → Stops K V → Type 0
-BoardsAfter {K} {V} rules hop place walk ridden old new =
+BoardsAfter {K} {V} rules hop walk_index walk ridden old new =
     (labels : List (Point V)) → AreRidden rules labels ridden
-    → (walks : List Footpath) → slice_get walks place ≡ Some walk
+    → (walks : List Footpath) → slice_get walks walk_index ≡ Some walk
     → (stop : ℕ)
     → StopTakes rules walks stop (λ tags. boardings_by rules tags hop.place hop.connection stop labels walk) old new
 

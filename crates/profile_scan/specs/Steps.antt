@@ -21,7 +21,7 @@ pub record Offer (A V : Type 0) : Type 1 where
   pub value : A → V
   pub fits_tag : A → ℕ → Type 0
 
--- a point is one of an offer. (Not to be confused with IsOffered of Kept, which is about what a stop was offered last.)
+-- a point is one of an offer
 pub record IsOffered {A V : Type 0} (offer : Offer A V) (p : Point V) : Type 0 where
   pub way : A
   pub is_open : offer.is_open way

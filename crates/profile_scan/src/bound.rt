@@ -24,7 +24,7 @@ pub struct Bound<C: Criterion> {
     count: usize,
     // the index of the first point to read again: those before it depart later than the last `time`, and points still
     // to come depart then or earlier, so they are put in here or behind
-    place: usize,
+    index: usize,
     // the departure of the first point that wasn't late enough at the last reading, or 0 if all were read
     next: u32,
 }
@@ -42,21 +42,21 @@ impl<C: Criterion> Bound<C> {
         Bound {
             values: Vec::new(alloc),
             count: 0,
-            place: 0,
+            index: 0,
             next: 0,
         }
     }
 
-    // Reads the values of the points, from index `self.place` on, that depart at a time or later. Returns the index
+    // Reads the values of the points, from index `self.index` on, that depart at a time or later. Returns the index
     // where they end.
     fn read_late(&mut self, criterion: &C, found: &Bag<C>, time: u32) -> Result<usize, AllocError>
         requires worsens { RidingWorsens (C.rules criterion.now) }
         requires found { criterion_of found.now ≡ criterion.now }
         requires values { (b : _) → Contains self.old.values.items b → Admits (C.rules criterion.now) b }
         ensures { IfOk result (λ until. ReadsLate (C.rules criterion.now) (points_of found.now)
-            self.old.place time until self.old.values.items self.new.values.items) }
+            self.old.index time until self.old.values.items self.new.values.items) }
     {
-        let from = self.place.min(found.len());
+        let from = self.index.min(found.len());
         let until = late_until(found, from, time);
         take_points(criterion, found, from..until, &mut self.values)?;
         Ok(until)
@@ -86,8 +86,8 @@ impl<C: Criterion> Bound<C> {
             return Ok(());
         }
         let until = self.read_late(criterion, found, time)?;
-        let from = self.place.min(found.len());
-        self.place = late_until(found, from, time.saturating_add(1));
+        let from = self.index.min(found.len());
+        self.index = late_until(found, from, time.saturating_add(1));
         self.next = departure_at(found, until);
         self.count = count;
         Ok(())
@@ -159,9 +159,9 @@ fn late_until<C: Criterion>(found: &Bag<C>, from: usize, time: u32) -> usize
         → time ≤ p.departure }
     ensures rest { (k : ℕ) (p : _) → result ≤ k → slice_get (points_of found.now) k ≡ Some p → p.departure < time }
 {
-    for place in from..found.len() {
-        if found.point(place).departure < time {
-            return place;
+    for index in from..found.len() {
+        if found.point(index).departure < time {
+            return index;
         }
     }
     found.len()
@@ -171,31 +171,31 @@ fn late_until<C: Criterion>(found: &Bag<C>, from: usize, time: u32) -> usize
 fn take_points<C: Criterion>(
     criterion: &C,
     found: &Bag<C>,
-    places: Range<usize>,
+    indices: Range<usize>,
     values: &mut Vec<C::V>,
 ) -> Result<(), AllocError>
     requires found { criterion_of found.now ≡ criterion.now }
-    requires order { places.start ≤ places.end }
-    requires until { places.end ≤ length (points_of found.now) }
+    requires order { indices.start ≤ indices.end }
+    requires until { indices.end ≤ length (points_of found.now) }
     requires values { (b : _) → Contains values.old.items b → Admits (C.rules criterion.now) b }
     ensures { OnOk result
         (TakesPoints (C.rules criterion.now)
-        (points_of found.now) places.start places.end values.old.items values.new.items) }
+        (points_of found.now) indices.start indices.end values.old.items values.new.items) }
 {
-    for place in places.start..places.end {
-        let point = found.point(place);
+    for index in indices.start..indices.end {
+        let point = found.point(index);
         take_value(criterion, point.value, values)?;
     }
     Ok(())
 }
 
 // The departure of the point at an index, or 0 past the last.
-fn departure_at<C: Criterion>(found: &Bag<C>, place: usize) -> u32
-    ensures there { (p : _) → slice_get (points_of found.now) place ≡ Some p → result ≡ p.departure }
-    ensures past { length (points_of found.now) ≤ place → result ≡ 0 }
+fn departure_at<C: Criterion>(found: &Bag<C>, index: usize) -> u32
+    ensures there { (p : _) → slice_get (points_of found.now) index ≡ Some p → result ≡ p.departure }
+    ensures past { length (points_of found.now) ≤ index → result ≡ 0 }
 {
-    if place >= found.len() {
+    if index >= found.len() {
         return 0;
     }
-    found.point(place).departure
+    found.point(index).departure
 }

@@ -7,7 +7,7 @@ ghost use Rattle.std.specs.Prelude.{◌≡◌};
 
 use crate::hop::{Hop, ScanQuery};
 use crate::origins::Origins;
-use crate::scan::ends_nothing;
+use crate::scan::alighting_leads_nowhere;
 use crate::stops::Stops;
 use crate::trips::Trips;
 use crate::ways::Way;
@@ -68,7 +68,7 @@ impl<C: Criterion> StateOfAll<C> {
             return false;
         }
         let head = self.stops.head(connection.to);
-        ends_nothing(connection, way, head)
+        alighting_leads_nowhere(connection, way, head)
     }
 
     // Takes one connection in, with no bound: alights where it ends; then, by the labels that its trip has now, sets

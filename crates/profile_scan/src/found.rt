@@ -100,8 +100,8 @@ fn put<C: Criterion>(
     ensures ordered { OnOk result (AllPairs (Before (C.rules criterion.now)) points.new.items) }
     ensures put { OnOk result ((p : _) → Contains points.new.items p ↔ ((point ≡ p) ⊎ Contains points.old.items p)) }
 {
-    let place = place_for(criterion, points, &point);
-    points.insert(place, point)?;
+    let index = place_for(criterion, points, &point);
+    points.insert(index, point)?;
     Ok(())
 }
 
@@ -114,13 +114,13 @@ fn place_for<C: Criterion>(criterion: &C, points: &[Point<C::V>], point: &Point<
     ensures after { (k : ℕ) (d : _) → result ≤ k → k < length points.now
         → Before (C.rules criterion.now) point.now (slice_index_or points.now k d) }
 {
-    let mut place = points.len();
-    while place > 0 {
-        let last = points[place - 1];
+    let mut index = points.len();
+    while index > 0 {
+        let last = points[index - 1];
         if !comes_first(criterion, point.departure, last.departure, point, &last) {
-            return place;
+            return index;
         }
-        place -= 1;
+        index -= 1;
     }
     0
 }

@@ -47,13 +47,13 @@ pub fn one_index_down<C: Criterion>(_criterion: &C)
 {}
 
 /// What matches goes on matching when more tags spell something.
-pub fn tags_may_come<C: Criterion>(_criterion: &C)
+pub fn more_tags_keep_matches<C: Criterion>(_criterion: &C)
     ensures { TagsMayCome (C.rules _criterion.now) }
 {}
 
 /// The latest departure matters only at the source: no way to go on depends on it, and whether a journey counts depends
 /// on it only through the journey's own departure.
-pub fn cut_is_the_sources()
+pub fn until_matters_at_source()
     ensures { CutIsTheSources CountsBetween }
 {}
 

@@ -6,7 +6,7 @@ ghost use Rattle.timetable.specs.Journeys.{start_secs};
 ghost use Rattle.profile_scan.specs.Values.{started};
 ghost use Rattle.profile_scan.specs.Adding.{IsInTime, StartsFrom};
 ghost use Rattle.profile_scan.specs.Between.{question};
-ghost use Rattle.profile_scan.specs.Hops.{CanTry};
+ghost use Rattle.profile_scan.specs.Hops.{KnowsSources};
 
 use crate::between::Between;
 use crate::hop::{Hop, ScanQuery};
@@ -36,7 +36,7 @@ impl<C: Criterion> Origin<C> {
     ghost use Rattle.timetable.specs.Journeys.{start_secs};
     ghost use Rattle.profile_scan.specs.Adding.{label_points, only_if, set_out_way, settings_out_after, MayStart};
     ghost use Rattle.profile_scan.specs.Steps.{settings_out};
-    ghost use Rattle.profile_scan.specs.Hops.{CanTry, IsHopOf};
+    ghost use Rattle.profile_scan.specs.Hops.{KnowsSources, IsHopOf};
     ghost use Rattle.profile_scan.specs.Starts.{AreStarts};
     ghost use Rattle.profile_scan.specs.Parts.{AdmitsLabels, ChangesOrigin, OriginTakes};
 
@@ -93,9 +93,9 @@ impl<C: Criterion> Origin<C> {
             departure.time departure.start (label_points labels.now))
             self.old self.new) }
     {
-        for place in 0..labels.len() {
-            let label = label_at(labels, place);
-            let value = value_after(&asked.criterion, departure.start, &label.value);
+        for k in 0..labels.len() {
+            let label = label_at(labels, k);
+            let value = value_with_start(&asked.criterion, departure.start, &label.value);
             let set_out = SetOut {
                 start: departure.start,
                 first: hop.place,
@@ -117,7 +117,7 @@ impl<C: Criterion> Origin<C> {
         labels: &[Label<C::V>],
     ) -> Result<(), AllocError>
         requires secs { IfSome start (λ walk. IsSecs walk.secs) }
-        requires lead { CanTry (question asked.now.query).sources hop.now asked.now.starts start }
+        requires lead { KnowsSources (question asked.now.query).sources hop.now asked.now.starts start }
         requires found { criterion_of self.old.found ≡ asked.now.criterion }
         requires labels { AdmitsLabels (C.rules asked.now.criterion) labels.now }
         ensures origin { OnOk result (ChangesOrigin asked.now.criterion self.old self.new) }
@@ -130,7 +130,7 @@ impl<C: Criterion> Origin<C> {
         if !is_from_source(asked, hop, start) {
             return Ok(());
         }
-        match departure_by(&asked.query, &hop.connection, start) {
+        match departure_with(&asked.query, &hop.connection, start) {
             None => Ok(()),
             Some(departure) => self.set_out_after(asked, hop, departure, labels),
         }
@@ -165,8 +165,8 @@ impl<C: Criterion> Origin<C> {
             return Ok(());
         }
         let (begin, end) = source.walks_into(hop.connection.from as usize);
-        for place in begin..end {
-            let walk = source.footpath_into(hop.connection.from as usize, place);
+        for walk_index in begin..end {
+            let walk = source.footpath_into(hop.connection.from as usize, walk_index);
             self.set_out_by(asked, hop, Some(walk), labels)?;
         }
         Ok(())
@@ -187,7 +187,7 @@ fn is_from_source<C: Criterion>(
     hop: &Hop<C::V>,
     start: Option<Footpath>,
 ) -> bool
-    requires { CanTry (question asked.now.query).sources hop.now asked.now.starts start }
+    requires { KnowsSources (question asked.now.query).sources hop.now asked.now.starts start }
     ensures { MatchBool result (StartsFrom (question asked.now.query) hop.now.connection start)
         (StartsFrom (question asked.now.query) hop.now.connection start → ⊥) }
 {
@@ -204,7 +204,7 @@ fn is_from_source<C: Criterion>(
 
 /// How one sets out by a start to board a connection, if the query allows that departure.
 #[inline(always)]
-pub fn departure_by(
+pub fn departure_with(
     query: &Between,
     connection: &Connection,
     start: Option<Footpath>,
@@ -228,7 +228,7 @@ pub fn departure_by(
 }
 
 // A label's value with the ride in its trip, and with a start before that.
-fn value_after<C: Criterion>(criterion: &C, start: Option<Footpath>, value: &C::V) -> C::V
+fn value_with_start<C: Criterion>(criterion: &C, start: Option<Footpath>, value: &C::V) -> C::V
     requires secs { IfSome start (λ walk. IsSecs walk.secs) }
     requires admitted { Admits (C.rules criterion.now) value.now }
     ensures { result ≡ started (C.rules criterion.now) start ((C.rules criterion.now).ride value.now) }

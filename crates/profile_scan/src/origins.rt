@@ -4,7 +4,7 @@ ghost use Rattle.std.specs.Prelude.{◌≡◌, MatchBool};
 ghost use Rattle.profile_scan.specs.Origins.{IsLoop, starts_at};
 
 use crate::hop::{Hop, ScanQuery};
-use crate::origin::{Origin, SourceDeparture, departure_by};
+use crate::origin::{Origin, SourceDeparture, departure_with};
 use criteria::Criterion;
 use fronts::Label;
 use sources::ConnSource;
@@ -93,7 +93,7 @@ impl<C: Criterion> Origins<C> {
             return Ok(());
         }
         let stop = source_of(&hop.connection, start);
-        match departure_by(&asked.query, &hop.connection, start) {
+        match departure_with(&asked.query, &hop.connection, start) {
             None => Ok(()),
             Some(departure) => self.set_out_from(asked, hop, stop, departure, labels),
         }
@@ -125,8 +125,8 @@ impl<C: Criterion> Origins<C> {
         }
         let (begin, end) = source.walks_into(hop.connection.from as usize);
         self.set_out_by(asked, hop, None, labels)?;
-        for place in begin..end {
-            let walk = source.footpath_into(hop.connection.from as usize, place);
+        for walk_index in begin..end {
+            let walk = source.footpath_into(hop.connection.from as usize, walk_index);
             self.set_out_by(asked, hop, Some(walk), labels)?;
         }
         Ok(())

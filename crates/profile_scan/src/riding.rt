@@ -34,11 +34,11 @@ fn label_point<V>(value: V, tag: u32) -> Point<V>
 }
 
 /// The label at an index, as a point.
-pub fn label_at<V: Copy>(labels: &[Label<V>], place: usize) -> Point<V>
-    requires { place < length labels.now }
-    ensures { slice_get (label_points labels.now) place ≡ Some result }
+pub fn label_at<V: Copy>(labels: &[Label<V>], k: usize) -> Point<V>
+    requires { k < length labels.now }
+    ensures { slice_get (label_points labels.now) k ≡ Some result }
 {
-    let label = labels[place];
+    let label = labels[k];
     label_point(label.value, label.tag)
 }
 
@@ -80,8 +80,8 @@ pub fn ride_labels<C: Criterion>(
         (carried (C.rules criterion.now) bound.now (label_points labels.now)) ridden.new.items) }
 {
     ridden.clear();
-    for place in 0..labels.len() {
-        let label = label_at(labels, place);
+    for k in 0..labels.len() {
+        let label = label_at(labels, k);
         ride_label(criterion, bound, &label, ridden)?;
     }
     Ok(())

@@ -61,7 +61,7 @@ impl<C: Criterion> State<C> {
             return false;
         }
         let head = self.stops.head(connection.to);
-        ends_nothing(connection, way, head)
+        alighting_leads_nowhere(connection, way, head)
     }
 
     // Takes one connection in: alights where it ends; then, by the labels that its trip has now, sets out for it and
@@ -97,7 +97,7 @@ impl<C: Criterion> State<C> {
 /// from that stop to a target (from a target its own loop does), and it has no points by which a passenger would go on.
 /// `way` is that footpath, `head` the head of the stop's list, which is 0 if it has no points. Whether the connection's
 /// trip has labels isn't asked.
-pub fn ends_nothing(connection: &Connection, way: Option<Way>, head: u32) -> bool
+pub fn alighting_leads_nowhere(connection: &Connection, way: Option<Way>, head: u32) -> bool
     ensures { (result ≡ true) ↔ (connection.now.alight ≡ true → (way ≡ None) × (head ≡ 0)) }
 {
     if !connection.alight {

@@ -63,8 +63,8 @@ fn is_led<S: ConnSource>(source: &S, marked: &[bool], stop: u32) -> bool
         (IsLedBy (S.timetable source.now) marked.now stop → ⊥) }
 {
     let (begin, end) = source.walks_into(stop as usize);
-    for place in begin..end {
-        let walk = source.footpath_into(stop as usize, place);
+    for walk_index in begin..end {
+        let walk = source.footpath_into(stop as usize, walk_index);
         if is_start(marked, &walk) {
             return true;
         }

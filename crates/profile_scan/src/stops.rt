@@ -80,14 +80,13 @@ impl<C: Criterion> Stops<C> {
     }
 
     // Offers to the list of the stop where a footpath begins, for each ridden value, the point of boarding the
-    // connection with it after that footpath. `place` is the index of the footpath; `hop.place` is that of the
-    // connection.
+    // connection with it after that footpath.
     #[inline(always)]
-    fn board_after(
+    fn board_walk(
         &mut self,
         asked: &ScanQuery<C>,
         hop: &Hop<C::V>,
-        place: usize,
+        walk_index: usize,
         walk: Footpath,
     ) -> Result<(), AllocError>
         requires secs { IsSecs walk.secs }
@@ -96,13 +95,14 @@ impl<C: Criterion> Stops<C> {
         ensures stops { OnOk result
             (ChangesLists C.rules asked.now.criterion (vec_len self.old.heads) self.old self.new) }
         ensures takes { OnOk result
-            (BoardsAfter (C.rules asked.now.criterion) hop.now place walk self.old.ridden.items self.old self.new) }
+            (BoardsAfter (C.rules asked.now.criterion) hop.now walk_index walk self.old.ridden.items
+            self.old self.new) }
     {
         let dep = hop.connection.dep;
         if walk.secs > dep {
             return Ok(());
         }
-        let number = number_of(place)?;
+        let number = number_of(walk_index)?;
         let head = self.head(walk.from);
         let new = self.lists.insert(
             head,
@@ -134,22 +134,21 @@ impl<C: Criterion> Stops<C> {
             (S.timetable source.now).footpaths walks.start walks.end hop.now self.old.ridden.items
             self.old self.new) }
     {
-        for place in walks.start..walks.end {
-            let walk = source.footpath_into(hop.connection.from as usize, place);
-            self.board_after(asked, hop, place, walk)?;
+        for walk_index in walks.start..walks.end {
+            let walk = source.footpath_into(hop.connection.from as usize, walk_index);
+            self.board_walk(asked, hop, walk_index, walk)?;
         }
         Ok(())
     }
 
     // Offers to the list of the stop where a footpath begins the point of boarding the connection with one ridden value
-    // after that footpath, unless the last offer to the stop shows that its list covers it. `place` is the index of the
-    // footpath; `hop.place` is that of the connection.
+    // after that footpath, unless the last offer to the stop shows that its list covers it.
     #[inline(always)]
-    fn board_one_after(
+    fn board_walk_one(
         &mut self,
         asked: &ScanQuery<C>,
         hop: &Hop<C::V>,
-        place: usize,
+        walk_index: usize,
         walk: Footpath,
         ride: RiddenLabel<C::V>,
     ) -> Result<(), AllocError>
@@ -160,7 +159,7 @@ impl<C: Criterion> Stops<C> {
         ensures stops { OnOk result
             (ChangesLists C.rules asked.now.criterion (vec_len self.old.heads) self.old self.new) }
         ensures takes { OnOk result
-            (BoardsAfter (C.rules asked.now.criterion) hop.now place walk (ride ∷ []) self.old self.new) }
+            (BoardsAfter (C.rules asked.now.criterion) hop.now walk_index walk (ride ∷ []) self.old self.new) }
     {
         let dep = hop.connection.dep;
         if walk.secs > dep {
@@ -170,7 +169,7 @@ impl<C: Criterion> Stops<C> {
         if self.was_offered(&asked.criterion, walk.from, dep - walk.secs, &value) {
             return Ok(());
         }
-        let number = number_of(place)?;
+        let number = number_of(walk_index)?;
         let head = self.head(walk.from);
         let new = self
             .lists
@@ -186,7 +185,7 @@ impl<C: Criterion> Stops<C> {
     // Goes over the footpaths at the indices `walks`, which lead to the stop where a connection begins, and boards with
     // one ridden value after each.
     #[inline(always)]
-    fn board_one<S: ConnSource>(
+    fn board_walks_one<S: ConnSource>(
         &mut self,
         asked: &ScanQuery<C>,
         source: &S,
@@ -202,9 +201,9 @@ impl<C: Criterion> Stops<C> {
         ensures takes { OnOk result (BoardsAfterEach (C.rules asked.now.criterion)
             (S.timetable source.now).footpaths walks.start walks.end hop.now (ride ∷ []) self.old self.new) }
     {
-        for place in walks.start..walks.end {
-            let walk = source.footpath_into(hop.connection.from as usize, place);
-            self.board_one_after(asked, hop, place, walk, ride)?;
+        for walk_index in walks.start..walks.end {
+            let walk = source.footpath_into(hop.connection.from as usize, walk_index);
+            self.board_walk_one(asked, hop, walk_index, walk, ride)?;
         }
         Ok(())
     }
@@ -212,7 +211,7 @@ impl<C: Criterion> Stops<C> {
     // Boards a connection with the only label of its trip, unless a value of `hop.bound` is no worse than the label's
     // value with the ride.
     #[inline(always)]
-    fn board_alone<S: ConnSource>(
+    fn board_only_label<S: ConnSource>(
         &mut self,
         asked: &ScanQuery<C>,
         source: &S,
@@ -241,7 +240,7 @@ impl<C: Criterion> Stops<C> {
             label: label.tag,
         };
         let (begin, end) = source.walks_into(hop.connection.from as usize);
-        self.board_one(asked, source, hop, begin..end, ride)?;
+        self.board_walks_one(asked, source, hop, begin..end, ride)?;
         Ok(())
     }
 
@@ -272,7 +271,7 @@ impl<C: Criterion> Stops<C> {
             return Ok(());
         }
         if labels.len() == 1 {
-            return self.board_alone(asked, source, hop, &labels[0]);
+            return self.board_only_label(asked, source, hop, &labels[0]);
         }
         ride_labels(&asked.criterion, hop.bound, labels, &mut self.ridden)?;
         if self.ridden.len() == 0 {

@@ -136,17 +136,17 @@ impl<C: Criterion> Trips<C> {
             self.old self.new) }
     {
         let head = stops.head(hop.connection.to);
-        // the index of the front's entry, 0 if no point departs so late; `hop.place` is the index of the connection
-        let place = stops.lists.front_from(head, hop.connection.arr);
-        let count = stops.lists.front_len(place);
+        // the index of the front's entry, 0 if no point departs so late
+        let entry = stops.lists.front_from(head, hop.connection.arr);
+        let count = stops.lists.front_len(entry);
         if count == 0 {
             return Ok(());
         }
         // the entry's own point, the first of its front
-        let own = stops.lists.front_point(place, 0);
+        let own = stops.lists.front_point(entry, 0);
         self.change_by(asked, hop, &own)?;
         for k in 1..count {
-            let point = stops.lists.front_point(place, k);
+            let point = stops.lists.front_point(entry, k);
             self.change_by(asked, hop, &point)?;
         }
         Ok(())
@@ -211,14 +211,14 @@ impl<C: Criterion> Trips<C> {
 
 // How to end: the walk to a target, and when it is over.
 #[derive(Clone, Copy)]
-struct EndingWalk {
+struct Ending {
     walk: Option<Footpath>,
     time: u32,
 }
 
 // The end of a journey that gets off where a connection ends, if it reaches a target by `query.by`; `way` is the
 // footpath from that stop to the nearest target, which is its loop if it is a target itself.
-fn end_of(connection: &Connection, query: &Between, way: Option<Way>) -> Option<EndingWalk>
+fn end_of(connection: &Connection, query: &Between, way: Option<Way>) -> Option<Ending>
     requires arrival { IsTime connection.now.arr }
     requires secs { IfSome way (λ way. IsSecs way.secs) }
     ensures { MatchOption result ((walk : Option Footpath) → IsEnding connection.now (question query.now) way walk → ⊥)
@@ -232,7 +232,7 @@ fn end_of(connection: &Connection, query: &Between, way: Option<Way>) -> Option<
         if connection.arr > query.by {
             return None;
         }
-        return Some(EndingWalk {
+        return Some(Ending {
             walk: None,
             time: connection.arr,
         });
@@ -246,7 +246,7 @@ fn end_of(connection: &Connection, query: &Between, way: Option<Way>) -> Option<
         to: way.to,
         secs: way.secs,
     };
-    Some(EndingWalk {
+    Some(Ending {
         walk: Some(walk),
         time,
     })

@@ -4,7 +4,7 @@ ghost use Rattle.std.specs.Prelude.{◌≡◌, ◌+◌, ◌<◌, ℕ, IfOk, Cont
 ghost use Rattle.std.specs.Prelude.{slice_index_or};
 ghost use Rattle.criteria.specs.Laws.{IsSecs};
 ghost use Rattle.profile_scan.specs.Kept.{AreWays, way_in, ways_of};
-ghost use Rattle.profile_scan.specs.Nearest.{AreNearest, IsDoneTo, Replaces, TakesWalk, no_word, shorter_of};
+ghost use Rattle.profile_scan.specs.Nearest.{AreNearest, IsDoneTo, Replaces, TakesWalk, no_entry, shorter_of};
 
 use fronts::copies;
 use sources::ConnSource;
@@ -24,7 +24,7 @@ pub struct Way {
 #[derive(Drop)]
 pub struct Ways {
     // a stop without one has a way of more seconds than a footpath takes
-    words: Vec<Way>,
+    entries: Vec<Way>,
 }
 
 impl Ways {
@@ -37,7 +37,7 @@ impl Ways {
         requires { stop < length (ways_of self.now) }
         ensures { result ≡ slice_index_or (ways_of self.now) stop None }
     {
-        way_of(self.words[stop as usize])
+        way_of(self.entries[stop as usize])
     }
 
     /// The same as a footpath.
@@ -91,11 +91,11 @@ fn shorter(best: Option<Footpath>, stop: u32, way: Option<Way>) -> Option<Footpa
 }
 
 // What an entry says: a way, or that there is none, if it is longer than a footpath can be.
-fn way_of(word: Way) -> Option<Way>
-    ensures { result ≡ way_in word }
+fn way_of(entry: Way) -> Option<Way>
+    ensures { result ≡ way_in entry }
 {
-    if word.secs <= MAX_WALK_SECS {
-        return Some(word);
+    if entry.secs <= MAX_WALK_SECS {
+        return Some(entry);
     }
     None
 }
@@ -112,37 +112,37 @@ fn replaces(old: Option<Way>, walk: &Footpath) -> bool
 }
 
 // Takes a footpath to a target in.
-fn take_walk(words: &mut Vec<Way>, walk: &Footpath)
-    requires from { walk.now.from < length words.old.items }
+fn take_walk(entries: &mut Vec<Way>, walk: &Footpath)
+    requires from { walk.now.from < length entries.old.items }
     requires secs { IsSecs walk.now.secs }
-    ensures { TakesWalk walk.now (map way_in words.old.items) (map way_in words.new.items) }
+    ensures { TakesWalk walk.now (map way_in entries.old.items) (map way_in entries.new.items) }
 {
     let from = walk.from as usize;
-    let word = words[from];
-    let old = way_of(word);
+    let entry = entries[from];
+    let old = way_of(entry);
     if !replaces(old, walk) {
         return;
     }
-    words[from] = Way {
+    entries[from] = Way {
         to: walk.to,
         secs: walk.secs,
     };
 }
 
 // Takes in the footpaths to the target at index `k`, after those to the targets before it.
-fn take_target<S: ConnSource>(source: &S, targets: &[u32], k: usize, words: &mut Vec<Way>)
+fn take_target<S: ConnSource>(source: &S, targets: &[u32], k: usize, entries: &mut Vec<Way>)
     requires k { k < length targets.now }
     requires targets { (stop : ℕ) → Contains targets.now stop → stop < (S.timetable source.now).stops }
     requires before { AreNearest (S.timetable source.now) (IsDoneTo (S.timetable source.now) targets.now k)
-        (map way_in words.old.items) }
+        (map way_in entries.old.items) }
     ensures { AreNearest (S.timetable source.now) (IsDoneTo (S.timetable source.now) targets.now (k + 1))
-        (map way_in words.new.items) }
+        (map way_in entries.new.items) }
 {
     let target = targets[k];
     let (begin, end) = source.walks_into(target as usize);
-    for place in begin..end {
-        let walk = source.footpath_into(target as usize, place);
-        take_walk(words, &walk);
+    for walk_index in begin..end {
+        let walk = source.footpath_into(target as usize, walk_index);
+        take_walk(entries, &walk);
     }
 }
 
@@ -155,16 +155,16 @@ pub fn ways_to<S: ConnSource>(
     requires { (stop : ℕ) → Contains targets.now stop → stop < (S.timetable source.now).stops }
     ensures { IfOk result (λ ways. AreWays (S.timetable source.now) targets.now (ways_of ways)) }
 {
-    let mut words = no_ways(alloc, source.stops() as usize)?;
+    let mut entries = no_ways(alloc, source.stops() as usize)?;
     for k in 0..targets.len() {
-        take_target(source, targets, k, &mut words);
+        take_target(source, targets, k, &mut entries);
     }
-    Ok(Ways { words })
+    Ok(Ways { entries })
 }
 
 // Returns the entries of `stops` stops without a footpath.
 fn no_ways(alloc: Global, stops: usize) -> Result<Vec<Way>, AllocError>
-    ensures { IfOk result (λ words. words.items ≡ replicate stops no_word) }
+    ensures { IfOk result (λ entries. entries.items ≡ replicate stops no_entry) }
 {
     let none = Way {
         to: 0,

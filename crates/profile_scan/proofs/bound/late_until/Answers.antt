@@ -7,7 +7,7 @@ use Rattle.profile_scan.proofs.bound.late_until.Goals as goal
 pub returns-then-point-time-clause-rest : goal.returns-then-point-time-clause-rest
 returns-then-point-time-clause-rest g c =
     let found = c.args.found.now in
-    rest_early (g.C.Criterion.rules found.criterion) (points_of found) found.listed c.loop-place.place c.args.time
+    rest_early (g.C.Criterion.rules found.criterion) (points_of found) found.listed c.loop-index.index c.args.time
     c.point.result c.point.ensures c.if-point-time.true
 
 pub returns-clause-rest : goal.returns-clause-rest

@@ -3,5 +3,5 @@ use Rattle.bags.specs.Bag.{points_of}
 use Rattle.bags.specs.declared.point.Point.{Point}
 use Rattle.profile_scan.proofs.bound.late_until.Given as goal
 
-abbrev pub invariant-loop-place : goal.invariant-loop-place
-invariant-loop-place g l = (k : ℕ) (p : Point g.row.C-V.Denot) → l.from ≤ k → k < l.place → slice_get (points_of l.found) k ≡ Some p → l.time ≤ p.departure
+abbrev pub invariant-loop-index : goal.invariant-loop-index
+invariant-loop-index g l = (k : ℕ) (p : Point g.row.C-V.Denot) → l.from ≤ k → k < l.index → slice_get (points_of l.found) k ≡ Some p → l.time ≤ p.departure

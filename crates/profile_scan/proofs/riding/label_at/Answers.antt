@@ -7,7 +7,7 @@ use Rattle.profile_scan.proofs.riding.label_at.Goals as goal
 pub returns : goal.returns
 returns g c =
     let labels = c.args.labels.now in
-    let label = c.index-labels-place.result in
-    slice_get-map as_point labels c.args.place
-    ∙ ap (option_map as_point) (slice_get-get_or labels c.args.place label c.requires
-    ∙ ap Some (sym c.index-labels-place.is)) ∙ ap Some (sym c.label_point.ensures)
+    let label = c.index-labels-k.result in
+    slice_get-map as_point labels c.args.k
+    ∙ ap (option_map as_point) (slice_get-get_or labels c.args.k label c.requires
+    ∙ ap Some (sym c.index-labels-k.is)) ∙ ap Some (sym c.label_point.ensures)

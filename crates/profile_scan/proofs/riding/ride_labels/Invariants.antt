@@ -2,5 +2,5 @@ use Rattle.profile_scan.proofs.RideLemmas.{RiddenBefore}
 use Rattle.profile_scan.specs.Adding.{label_points}
 use Rattle.profile_scan.proofs.riding.ride_labels.Given as goal
 
-abbrev pub invariant-loop-place : goal.invariant-loop-place
-invariant-loop-place g l = RiddenBefore (g.C.Criterion.rules l.criterion) l.bound (label_points l.labels) l.place l.ridden.items
+abbrev pub invariant-loop-k : goal.invariant-loop-k
+invariant-loop-k g l = RiddenBefore (g.C.Criterion.rules l.criterion) l.bound (label_points l.labels) l.k l.ridden.items

@@ -15,39 +15,40 @@ pub footpath_into-walk-requires-clause-stop : goal.footpath_into-walk-requires-c
 footpath_into-walk-requires-clause-stop g c = c.requires.targets (get_or c.args.targets.now c.args.k 0)
     (contains_at c.args.targets.now c.args.k (get_or c.args.targets.now c.args.k 0) (slice_get-get_or c.args.targets.now c.args.k 0 c.requires.k))
 
-pub loop-place-init : goal.loop-place-init
-loop-place-init g c = target_begins (g.S.ConnSource.timetable c.args.source.now) c.args.targets.now c.args.k c.walks_into-begin.result.0
-    (map way_in c.args.words.now.items) c.requires.before
+pub loop-walk_index-init : goal.loop-walk_index-init
+loop-walk_index-init g c = target_begins (g.S.ConnSource.timetable c.args.source.now) c.args.targets.now c.args.k c.walks_into-begin.result.0
+    (map way_in c.args.entries.now.items) c.requires.before
 
 pub take_walk-requires-clause-from : goal.take_walk-requires-clause-from
 take_walk-requires-clause-from g c =
-    let from_in = ((g.met.S.ConnSource.legal c.args.source.now).ends_in_range c.loop-place.place c.footpath_into-walk.result c.footpath_into-walk.ensures).0 in
-    subst (λ (n : ℕ). c.footpath_into-walk.result.from < n) (sym c.loop-place.invariant.long ∙ length-map c.loop-place.words.items way_in) from_in
+    let from_in = ((g.met.S.ConnSource.legal c.args.source.now).ends_in_range c.loop-walk_index.walk_index c.footpath_into-walk.result
+    c.footpath_into-walk.ensures).0 in
+    subst (λ (n : ℕ). c.footpath_into-walk.result.from < n) (sym c.loop-walk_index.invariant.long ∙ length-map c.loop-walk_index.entries.items way_in) from_in
 
 pub take_walk-requires-clause-secs : goal.take_walk-requires-clause-secs
-take_walk-requires-clause-secs g c = (g.met.S.ConnSource.limits c.args.source.now).walks c.loop-place.place c.footpath_into-walk.result
+take_walk-requires-clause-secs g c = (g.met.S.ConnSource.limits c.args.source.now).walks c.loop-walk_index.walk_index c.footpath_into-walk.result
     c.footpath_into-walk.ensures
 
-pub loop-place-preserved : goal.loop-place-preserved
-loop-place-preserved g c =
+pub loop-walk_index-preserved : goal.loop-walk_index-preserved
+loop-walk_index-preserved g c =
     let t = g.S.ConnSource.timetable c.args.source.now in
     let at = c.footpath_into-walk.ensures in
     let walk = c.footpath_into-walk.result in
     let to : walk.to ≡ get_or c.args.targets.now c.args.k 0 =
-    (c.walks_into-begin.ensures.exact c.loop-place.place walk at).1 (c.loop-place.auto.place, c.loop-place-test.true) in
-    target_goes_on t c.args.targets.now c.args.k c.walks_into-begin.result.0 c.loop-place.place walk c.loop-place.auto.place at
-    (slice_get-get_or c.args.targets.now c.args.k 0 c.requires.k ∙ ap Some (sym to)) (map way_in c.loop-place.words.items)
-    (map way_in c.take_walk.new.words.items) c.loop-place.invariant c.take_walk.ensures
+    (c.walks_into-begin.ensures.exact c.loop-walk_index.walk_index walk at).1 (c.loop-walk_index.auto.walk_index, c.loop-walk_index-test.true) in
+    target_goes_on t c.args.targets.now c.args.k c.walks_into-begin.result.0 c.loop-walk_index.walk_index walk c.loop-walk_index.auto.walk_index at
+    (slice_get-get_or c.args.targets.now c.args.k 0 c.requires.k ∙ ap Some (sym to)) (map way_in c.loop-walk_index.entries.items)
+    (map way_in c.take_walk.new.entries.items) c.loop-walk_index.invariant c.take_walk.ensures
 
 pub returns : goal.returns
 returns g c =
     let t = g.S.ConnSource.timetable c.args.source.now in
-    let over = c.loop-place-test.false in
-    let within = c.loop-place.auto.place-end c.walks_into-begin.ensures.order in
-    let at_end : c.loop-place.place ≡ c.walks_into-begin.result.1 = omega arith in
+    let over = c.loop-walk_index-test.false in
+    let within = c.loop-walk_index.auto.walk_index-end c.walks_into-begin.ensures.order in
+    let at_end : c.loop-walk_index.walk_index ≡ c.walks_into-begin.result.1 = omega arith in
     let begin = c.walks_into-begin.result.0 in
     target_ends t c.args.targets.now c.args.k (get_or c.args.targets.now c.args.k 0) begin c.walks_into-begin.result.1
     (slice_get-get_or c.args.targets.now c.args.k 0 c.requires.k)
-    (λ k f at to. (c.walks_into-begin.ensures.exact k f at).0 to) (map way_in c.loop-place.words.items)
-    (subst (λ (n : ℕ). AreNearest t (IsDonePart t c.args.targets.now c.args.k begin n) (map way_in c.loop-place.words.items)) at_end
-    c.loop-place.invariant)
+    (λ k f at to. (c.walks_into-begin.ensures.exact k f at).0 to) (map way_in c.loop-walk_index.entries.items)
+    (subst (λ (n : ℕ). AreNearest t (IsDonePart t c.args.targets.now c.args.k begin n) (map way_in c.loop-walk_index.entries.items)) at_end
+    c.loop-walk_index.invariant)

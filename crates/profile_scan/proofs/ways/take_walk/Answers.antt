@@ -10,15 +10,15 @@ use Rattle.profile_scan.proofs.ways.take_walk.Goals as goal
 pub returns-then-not-replaces : goal.returns-then-not-replaces
 returns-then-not-replaces c =
     let f = c.args.walk.now in
-    let words = c.args.words.now.items in
-    let says = word_at words f.from c.index-word.result.now c.requires.from c.index-word.ensures ∙ sym c.way_of-old.ensures in
+    let entries = c.args.entries.now.items in
+    let says = word_at entries f.from c.index-entry.result.now c.requires.from c.index-entry.ensures ∙ sym c.way_of-old.ensures in
     let stays = where_false c.replaces.result (Replaces c.way_of-old.result f) _ c.if-not-replaces.true c.replaces.ensures in
-    not_taken f (map way_in words) (λ r. stays (subst (λ (w : Option Way). Replaces w f) says r))
+    not_taken f (map way_in entries) (λ r. stays (subst (λ (w : Option Way). Replaces w f) says r))
 
 pub returns : goal.returns
 returns c =
     let f = c.args.walk.now in
-    let words = c.args.words.now.items in
-    let says = word_at words f.from c.index-word.result.now c.requires.from c.index-word.ensures ∙ sym c.way_of-old.ensures in
+    let entries = c.args.entries.now.items in
+    let says = word_at entries f.from c.index-entry.result.now c.requires.from c.index-entry.ensures ∙ sym c.way_of-old.ensures in
     let is = where_true c.replaces.result (Replaces c.way_of-old.result f) _ c.if-not-replaces.false c.replaces.ensures in
-    taken_in f words c.requires.from c.requires.secs (subst (λ (w : Option Way). Replaces w f) (sym says) is)
+    taken_in f entries c.requires.from c.requires.secs (subst (λ (w : Option Way). Replaces w f) (sym says) is)

@@ -6,7 +6,7 @@ use Rattle.profile_scan.proofs.ways.ways_to.Goals as goal
 
 pub loop-k-init : goal.loop-k-init
 loop-k-init g c = none_found (g.S.ConnSource.timetable c.args.source.now) c.args.targets.now c.stops.result
-    (map way_in c.in_ok-words.words.items) c.stops.ensures (none_in_words c.stops.result c.in_ok-words.words.items c.in_ok-words.ensures)
+    (map way_in c.in_ok-entries.entries.items) c.stops.ensures (none_in_words c.stops.result c.in_ok-entries.entries.items c.in_ok-entries.ensures)
 
 pub take_target-requires-clause-before : goal.take_target-requires-clause-before
 take_target-requires-clause-before g c = c.loop-k.invariant
@@ -20,5 +20,5 @@ returns g c =
     let over = c.loop-k-test.false in
     let within = c.loop-k.auto.k-end in
     let at_end : c.loop-k.k ≡ length c.args.targets.now = omega arith in
-    all_found t (g.met.S.ConnSource.legal c.args.source.now) c.args.targets.now (map way_in c.loop-k.words.items)
-    (subst (λ (n : ℕ). AreNearest t (IsDoneTo t c.args.targets.now n) (map way_in c.loop-k.words.items)) at_end c.loop-k.invariant)
+    all_found t (g.met.S.ConnSource.legal c.args.source.now) c.args.targets.now (map way_in c.loop-k.entries.items)
+    (subst (λ (n : ℕ). AreNearest t (IsDoneTo t c.args.targets.now n) (map way_in c.loop-k.entries.items)) at_end c.loop-k.invariant)

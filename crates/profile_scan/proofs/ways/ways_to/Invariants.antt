@@ -6,4 +6,4 @@ use Rattle.profile_scan.proofs.ways.ways_to.Given as goal
 abbrev pub invariant-loop-k : goal.invariant-loop-k
 invariant-loop-k g l =
     let t = g.S.ConnSource.timetable l.source in
-    AreNearest t (IsDoneTo t l.targets l.k) (map way_in l.words.items)
+    AreNearest t (IsDoneTo t l.targets l.k) (map way_in l.entries.items)

@@ -13,7 +13,7 @@ returns g c =
     let new = c.take_points.new.values.items in
     let late = c.late_until-until.ensures in
     let taken = c.in_ok-take_points.ensures in
-    let before : from ≤ c.args.self.now.place = omega (arith, c.min-from.ensures) in
+    let before : from ≤ c.args.self.now.index = omega (arith, c.min-from.ensures) in
     record {
       only = late_taken rules c.requires.worsens found from until c.args.time old new late.late taken;
       kept = taken.kept;

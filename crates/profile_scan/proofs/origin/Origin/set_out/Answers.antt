@@ -14,8 +14,8 @@ use Rattle.profile_scan.proofs.origin.Origin.set_out.Given as given
 use Rattle.profile_scan.proofs.origin.Origin.set_out.Goals.{Start}
 use Rattle.profile_scan.proofs.origin.Origin.set_out.Goals as goal
 
-pub loop-place-init : goal.loop-place-init
-loop-place-init g c =
+pub loop-walk_index-init : goal.loop-walk_index-init
+loop-walk_index-init g c =
     let rules = g.C.Criterion.rules c.args.asked.now.criterion in
     let walks = (g.S.ConnSource.timetable c.args.source.now).footpaths in
     record {
@@ -27,17 +27,17 @@ loop-place-init g c =
           (c.in_ok-set_out_by.ensures.takes walks exits steps before all ext_before ext);
     }
 
-pub loop-place-preserved : goal.loop-place-preserved
-loop-place-preserved g c =
+pub loop-walk_index-preserved : goal.loop-walk_index-preserved
+loop-walk_index-preserved g c =
     let t = g.S.ConnSource.timetable c.args.source.now in
-    let inv = c.loop-place.invariant in
+    let inv = c.loop-walk_index.invariant in
     let walk = c.footpath_into-walk.result in
     let old_outs = c.args.self.now.set_outs.items in
-    let mid_outs = c.loop-place.self.set_outs.items in
-    let new_outs = c.set_out_by-in-loop-place.new.self.set_outs.items in
+    let mid_outs = c.loop-walk_index.self.set_outs.items in
+    let new_outs = c.set_out_by-in-loop-walk_index.new.self.set_outs.items in
     record {
-      origin = origin_on c.args.asked.now.criterion c.args.self.now c.loop-place.self
-          c.set_out_by-in-loop-place.new.self inv.origin c.in_ok-set_out_by-2.ensures.origin;
+      origin = origin_on c.args.asked.now.criterion c.args.self.now c.loop-walk_index.self
+          c.set_out_by-in-loop-walk_index.new.self inv.origin c.in_ok-set_out_by-2.ensures.origin;
       takes = λ exits steps before all ext_before ext.
           let s0 = story exits steps old_outs in
           let s1 = story exits steps mid_outs in
@@ -46,10 +46,10 @@ loop-place-preserved g c =
           (g.met.C.Criterion.laws c.args.asked.now.criterion) t (g.met.S.ConnSource.limits c.args.source.now)
           (label_points c.args.labels.now) c.requires.labels
           (from_to (spelling_of t.footpaths before) (spelling_of t.footpaths all)) c.args.hop.now.place c.args.hop.now.connection
-          (question c.args.asked.now.query) c.walks_into-begin.result.0 c.loop-place.place walk
-          (points_of c.args.self.now.found) (points_of c.loop-place.self.found)
-          (points_of c.set_out_by-in-loop-place.new.self.found)
-          c.loop-place.auto.place c.footpath_into-walk.ensures
+          (question c.args.asked.now.query) c.walks_into-begin.result.0 c.loop-walk_index.walk_index walk
+          (points_of c.args.self.now.found) (points_of c.loop-walk_index.self.found)
+          (points_of c.set_out_by-in-loop-walk_index.new.self.found)
+          c.loop-walk_index.auto.walk_index c.footpath_into-walk.ensures
           (inv.takes exits steps before all ext_before
           (grows_on s1 s2 all (set_outs_grow exits steps mid_outs new_outs
           c.in_ok-set_out_by-2.ensures.origin.set_outs) ext))
@@ -64,16 +64,16 @@ returns-clause-takes g c exits steps before all ext_before ext =
     let labels = label_points c.args.labels.now in
     let tags = from_to (spelling_of t.footpaths before) (spelling_of t.footpaths all) in
     let begin = c.walks_into-begin.result.0 in
-    let over = c.loop-place-test.false in
-    let within = c.loop-place.auto.place-end c.walks_into-begin.ensures.order in
-    let at_end : c.loop-place.place ≡ c.walks_into-begin.result.1 = omega arith in
+    let over = c.loop-walk_index-test.false in
+    let within = c.loop-walk_index.auto.walk_index-end c.walks_into-begin.ensures.order in
+    let at_end : c.loop-walk_index.walk_index ≡ c.walks_into-begin.result.1 = omega arith in
     settings_out_taken rules t tags c.args.hop.now.place c.args.hop.now.connection c.requires.hop.stands.is
     c.if-not-hop.false begin c.walks_into-begin.result.1 c.walks_into-begin.ensures.exact labels
-    (question c.args.asked.now.query) (points_of c.args.self.now.found) (points_of c.loop-place.self.found)
+    (question c.args.asked.now.query) (points_of c.args.self.now.found) (points_of c.loop-walk_index.self.found)
     (subst (λ (n : ℕ). TakesIn rules (each_of (IsTried t.footpaths begin n)
     (settings_out_by rules tags c.args.hop.now.place c.args.hop.now.connection (question c.args.asked.now.query) labels))
-    (points_of c.args.self.now.found) (points_of c.loop-place.self.found)) at_end
-    (c.loop-place.invariant.takes exits steps before all ext_before ext))
+    (points_of c.args.self.now.found) (points_of c.loop-walk_index.self.found)) at_end
+    (c.loop-walk_index.invariant.takes exits steps before all ext_before ext))
 
 -- no footpath leads there from a source
 pub returns-then-not-hop-2-clause-takes : goal.returns-then-not-hop-2-clause-takes
@@ -110,9 +110,10 @@ set_out_by-requires-clause-lead g c = record {
   says = λ stop lead at. (c.requires.starts.each stop lead at).here;
 }
 
-pub set_out_by-requires-in-loop-place-clause-lead : goal.set_out_by-requires-in-loop-place-clause-lead
-set_out_by-requires-in-loop-place-clause-lead g c =
-    let from_in = ((g.met.S.ConnSource.legal c.args.source.now).ends_in_range c.loop-place.place c.footpath_into-walk.result c.footpath_into-walk.ensures).0 in
+pub set_out_by-requires-in-loop-walk_index-clause-lead : goal.set_out_by-requires-in-loop-walk_index-clause-lead
+set_out_by-requires-in-loop-walk_index-clause-lead g c =
+    let from_in = ((g.met.S.ConnSource.legal c.args.source.now).ends_in_range c.loop-walk_index.walk_index c.footpath_into-walk.result
+    c.footpath_into-walk.ensures).0 in
     record {
       here = c.requires.hop.lead.here;
       within = subst (λ (n : ℕ). c.footpath_into-walk.result.from < n) (sym c.requires.starts.long) from_in;

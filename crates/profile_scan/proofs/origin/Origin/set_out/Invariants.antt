@@ -8,15 +8,15 @@ use Rattle.profile_scan.specs.Adding.{label_points, Takes, each_of, IsTried, set
 use Rattle.profile_scan.specs.declared.story.Exit.{Exit}
 use Rattle.profile_scan.proofs.origin.Origin.set_out.Given as goal
 
-abbrev pub invariant-loop-place : goal.invariant-loop-place
-invariant-loop-place g l =
+abbrev pub invariant-loop-walk_index : goal.invariant-loop-walk_index
+invariant-loop-walk_index g l =
     let rules = g.C.Criterion.rules l.asked.criterion in
     let walks = (g.S.ConnSource.timetable l.source).footpaths in
     record {
       origin : ChangesOrigin l.asked.criterion l.fn.self l.self;
       takes : (exits : List Exit) (steps : List Step)
           → Takes rules walks (story exits steps l.fn.self.set_outs.items) (story exits steps l.self.set_outs.items)
-          (λ tags. each_of (IsTried walks l.begin l.place)
+          (λ tags. each_of (IsTried walks l.begin l.walk_index)
           (settings_out_by rules tags l.hop.place l.hop.connection (question l.asked.query) (label_points l.labels)))
           (points_of l.fn.self.found) (points_of l.self.found);
     }

@@ -15,8 +15,8 @@ use Rattle.profile_scan.proofs.PartLemmas.{origin_on}
 use Rattle.profile_scan.proofs.StoryLemmas.{set_outs_grow, grows_on}
 use Rattle.profile_scan.proofs.origin.Origin.set_out_after.Goals as goal
 
-pub loop-place-init : goal.loop-place-init
-loop-place-init g c = record {
+pub loop-k-init : goal.loop-k-init
+loop-k-init g c = record {
   origin = record { found = c.requires.found; set_outs = extends_none c.args.self.now.set_outs.items };
   takes = λ walks exits steps before all ext_before ext.
       takes_first (g.C.Criterion.rules c.args.asked.now.criterion) (label_points c.args.labels.now) _
@@ -28,23 +28,23 @@ offer-requires-clause-admitted g c =
     let rules = g.C.Criterion.rules c.args.asked.now.criterion in
     let laws = g.met.C.Criterion.laws c.args.asked.now.criterion in
     let x = c.label_at-label.result in
-    subst (Admits rules) (sym (c.value_after-value.ensures))
+    subst (Admits rules) (sym (c.value_with_start-value.ensures))
     (start_admits rules laws c.args.departure.start (rules.ride x.value) c.requires.secs
     (laws.ride_admits x.value (c.requires.labels x
-    (Contains-At (label_points c.args.labels.now) c.loop-place.place x c.label_at-label.ensures))))
+    (Contains-At (label_points c.args.labels.now) c.loop-k.k x c.label_at-label.ensures))))
 
-pub loop-place-preserved : goal.loop-place-preserved
-loop-place-preserved g c =
+pub loop-k-preserved : goal.loop-k-preserved
+loop-k-preserved g c =
     let rules = g.C.Criterion.rules c.args.asked.now.criterion in
     let laws = g.met.C.Criterion.laws c.args.asked.now.criterion in
     let x = c.label_at-label.result in
-    let worth = c.value_after-value.ensures in
+    let worth = c.value_with_start-value.ensures in
     record {
-      origin = origin_on c.args.asked.now.criterion c.args.self.now c.loop-place.self c.offer.new.self
-          c.loop-place.invariant.origin c.in_ok-offer.ensures.origin;
+      origin = origin_on c.args.asked.now.criterion c.args.self.now c.loop-k.self c.offer.new.self
+          c.loop-k.invariant.origin c.in_ok-offer.ensures.origin;
       takes = λ walks exits steps before all ext_before ext.
           let was = story exits steps c.args.self.now.set_outs.items in
-          let mid = story exits steps c.loop-place.self.set_outs.items in
+          let mid = story exits steps c.loop-k.self.set_outs.items in
           let now = story exits steps c.offer.new.self.set_outs.items in
           let tags = from_to (spelling_of walks before) (spelling_of walks all) in
           let set_out : SetOut = record { start = c.args.departure.start; first = c.args.hop.now.place; label = x.tag } in
@@ -56,19 +56,19 @@ loop-place-preserved g c =
             first = c.args.hop.now.place;
             label = label.tag;
           }))
-          c.loop-place.place x (points_of c.args.self.now.found) (points_of c.loop-place.self.found) (points_of c.offer.new.self.found) c.label_at-label.ensures
+          c.loop-k.k x (points_of c.args.self.now.found) (points_of c.loop-k.self.found) (points_of c.offer.new.self.found) c.label_at-label.ensures
           (λ y way is opened. start_admits rules laws c.args.departure.start (rules.ride y.value) c.requires.secs
           (laws.ride_admits y.value (c.requires.labels y is)))
-          (c.loop-place.invariant.takes walks exits steps before all ext_before
-          (grows_on mid now all (set_outs_grow exits steps c.loop-place.self.set_outs.items
+          (c.loop-k.invariant.takes walks exits steps before all ext_before
+          (grows_on mid now all (set_outs_grow exits steps c.loop-k.self.set_outs.items
           c.offer.new.self.set_outs.items c.in_ok-offer.ensures.origin.set_outs) ext))
-          (takes_worth rules c.args.departure.time c.value_after-value.result
+          (takes_worth rules c.args.departure.time c.value_with_start-value.result
           (started rules c.args.departure.start (rules.ride x.value))
-          ((set_out_way tags c.args.departure.time x.value set_out).fits_tag tt) (points_of c.loop-place.self.found)
+          ((set_out_way tags c.args.departure.time x.value set_out).fits_tag tt) (points_of c.loop-k.self.found)
           (points_of c.offer.new.self.found) worth
           (c.in_ok-offer.ensures.takes walks exits steps before all
           (grows_on before was mid ext_before (set_outs_grow exits steps c.args.self.now.set_outs.items
-          c.loop-place.self.set_outs.items c.loop-place.invariant.origin.set_outs)) ext));
+          c.loop-k.self.set_outs.items c.loop-k.invariant.origin.set_outs)) ext));
     }
 
 pub returns-clause-takes : goal.returns-clause-takes
@@ -77,7 +77,7 @@ returns-clause-takes g c walks exits steps before all ext_before ext =
     let tags = from_to (spelling_of walks before) (spelling_of walks all) in
     let labels = c.args.labels.now in
     let long : length (label_points labels) ≡ length labels = length-map labels _ in
-    let over = c.loop-place-test.false in
+    let over = c.loop-k-test.false in
     takes_all rules (label_points c.args.labels.now) c.args.departure.time
     (λ label. started rules c.args.departure.start (rules.ride label.value))
     (λ label. (set_out_way tags c.args.departure.time label.value (record {
@@ -85,7 +85,7 @@ returns-clause-takes g c walks exits steps before all ext_before ext =
       first =
           c.args.hop.now.place;
       label = label.tag;
-    })).fits_tag tt) _ c.loop-place.place (points_of c.args.self.now.found)
-    (points_of c.loop-place.self.found) (omega arith)
+    })).fits_tag tt) _ c.loop-k.k (points_of c.args.self.now.found)
+    (points_of c.loop-k.self.found) (omega arith)
     (λ label tag h. h)
-    (c.loop-place.invariant.takes walks exits steps before all ext_before ext)
+    (c.loop-k.invariant.takes walks exits steps before all ext_before ext)

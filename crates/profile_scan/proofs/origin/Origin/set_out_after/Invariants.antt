@@ -9,14 +9,14 @@ use Rattle.profile_scan.specs.Adding.{label_points, Takes, set_out_way, each_of,
 use Rattle.profile_scan.specs.declared.story.Exit.{Exit}
 use Rattle.profile_scan.proofs.origin.Origin.set_out_after.Given as goal
 
-abbrev pub invariant-loop-place : goal.invariant-loop-place
-invariant-loop-place g l =
+abbrev pub invariant-loop-k : goal.invariant-loop-k
+invariant-loop-k g l =
     let rules = g.C.Criterion.rules l.asked.criterion in
     record {
       origin : ChangesOrigin l.asked.criterion l.fn.self l.self;
       takes : (walks : List Footpath) (exits : List Exit) (steps : List Step)
           → Takes rules walks (story exits steps l.fn.self.set_outs.items) (story exits steps l.self.set_outs.items)
-          (λ tags. each_of (StandsBefore (label_points l.labels) l.place)
+          (λ tags. each_of (StandsBefore (label_points l.labels) l.k)
           (λ label. set_out_way tags l.departure.time (started rules l.departure.start (rules.ride label.value))
           (record { start = l.departure.start; first = l.hop.place; label = label.tag }))) (points_of l.fn.self.found)
           (points_of l.self.found);

@@ -34,17 +34,18 @@ set_out_by-requires-clause-stop g c =
 pub set_out_by-requires-clause-origins : goal.set_out_by-requires-clause-origins
 set_out_by-requires-clause-origins g c = c.requires.origins.under
 
-pub set_out_by-requires-in-loop-place-clause-stop : goal.set_out_by-requires-in-loop-place-clause-stop
-set_out_by-requires-in-loop-place-clause-stop g c =
-    let from_in = ((g.met.S.ConnSource.legal c.args.source.now).ends_in_range c.loop-place.place c.footpath_into-walk.result c.footpath_into-walk.ensures).0 in
-    subst (λ (n : ℕ). c.footpath_into-walk.result.from < n) (sym (c.loop-place.self.each.ok.0 ∙ c.loop-place.invariant.origins.long
+pub set_out_by-requires-in-loop-walk_index-clause-stop : goal.set_out_by-requires-in-loop-walk_index-clause-stop
+set_out_by-requires-in-loop-walk_index-clause-stop g c =
+    let from_in = ((g.met.S.ConnSource.legal c.args.source.now).ends_in_range c.loop-walk_index.walk_index c.footpath_into-walk.result
+    c.footpath_into-walk.ensures).0 in
+    subst (λ (n : ℕ). c.footpath_into-walk.result.from < n) (sym (c.loop-walk_index.self.each.ok.0 ∙ c.loop-walk_index.invariant.origins.long
     ∙ c.requires.origins.long)) from_in
 
-pub set_out_by-requires-in-loop-place-clause-origins : goal.set_out_by-requires-in-loop-place-clause-origins
-set_out_by-requires-in-loop-place-clause-origins g c = c.loop-place.invariant.origins.under
+pub set_out_by-requires-in-loop-walk_index-clause-origins : goal.set_out_by-requires-in-loop-walk_index-clause-origins
+set_out_by-requires-in-loop-walk_index-clause-origins g c = c.loop-walk_index.invariant.origins.under
 
-pub loop-place-init : goal.loop-place-init
-loop-place-init g c =
+pub loop-walk_index-init : goal.loop-walk_index-init
+loop-walk_index-init g c =
     let rules = g.C.Criterion.rules c.args.asked.now.criterion in
     let walks = (g.S.ConnSource.timetable c.args.source.now).footpaths in
     record {
@@ -55,14 +56,14 @@ loop-place-init g c =
           (found_from c.set_out_by.new.self stop) (c.in_ok-set_out_by.ensures.takes walks stop exits steps before all ext_before ext);
     }
 
-pub loop-place-preserved : goal.loop-place-preserved
-loop-place-preserved g c =
+pub loop-walk_index-preserved : goal.loop-walk_index-preserved
+loop-walk_index-preserved g c =
     let t = g.S.ConnSource.timetable c.args.source.now in
-    let inv = c.loop-place.invariant in
+    let inv = c.loop-walk_index.invariant in
     let walk = c.footpath_into-walk.result in
     let old = c.args.self.now in
-    let mid = c.loop-place.self in
-    let new = c.set_out_by-in-loop-place.new.self in
+    let mid = c.loop-walk_index.self in
+    let new = c.set_out_by-in-loop-walk_index.new.self in
     record {
       origins = origins_on c.args.asked.now.criterion old mid new inv.origins c.in_ok-set_out_by-2.ensures.origins;
       takes = λ stop exits steps before all ext_before ext.
@@ -75,9 +76,10 @@ loop-place-preserved g c =
           starts_next (g.C.Criterion.rules c.args.asked.now.criterion) (g.met.C.Criterion.laws c.args.asked.now.criterion) t
           (g.met.S.ConnSource.limits c.args.source.now) (label_points c.args.labels.now) c.requires.labels
           (from_to (spelling_of t.footpaths before) (spelling_of t.footpaths all)) c.args.hop.now.place c.args.hop.now.connection
-          (from_stop (question c.args.asked.now.query) stop) c.walks_into-begin.result.0 c.loop-place.place walk (found_from old stop) (found_from mid stop)
+          (from_stop (question c.args.asked.now.query) stop) c.walks_into-begin.result.0 c.loop-walk_index.walk_index walk
+          (found_from old stop) (found_from mid stop)
           (found_from new stop)
-          c.loop-place.auto.place c.footpath_into-walk.ensures
+          c.loop-walk_index.auto.walk_index c.footpath_into-walk.ensures
           (inv.takes stop exits steps before all ext_before (grows_on s1 s2 all
           (set_outs_grow exits steps mid_outs new_outs (c.in_ok-set_out_by-2.ensures.origins.set_outs stop)) ext))
           (c.in_ok-set_out_by-2.ensures.takes t.footpaths stop exits steps before all
@@ -92,17 +94,17 @@ returns-clause-takes g c stop exits steps before all ext_before ext =
     let q = from_stop (question c.args.asked.now.query) stop in
     let tags = from_to (spelling_of t.footpaths before) (spelling_of t.footpaths all) in
     let begin = c.walks_into-begin.result.0 in
-    let over = c.loop-place-test.false in
-    let within = c.loop-place.auto.place-end c.walks_into-begin.ensures.order in
-    let at_end : c.loop-place.place ≡ c.walks_into-begin.result.1 = omega arith in
+    let over = c.loop-walk_index-test.false in
+    let within = c.loop-walk_index.auto.walk_index-end c.walks_into-begin.ensures.order in
+    let at_end : c.loop-walk_index.walk_index ≡ c.walks_into-begin.result.1 = omega arith in
     let old = found_from c.args.self.now stop in
-    let new = found_from c.loop-place.self stop in
+    let new = found_from c.loop-walk_index.self stop in
     settings_out_taken rules t tags c.args.hop.now.place c.args.hop.now.connection c.requires.hop.stands.is c.if-not-hop.false begin
     c.walks_into-begin.result.1 c.walks_into-begin.ensures.exact labels
     q old new
     (subst (λ (n : ℕ). TakesIn rules (each_of (IsTried t.footpaths begin n)
     (settings_out_by rules tags c.args.hop.now.place c.args.hop.now.connection q labels)) old new) at_end
-    (c.loop-place.invariant.takes stop exits steps before all ext_before ext))
+    (c.loop-walk_index.invariant.takes stop exits steps before all ext_before ext))
 
 pub returns-then-not-hop-clause-origins : goal.returns-then-not-hop-clause-origins
 returns-then-not-hop-clause-origins g c = origins_none c.args.asked.now.criterion c.args.self.now c.requires.origins.under

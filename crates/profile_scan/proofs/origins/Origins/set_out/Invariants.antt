@@ -4,12 +4,12 @@ use Rattle.profile_scan.specs.Adding.{label_points, each_of, IsTried, settings_o
 use Rattle.profile_scan.specs.Origins.{ChangesOrigins, SourceTakes, from_stop}
 use Rattle.profile_scan.proofs.origins.Origins.set_out.Given as goal
 
-abbrev pub invariant-loop-place : goal.invariant-loop-place
-invariant-loop-place g l =
+abbrev pub invariant-loop-walk_index : goal.invariant-loop-walk_index
+invariant-loop-walk_index g l =
     let rules = g.C.Criterion.rules l.asked.criterion in
     let walks = (g.S.ConnSource.timetable l.source).footpaths in
     record {
       origins : ChangesOrigins l.asked.criterion l.fn.self l.self;
-      takes : (stop : ℕ) → SourceTakes rules walks stop (λ tags. each_of (IsTried walks l.begin l.place)
+      takes : (stop : ℕ) → SourceTakes rules walks stop (λ tags. each_of (IsTried walks l.begin l.walk_index)
           (settings_out_by rules tags l.hop.place l.hop.connection (from_stop (question l.asked.query) stop) (label_points l.labels))) l.fn.self l.self;
     }

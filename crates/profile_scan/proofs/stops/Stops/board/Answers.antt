@@ -101,8 +101,8 @@ pub returns-then-not-hop-clause-stops : goal.returns-then-not-hop-clause-stops
 returns-then-not-hop-clause-stops g c = record { stops = c.requires.stops; steps = extends_none (steps_of c.args.self.now.lists) }
 
 -- the trip has one label alone
-pub board_alone-requires-clause-label : goal.board_alone-requires-clause-label
-board_alone-requires-clause-label g c =
+pub board_only_label-requires-clause-label : goal.board_only_label-requires-clause-label
+board_only_label-requires-clause-label g c =
     let label = c.index-labels-0.result in
     let only = one_alone c.args.labels.now label c.if-labels-eq1.true c.index-labels-0.is in
     c.requires.labels (as_point label) (subst (λ ls. Contains (label_points ls) (as_point label)) (sym only)
@@ -114,6 +114,6 @@ returns-then-labels-eq1-clause-takes g c =
     let t = g.S.ConnSource.timetable c.args.source.now in
     let values = c.args.hop.now.bound.now in
     let only = one_alone c.args.labels.now c.index-labels-0.result c.if-labels-eq1.true c.index-labels-0.is in
-    subst (λ ls. OnOk c.board_alone.result ((stop : ℕ) → StopTakes rules t.footpaths stop
+    subst (λ ls. OnOk c.board_only_label.result ((stop : ℕ) → StopTakes rules t.footpaths stop
     (λ tags. boardings rules t tags c.args.hop.now.place stop (carried rules values (label_points ls)))
-    c.args.self.now c.board_alone.new.self)) (sym only) c.board_alone.ensures.takes
+    c.args.self.now c.board_only_label.new.self)) (sym only) c.board_only_label.ensures.takes

@@ -12,8 +12,8 @@ use Rattle.profile_scan.proofs.StoryLemmas.{grows_on, steps_grow}
 use Rattle.profile_scan.proofs.BoardLemmas.{walks_first, walks_next}
 use Rattle.profile_scan.proofs.stops.Stops.board_walks.Goals as goal
 
-pub loop-place-init : goal.loop-place-init
-loop-place-init g c =
+pub loop-walk_index-init : goal.loop-walk_index-init
+loop-walk_index-init g c =
     let rules = g.C.Criterion.rules c.args.asked.now.criterion in
     let walks = (g.S.ConnSource.timetable c.args.source.now).footpaths in
     record {
@@ -25,34 +25,34 @@ loop-place-init g c =
           (points_at c.args.self.now stop);
     }
 
-pub board_after-requires-clause-stop : goal.board_after-requires-clause-stop
-board_after-requires-clause-stop g c =
+pub board_walk-requires-clause-stop : goal.board_walk-requires-clause-stop
+board_walk-requires-clause-stop g c =
     let t = g.S.ConnSource.timetable c.args.source.now in
     let from_in : c.footpath_into-walk.result.from < (g.S.ConnSource.timetable c.args.source.now).stops =
-    ((g.met.S.ConnSource.legal c.args.source.now).ends_in_range c.loop-place.place c.footpath_into-walk.result
+    ((g.met.S.ConnSource.legal c.args.source.now).ends_in_range c.loop-walk_index.walk_index c.footpath_into-walk.result
     c.footpath_into-walk.ensures).0 in
-    subst (λ (n : ℕ). c.footpath_into-walk.result.from < n) (sym c.loop-place.invariant.stops.stops.long) from_in
+    subst (λ (n : ℕ). c.footpath_into-walk.result.from < n) (sym c.loop-walk_index.invariant.stops.stops.long) from_in
 
-pub board_after-requires-clause-ready : goal.board_after-requires-clause-ready
-board_after-requires-clause-ready g c =
-    let inv = c.loop-place.invariant.stops in
+pub board_walk-requires-clause-ready : goal.board_walk-requires-clause-ready
+board_walk-requires-clause-ready g c =
+    let inv = c.loop-walk_index.invariant.stops in
     record {
-      stops = subst (λ (n : ℕ). AreStops g.C.Criterion.rules c.args.asked.now.criterion n c.loop-place.self) (sym inv.stops.long) inv.stops;
+      stops = subst (λ (n : ℕ). AreStops g.C.Criterion.rules c.args.asked.now.criterion n c.loop-walk_index.self) (sym inv.stops.long) inv.stops;
       ridden = subst (λ (rs : List (RiddenLabel g.row.C-V.Denot)). (r : RiddenLabel g.row.C-V.Denot) → Contains rs r
           → Admits (g.C.Criterion.rules c.args.asked.now.criterion) r.value) (sym inv.ridden) c.requires.ready.ridden;
     }
 
-pub loop-place-preserved : goal.loop-place-preserved
-loop-place-preserved g c =
+pub loop-walk_index-preserved : goal.loop-walk_index-preserved
+loop-walk_index-preserved g c =
     let t = g.S.ConnSource.timetable c.args.source.now in
-    let inv = c.loop-place.invariant in
+    let inv = c.loop-walk_index.invariant in
     let walk = c.footpath_into-walk.result in
     let old_steps = steps_of c.args.self.now.lists in
-    let mid_steps = steps_of c.loop-place.self.lists in
-    let new_steps = steps_of c.board_after.new.self.lists in
+    let mid_steps = steps_of c.loop-walk_index.self.lists in
+    let new_steps = steps_of c.board_walk.new.self.lists in
     record {
-      stops = lists_on g.C.Criterion.rules c.args.asked.now.criterion t.stops c.args.self.now c.loop-place.self
-          c.board_after.new.self inv.stops c.in_ok-board_after.ensures.stops;
+      stops = lists_on g.C.Criterion.rules c.args.asked.now.criterion t.stops c.args.self.now c.loop-walk_index.self
+          c.board_walk.new.self inv.stops c.in_ok-board_walk.ensures.stops;
       takes = λ labels are admitted stop exits set_outs before all ext_before ext.
           let s0 = story exits old_steps set_outs in
           let s1 = story exits mid_steps set_outs in
@@ -60,13 +60,13 @@ loop-place-preserved g c =
           walks_next (g.C.Criterion.rules c.args.asked.now.criterion)
           (g.met.C.Criterion.laws c.args.asked.now.criterion) t (g.met.S.ConnSource.limits c.args.source.now) labels
           admitted (from_to (spelling_of t.footpaths before) (spelling_of t.footpaths all)) c.args.hop.now.place
-          c.args.hop.now.connection stop c.args.walks.start c.loop-place.place walk (points_at c.args.self.now stop)
-          (points_at c.loop-place.self stop) (points_at c.board_after.new.self stop)
-          c.loop-place.auto.place c.footpath_into-walk.ensures
+          c.args.hop.now.connection stop c.args.walks.start c.loop-walk_index.walk_index walk (points_at c.args.self.now stop)
+          (points_at c.loop-walk_index.self stop) (points_at c.board_walk.new.self stop)
+          c.loop-walk_index.auto.walk_index c.footpath_into-walk.ensures
           (inv.takes labels are admitted stop exits set_outs before all ext_before
           (grows_on s1 s2 all (steps_grow exits mid_steps new_steps set_outs
-          c.in_ok-board_after.ensures.stops.steps) ext))
-          (c.in_ok-board_after.ensures.takes labels
+          c.in_ok-board_walk.ensures.stops.steps) ext))
+          (c.in_ok-board_walk.ensures.takes labels
           (subst (AreRidden (g.C.Criterion.rules c.args.asked.now.criterion) labels) (sym inv.stops.ridden) are)
           t.footpaths c.footpath_into-walk.ensures stop exits set_outs before all
           (grows_on before s0 s1 ext_before (steps_grow exits old_steps mid_steps set_outs inv.stops.steps)) ext);
@@ -76,11 +76,11 @@ pub returns-clause-takes : goal.returns-clause-takes
 returns-clause-takes g c labels are admitted stop exits set_outs before all ext_before ext =
     let rules = g.C.Criterion.rules c.args.asked.now.criterion in
     let t = g.S.ConnSource.timetable c.args.source.now in
-    let over = c.loop-place-test.false in
-    let within = c.loop-place.auto.place-end c.requires.walks.order in
-    let at_end : c.loop-place.place ≡ c.args.walks.end = omega arith in
+    let over = c.loop-walk_index-test.false in
+    let within = c.loop-walk_index.auto.walk_index-end c.requires.walks.order in
+    let at_end : c.loop-walk_index.walk_index ≡ c.args.walks.end = omega arith in
     subst (λ (n : ℕ). TakesIn rules (each_of (StandsBetween t.footpaths c.args.walks.start n)
     (boardings_by rules (from_to (spelling_of t.footpaths before) (spelling_of t.footpaths all)) c.args.hop.now.place
-    c.args.hop.now.connection stop labels)) (points_at c.args.self.now stop) (points_at c.loop-place.self stop))
+    c.args.hop.now.connection stop labels)) (points_at c.args.self.now stop) (points_at c.loop-walk_index.self stop))
     at_end
-    (c.loop-place.invariant.takes labels are admitted stop exits set_outs before all ext_before ext)
+    (c.loop-walk_index.invariant.takes labels are admitted stop exits set_outs before all ext_before ext)

@@ -17,9 +17,9 @@ use Rattle.profile_scan.proofs.trips.Trips.change.Goals as goal
 
 pub change_by-requires-clause-point : goal.change_by-requires-clause-point
 change_by-requires-clause-point g c =
-    let front = front_at c.args.stops.now.lists c.front_from-place.result in
+    let front = front_at c.args.stops.now.lists c.front_from-entry.result in
     let are = subst (λ k. AreOf (g.C.Criterion.rules k) (list_points c.args.stops.now.lists c.head-head.result)
-    c.args.hop.now.connection.arr front) c.requires.stop.stops.under c.front_from-place.ensures.made_of in
+    c.args.hop.now.connection.arr front) c.requires.stop.stops.under c.front_from-entry.ensures.made_of in
     (are c.front_point-own.result (Contains-At front 0 c.front_point-own.result c.front_point-own.ensures)).2
 
 -- the first point was offered
@@ -27,9 +27,9 @@ pub loop-k-init : goal.loop-k-init
 loop-k-init g c =
     let rules = g.C.Criterion.rules c.args.asked.now.criterion in
     let labels = trip_points c.args.self.now.labels c.args.hop.now.connection.trip in
-    let front = front_at c.args.stops.now.lists c.front_from-place.result in
+    let front = front_at c.args.stops.now.lists c.front_from-entry.result in
     let are = subst (λ k. AreOf (g.C.Criterion.rules k) (list_points c.args.stops.now.lists c.head-head.result)
-    c.args.hop.now.connection.arr front) c.requires.stop.stops.under c.front_from-place.ensures.made_of in
+    c.args.hop.now.connection.arr front) c.requires.stop.stops.under c.front_from-entry.ensures.made_of in
     record {
       trip = c.in_ok-change_by.ensures.trip;
       takes = λ walks steps set_outs before all ext_before ext.
@@ -42,9 +42,9 @@ loop-k-init g c =
 
 pub change_by-requires-in-loop-k-clause-point : goal.change_by-requires-in-loop-k-clause-point
 change_by-requires-in-loop-k-clause-point g c =
-    let front = front_at c.args.stops.now.lists c.front_from-place.result in
+    let front = front_at c.args.stops.now.lists c.front_from-entry.result in
     let are = subst (λ k. AreOf (g.C.Criterion.rules k) (list_points c.args.stops.now.lists c.head-head.result)
-    c.args.hop.now.connection.arr front) c.requires.stop.stops.under c.front_from-place.ensures.made_of in
+    c.args.hop.now.connection.arr front) c.requires.stop.stops.under c.front_from-entry.ensures.made_of in
     (are c.front_point-point.result (Contains-At front c.loop-k.k c.front_point-point.result c.front_point-point.ensures)).2
 
 pub change_by-requires-in-loop-k-clause-trip : goal.change_by-requires-in-loop-k-clause-trip
@@ -55,10 +55,10 @@ change_by-requires-in-loop-k-clause-trip g c =
 pub loop-k-preserved : goal.loop-k-preserved
 loop-k-preserved g c =
     let rules = g.C.Criterion.rules c.args.asked.now.criterion in
-    let front = front_at c.args.stops.now.lists c.front_from-place.result in
+    let front = front_at c.args.stops.now.lists c.front_from-entry.result in
     let x = c.front_point-point.result in
     let are = subst (λ k. AreOf (g.C.Criterion.rules k) (list_points c.args.stops.now.lists c.head-head.result)
-    c.args.hop.now.connection.arr front) c.requires.stop.stops.under c.front_from-place.ensures.made_of in
+    c.args.hop.now.connection.arr front) c.requires.stop.stops.under c.front_from-entry.ensures.made_of in
     record {
       trip = changes_on rules c.args.hop.now.connection.trip c.args.self.now c.loop-k.self c.change_by-in-loop-k.new.self
           c.loop-k.invariant.trip c.in_ok-change_by-2.ensures.trip;
@@ -83,7 +83,7 @@ pub returns-then-count-eq0-clause-takes : goal.returns-then-count-eq0-clause-tak
 returns-then-count-eq0-clause-takes g c walks steps set_outs before all ext_before ext =
     let lists = c.args.stops.now.lists in
     let laws = g.met.C.Criterion.laws c.args.asked.now.criterion in
-    let front = front_at lists c.front_from-place.result in
+    let front = front_at lists c.front_from-entry.result in
     let points = list_points lists c.head-head.result in
     let admitted = subst (λ k. AreAdmitted (g.C.Criterion.rules k) points) c.requires.stop.stops.under
     (list_admitted (g.C.Criterion.rules (lists_criterion lists)) lists.entries.items lists.items.items
@@ -100,7 +100,7 @@ returns-then-count-eq0-clause-takes g c walks steps set_outs before all ext_befo
     (trip_points c.args.self.now.labels c.args.hop.now.connection.trip)
     (trip_admitted (g.C.Criterion.rules c.args.asked.now.criterion) c.args.self.now.labels
     c.requires.trip.labels c.args.hop.now.connection.trip)
-    c.front_from-place.ensures.made_of c.front_from-place.ensures.betters (omega arith)
+    c.front_from-entry.ensures.made_of c.front_from-entry.ensures.betters (omega arith)
     (takes_first (g.C.Criterion.rules c.args.asked.now.criterion) front
     (change_way (g.C.Criterion.rules c.args.asked.now.criterion)
     (from_to (spelling_of walks before) (spelling_of walks all)) c.args.hop.now.place c.args.hop.now.bound.now)
@@ -110,7 +110,7 @@ pub returns-clause-takes : goal.returns-clause-takes
 returns-clause-takes g c walks steps set_outs before all ext_before ext =
     let lists = c.args.stops.now.lists in
     let laws = g.met.C.Criterion.laws c.args.asked.now.criterion in
-    let front = front_at lists c.front_from-place.result in
+    let front = front_at lists c.front_from-entry.result in
     let points = list_points lists c.head-head.result in
     let admitted = subst (λ k. AreAdmitted (g.C.Criterion.rules k) points) c.requires.stop.stops.under
     (list_admitted (g.C.Criterion.rules (lists_criterion lists)) lists.entries.items lists.items.items
@@ -127,9 +127,9 @@ returns-clause-takes g c walks steps set_outs before all ext_before ext =
     (trip_points c.loop-k.self.labels c.args.hop.now.connection.trip)
     (trip_admitted (g.C.Criterion.rules c.args.asked.now.criterion) c.loop-k.self.labels
     c.loop-k.invariant.trip.labels.labels c.args.hop.now.connection.trip)
-    c.front_from-place.ensures.made_of c.front_from-place.ensures.betters (omega arith)
+    c.front_from-entry.ensures.made_of c.front_from-entry.ensures.betters (omega arith)
     (c.loop-k.invariant.takes walks steps set_outs before all ext_before ext))
 
-pub front_from-place-requires-clause-head : goal.front_from-place-requires-clause-head
-front_from-place-requires-clause-head g c =
+pub front_from-entry-requires-clause-head : goal.front_from-entry-requires-clause-head
+front_from-entry-requires-clause-head g c =
     subst (λ (n : ℕ). n < length (entries_of c.args.stops.now.lists)) (sym c.head-head.ensures) (c.requires.stop.stops.within c.args.hop.now.connection.to)

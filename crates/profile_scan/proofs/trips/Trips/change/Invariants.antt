@@ -16,7 +16,7 @@ invariant-loop-k g l =
       trip : ChangesTrip rules l.hop.connection.trip l.fn.self l.self;
       takes : (walks : List Footpath) (steps : List Step) (set_outs : List SetOut)
           → Takes rules walks (story l.fn.self.exits.items steps set_outs) (story l.self.exits.items steps set_outs)
-          (λ tags. each_of (StandsBefore (front_at l.stops.lists l.place) l.k)
+          (λ tags. each_of (StandsBefore (front_at l.stops.lists l.entry) l.k)
           (change_way rules tags l.hop.place l.hop.bound.now)) (trip_points l.fn.self.labels l.hop.connection.trip)
           (trip_points l.self.labels l.hop.connection.trip);
     }

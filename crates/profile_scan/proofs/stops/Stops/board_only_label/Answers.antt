@@ -14,9 +14,9 @@ use Rattle.profile_scan.proofs.LabelLemmas.{as_point}
 use Rattle.profile_scan.proofs.RideLemmas.{alone_ridden, alone_bettered, alone_admitted, no_ridden}
 use Rattle.profile_scan.proofs.BoardLemmas.{walks_into_it, boardings_taken}
 use Rattle.profile_scan.proofs.StepFacts.{begins_in}
-use Rattle.profile_scan.proofs.stops.Stops.board_alone.Given as given
-use Rattle.profile_scan.proofs.stops.Stops.board_alone.Goals.{Start}
-use Rattle.profile_scan.proofs.stops.Stops.board_alone.Goals as goal
+use Rattle.profile_scan.proofs.stops.Stops.board_only_label.Given as given
+use Rattle.profile_scan.proofs.stops.Stops.board_only_label.Goals.{Start}
+use Rattle.profile_scan.proofs.stops.Stops.board_only_label.Goals as goal
 
 pub is_bettered-requires-clause-value : goal.is_bettered-requires-clause-value
 is_bettered-requires-clause-value g c =
@@ -33,15 +33,15 @@ begins g c =
 pub walks_into-begin-requires : goal.walks_into-begin-requires
 walks_into-begin-requires g c = begins g (goal.at.walks_into-begin-requires g c).Start
 
-pub board_one-requires-clause-walks : goal.board_one-requires-clause-walks
-board_one-requires-clause-walks g c =
+pub board_walks_one-requires-clause-walks : goal.board_walks_one-requires-clause-walks
+board_walks_one-requires-clause-walks g c =
     walks_into_it (g.S.ConnSource.timetable c.args.source.now) c.args.hop.now.connection.from
     c.walks_into-begin.result.0 c.walks_into-begin.result.1
-    (begins g (goal.at.board_one-requires-clause-walks g c).Start)
+    (begins g (goal.at.board_walks_one-requires-clause-walks g c).Start)
     c.walks_into-begin.ensures.order c.walks_into-begin.ensures.within c.walks_into-begin.ensures.exact
 
-pub board_one-requires-clause-ride : goal.board_one-requires-clause-ride
-board_one-requires-clause-ride g c =
+pub board_walks_one-requires-clause-ride : goal.board_walks_one-requires-clause-ride
+board_walks_one-requires-clause-ride g c =
     subst (Admits (g.C.Criterion.rules c.args.asked.now.criterion)) (sym c.ride-value.ensures)
     ((g.met.C.Criterion.laws c.args.asked.now.criterion).ride_admits c.args.label.now.value c.requires.label)
 
@@ -62,7 +62,7 @@ returns-then-is_bettered-clause-takes g c stop exits set_outs before all ext_bef
 
 pub returns-clause-stops : goal.returns-clause-stops
 returns-clause-stops g c =
-    let changes = c.in_ok-board_one.ensures.stops in
+    let changes = c.in_ok-board_walks_one.ensures.stops in
     record { stops = changes.stops; steps = changes.steps }
 
 pub returns-clause-takes : goal.returns-clause-takes
@@ -75,10 +75,10 @@ returns-clause-takes g c stop exits set_outs before all ext_before ext =
     let ride : RiddenLabel g.row.C-V.Denot = record { value = c.ride-value.result; label = c.args.label.now.tag } in
     let are = alone_ridden rules values label ride (sym c.is_bettered.ensures ∙ c.if-is_bettered.false)
     c.ride-value.ensures refl in
-    let boards = c.in_ok-board_one.ensures.takes in
+    let boards = c.in_ok-board_walks_one.ensures.takes in
     boardings_taken rules t (from_to (spelling_of t.footpaths before) (spelling_of t.footpaths all)) c.args.hop.now.place
     c.args.hop.now.connection c.requires.hop.stands.is c.requires.boards c.walks_into-begin.result.0
     c.walks_into-begin.result.1 c.walks_into-begin.ensures.exact labels stop (points_at c.args.self.now stop)
-    (points_at c.board_one.new.self stop)
+    (points_at c.board_walks_one.new.self stop)
     (boards labels are (λ p h. alone_admitted rules values label c.requires.label p h)
     stop exits set_outs before all ext_before ext)

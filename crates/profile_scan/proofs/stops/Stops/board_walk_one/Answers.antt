@@ -7,11 +7,11 @@ use Rattle.fronts.specs.Lists.{lists_criterion, entries_of, list_points, steps_o
 use Rattle.profile_scan.specs.Story.{story}
 use Rattle.profile_scan.proofs.StoryLemmas.{grows_on, steps_grow}
 use Rattle.profile_scan.specs.declared.last_offers.LastOffer.{LastOffer}
-use Rattle.profile_scan.specs.Kept.{IsOffered, points_at}
+use Rattle.profile_scan.specs.Kept.{IsLastOffer, points_at}
 use Rattle.profile_scan.proofs.StopLemmas.{heads_within}
 use Rattle.profile_scan.proofs.OfferedLemmas.{before_next, covered_earlier, kept_under, offered_put, takes_as_it_is}
 use Rattle.profile_scan.proofs.RideLemmas.{boarded_at}
-use Rattle.profile_scan.proofs.stops.Stops.board_one_after.Goals as goal
+use Rattle.profile_scan.proofs.stops.Stops.board_walk_one.Goals as goal
 
 pub returns-clause-takes : goal.returns-clause-takes
 returns-clause-takes g c labels are walks at stop exits set_outs before all ext_before ext =
@@ -39,7 +39,7 @@ returns-then-was_offered-clause-takes g c labels are walks at stop exits set_out
     let covers = subst (IsCovered rules (points_at c.args.self.now c.args.walk.from)
     (c.args.hop.now.connection.dep - c.args.walk.secs)) c.walk-value.ensures
     (c.was_offered.ensures c.if-was_offered.true) in
-    takes_as_it_is rules labels walks c.args.ride are (points_at c.args.self.now) c.args.walk c.args.place
+    takes_as_it_is rules labels walks c.args.ride are (points_at c.args.self.now) c.args.walk c.args.walk_index
     c.args.hop.now.place c.args.hop.now.connection.dep c.if-walk-dep.false at covers stop before all
     (grows_on before (story exits (steps_of c.args.self.now.lists) set_outs) all ext_before ext)
 
@@ -62,7 +62,7 @@ returns-clause-stops g c =
     (subst (λ k. IsCovered (rules_of k) points departure ((rules_of k).walk c.args.walk.secs c.args.ride.value)) are.under
     (c.in_ok-new.ensures.takes.covered c.args.ride (Contains-push [] c.args.ride))) in
     let put : LastOffer g.row.C-V.Denot = record { before = c.saturating_add.result; value = c.walk-value.result } in
-    let fits : IsOffered (rules_of criterion) points put = record {
+    let fits : IsLastOffer (rules_of criterion) points put = record {
       admitted = subst (Admits (rules_of criterion)) (sym c.walk-value.ensures)
           ((g.met.C.Criterion.laws criterion).walk_admits c.args.walk.secs c.args.ride.value c.requires.secs c.requires.ride);
       covers = λ time early.

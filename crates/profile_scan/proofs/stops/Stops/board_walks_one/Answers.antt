@@ -8,10 +8,10 @@ use Rattle.profile_scan.specs.Kept.{AreStops, points_at}
 use Rattle.profile_scan.proofs.PartLemmas.{lists_none, lists_on}
 use Rattle.profile_scan.proofs.StoryLemmas.{grows_on, steps_grow}
 use Rattle.profile_scan.proofs.BoardLemmas.{walks_first, walks_next}
-use Rattle.profile_scan.proofs.stops.Stops.board_one.Goals as goal
+use Rattle.profile_scan.proofs.stops.Stops.board_walks_one.Goals as goal
 
-pub loop-place-init : goal.loop-place-init
-loop-place-init g c =
+pub loop-walk_index-init : goal.loop-walk_index-init
+loop-walk_index-init g c =
     let criterion = c.args.asked.now.criterion in
     let walks = (g.S.ConnSource.timetable c.args.source.now).footpaths in
     record {
@@ -23,31 +23,31 @@ loop-place-init g c =
           c.args.walks.start (points_at c.args.self.now stop);
     }
 
-pub board_one_after-requires-clause-stop : goal.board_one_after-requires-clause-stop
-board_one_after-requires-clause-stop g c =
+pub board_walk_one-requires-clause-stop : goal.board_walk_one-requires-clause-stop
+board_walk_one-requires-clause-stop g c =
     let from_in : c.footpath_into-walk.result.from < (g.S.ConnSource.timetable c.args.source.now).stops =
-    ((g.met.S.ConnSource.legal c.args.source.now).ends_in_range c.loop-place.place c.footpath_into-walk.result
+    ((g.met.S.ConnSource.legal c.args.source.now).ends_in_range c.loop-walk_index.walk_index c.footpath_into-walk.result
     c.footpath_into-walk.ensures).0 in
-    subst (λ (n : ℕ). c.footpath_into-walk.result.from < n) (sym c.loop-place.invariant.stops.stops.long) from_in
+    subst (λ (n : ℕ). c.footpath_into-walk.result.from < n) (sym c.loop-walk_index.invariant.stops.stops.long) from_in
 
-pub board_one_after-requires-clause-stops : goal.board_one_after-requires-clause-stops
-board_one_after-requires-clause-stops g c =
-    let inv = c.loop-place.invariant.stops in
-    subst (λ (n : ℕ). AreStops g.C.Criterion.rules c.args.asked.now.criterion n c.loop-place.self) (sym inv.stops.long) inv.stops
+pub board_walk_one-requires-clause-stops : goal.board_walk_one-requires-clause-stops
+board_walk_one-requires-clause-stops g c =
+    let inv = c.loop-walk_index.invariant.stops in
+    subst (λ (n : ℕ). AreStops g.C.Criterion.rules c.args.asked.now.criterion n c.loop-walk_index.self) (sym inv.stops.long) inv.stops
 
-pub loop-place-preserved : goal.loop-place-preserved
-loop-place-preserved g c =
+pub loop-walk_index-preserved : goal.loop-walk_index-preserved
+loop-walk_index-preserved g c =
     let criterion = c.args.asked.now.criterion in
     let t = g.S.ConnSource.timetable c.args.source.now in
-    let inv = c.loop-place.invariant in
+    let inv = c.loop-walk_index.invariant in
     let walk = c.footpath_into-walk.result in
-    let mid = c.loop-place.self in
-    let new = c.board_one_after.new.self in
+    let mid = c.loop-walk_index.self in
+    let new = c.board_walk_one.new.self in
     let old_steps = steps_of c.args.self.now.lists in
     let mid_steps = steps_of mid.lists in
     let new_steps = steps_of new.lists in
-    let changes = c.in_ok-board_one_after.ensures.stops in
-    let boards = c.in_ok-board_one_after.ensures.takes in
+    let changes = c.in_ok-board_walk_one.ensures.stops in
+    let boards = c.in_ok-board_walk_one.ensures.takes in
     record {
       stops = lists_on g.C.Criterion.rules criterion t.stops c.args.self.now mid new inv.stops changes;
       takes = λ labels are admitted stop exits set_outs before all ext_before ext.
@@ -57,8 +57,8 @@ loop-place-preserved g c =
           walks_next (g.C.Criterion.rules criterion) (g.met.C.Criterion.laws criterion) t
           (g.met.S.ConnSource.limits c.args.source.now) labels admitted
           (from_to (spelling_of t.footpaths before) (spelling_of t.footpaths all)) c.args.hop.now.place
-          c.args.hop.now.connection stop c.args.walks.start c.loop-place.place walk (points_at c.args.self.now stop)
-          (points_at mid stop) (points_at new stop) c.loop-place.auto.place c.footpath_into-walk.ensures
+          c.args.hop.now.connection stop c.args.walks.start c.loop-walk_index.walk_index walk (points_at c.args.self.now stop)
+          (points_at mid stop) (points_at new stop) c.loop-walk_index.auto.walk_index c.footpath_into-walk.ensures
           (inv.takes labels are admitted stop exits set_outs before all ext_before
           (grows_on s1 s2 all (steps_grow exits mid_steps new_steps set_outs changes.steps) ext))
           (boards labels are t.footpaths c.footpath_into-walk.ensures stop exits set_outs before all
@@ -69,11 +69,11 @@ pub returns-clause-takes : goal.returns-clause-takes
 returns-clause-takes g c labels are admitted stop exits set_outs before all ext_before ext =
     let rules = g.C.Criterion.rules c.args.asked.now.criterion in
     let t = g.S.ConnSource.timetable c.args.source.now in
-    let over = c.loop-place-test.false in
-    let within = c.loop-place.auto.place-end c.requires.walks.order in
-    let at_end : c.loop-place.place ≡ c.args.walks.end = omega arith in
+    let over = c.loop-walk_index-test.false in
+    let within = c.loop-walk_index.auto.walk_index-end c.requires.walks.order in
+    let at_end : c.loop-walk_index.walk_index ≡ c.args.walks.end = omega arith in
     subst (λ (n : ℕ). TakesIn rules (each_of (StandsBetween t.footpaths c.args.walks.start n)
     (boardings_by rules (from_to (spelling_of t.footpaths before) (spelling_of t.footpaths all)) c.args.hop.now.place
-    c.args.hop.now.connection stop labels)) (points_at c.args.self.now stop) (points_at c.loop-place.self stop))
+    c.args.hop.now.connection stop labels)) (points_at c.args.self.now stop) (points_at c.loop-walk_index.self stop))
     at_end
-    (c.loop-place.invariant.takes labels are admitted stop exits set_outs before all ext_before ext)
+    (c.loop-walk_index.invariant.takes labels are admitted stop exits set_outs before all ext_before ext)

@@ -6,7 +6,7 @@ use Rattle.profile_scan.proofs.StoryLemmas.{grows_on, steps_grow}
 use Rattle.profile_scan.proofs.StopLemmas.{heads_within}
 use Rattle.profile_scan.proofs.OfferedLemmas.{kept_under, offered_on}
 use Rattle.profile_scan.proofs.RideLemmas.{boarded_at}
-use Rattle.profile_scan.proofs.stops.Stops.board_after.Goals as goal
+use Rattle.profile_scan.proofs.stops.Stops.board_walk.Goals as goal
 
 pub returns-clause-takes : goal.returns-clause-takes
 returns-clause-takes g c labels are walks at stop exits set_outs before all ext_before ext =
