@@ -38,7 +38,7 @@ pub struct Step {
     pub walk: u32,
 }
 
-/// A label's value after a ride, and the number of the label.
+/// A label's value with the ride before it, and the number of the label.
 #[derive(Clone, Copy, Drop)]
 pub struct RiddenLabel<V> {
     pub value: V,
