@@ -4,7 +4,7 @@
 //! that no other dominates. The scan goes once over the connections, from the last to the first, as the profile variant
 //! of the Connection Scan Algorithm does (Dibbelt, Pajor, Strasser, Wagner, ACM Journal of Experimental Algorithmics,
 //! 2018). `profile` is that scan, reading from any `ConnSource`, under any criterion. Its loop is `scan::scan_window`,
-//! which calls `Scan::step` for each index from the window's end down. That returns at once if the connection can add
+//! which calls `Scan::step` for each index from the window's end down. A step returns at once if the connection can add
 //! nothing; else it brings the bound up to the connection's departure, makes a `Hop` and calls `State::take`:
 //!
 //! 1. Leave the trip: `Trips::alight` changes only the labels of the connection's trip and appends to `exits`; it reads
