@@ -35,7 +35,7 @@ pub record IsRenewed {V : Type 0} (rules : Rules V) (found : List (Point V)) (ti
   pub only : (b : V) → Contains new b → Contains old b ⊎ IsLateValue rules found time b
   pub kept : (v : V) → Admits rules v → is_bettered rules old v ≡ true → is_bettered rules new v ≡ true
 
--- the same; and from index `from` on, exactly the points before `until` depart at the time or later, and one of the new values is no worse than each of these
+-- the same; and from index `from` on, exactly the points before `until` depart at the time or later, and for each of these one of the new values is no worse
 pub record ReadsLate {V : Type 0} (rules : Rules V) (found : List (Point V)) (from time until : ℕ) (old new : List V)
     : Type 0 where
   pub only : (b : V) → Contains new b → Contains old b ⊎ IsLateValue rules found time b
