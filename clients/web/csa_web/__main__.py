@@ -21,7 +21,7 @@ Example, with the image and the server of csa's README:
 
   python3 -m csa_web --feed examples/base --image base.csa --server 7077 --port 8077
 
-A search occupies one of the server's workers while it runs; between places of several stops it asks each pair of them. Names come from the feed's folder. Legs come from the server if it was
+A search occupies one of the server's workers while it runs; between places of several stops it asks once if the server has --sets, and else each pair of them. Names come from the feed's folder. Legs come from the server if it was
 started with --legs, otherwise from the image, if it is the one from which the server answers. If the feed or the image is replaced, it is
 read again. The page is served by waitress if that is installed, otherwise by Flask's own server, which isn't meant for a network.
 """
@@ -79,7 +79,7 @@ def main() -> int:
     except ValueError as error:
         print(f"csa_web: {error}", file=sys.stderr)
         return 1
-    sessions = Sessions(lambda: CsaClient(port=words.server, timeout=words.timeout), words.sessions, words.timeout)
+    sessions = Sessions(lambda: CsaClient(port=words.server, timeout=words.timeout, sets=True), words.sessions, words.timeout)
     app = create_app(feed, image, sessions)
     try:
         run, port = bound(app, words.host, words.port, words.sessions)
