@@ -3,6 +3,8 @@ pub mod DayKeyLemmas
 pub mod FaultLemmas
 pub mod KeyLemmas
 pub mod OneFault
+pub mod OpeningLemmas
+pub mod PositionLemmas
 pub mod SeenLemmas
 pub mod SourceLemmas
 pub mod TextLemmas

@@ -1,6 +1,7 @@
 pub mod Cells
 pub mod Faults
 pub mod Ids
+pub mod Judging
 pub mod Positions
 pub mod Rows
 pub mod Source

@@ -117,8 +117,8 @@ pub struct Cells<'a> {
 }
 
 impl<'a> Cells<'a> {
-    // Returns the record's value in the table's column of this index; blank if the column is absent.
-    pub(crate) fn get(&self, column: usize) -> &'a [u8]
+    /// Returns the record's value in the table's column of this index; blank if the column is absent.
+    pub fn get(&self, column: usize) -> &'a [u8]
         ensures { result.now ≡ value self.entry.now.indices.now column (fields_of self.entry.now.fields.now) }
     {
         let index = if column < self.indices.len() {

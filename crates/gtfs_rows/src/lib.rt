@@ -22,9 +22,11 @@ mod services;
 mod stop_times;
 mod stops;
 mod table_file;
+mod table_records;
 pub mod values;
 
-pub use cells::{cell, column};
+pub use cells::{Cells, cell, column};
+pub use changes::transfer_kind;
 pub use columns::Key;
 pub use fault::{FaultKind, Table, TableFault};
 pub use id_hash::IdHash;
@@ -40,5 +42,7 @@ pub use rows::{
     StopTimeRow, TransferKind, TransferRow, TripRow,
 };
 pub use stop_times::StopTimes;
+pub use stops::location;
 pub use table_file::TableFile;
+pub use table_records::{TableRecords, record_fault};
 pub use values::{DateFault, Day, Time, TimeFault};

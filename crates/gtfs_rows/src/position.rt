@@ -1,7 +1,9 @@
 //! Where a record begins in its file.
 
-ghost use Rattle.std.specs.Prelude.{◌≡◌, ◌≤◌, ◌+◌, length};
+ghost use Rattle.std.specs.Prelude.{◌≡◌, ◌≤◌, ◌+◌, ℕ, List, length, take};
 ghost use Rattle.gtfs_rows.specs.Positions.{begins_with_feed as feed_first, ends_line as line_end, line_at, line_ends};
+
+use std::marker::Model;
 
 /// Where a record begins in its file.
 #[derive(Clone, Copy, Debug, PartialEq, Eq)]
@@ -52,4 +54,70 @@ pub(crate) fn line_of(bytes: &[u8], byte: usize) -> u64
     ensures { result ≡ line_at bytes.now byte }
 {
     lines_in(&bytes[..byte.min(bytes.len())]) + 1
+}
+
+// Returns the bytes of a file before one of them.
+fn text_before(bytes: &[u8], byte: usize) -> &[u8]
+    ensures { result.now ≡ take byte bytes.entry.now }
+{
+    &bytes[..byte.min(bytes.len())]
+}
+
+// Finds the lines in which the bytes of a file stand, one byte after another.
+#[derive(Drop)]
+pub(crate) struct LineCount<'a> {
+    bytes: &'a [u8],
+    // the byte that was looked for last, and the number of its line
+    byte: usize,
+    line: u64,
+}
+
+impl<'a> Model for LineCount<'a> {
+    ghost Value = { List ℕ };
+
+    ghost view = { λ c. c.bytes.now };
+
+    ghost invariant = { λ c. c.line ≡ line_at c.bytes.now c.byte };
+}
+
+impl<'a> LineCount<'a> {
+    pub(crate) fn new(bytes: &'a [u8]) -> LineCount<'a>
+        ensures { result ≡ bytes.entry.now }
+    {
+        LineCount {
+            bytes,
+            byte: 0,
+            line: 1,
+        }
+    }
+
+    // Returns the number of the line in which a byte stands. The lines before the byte of the last call aren't counted
+    // again if this byte comes later.
+    pub(crate) fn line_of(&mut self, byte: usize) -> u64
+        ensures line { result ≡ line_at self.old byte }
+        ensures bytes { self.new ≡ self.old }
+    {
+        let line = self.counted_on(byte);
+        self.byte = byte;
+        self.line = line;
+        line
+    }
+
+    // Returns the number of the line in which a byte stands, counted on from the byte of the last call if it can be.
+    fn counted_on(&self, byte: usize) -> u64
+        ensures { result ≡ line_at self.now byte }
+    {
+        let text = text_before(self.bytes, byte);
+        if self.byte > text.len() {
+            return line_of(self.bytes, byte);
+        }
+        let piece = &text[self.byte..];
+        if begins_with_feed(piece) {
+            return line_of(self.bytes, byte);
+        }
+        match self.line.checked_add(lines_in(piece)) {
+            Some(line) => line,
+            None => line_of(self.bytes, byte),
+        }
+    }
 }

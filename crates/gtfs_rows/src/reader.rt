@@ -2,17 +2,17 @@
 
 ghost use Rattle.std.specs.Prelude.{◌≡◌, ◌≢◌, ◌+◌, ◌++◌, ◌∷◌, [], ℕ, List, Some, None, IfOk, IfErr, OnOk};
 ghost use Rattle.csv.specs.Records.{AllText, fields_of};
-ghost use Rattle.gtfs_rows.specs.Source.{AllRecordsText, IsReading, Record, last_of, left_of};
+ghost use Rattle.gtfs_rows.specs.Source.{AllRecordsText, IsReading, Record, left_of};
 ghost use Rattle.gtfs_rows.specs.Cells.{ColumnIndices};
-ghost use Rattle.gtfs_rows.specs.Faults.{HoldsFile, HoldsUnder, IsFaultOf, IsFaultUnder, IsFaultless, IsFirstFault};
-ghost use Rattle.gtfs_rows.specs.Faults.{length_first};
+ghost use Rattle.gtfs_rows.specs.Faults.{HoldsFile, IsFaultOf, IsFaultless, IsFirstFault, length_first};
 ghost use Rattle.gtfs_rows.specs.Tables.{judge_of, shape_of};
 ghost use Rattle.gtfs_rows.specs.declared.fault.Table.{Table as File};
 ghost use Rattle.gtfs_rows.specs.declared.id_hash.IdHash.{IdHash as Hash};
 
-use crate::cells::{Cells, ColumnIndex, has_required, indices, is_text};
+use crate::cells::{Cells, ColumnIndex};
 use crate::fault::{FaultKind, Table, TableFault};
 use crate::records::Records;
+use crate::table_records::TableRecords;
 use std::alloc::Global;
 
 // The rows of a table that were read so far.
@@ -123,41 +123,13 @@ pub(crate) fn read_table<T: TableRows>(
         → IsFaultOf (shape_of T.TABLE) bytes.now fault.row fault.kind) }
     ensures hashes { IfOk result (λ t. T.hashes t ≡ T.hashes rows) }
 {
-    if !is_text(bytes) {
-        return Err(T::TABLE.fault(0, FaultKind::BadUtf8));
+    match TableRecords::open(alloc, T::TABLE, bytes) {
+        Err(kind) => Err(T::TABLE.fault(0, kind)),
+        Ok(table) => {
+            let width = table.width;
+            let indices = table.indices;
+            let mut records = table.records;
+            add_records(rows, alloc, &mut records, &indices, width)
+        }
     }
-    let mut records = Records::open(alloc, bytes);
-    match records.advance() {
-        Err(_) => Err(T::TABLE.out_of_memory()),
-        Ok(false) => Err(T::TABLE.fault(0, FaultKind::MissingColumn)),
-        Ok(true) => read_under(rows, alloc, &mut records),
-    }
-}
-
-// Returns the rows of the records that are left after the header, which was read last, or their first fault:
-// `MissingColumn` if the header lacks a required column.
-fn read_under<T: TableRows>(
-    rows: T,
-    alloc: Global,
-    records: &mut Records<'_>,
-) -> Result<T, TableFault>
-    requires reading { IsReading records.old }
-    requires starts { (indices : ColumnIndices) → T.holds indices [] rows }
-    requires text { AllRecordsText (left_of records.old) }
-    ensures ok { IfOk result (λ t. HoldsUnder (shape_of T.TABLE) T.holds (last_of records.old) (left_of records.old)
-        t) }
-    ensures file { IfErr result (λ fault. fault.file ≡ T.TABLE) }
-    ensures err { IfErr result (λ fault. fault.kind ≢ FaultKind.OutOfMemory
-        → IsFaultUnder (shape_of T.TABLE) (last_of records.old) (left_of records.old) fault.row fault.kind) }
-    ensures hashes { IfOk result (λ t. T.hashes t ≡ T.hashes rows) }
-{
-    let header = records.last();
-    let width = header.len();
-    let Ok(indices) = indices(alloc, header, T::TABLE.columns()) else {
-        return Err(T::TABLE.out_of_memory());
-    };
-    if !has_required(&indices, T::TABLE.required()) {
-        return Err(T::TABLE.fault(0, FaultKind::MissingColumn));
-    }
-    add_records(rows, alloc, records, &indices, width)
 }

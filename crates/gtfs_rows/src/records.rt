@@ -76,28 +76,36 @@ impl<'a> Records<'a> {
         ensures number { result.«record» ≡ self.now.count - 1 }
         ensures line { result.line ≡ line_at self.now.bytes.now result.byte }
     {
-        let byte = begin(self.bytes, &self.record);
+        let byte = self.begin();
         Position {
-            record: self.count.saturating_sub(1),
+            record: self.number(),
             line: line_of(self.bytes, byte),
             byte: byte as u64,
         }
     }
-}
 
-// Returns how many bytes of a file come before a record that was read from it: before the byte that `csv` names, and
-// the byte order mark and the ends of lines there.
-fn begin(bytes: &[u8], last: &ByteRecord) -> usize {
-    let from = match last.position() {
-        Some(position) => position.byte as usize,
-        None => 0,
-    };
-    let rest = bytes.get(from..).unwrap_or(&[]);
-    let text = match rest {
-        [0xEF, 0xBB, 0xBF, text @ ..] if from == 0 => text,
-        _ => rest,
-    };
-    bytes.len() - at_record(text).len()
+    // Returns the number of the record that was read last; 0 is the header.
+    pub(crate) fn number(&self) -> u64
+        ensures { result ≡ self.now.count - 1 }
+    {
+        self.count.saturating_sub(1)
+    }
+
+    // Returns how many bytes of the file come before the record that was read last: before the byte that `csv` names,
+    // and the byte order mark and the ends of lines there.
+    pub(crate) fn begin(&self) -> usize {
+        let bytes = self.bytes;
+        let from = match self.record.position() {
+            Some(position) => position.byte as usize,
+            None => 0,
+        };
+        let rest = bytes.get(from..).unwrap_or(&[]);
+        let text = match rest {
+            [0xEF, 0xBB, 0xBF, text @ ..] if from == 0 => text,
+            _ => rest,
+        };
+        bytes.len() - at_record(text).len()
+    }
 }
 
 // Returns a text without the ends of lines at its start.

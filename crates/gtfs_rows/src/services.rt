@@ -3,7 +3,8 @@
 ghost use Rattle.std.specs.Prelude.{◌≡◌, ◌+◌, None, Some, IfOk, IfErr};
 ghost use Rattle.csv.specs.Records.{fields_of};
 ghost use Rattle.gtfs_rows.specs.Faults.{fault_unless};
-ghost use Rattle.gtfs_rows.specs.Rows.{SpellsCalendar, SpellsCalendarDate, exception_of, flag_of, value};
+ghost use Rattle.gtfs_rows.specs.Rows.{SpellsCalendar, SpellsCalendarDate, calendar_date_fault, calendar_fault};
+ghost use Rattle.gtfs_rows.specs.Rows.{exception_of, flag_of, value};
 ghost use Rattle.gtfs_rows.specs.Rows.{weekday as weekday_of, weekdays_of};
 ghost use Rattle.gtfs_rows.specs.Values.{day_of, number_of};
 ghost use Rattle.gtfs_rows.specs.declared.fault.Table.TheVariants as files;
@@ -63,6 +64,44 @@ fn exception(text: &[u8]) -> Option<Exception>
     }
 }
 
+// Returns the weekdays, the first and the last day of a record, or what is wrong with them.
+pub(crate) fn weekly(cells: &Cells) -> Result<([bool; 7], Day, Day), FaultKind>
+    ensures fine { IfOk result (λ v. calendar_fault cells.now.indices.now (fields_of cells.now.fields.now) ≡ None) }
+    ensures weekdays { IfOk result (λ v. weekdays_of cells.now.indices.now (fields_of cells.now.fields.now)
+        ≡ Some v.0) }
+    ensures start { IfOk result (λ v. day_of (value cells.now.indices.now 8 (fields_of cells.now.fields.now))
+        ≡ Some v.1) }
+    ensures end { IfOk result (λ v. day_of (value cells.now.indices.now 9 (fields_of cells.now.fields.now))
+        ≡ Some v.2) }
+    ensures err { IfErr result (λ kind. calendar_fault cells.now.indices.now (fields_of cells.now.fields.now)
+        ≡ Some kind) }
+{
+    let Some(weekdays) = weekdays(cells) else {
+        return Err(FaultKind::BadNumber);
+    };
+    let start = day_in(cells, 8)?;
+    let end = day_in(cells, 9)?;
+    Ok((weekdays, start, end))
+}
+
+// Returns the day of a record and what happens on it, or what is wrong with them.
+pub(crate) fn dated(cells: &Cells) -> Result<(Day, Exception), FaultKind>
+    ensures fine { IfOk result (λ v. calendar_date_fault cells.now.indices.now (fields_of cells.now.fields.now)
+        ≡ None) }
+    ensures day { IfOk result (λ v. day_of (value cells.now.indices.now 1 (fields_of cells.now.fields.now))
+        ≡ Some v.0) }
+    ensures exception { IfOk result (λ v. exception_of
+        (number_of (value cells.now.indices.now 2 (fields_of cells.now.fields.now))) ≡ Some v.1) }
+    ensures err { IfErr result (λ kind. calendar_date_fault cells.now.indices.now (fields_of cells.now.fields.now)
+        ≡ Some kind) }
+{
+    let day = day_in(cells, 1)?;
+    let Some(exception) = exception(cells.get(2)) else {
+        return Err(FaultKind::BadNumber);
+    };
+    Ok((day, exception))
+}
+
 impl Row for CalendarRow {
     ghost TABLE = { files.Calendar };
 
@@ -71,11 +110,7 @@ impl Row for CalendarRow {
     const TABLE: Table = Table::Calendar;
 
     fn read(alloc: Global, cells: &Cells) -> Result<Self, FaultKind> {
-        let Some(weekdays) = weekdays(cells) else {
-            return Err(FaultKind::BadNumber);
-        };
-        let start = day_in(cells, 8)?;
-        let end = day_in(cells, 9)?;
+        let (weekdays, start, end) = weekly(cells)?;
         let service = cells.text(alloc, 0)?;
         Ok(CalendarRow {
             service,
@@ -96,10 +131,7 @@ impl Row for CalendarDateRow {
     const TABLE: Table = Table::CalendarDates;
 
     fn read(alloc: Global, cells: &Cells) -> Result<Self, FaultKind> {
-        let day = day_in(cells, 1)?;
-        let Some(exception) = exception(cells.get(2)) else {
-            return Err(FaultKind::BadNumber);
-        };
+        let (day, exception) = dated(cells)?;
         let service = cells.text(alloc, 0)?;
         Ok(CalendarDateRow {
             service,

@@ -95,6 +95,24 @@ fn stop_index(
     Ok(Some(index))
 }
 
+// Returns the arrival, the departure and the stop_sequence of a record, or what is wrong with them.
+pub(crate) fn stop_time(cells: &Cells) -> Result<(Option<u32>, Option<u32>, u32), FaultKind>
+    ensures fine { IfOk result (λ v. stop_time_fault cells.now.indices.now (fields_of cells.now.fields.now) ≡ None) }
+    ensures arrival { IfOk result (λ v. v.0
+        ≡ given_time (value cells.now.indices.now 1 (fields_of cells.now.fields.now))) }
+    ensures departure { IfOk result (λ v. v.1
+        ≡ given_time (value cells.now.indices.now 2 (fields_of cells.now.fields.now))) }
+    ensures sequence { IfOk result (λ v. number_of (value cells.now.indices.now 4 (fields_of cells.now.fields.now))
+        ≡ Some v.2) }
+    ensures err { IfErr result (λ kind. stop_time_fault cells.now.indices.now (fields_of cells.now.fields.now)
+        ≡ Some kind) }
+{
+    let arrival = time_in(cells, 1)?;
+    let departure = time_in(cells, 2)?;
+    let sequence = number_in(cells, 4)?;
+    Ok((arrival, departure, sequence))
+}
+
 // Adds the row of one record and returns the index of its stop_id, or returns what is wrong with the record. The
 // likely index of the stop_id is tried first.
 fn add_stop_time(
@@ -112,18 +130,16 @@ fn add_stop_time(
     ensures trips { OnOk result (hasher_of times.new.trips ≡ hasher_of times.old.trips) }
     ensures stops { OnOk result (hasher_of times.new.stops ≡ hasher_of times.old.stops) }
 {
-    let arrival = time_in(cells, 1)?;
-    let departure = time_in(cells, 2)?;
-    let sequence = number_in(cells, 4)?;
+    let time = stop_time(cells)?;
     let before = times.rows.last().map(|row| row.trip);
     let trip = index_of(alloc, &mut times.trips, before, cells.get(0))?;
     let stop = stop_index(alloc, &mut times.stops, likely, cells.get(3))?;
     let row = StopTimeRow {
         trip,
-        arrival,
-        departure,
+        arrival: time.0,
+        departure: time.1,
         stop,
-        sequence,
+        sequence: time.2,
         board: available(cells.get(5)),
         alight: available(cells.get(6)),
     };

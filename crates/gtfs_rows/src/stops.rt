@@ -16,8 +16,8 @@ use crate::rows::{Location, StopRow, TripRow};
 use crate::values::number;
 use std::alloc::Global;
 
-// Returns the kind of place that a location_type stands for.
-fn location(text: &[u8]) -> Location
+/// Returns the kind of place that a location_type of `stops.txt` stands for.
+pub fn location(text: &[u8]) -> Location
     ensures { result ≡ location_of (number_of text.now) }
 {
     match number(text) {

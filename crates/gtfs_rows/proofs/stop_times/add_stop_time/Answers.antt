@@ -1,17 +1,10 @@
-use Rattle.std.proofs.Common.{◌≡◌, None, Some, ℕ, map, refl, slice_index_or, string_bytes}
+use Rattle.std.proofs.Common.{None, map, slice_index_or, string_bytes}
 use Rattle.csv.specs.Records.{fields_of}
-use Rattle.gtfs_rows.specs.Cells.{ColumnIndices}
-use Rattle.gtfs_rows.specs.Rows.{SpellsStopTime, stop_time_fault, time_fault, value}
-use Rattle.gtfs_rows.specs.Source.{Record}
-use Rattle.gtfs_rows.specs.Values.{number_of}
+use Rattle.gtfs_rows.specs.Rows.{SpellsStopTime, value}
 use Rattle.gtfs_rows.specs.declared.rows.StopTimeRow.{StopTimeRow}
 use Rattle.gtfs_rows.proofs.CellLemmas.{cell_text}
 use Rattle.gtfs_rows.proofs.SeenLemmas.{rows_more, stops_more, trips_more}
 use Rattle.gtfs_rows.proofs.stop_times.add_stop_time.Goals as goal
-
-no_stop_time_fault : (indices : ColumnIndices) (r : Record) (n : ℕ) → time_fault (value indices 1 r) ≡ None → time_fault (value indices 2 r) ≡ None
-    → number_of (value indices 4 r) ≡ Some n → stop_time_fault indices r ≡ None
-no_stop_time_fault indices r n a d s = rw (a, d, s) refl
 
 pub index_of-requires : goal.index_of-requires
 index_of-requires c = rw c.get.ensures (cell_text (slice_index_or c.args.cells.now.indices.now 0 None) (fields_of c.args.cells.now.fields.now) c.requires)
@@ -23,26 +16,24 @@ pub returns-clause-ok : goal.returns-clause-ok
 returns-clause-ok c = λ before held.
     let row : StopTimeRow = record {
       trip = c.in_ok-trip.trip;
-      arrival = c.in_ok-arrival.arrival;
-      departure = c.in_ok-departure.departure;
+      arrival = c.in_ok-time.time.0;
+      departure = c.in_ok-time.time.1;
       stop = c.in_ok-stop.stop;
-      sequence = c.in_ok-sequence.sequence;
+      sequence = c.in_ok-time.time.2;
       board = c.available.result;
       alight = c.available-2.result;
     } in
     let spelled : SpellsStopTime (map string_bytes c.index_of.new.ids.keys) (map string_bytes c.stop_index.new.stops.keys) c.args.cells.now.indices.now
     (fields_of c.args.cells.now.fields.now) row = record {
       trip = rw c.get.ensures at c.in_ok-trip.ensures.ok;
-      arrival = c.in_ok-arrival.ensures.ok;
-      departure = c.in_ok-departure.ensures.ok;
+      arrival = c.in_ok-time.ensures.arrival;
+      departure = c.in_ok-time.ensures.departure;
       stop = rw c.get-2.ensures at c.in_ok-stop.ensures.ok;
-      sequence = c.in_ok-sequence.ensures.ok;
+      sequence = c.in_ok-time.ensures.sequence;
       board = rw c.get-3.ensures at c.available.ensures;
       alight = rw c.get-4.ensures at c.available-2.ensures;
     } in (
-      no_stop_time_fault c.args.cells.now.indices.now (fields_of c.args.cells.now.fields.now) c.in_ok-sequence.sequence
-          c.in_ok-arrival.ensures.fine c.in_ok-departure.ensures.fine
-          c.in_ok-sequence.ensures.ok,
+      c.in_ok-time.ensures.fine,
       record {
         trips = trips_more c.args.cells.now.indices.now before (fields_of c.args.cells.now.fields.now) (map string_bytes c.args.times.now.trips.keys)
             (map string_bytes c.index_of.new.ids.keys) held.trips (rw c.get.ensures at c.in_ok-trip.ensures.more);
