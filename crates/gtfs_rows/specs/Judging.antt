@@ -15,3 +15,9 @@ pub record IsOpened (file : Table) (bytes : List ℕ) (t : TableRecords) : Type 
   pub indices : t.indices.items ≡ indices_of (columns_of file) (last_of t.records)
   pub there : has_required (required_of file) t.indices.items ≡ true
   pub width : t.width ≡ length (last_of t.records)
+
+-- the table, the columns of its header and their number stay as they are
+pub record IsSameTable (old new : TableRecords) : Type 0 where
+  pub table : new.table ≡ old.table
+  pub indices : new.indices.items ≡ old.indices.items
+  pub width : new.width ≡ old.width

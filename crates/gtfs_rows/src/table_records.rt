@@ -1,11 +1,13 @@
 //! The records of a table, one at a time, and what is wrong with each of them by itself.
 
-ghost use Rattle.std.specs.Prelude.{◌≡◌, ◌≢◌, ◌-◌, ◌==◌, if◌then◌else◌, length, Some, IfOk, IfErr};
+ghost use Rattle.std.specs.Prelude.{◌≡◌, ◌≢◌, ◌+◌, ◌-◌, ◌==◌, ◌∷◌, [], if◌then◌else◌, length, Some, IfOk, IfErr, OnOk};
+ghost use Rattle.std.specs.Prelude.{MatchBool, ℕ};
 ghost use Rattle.csv.specs.Records.{fields_of};
 ghost use Rattle.gtfs_rows.specs.Faults.{IsFaultOf};
-ghost use Rattle.gtfs_rows.specs.Judging.{IsOpened};
+ghost use Rattle.gtfs_rows.specs.Judging.{IsOpened, IsSameTable};
+ghost use Rattle.gtfs_rows.specs.Positions.{line_at};
 ghost use Rattle.gtfs_rows.specs.Rows.{values_of};
-ghost use Rattle.gtfs_rows.specs.Source.{last_of};
+ghost use Rattle.gtfs_rows.specs.Source.{IsReading, last_of, left_of};
 ghost use Rattle.gtfs_rows.specs.Tables.{shape_of};
 
 use crate::cells::{Cells, ColumnIndex, has_required, indices, is_text};
@@ -66,7 +68,15 @@ impl<'a> TableRecords<'a> {
 
     /// Reads the next record and returns true, or returns false if no record is left. Memory may run out; there are no
     /// further records then.
-    pub fn advance(&mut self) -> Result<bool, AllocError> {
+    pub fn advance(&mut self) -> Result<bool, AllocError>
+        ensures reads { IsReading self.old.records → IfOk result (λ found. MatchBool found
+            (left_of self.old.records ≡ last_of self.new.records ∷ left_of self.new.records)
+            (left_of self.old.records ≡ [])) }
+        ensures reading { IsReading self.old.records → OnOk result (IsReading self.new.records) }
+        ensures count { IfOk result (λ found. MatchBool found
+            (self.new.records.count ≡ self.old.records.count + 1) (self.new.records.count ≡ self.old.records.count)) }
+        ensures header { IsSameTable self.old self.new }
+    {
         self.records.advance()
     }
 
@@ -120,7 +130,11 @@ impl<'a> TableRecords<'a> {
 
     /// Returns the number of the line in which the record that was read last begins. The lines before it aren't counted
     /// again for the next record.
-    pub fn line(&mut self) -> u64 {
+    pub fn line(&mut self) -> u64
+        ensures line { (byte : ℕ) × (result ≡ line_at self.old.lines byte) }
+        ensures records { self.new.records ≡ self.old.records }
+        ensures header { IsSameTable self.old self.new }
+    {
         self.lines.line_of(self.records.begin())
     }
 }
