@@ -4,4 +4,6 @@ mod BetweenLemmas
 mod MissingFile
 mod OfFolder
 mod Picturing
+mod Ranges
 mod StopLines
+mod MatrixLemmas
