@@ -145,7 +145,7 @@ A figure that is not there is blank. With --each a row is one best departure: fr
 between them, trips, walked (blank if the criterion does not count them); a pair without one has no row.\n\
 Standard output has one line, `targets N sources N`, or the table if OUT is -.\n\
 If a line of a FILE is not a stop_id of the image, standard error has its number and its text, and the status is 2;\n\
-if a FILE has no line, the same stop_id twice, or a line of --to has a tab, it is 64.\n\
+if a FILE has no line, the same stop_id twice, or a tab, it is 64.\n\
 A stop of --to takes a scan, or two if --until is not --by; --by with the value of --until takes one.\n\
 \n\
 Example: csa matrix examples/base.csa - --to targets --after 08:00:00 --until 08:12:00 --by 10:00:00 \

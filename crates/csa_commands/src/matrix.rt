@@ -1,14 +1,18 @@
 //! `csa matrix IMAGE OUT --to FILE [--from FILE] --after .. --until .. --by .. --criterion NAME [--each] [--workers N]
 //! [--progress] [--no-warnings]`.
 
-ghost use Rattle.std.specs.Prelude.{◌≡◌, ◌≢◌, ◌<◌, ℕ, Contains, IfErr, IfNone, IfOk, IfSome, length, string_bytes};
+ghost use Rattle.std.specs.Prelude.{◌≡◌, ◌≢◌, ◌<◌, ℕ, Contains, IfErr, IfNone, IfOk, IfSome};
+ghost use Rattle.std.specs.Prelude.{codes, length, string_bytes};
 ghost use Rattle.std.specs.Io.KnownBytes.{Appends};
 ghost use Rattle.profile_scan.specs.Destinations.{CanBeAsked};
-ghost use Rattle.command_requests.specs.declared.statuses.TheConstants.{ACCEPTED};
+ghost use Rattle.command_requests.specs.declared.statuses.TheConstants.{ACCEPTED, COMMAND_LINE, OUT_OF_MEMORY, REFUSED};
 ghost use Rattle.matrix_rows.specs.Tables.{CanBeMade, destination};
 ghost use Rattle.csa_commands.specs.Ending.{Ends, EndsUndone};
-ghost use Rattle.csa_commands.specs.Matrices.{AreOfList, AreSources, EndsTable, EndsUnlisted, IsTableOf};
-ghost use Rattle.csa_commands.specs.Matrices.{IsTablePrinted, IsTableShown, counts_text};
+ghost use Rattle.csa_commands.specs.Matrices.{AreOfList, AreSources, EndsTable, EndsWritten, IsBadWindow, IsTableOf};
+ghost use Rattle.csa_commands.specs.Matrices.{IsTablePrinted, IsTableRefused, IsTableShown, IsTableUnlisted};
+ghost use Rattle.csa_commands.specs.Matrices.{IsUnlisted, counts_text};
+ghost use Rattle.csa_commands.specs.Refusing.{refusal_line};
+ghost use Rattle.csa_commands.specs.declared.refusal.CommandRefusal.TheVariants.{Query};
 
 use crate::matrix_lists::{ListOption, all_stops, stops_of_file};
 use crate::matrix_progress::TableProgress;
@@ -16,7 +20,7 @@ use crate::question::window_reason;
 use crate::refusal::CommandRefusal;
 use crate::status;
 use crate::windows::{DepartureRange, warn_of_window};
-use crate::writing::{Content, put_file};
+use crate::writing::{new_file, settle};
 use command_requests::{MatrixRequest, TableWorkers};
 use feed_messages::explain;
 use image_verifier::Verified;
@@ -43,7 +47,7 @@ pub struct Notes {
 /// it to `output`. Nothing is scanned before the lists and the window are judged and the file is made. Explanations go
 /// to `errors`, and so do progress, if it is asked for or shown on a terminal, and the warning. Returns `ACCEPTED`;
 /// `REFUSED` if a line is no stop_id, or if the window is bad, which `output` says; `COMMAND_LINE` if a list can't be
-/// asked for; `INPUT_OUTPUT`; or `OUT_OF_MEMORY`.
+/// asked for; `INPUT_OUTPUT`; or `OUT_OF_MEMORY`, with nothing printed unless the table itself is.
 pub fn run<H: Files + AllocGlobal + Clock + Threads + Sync, O: Write, E: Write>(
     rt: &H,
     image: &Verified,
@@ -55,6 +59,11 @@ pub fn run<H: Files + AllocGlobal + Clock + Threads + Sync, O: Write, E: Write>(
     ensures status { EndsTable result }
     ensures printed { result ≡ ACCEPTED
         → IsTablePrinted image.now request.entry (O.contents output.old) (O.contents output.new) }
+    ensures refused { result ≡ REFUSED
+        → IsTableRefused image.now request.entry (O.contents output.old) (O.contents output.new) }
+    ensures unlisted { result ≡ COMMAND_LINE → IsTableUnlisted (O.contents output.old) (O.contents output.new) }
+    ensures silent { request.entry.out.now ≢ codes "-" → result ≡ OUT_OF_MEMORY
+        → O.contents output.new ≡ O.contents output.old }
 {
     match stops_asked(rt, image, request, errors) {
         Ok(stops) => {
@@ -81,7 +90,7 @@ fn stops_asked<H: Files + AllocGlobal, E: Write>(
 ) -> Result<AskedStops, u8>
     ensures targets { IfOk result (λ stops. AreOfList image.now stops.targets.items) }
     ensures sources { IfOk result (λ stops. AreSources request.entry.from image.now stops.sources.items) }
-    ensures status { IfErr result EndsUnlisted }
+    ensures status { IfErr result (IsUnlisted image.now) }
 {
     let targets = targets_asked(rt, image, request, errors)?;
     let sources = sources_asked(rt, image, request, errors)?;
@@ -101,6 +110,10 @@ fn make_table<H: Files + AllocGlobal + Clock + Threads + Sync, O: Write, E: Writ
     ensures status { Ends result }
     ensures shown { result ≡ ACCEPTED
         → IsTableShown table.now request.entry.out.now (O.contents output.old) (O.contents output.new) }
+    ensures refused { result ≡ REFUSED → IsBadWindow table.now.after table.now.until table.now.by
+        (O.contents output.old) (O.contents output.new) }
+    ensures silent { request.entry.out.now ≢ codes "-" → result ≡ OUT_OF_MEMORY
+        → O.contents output.new ≡ O.contents output.old }
 {
     if let Some(status) = refused_window(rt.alloc(), table, output, errors) {
         return status;
@@ -149,12 +162,11 @@ fn targets_asked<H: Files + AllocGlobal, E: Write>(
     errors: &mut E,
 ) -> Result<Vec<u32>, u8>
     ensures stops { IfOk result (λ stops. AreOfList image.now stops.items) }
-    ensures status { IfErr result EndsUnlisted }
+    ensures status { IfErr result (IsUnlisted image.now) }
 {
     let option = ListOption {
         name: "--to",
         path: request.to,
-        may_have_tabs: false,
     };
     stops_of_file(rt, image, option, errors)
 }
@@ -167,14 +179,13 @@ fn sources_asked<H: Files + AllocGlobal, E: Write>(
     errors: &mut E,
 ) -> Result<Vec<u32>, u8>
     ensures stops { IfOk result (λ stops. AreSources request.entry.from image.now stops.items) }
-    ensures status { IfErr result EndsUnlisted }
+    ensures status { IfErr result (IsUnlisted image.now) }
 {
     match request.from {
         Some(path) => {
             let option = ListOption {
                 name: "--from",
                 path,
-                may_have_tabs: true,
             };
             stops_of_file(rt, image, option, errors)
         }
@@ -199,6 +210,10 @@ fn refused_window<O: Write, E: Write>(
         → CanBeAsked table.now.image.now.timetable.stops (destination table.now target)) }
     ensures status { IfSome result EndsUndone }
     ensures kept { IfNone result (O.contents output.new ≡ O.contents output.old) }
+    ensures refused { IfSome result (λ status. status ≡ REFUSED → IsBadWindow table.now.after table.now.until
+        table.now.by (O.contents output.old) (O.contents output.new)) }
+    ensures silent { IfSome result (λ status. status ≡ OUT_OF_MEMORY
+        → O.contents output.new ≡ O.contents output.old) }
 {
     let target = table.targets.first()?;
     match table.destination(*target).check(table.image.stops()) {
@@ -215,7 +230,10 @@ fn print_fault<O: Write, E: Write>(
     output: &mut O,
     errors: &mut E,
 ) -> u8
-    ensures { EndsUndone result }
+    ensures status { EndsUndone result }
+    ensures printed { result ≡ REFUSED
+        → Appends (O.contents output.old) (O.contents output.new) (refusal_line (Query fault)) }
+    ensures silent { result ≡ OUT_OF_MEMORY → O.contents output.new ≡ O.contents output.old }
 {
     let status = status::print_refusal(alloc, output, CommandRefusal::Query(fault));
     if status == status::REFUSED && fault == QueryFault::BadWindow {
@@ -235,9 +253,11 @@ fn write_asked<H: Files + AllocGlobal + Clock + Threads + Sync, O: Write, E: Wri
     is_terminal: bool,
 ) -> u8
     requires can { (target : ℕ) → Contains table.now.targets.now target → CanBeMade table.now target }
-    ensures status { Ends result }
+    ensures status { EndsWritten result }
     ensures shown { result ≡ ACCEPTED
         → IsTableShown table.now request.entry.out.now (O.contents output.old) (O.contents output.new) }
+    ensures silent { request.entry.out.now ≢ codes "-" → result ≡ OUT_OF_MEMORY
+        → O.contents output.new ≡ O.contents output.old }
 {
     let log = if request.progress || is_terminal {
         Some(&mut *errors)
@@ -251,18 +271,27 @@ fn write_asked<H: Files + AllocGlobal + Clock + Threads + Sync, O: Write, E: Wri
         progress.close();
         return printed(outcome);
     }
-    let mut file = TableFile {
-        rt,
-        table,
-        workers,
-        reports: &mut progress,
-    };
-    let outcome = put_file(rt, request.out, &mut file);
+    let outcome = put_table(rt, table, workers, request.out, &mut progress);
     progress.close();
     match outcome {
         Ok(()) => print_counts(rt.alloc(), table, output),
         Err(error) => status::report_unwritten(errors, request.out, error.kind()),
     }
+}
+
+// Writes the table to a path.
+fn put_table<H: Files + AllocGlobal + Threads + Sync, P: Reports>(
+    rt: &H,
+    table: &Table<'_>,
+    workers: TableWorkers,
+    path: &str,
+    reports: &mut P,
+) -> io::Result<()>
+    requires can { (target : ℕ) → Contains table.now.targets.now target → CanBeMade table.now target }
+{
+    let mut file = new_file(rt, path)?;
+    let outcome = write_table(rt, table, workers.number, &mut file.file, reports);
+    settle(rt, file, outcome)
 }
 
 // How many threads work: as many as are asked for, or one for each processor.
@@ -281,25 +310,9 @@ fn processors<R: Threads>(rt: &R) -> usize {
     }
 }
 
-// A table, as a file has it.
-#[derive(Drop)]
-struct TableFile<'r, 't, 's, 'p, R, P> {
-    rt: &'r R,
-    table: &'t Table<'s>,
-    workers: TableWorkers,
-    reports: &'p mut P,
-    ghost can: { (target : ℕ) → Contains table.now.targets.now target → CanBeMade table.now target },
-}
-
-impl<R: Threads + Sync + AllocGlobal, P: Reports> Content for TableFile<'_, '_, '_, '_, R, P> {
-    fn put<W: Write>(&mut self, _alloc: Global, file: &mut W) -> io::Result<()> {
-        write_table(self.rt, self.table, self.workers.number, file, self.reports)
-    }
-}
-
 // The status of a table on standard output.
 fn printed(outcome: io::Result<()>) -> u8
-    ensures status { Ends result }
+    ensures status { EndsWritten result }
     ensures failed { IfErr outcome (λ _. result ≢ ACCEPTED) }
 {
     match outcome {
@@ -313,9 +326,10 @@ fn printed(outcome: io::Result<()>) -> u8
 
 // Prints how many stops a table has.
 fn print_counts<O: Write>(alloc: Global, table: &Table<'_>, output: &mut O) -> u8
-    ensures status { Ends result }
+    ensures status { EndsWritten result }
     ensures printed { result ≡ ACCEPTED → Appends (O.contents output.old) (O.contents output.new)
         (counts_text (length table.now.targets.now) (length table.now.sources.now)) }
+    ensures silent { result ≡ OUT_OF_MEMORY → O.contents output.new ≡ O.contents output.old }
 {
     let line = counts_line(alloc, table.targets.len(), table.sources.len());
     status::write_line(output, line, status::ACCEPTED)

@@ -1,8 +1,9 @@
 //! The stops of a table, which files list.
 
-ghost use Rattle.std.specs.Prelude.{◌≡◌, IfErr, IfOk};
+ghost use Rattle.std.specs.Prelude.{◌≡◌, ◌⊎◌, IfErr, IfOk, MatchBool, MatchResult};
 ghost use Rattle.std.specs.List.{range_with_len};
-ghost use Rattle.csa_commands.specs.Matrices.{AreOfList, EndsUnlisted};
+ghost use Rattle.command_requests.specs.declared.statuses.TheConstants.{INPUT_OUTPUT, OUT_OF_MEMORY};
+ghost use Rattle.csa_commands.specs.Matrices.{AreListedIn, AreOfList, HasTab, IsUnlisted, IsUnlistedIn, fault_status};
 
 use crate::question::explain_line;
 use crate::status;
@@ -19,8 +20,6 @@ use std::rt::Files;
 pub struct ListOption<'a> {
     pub name: &'a str,
     pub path: &'a str,
-    /// Whether a line that has a tab is refused: its stop_ids would be a set.
-    pub may_have_tabs: bool,
 }
 
 /// The stops that the file of an option lists, in its order. If it doesn't list any, or says what can't be asked,
@@ -31,8 +30,7 @@ pub fn stops_of_file<H: Files + AllocGlobal, E: Write>(
     option: ListOption<'_>,
     errors: &mut E,
 ) -> Result<Vec<u32>, u8>
-    ensures stops { IfOk result (λ stops. AreOfList image.now stops.items) }
-    ensures status { IfErr result EndsUnlisted }
+    ensures { MatchResult result (λ stops. AreOfList image.now stops.items) (IsUnlisted image.now) }
 {
     match fs::read_to_string(rt, option.path) {
         Ok(text) => stops_of_list(rt.alloc(), image, option, text.as_str(), errors),
@@ -48,21 +46,12 @@ fn stops_of_list<E: Write>(
     list: &str,
     errors: &mut E,
 ) -> Result<Vec<u32>, u8>
-    ensures stops { IfOk result (λ stops. AreOfList image.now stops.items) }
-    ensures status { IfErr result EndsUnlisted }
+    ensures stops { IfOk result (λ stops. AreListedIn image.now list.now stops.items) }
+    ensures status { IfErr result (IsUnlistedIn image.now list.now) }
 {
-    if !option.may_have_tabs {
-        if let Some(number) = first_tab(list) {
-            explain_at(
-                alloc,
-                option,
-                list,
-                number,
-                "one stop_id on each line, and no tab",
-                errors,
-            );
-            return Err(status::COMMAND_LINE);
-        }
+    if has_tab(list) {
+        explain_tab(alloc, option, list, errors);
+        return Err(status::COMMAND_LINE);
     }
     match stops_listed(alloc, image, list) {
         Ok(stops) => Ok(stops),
@@ -70,16 +59,29 @@ fn stops_of_list<E: Write>(
     }
 }
 
-// The number of the first line that has a tab, from 1 on.
-fn first_tab(list: &str) -> Option<usize> {
+fn has_tab(list: &str) -> bool
+    ensures { MatchBool result (HasTab list.now) (¬ HasTab list.now) }
+{
+    list.contains('\t')
+}
+
+// Says that a line has a tab, which is kept for lines with several stop_ids.
+fn explain_tab<E: Write>(alloc: Global, option: ListOption<'_>, list: &str, errors: &mut E) {
+    let number = first_tab(list);
+    let reason = "one stop_id on each line, and no tab";
+    explain_at(alloc, option, list, number, reason, errors);
+}
+
+// The number of the first line that has a tab, from 1 on; the number of lines if none has.
+fn first_tab(list: &str) -> usize {
     let mut number = 0usize;
     for line in list.lines() {
         number = number.saturating_add(1);
         if line.contains('\t') {
-            return Some(number);
+            return number;
         }
     }
-    None
+    number
 }
 
 // Says why a list isn't accepted, and returns the status.
@@ -90,7 +92,7 @@ fn refused<E: Write>(
     fault: ListFault,
     errors: &mut E,
 ) -> u8
-    ensures { EndsUnlisted result }
+    ensures { result ≡ fault_status fault }
 {
     match fault {
         ListFault::UnknownStop(number) => {
@@ -162,7 +164,7 @@ fn line_at(list: &str, number: usize) -> &str {
 
 // Says why the file can't be read, and returns the status.
 fn unread<H: Files, E: Write>(rt: &H, option: ListOption<'_>, kind: ErrorKind, errors: &mut E) -> u8
-    ensures { EndsUnlisted result }
+    ensures { (result ≡ INPUT_OUTPUT) ⊎ (result ≡ OUT_OF_MEMORY) }
 {
     match kind {
         ErrorKind::OutOfMemory => status::OUT_OF_MEMORY,

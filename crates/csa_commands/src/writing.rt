@@ -1,6 +1,6 @@
 //! Writes files: beside the path first, so that what is there stays whole.
 
-ghost use Rattle.std.specs.Prelude.{OnOk};
+ghost use Rattle.std.specs.Prelude.{◌≡◌, Err, IfErr, OnOk};
 ghost use Rattle.std.specs.Io.KnownBytes.{Appends};
 ghost use Rattle.image_layout.specs.Text.{bytes_of};
 ghost use Rattle.csa_commands.specs.Writing.{IsWholeImage};
@@ -21,63 +21,82 @@ fn is_special<H: Files>(rt: &H, path: &str) -> bool {
     }
 }
 
-/// What a file is to contain.
-pub trait Content {
-    /// Writes it, whole.
-    fn put<W: Write>(&mut self, alloc: Global, file: &mut W) -> io::Result<()>;
+/// A file that is to be at a path.
+#[derive(Drop)]
+pub struct NewFile<'a, F> {
+    /// Where its bytes are written.
+    pub file: F,
+    path: &'a str,
+    /// The path at which it is until it is whole, if that is another one.
+    beside: Option<String>,
 }
 
-/// Writes a file at the path. If there is a plain file or nothing, it is written to `PATH.part`, which is then renamed:
-/// so the file is never half written, not even if it is the one that was read. If there is anything else, such as a
-/// pipe, it is written into that. Nothing of the content is made before the file is there.
-pub fn put_file<H: Files + AllocGlobal, C: Content>(
+/// Makes the file that is to be at a path, empty. If there is a plain file or nothing, that is `PATH.part`, which
+/// `settle` renames: so the file is never half written, not even if it is the one that was read. If there is anything
+/// else, such as a pipe, it is written into that.
+pub fn new_file<'a, H: Files + AllocGlobal>(
     rt: &H,
-    path: &str,
-    content: &mut C,
-) -> io::Result<()> {
+    path: &'a str,
+) -> io::Result<NewFile<'a, H::File>> {
     if is_special(rt, path) {
-        let mut file = File::create(rt, path)?;
-        return content.put(rt.alloc(), &mut file);
+        let file = File::create(rt, path)?;
+        return Ok(NewFile {
+            file,
+            path,
+            beside: None,
+        });
     }
     let beside = format!(in rt.alloc(); "{path}.part")?;
     // Removes what an interrupted run left there, or a link, which then isn't followed.
     let _ = fs::remove_file(rt, beside.as_str());
-    let outcome = put_by_way_of(rt, beside.as_str(), path, content);
+    let file = File::create_new(rt, beside.as_str())?;
+    Ok(NewFile {
+        file,
+        path,
+        beside: Some(beside),
+    })
+}
+
+/// Brings a file to its path, if it was written; or else removes it, and returns why it wasn't.
+pub fn settle<H: Files>(
+    rt: &H,
+    file: NewFile<'_, H::File>,
+    outcome: io::Result<()>,
+) -> io::Result<()>
+    ensures { IfErr outcome (λ error. result ≡ Err error) }
+{
+    let Some(beside) = file.beside else {
+        return outcome;
+    };
+    let outcome = renamed(rt, beside.as_str(), file.path, outcome);
     if outcome.is_err() {
         let _ = fs::remove_file(rt, beside.as_str());
     }
     outcome
 }
 
-fn put_by_way_of<H: Files + AllocGlobal, C: Content>(
+// Renames a file that was written.
+fn renamed<H: Files>(
     rt: &H,
-    beside: &str,
-    path: &str,
-    content: &mut C,
-) -> io::Result<()> {
-    let mut file = File::create_new(rt, beside)?;
-    content.put(rt.alloc(), &mut file)?;
-    fs::rename(rt, beside, path)
-}
-
-/// An image's words.
-#[derive(Drop)]
-struct WholeImage<'a> {
-    words: &'a [u32],
-    ghost whole: { IsWholeImage words.now },
-}
-
-impl Content for WholeImage<'_> {
-    fn put<W: Write>(&mut self, alloc: Global, file: &mut W) -> io::Result<()> {
-        write_words(alloc, file, self.words)
+    from: &str,
+    to: &str,
+    outcome: io::Result<()>,
+) -> io::Result<()>
+    ensures { IfErr outcome (λ error. result ≡ Err error) }
+{
+    match outcome {
+        Ok(()) => fs::rename(rt, from, to),
+        Err(error) => Err(error),
     }
 }
 
-/// Writes an image's words to the path, as `put_file` does.
+/// Writes an image's words to the path, by way of a `NewFile`.
 pub fn put_image<H: Files + AllocGlobal>(rt: &H, path: &str, words: &[u32]) -> io::Result<()>
     requires { IsWholeImage words.now }
 {
-    put_file(rt, path, &mut WholeImage { words })
+    let mut file = new_file(rt, path)?;
+    let outcome = write_words(rt.alloc(), &mut file.file, words);
+    settle(rt, file, outcome)
 }
 
 // Writes the bytes of all words piece by piece, so that memory never holds all of them beside the words.
