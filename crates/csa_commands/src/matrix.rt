@@ -1,12 +1,12 @@
 //! `csa matrix IMAGE OUT --to FILE [--from FILE] --after .. --until .. --by .. --criterion NAME [--each] [--workers N]
 //! [--progress] [--no-warnings]`.
 
-ghost use Rattle.std.specs.Prelude.{◌≡◌, ◌≢◌, ◌<◌, ℕ, Contains, IfErr, IfNone, IfOk, IfSome};
+ghost use Rattle.std.specs.Prelude.{◌≡◌, ◌≢◌, ◌<◌, ℕ, List, Contains, IfErr, IfNone, IfOk, IfSome, OnOk};
 ghost use Rattle.std.specs.Prelude.{codes, length, string_bytes};
 ghost use Rattle.std.specs.Io.KnownBytes.{Appends};
 ghost use Rattle.profile_scan.specs.Destinations.{CanBeAsked};
 ghost use Rattle.command_requests.specs.declared.statuses.TheConstants.{ACCEPTED, COMMAND_LINE, OUT_OF_MEMORY, REFUSED};
-ghost use Rattle.matrix_rows.specs.Tables.{CanBeMade, destination};
+ghost use Rattle.matrix_rows.specs.Tables.{CanBeMade, IsTable, destination};
 ghost use Rattle.csa_commands.specs.Ending.{Ends, EndsUndone};
 ghost use Rattle.csa_commands.specs.Matrices.{AreOfList, AreSources, EndsTable, EndsWritten, IsBadWindow, IsTableOf};
 ghost use Rattle.csa_commands.specs.Matrices.{IsTablePrinted, IsTableRefused, IsTableShown, IsTableUnlisted};
@@ -215,8 +215,8 @@ fn refused_window<O: Write, E: Write>(
     ensures silent { IfSome result (λ status. status ≡ OUT_OF_MEMORY
         → O.contents output.new ≡ O.contents output.old) }
 {
-    let target = table.targets.first()?;
-    match table.destination(*target).check(table.image.stops()) {
+    let target = table.targets[0];
+    match table.destination(target).check(table.image.stops()) {
         Ok(()) => None,
         Err(fault) => Some(print_fault(alloc, table, fault, output, errors)),
     }
@@ -243,7 +243,7 @@ fn print_fault<O: Write, E: Write>(
     status
 }
 
-// Writes the table to where it is asked for.
+// Writes the table to where it is asked for, and says how that ended.
 fn write_asked<H: Files + AllocGlobal + Clock + Threads + Sync, O: Write, E: Write>(
     rt: &H,
     table: &Table<'_>,
@@ -254,6 +254,7 @@ fn write_asked<H: Files + AllocGlobal + Clock + Threads + Sync, O: Write, E: Wri
 ) -> u8
     requires can { (target : ℕ) → Contains table.now.targets.now target → CanBeMade table.now target }
     ensures status { EndsWritten result }
+    ensures not_refused { result ≢ REFUSED }
     ensures shown { result ≡ ACCEPTED
         → IsTableShown table.now request.entry.out.now (O.contents output.old) (O.contents output.new) }
     ensures silent { request.entry.out.now ≢ codes "-" → result ≡ OUT_OF_MEMORY
@@ -264,31 +265,54 @@ fn write_asked<H: Files + AllocGlobal + Clock + Threads + Sync, O: Write, E: Wri
     } else {
         None
     };
-    let mut progress = TableProgress::new(rt.alloc(), rt, log, is_terminal, table.targets.len());
-    let workers = workers_of(rt, request.workers);
+    let outcome = put_reported(rt, table, request, output, log, is_terminal);
     if request.out == "-" {
-        let outcome = write_table(rt, table, workers.number, output, &mut progress);
-        progress.close();
         return printed(outcome);
     }
-    let outcome = put_table(rt, table, workers, request.out, &mut progress);
-    progress.close();
     match outcome {
         Ok(()) => print_counts(rt.alloc(), table, output),
         Err(error) => status::report_unwritten(errors, request.out, error.kind()),
     }
 }
 
-// Writes the table to a path.
-fn put_table<H: Files + AllocGlobal + Threads + Sync, P: Reports>(
+// Writes the table to where it is asked for, and reports progress to `log`, if there is one.
+fn put_reported<'c, H: Files + AllocGlobal + Clock + Threads + Sync, O: Write, E: Write>(
+    rt: &'c H,
+    table: &Table<'_>,
+    request: MatrixRequest<'_>,
+    output: &mut O,
+    log: Option<&'c mut E>,
+    is_terminal: bool,
+) -> io::Result<()>
+    requires can { (target : ℕ) → Contains table.now.targets.now target → CanBeMade table.now target }
+    ensures shown { request.entry.out.now ≡ codes "-" → OnOk result ((text : List ℕ) × IsTable table.now text
+        × Appends (O.contents output.old) (O.contents output.new) text) }
+    ensures kept { request.entry.out.now ≢ codes "-" → O.contents output.new ≡ O.contents output.old }
+{
+    let mut progress = TableProgress::new(rt.alloc(), rt, log, is_terminal, table.targets.len());
+    let workers = workers_of(rt, request.workers);
+    let outcome = put_table(rt, table, workers, request.out, output, &mut progress);
+    progress.close();
+    outcome
+}
+
+// Writes the table to a path, or to `output` if that is `-`.
+fn put_table<H: Files + AllocGlobal + Threads + Sync, O: Write, P: Reports>(
     rt: &H,
     table: &Table<'_>,
     workers: TableWorkers,
     path: &str,
+    output: &mut O,
     reports: &mut P,
 ) -> io::Result<()>
     requires can { (target : ℕ) → Contains table.now.targets.now target → CanBeMade table.now target }
+    ensures shown { path.now ≡ codes "-" → OnOk result ((text : List ℕ) × IsTable table.now text
+        × Appends (O.contents output.old) (O.contents output.new) text) }
+    ensures kept { path.now ≢ codes "-" → O.contents output.new ≡ O.contents output.old }
 {
+    if path == "-" {
+        return write_table(rt, table, workers.number, output, reports);
+    }
     let mut file = new_file(rt, path)?;
     let outcome = write_table(rt, table, workers.number, &mut file.file, reports);
     settle(rt, file, outcome)

@@ -65,23 +65,35 @@ pub fn settle<H: Files>(
 ) -> io::Result<()>
     ensures { IfErr outcome (λ error. result ≡ Err error) }
 {
-    let Some(beside) = file.beside else {
-        return outcome;
-    };
-    let outcome = renamed(rt, beside.as_str(), file.path, outcome);
+    let NewFile {
+        file: _file,
+        path,
+        beside,
+    } = file;
+    match beside {
+        Some(beside) => settle_beside(rt, beside.as_str(), path, outcome),
+        None => outcome,
+    }
+}
+
+// Renames a file that was written, or else removes it.
+fn settle_beside<H: Files>(
+    rt: &H,
+    beside: &str,
+    path: &str,
+    outcome: io::Result<()>,
+) -> io::Result<()>
+    ensures { IfErr outcome (λ error. result ≡ Err error) }
+{
+    let outcome = renamed(rt, beside, path, outcome);
     if outcome.is_err() {
-        let _ = fs::remove_file(rt, beside.as_str());
+        let _ = fs::remove_file(rt, beside);
     }
     outcome
 }
 
 // Renames a file that was written.
-fn renamed<H: Files>(
-    rt: &H,
-    from: &str,
-    to: &str,
-    outcome: io::Result<()>,
-) -> io::Result<()>
+fn renamed<H: Files>(rt: &H, from: &str, to: &str, outcome: io::Result<()>) -> io::Result<()>
     ensures { IfErr outcome (λ error. result ≡ Err error) }
 {
     match outcome {
