@@ -119,6 +119,39 @@ const DEPARTURES: [Argument; 4] = [
     Argument::Flag("no-journeys", "Print no journeys"),
 ];
 
+const MATRIX: [Argument; 5] = [
+    Argument::Option(
+        "to",
+        "FILE",
+        "The stops where journeys end: a file with one stop_id on each line (- is a file name here)",
+    ),
+    Argument::MaybeOption(
+        "from",
+        "FILE",
+        "The stops where journeys begin, in such a file; without it all stops of the image",
+    ),
+    Argument::Flag(
+        "each",
+        "Write a row for each best departure, instead of one for each pair of stops",
+    ),
+    Argument::MaybeOption(
+        "workers",
+        "N",
+        "How many threads work, 1 to 64 [default: one for each processor]",
+    ),
+    Argument::Flag(
+        "progress",
+        "Show progress on standard error (the default on a terminal)",
+    ),
+];
+
+/// Where a table goes.
+const TABLE: [Argument; 1] = [Argument::Positional(
+    "out",
+    "OUT",
+    "The file to which the table is written, by way of OUT.part, or - for standard output",
+)];
+
 const JOURNEY: [Argument; 1] = [Argument::Positional(
     "text",
     "TEXT",
@@ -269,7 +302,7 @@ const NEW_IMAGE: [Argument; 1] = [Argument::Positional(
 )];
 
 /// The commands over an image, in the order of the help.
-const IMAGE_TASKS: [Task; 6] = [
+const IMAGE_TASKS: [Task; 7] = [
     Task {
         name: "verify",
         about: "Verifies that a file is the image of a legal timetable, and prints its counts",
@@ -306,6 +339,12 @@ const IMAGE_TASKS: [Task; 6] = [
             &DEPARTURES,
             &WARNINGS,
         ],
+    },
+    Task {
+        name: "matrix",
+        about: "Writes a table of travel times, from each of some stops to each of some others, as CSV",
+        notes: texts::MATRIX,
+        arguments: &[&IMAGE, &TABLE, &TIMES, &CRITERION, &MATRIX, &WARNINGS],
     },
     Task {
         name: "stops",

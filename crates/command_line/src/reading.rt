@@ -6,8 +6,9 @@ use clap::error::ErrorKind;
 use clap::{ArgMatches, Error};
 use command_requests::{
     AnswerForm, BuildRequest, CommandRequest, DeparturesForm, DeparturesRequest, FirstDay,
-    JourneyRequest, NamedFolder, PictureRows, PlanText, ProfileRequest, Question, Seconds,
-    ServeRequest, StationsRequest, StopsRequest, UpgradeRequest, Workers, days_of,
+    JourneyRequest, MatrixRequest, NamedFolder, PictureRows, PlanText, ProfileRequest, Question,
+    Seconds, ServeRequest, StationsRequest, StopsRequest, TableWorkers, UpgradeRequest, Workers,
+    days_of,
 };
 use criteria::CriterionName;
 use std::alloc::{AllocError, Global};
@@ -33,6 +34,7 @@ enum OptionForm {
     Zone,
     Port,
     Workers,
+    TableWorkers,
     Sessions,
     PictureRows,
     Seconds,
@@ -55,6 +57,14 @@ const FORMS: [(&str, OptionForm); 12] = [
 ];
 
 impl OptionForm {
+    /// The form that a command wants in its place.
+    fn of_command(self, command: &str) -> OptionForm {
+        match self {
+            OptionForm::Workers if command == "matrix" => OptionForm::TableWorkers,
+            _ => self,
+        }
+    }
+
     fn is_kept(self, value: &str) -> bool {
         match self {
             OptionForm::Clock => clock(value).is_some(),
@@ -63,6 +73,7 @@ impl OptionForm {
             OptionForm::Zone => zone(value).is_some(),
             OptionForm::Port => port(value).is_some(),
             OptionForm::Workers => is_workers(value),
+            OptionForm::TableWorkers => table_workers_of(value).is_some(),
             OptionForm::Sessions => count(value).is_some(),
             OptionForm::PictureRows => rows_of(value).is_some(),
             OptionForm::Seconds => seconds_of(value).is_some(),
@@ -83,6 +94,7 @@ fixed:-18000, at most 86399 either way"
             }
             OptionForm::Port => "a port is a number from 0 to 65535",
             OptionForm::Workers => "the number of workers must be 1 to 16",
+            OptionForm::TableWorkers => "the number of workers must be 1 to 64",
             OptionForm::Sessions =>
                 "the number of sessions must be in decimal digits; 0 is no limit",
             OptionForm::PictureRows => "the number of rows must be 1 to 10000",
@@ -104,6 +116,10 @@ fn rows_of(value: &str) -> Option<PictureRows> {
 
 fn seconds_of(value: &str) -> Option<Seconds> {
     Seconds::of(number(value)?)
+}
+
+fn table_workers_of(value: &str) -> Option<TableWorkers> {
+    TableWorkers::of(number(value)?)
 }
 
 fn is_workers(value: &str) -> bool {
@@ -238,6 +254,7 @@ fn plain_request<'a>(name: &str, matches: &ArgMatches<'a>) -> Option<CommandRequ
         "verify" => matches.get_str("image").map(CommandRequest::Verify),
         "info" => matches.get_str("image").map(CommandRequest::Info),
         "journey" => journey_request(matches).map(CommandRequest::Journey),
+        "matrix" => matrix_request(matches).map(CommandRequest::Matrix),
         "stops" => stops_request(matches).map(CommandRequest::Stops),
         "tables" => matches.get_str("folder").map(CommandRequest::Tables),
         "days" => matches.get_str("folder").map(CommandRequest::Days),
@@ -250,10 +267,11 @@ fn plain_request<'a>(name: &str, matches: &ArgMatches<'a>) -> Option<CommandRequ
 /// The message about the first option whose value has a wrong form.
 fn wrong_value(alloc: Global, command: &str, matches: &ArgMatches<'_>) -> NoCommand {
     for (option, form) in &FORMS {
+        let form = form.of_command(command);
         if let Some(value) = matches.get_str(option)
             && !form.is_kept(value)
         {
-            return mistake(alloc, command, wrong_form(alloc, option, *form, value));
+            return mistake(alloc, command, wrong_form(alloc, option, form, value));
         }
     }
     mistake(
@@ -478,6 +496,30 @@ fn departures_to<'a>(matches: &ArgMatches<'a>, to: Vec<&'a str>) -> Option<Depar
         form: departures_form(matches),
         from: matches.get_str("from"),
     })
+}
+
+fn matrix_request<'a>(matches: &ArgMatches<'a>) -> Option<MatrixRequest<'a>> {
+    Some(MatrixRequest {
+        image: matches.get_str("image")?,
+        out: matches.get_str("out")?,
+        to: matches.get_str("to")?,
+        from: matches.get_str("from"),
+        after: clock(matches.get_str("after")?)?,
+        until: clock(matches.get_str("until")?)?,
+        by: clock(matches.get_str("by")?)?,
+        criterion: CriterionName::of(matches.get_str("criterion")?)?,
+        each: matches.get_flag("each"),
+        workers: maybe_table_workers(matches)?,
+        progress: matches.get_flag("progress"),
+    })
+}
+
+/// How many threads are asked for, if any number is; `None` if the value has a wrong form.
+fn maybe_table_workers(matches: &ArgMatches<'_>) -> Option<Option<TableWorkers>> {
+    match matches.get_str("workers") {
+        Some(value) => Some(Some(table_workers_of(value)?)),
+        None => Some(None),
+    }
 }
 
 fn departures_form(matches: &ArgMatches<'_>) -> DeparturesForm {

@@ -129,6 +129,32 @@ With --json it is: {\"from\":\"A\",\"points\":[{\"arr\":\"08:20:00\",\"dep\":\"0
 \"journey\":\"ride 0 0 walk 1 1 0 ride 2 2\"}],\"walk\":null}\n\
 and at the end: {\"points\":2,\"read\":3,\"stops\":2}";
 
+pub(crate) const MATRIX: &str =
+    "OUT has a first row with the names of the columns, and then for each stop of --to, in the order of its file, a\n\
+row for each stop of --from, in the order of its file or of the image, except that stop itself:\n\
+\x20 from             the stop_id of the stop where journeys begin\n\
+\x20 to               the stop_id of the stop where they end\n\
+\x20 points           how many best departures there are, as csa departures prints them\n\
+\x20 first_departure  the first one, HH:MM:SS after the image's base\n\
+\x20 last_departure   the last one\n\
+\x20 least_seconds    the least seconds from one of them to its arrival\n\
+\x20 mean_seconds     the mean, over each second from --after to --until, of the seconds from then until one arrives\n\
+\x20                  by the next departure that serves best, also one after --until; blank if some second has none\n\
+\x20 walk             the seconds of the direct walk, which no other column counts\n\
+A figure that is not there is blank. With --each a row is one best departure: from, to, departure, arrival, seconds\n\
+between them, trips, walked (blank if the criterion does not count them); a pair without one has no row.\n\
+Standard output has one line, `targets N sources N`, or the table if OUT is -.\n\
+If a line of a FILE is not a stop_id of the image, standard error has its number and its text, and the status is 2;\n\
+if a FILE has no line, the same stop_id twice, or a tab, it is 64.\n\
+A stop of --to takes a scan, or two if --until is not --by; --by with the value of --until takes one.\n\
+\n\
+Example: csa matrix examples/base.csa - --to targets --after 08:00:00 --until 08:12:00 --by 10:00:00 \
+--criterion arrival\n\
+where targets has the line C, prints\n\
+from,to,points,first_departure,last_departure,least_seconds,mean_seconds,walk\n\
+A,C,1,08:00:00,08:00:00,1200,,\n\
+B,C,1,08:12:00,08:12:00,480,840,";
+
 pub(crate) const BUILD: &str = "Standard output has one line of counts:\n\
 \x20 stops        stops and platforms in stops.txt; stations, entrances and the like are not counted\n\
 \x20 runs         trips on the days on which they run, each repetition of frequencies.txt by itself\n\

@@ -10,11 +10,11 @@ pub mod statuses;
 
 pub use ends::SessionCounts;
 pub use plans::{
-    FirstDay, MOST_AHEAD, MOST_DAYS, MOST_ROWS, MOST_WORKERS, PLAIN_ROWS, PictureRows, PlanText,
-    Seconds, UtcOffset, Workers, ZoneText, days_of,
+    FirstDay, MOST_AHEAD, MOST_DAYS, MOST_ROWS, MOST_TABLE_WORKERS, MOST_WORKERS, PLAIN_ROWS,
+    PictureRows, PlanText, Seconds, TableWorkers, UtcOffset, Workers, ZoneText, days_of,
 };
 pub use requests::{
     AnswerForm, BuildRequest, CommandRequest, DeparturesForm, DeparturesRequest, JourneyRequest,
-    NamedFolder, ProfileRequest, Question, ServeRequest, StationsRequest, StopsRequest,
-    UpgradeRequest,
+    MatrixRequest, NamedFolder, ProfileRequest, Question, ServeRequest, StationsRequest,
+    StopsRequest, UpgradeRequest,
 };

@@ -1,17 +1,21 @@
 //! What is to be made of a feed, and how many sessions are served at once: numbers within their limits.
 
-ghost use Rattle.std.specs.Prelude.{◌≡◌, ◌≤◌, MatchOption, None, Some};
+ghost use Rattle.std.specs.Prelude.{◌≡◌, ◌≤◌, MatchOption, None, Some, max, min};
 ghost use Rattle.std.specs.Option.{SomeIff};
 ghost use Rattle.jiff_core.specs.Calendar.{IsWithin};
 ghost use Rattle.gtfs_rows.specs.Values.{day_of};
 ghost use Rattle.gtfs_rows.specs.declared.values.Day.{Day};
 ghost use Rattle.command_requests.specs.Naming.{IsWordOf};
-ghost use Rattle.command_requests.specs.declared.plans.TheConstants.{MOST_DAYS, MOST_ROWS, MOST_WORKERS};
+ghost use Rattle.command_requests.specs.declared.plans.TheConstants.{MOST_DAYS, MOST_ROWS};
+ghost use Rattle.command_requests.specs.declared.plans.TheConstants.{MOST_TABLE_WORKERS, MOST_WORKERS};
 
 use gtfs_rows::Day;
 
 /// How many sessions may be served at once.
 pub const MOST_WORKERS: u32 = 16;
+
+/// How many threads may work at a table of travel times.
+pub const MOST_TABLE_WORKERS: u32 = 64;
 
 /// How many service days may be asked for.
 pub const MOST_DAYS: u32 = 14;
@@ -44,6 +48,38 @@ impl Workers {
         Some(Workers {
             number: asked as usize,
         })
+    }
+}
+
+/// How many threads work at a table of travel times: 1 to 64.
+#[derive(Clone, Copy, Drop)]
+pub struct TableWorkers {
+    pub number: usize,
+    ghost some: { 1 ≤ number },
+    ghost few: { number ≤ MOST_TABLE_WORKERS },
+}
+
+impl TableWorkers {
+    /// As many as are asked for; `None` outside the limits.
+    pub fn of(asked: u32) -> Option<TableWorkers>
+        ensures { MatchOption result (¬ ((1 ≤ asked) × (asked ≤ MOST_TABLE_WORKERS)))
+            (λ workers. workers.number ≡ asked) }
+    {
+        if asked < 1 || asked > MOST_TABLE_WORKERS {
+            return None;
+        }
+        Some(TableWorkers {
+            number: asked as usize,
+        })
+    }
+
+    /// One for each of so many processors, as far as the limits allow.
+    pub fn for_processors(processors: usize) -> TableWorkers
+        ensures { result.number ≡ max 1 (min processors MOST_TABLE_WORKERS) }
+    {
+        TableWorkers {
+            number: processors.min(MOST_TABLE_WORKERS as usize).max(1),
+        }
     }
 }
 

@@ -1,6 +1,6 @@
 //! What a command line asks for.
 
-use crate::plans::{PictureRows, PlanText, Seconds, Workers};
+use crate::plans::{PictureRows, PlanText, Seconds, TableWorkers, Workers};
 use criteria::CriterionName;
 
 /// A command with its arguments.
@@ -16,6 +16,8 @@ pub enum CommandRequest<'a> {
     Profile(ProfileRequest<'a>),
     /// To answer the queries from every stop to one, or to any of several, over an image.
     Departures(DeparturesRequest<'a>),
+    /// To write a table of travel times over an image.
+    Matrix(MatrixRequest<'a>),
     /// To read the tables of a feed's folder.
     Tables(&'a str),
     /// To print which service days the feed of a folder has.
@@ -84,6 +86,32 @@ pub struct DeparturesRequest<'a> {
     pub form: DeparturesForm,
     /// A file with one stop_id on each line.
     pub from: Option<&'a str>,
+}
+
+/// The image; the file with the stops to go to, and that with the stops to leave from, if not all are meant; when, in
+/// seconds after the image's base; the criterion; where the table goes, what has a row, and how many threads work.
+#[derive(Clone, Copy, Drop)]
+pub struct MatrixRequest<'a> {
+    pub image: &'a str,
+    /// The file for the table; `-` is standard output.
+    pub out: &'a str,
+    /// A file with one stop_id on each line.
+    pub to: &'a str,
+    /// Another one.
+    pub from: Option<&'a str>,
+    /// The earliest departure.
+    pub after: u32,
+    /// The latest departure.
+    pub until: u32,
+    /// The latest arrival.
+    pub by: u32,
+    pub criterion: CriterionName,
+    /// Whether each departure has a row; otherwise each pair of stops has one.
+    pub each: bool,
+    /// How many threads work. `None`: one for each processor.
+    pub workers: Option<TableWorkers>,
+    /// Whether progress is shown.
+    pub progress: bool,
 }
 
 /// How an answer is printed.

@@ -3,4 +3,6 @@ mod Appended
 mod MissingFile
 mod OfFolder
 mod Picturing
+mod Ranges
 mod StopLines
+mod MatrixLemmas

@@ -10,6 +10,7 @@ pub mod Folders
 pub mod Informing
 pub mod Judging
 pub mod Listing
+pub mod Matrices
 pub mod Newlines
 pub mod Opening
 pub mod Picturing

@@ -113,9 +113,10 @@ pub fn explain_ends<E: Write>(image: &Verified, option: &str, stops: &[&str], er
     }
 }
 
-/// Says that a line of the file of `--from` is no stop of the image, and shows the line, if there is memory for that.
+/// Says that a line of the file of an option is no stop of the image, and shows the line, if there is memory for that.
 pub fn explain_line<E: Write>(
     alloc: Global,
+    option: &str,
     path: &str,
     number: usize,
     line: &str,
@@ -125,9 +126,9 @@ pub fn explain_line<E: Write>(
         Ok(shown) => {
             write!(
                 errors,
-                "csa: --from {path}, line {number}: {shown}: {UNKNOWN}\n"
+                "csa: {option} {path}, line {number}: {shown}: {UNKNOWN}\n"
             )
         }
-        Err(_) => write!(errors, "csa: --from {path}, line {number}: {UNKNOWN}\n"),
+        Err(_) => write!(errors, "csa: {option} {path}, line {number}: {UNKNOWN}\n"),
     };
 }

@@ -71,7 +71,7 @@ fn explain_unknown<E: Write>(
 ) {
     if let Err(NoList::UnknownStop(number)) = wanted {
         let line = list.lines().nth((*number).saturating_sub(1)).unwrap_or("");
-        explain_line(alloc, path, *number, line, errors);
+        explain_line(alloc, "--from", path, *number, line, errors);
     }
 }
 

@@ -1,6 +1,6 @@
-//! Writes an image's words to a path.
+//! Writes files: beside the path first, so that what is there stays whole.
 
-ghost use Rattle.std.specs.Prelude.{OnOk};
+ghost use Rattle.std.specs.Prelude.{◌≡◌, Err, IfErr, OnOk};
 ghost use Rattle.std.specs.Io.KnownBytes.{Appends};
 ghost use Rattle.image_layout.specs.Text.{bytes_of};
 ghost use Rattle.csa_commands.specs.Writing.{IsWholeImage};
@@ -21,37 +21,94 @@ fn is_special<H: Files>(rt: &H, path: &str) -> bool {
     }
 }
 
-/// Writes an image's words to the path. If there is a plain file or nothing, the words are written to `PATH.part`,
-/// which is then renamed: so the file is never half an image, not even if it is the one that was read. If there is
-/// anything else, such as a pipe, the words are written into it.
-pub fn put_image<H: Files + AllocGlobal>(rt: &H, path: &str, words: &[u32]) -> io::Result<()>
-    requires { IsWholeImage words.now }
-{
+/// A file that is to be at a path.
+#[derive(Drop)]
+pub struct NewFile<'a, F> {
+    /// Where its bytes are written.
+    pub file: F,
+    path: &'a str,
+    /// The path at which it is until it is whole, if that is another one.
+    beside: Option<String>,
+}
+
+/// Makes the file that is to be at a path, empty. If there is a plain file or nothing, that is `PATH.part`, which
+/// `settle` renames: so the file is never half written, not even if it is the one that was read. If there is anything
+/// else, such as a pipe, it is written into that.
+pub fn new_file<'a, H: Files + AllocGlobal>(
+    rt: &H,
+    path: &'a str,
+) -> io::Result<NewFile<'a, H::File>> {
     if is_special(rt, path) {
-        let mut file = File::create(rt, path)?;
-        return write_words(rt.alloc(), &mut file, words);
+        let file = File::create(rt, path)?;
+        return Ok(NewFile {
+            file,
+            path,
+            beside: None,
+        });
     }
     let beside = format!(in rt.alloc(); "{path}.part")?;
     // Removes what an interrupted run left there, or a link, which then isn't followed.
     let _ = fs::remove_file(rt, beside.as_str());
-    let outcome = put_by_way_of(rt, beside.as_str(), path, words);
+    let file = File::create_new(rt, beside.as_str())?;
+    Ok(NewFile {
+        file,
+        path,
+        beside: Some(beside),
+    })
+}
+
+/// Brings a file to its path, if it was written; or else removes it, and returns why it wasn't.
+pub fn settle<H: Files>(
+    rt: &H,
+    file: NewFile<'_, H::File>,
+    outcome: io::Result<()>,
+) -> io::Result<()>
+    ensures { IfErr outcome (λ error. result ≡ Err error) }
+{
+    let NewFile {
+        file: _file,
+        path,
+        beside,
+    } = file;
+    match beside {
+        Some(beside) => settle_beside(rt, beside.as_str(), path, outcome),
+        None => outcome,
+    }
+}
+
+// Renames a file that was written, or else removes it.
+fn settle_beside<H: Files>(
+    rt: &H,
+    beside: &str,
+    path: &str,
+    outcome: io::Result<()>,
+) -> io::Result<()>
+    ensures { IfErr outcome (λ error. result ≡ Err error) }
+{
+    let outcome = renamed(rt, beside, path, outcome);
     if outcome.is_err() {
-        let _ = fs::remove_file(rt, beside.as_str());
+        let _ = fs::remove_file(rt, beside);
     }
     outcome
 }
 
-fn put_by_way_of<H: Files + AllocGlobal>(
-    rt: &H,
-    beside: &str,
-    path: &str,
-    words: &[u32],
-) -> io::Result<()>
+// Renames a file that was written.
+fn renamed<H: Files>(rt: &H, from: &str, to: &str, outcome: io::Result<()>) -> io::Result<()>
+    ensures { IfErr outcome (λ error. result ≡ Err error) }
+{
+    match outcome {
+        Ok(()) => fs::rename(rt, from, to),
+        Err(error) => Err(error),
+    }
+}
+
+/// Writes an image's words to the path, by way of a `NewFile`.
+pub fn put_image<H: Files + AllocGlobal>(rt: &H, path: &str, words: &[u32]) -> io::Result<()>
     requires { IsWholeImage words.now }
 {
-    let mut file = File::create_new(rt, beside)?;
-    write_words(rt.alloc(), &mut file, words)?;
-    fs::rename(rt, beside, path)
+    let mut file = new_file(rt, path)?;
+    let outcome = write_words(rt.alloc(), &mut file.file, words);
+    settle(rt, file, outcome)
 }
 
 // Writes the bytes of all words piece by piece, so that memory never holds all of them beside the words.

@@ -19,16 +19,19 @@ pub use crate::explaining::Explains;
 pub use crate::machine::Machine;
 use crate::watching::WatchedWriter;
 use command_line::{NoCommand, read, wants_warnings};
-use command_requests::{CommandRequest, DeparturesRequest, ProfileRequest};
+use command_requests::{CommandRequest, DeparturesRequest, MatrixRequest, ProfileRequest};
+use csa_commands::matrix::Notes;
 use csa_commands::{
-    ImageRequest, answer, build, days, explain, explain_zone, open_image, reason_of, stations,
-    status, tables,
+    ImageRequest, answer, build, days, explain, explain_zone, matrix, open_image, reason_of,
+    stations, status, tables,
 };
 pub use feed_files::Disk;
 use std::convert::AsStr;
 use std::io::{ErrorKind, Read, Write};
 use std::net::{Net, TcpListener, TcpStream};
 use std::rt::Files;
+use std::thread::Threads;
+use std::time::Clock;
 
 /// Runs the command that the words ask for; the first word is the program's name.
 ///
@@ -175,6 +178,13 @@ fn run_command<
         Ok(CommandRequest::Departures(request)) => {
             answer_departures(rt, request, input, output, errors, warnings)
         }
+        Ok(CommandRequest::Matrix(request)) => {
+            let notes = Notes {
+                is_terminal,
+                warnings,
+            };
+            matrix_over(rt, request, input, output, errors, notes)
+        }
         Ok(CommandRequest::Stops(request)) => {
             answer_over(
                 rt,
@@ -209,6 +219,22 @@ fn run_command<
             status::COMMAND_LINE
         }
         Err(NoCommand::OutOfMemory) => status::OUT_OF_MEMORY,
+    }
+}
+
+// Opens the image and writes the table of travel times that is asked for. If the image can't be opened, returns the
+// status that says why.
+fn matrix_over<H: Files + AllocGlobal + Clock + Threads + Sync, I: Read, O: Write, E: Write>(
+    rt: &H,
+    request: MatrixRequest<'_>,
+    input: &mut I,
+    output: &mut O,
+    errors: &mut E,
+    notes: Notes,
+) -> u8 {
+    match open_image(rt, request.image, input, output, errors) {
+        Ok(image) => matrix::run(rt, &image, request, output, errors, notes),
+        Err(status) => status,
     }
 }
 

@@ -8,6 +8,7 @@ mod clocks;
 mod command_lines;
 mod hostile_images;
 mod informing;
+mod matrices;
 mod profiles;
 mod repeating;
 mod running;

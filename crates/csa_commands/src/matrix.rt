@@ -1,0 +1,370 @@
+//! `csa matrix IMAGE OUT --to FILE [--from FILE] --after .. --until .. --by .. --criterion NAME [--each] [--workers N]
+//! [--progress] [--no-warnings]`.
+
+ghost use Rattle.std.specs.Prelude.{◌≡◌, ◌≢◌, ◌<◌, ℕ, List, Contains, IfErr, IfNone, IfOk, IfSome, OnOk};
+ghost use Rattle.std.specs.Prelude.{codes, length, string_bytes};
+ghost use Rattle.std.specs.Io.KnownBytes.{Appends};
+ghost use Rattle.profile_scan.specs.Destinations.{CanBeAsked};
+ghost use Rattle.command_requests.specs.declared.statuses.TheConstants.{ACCEPTED, COMMAND_LINE, OUT_OF_MEMORY, REFUSED};
+ghost use Rattle.matrix_rows.specs.Tables.{CanBeMade, IsTable, destination};
+ghost use Rattle.csa_commands.specs.Ending.{Ends, EndsUndone};
+ghost use Rattle.csa_commands.specs.Matrices.{AreOfList, AreSources, EndsTable, EndsWritten, IsBadWindow, IsTableOf};
+ghost use Rattle.csa_commands.specs.Matrices.{IsTablePrinted, IsTableRefused, IsTableShown, IsTableUnlisted};
+ghost use Rattle.csa_commands.specs.Matrices.{IsUnlisted, counts_text};
+ghost use Rattle.csa_commands.specs.Refusing.{refusal_line};
+ghost use Rattle.csa_commands.specs.declared.refusal.CommandRefusal.TheVariants.{Query};
+
+use crate::matrix_lists::{ListOption, all_stops, stops_of_file};
+use crate::matrix_progress::TableProgress;
+use crate::question::window_reason;
+use crate::refusal::CommandRefusal;
+use crate::status;
+use crate::windows::{DepartureRange, warn_of_window};
+use crate::writing::{new_file, settle};
+use command_requests::{MatrixRequest, TableWorkers};
+use feed_messages::explain;
+use image_verifier::Verified;
+use matrix_rows::{Reports, Table, write_table};
+use std::alloc::{AllocError, Global};
+use std::io;
+use std::io::{ErrorKind, Write};
+use std::rt::Files;
+use std::thread::{Threads, available_parallelism};
+use std::time::Clock;
+use text_pieces::{put_number, put_text};
+use timetable::QueryFault;
+
+/// What goes to standard error besides explanations.
+#[derive(Clone, Copy, Drop)]
+pub struct Notes {
+    /// Whether it is a terminal: then progress is shown, in one line that is rewritten.
+    pub is_terminal: bool,
+    /// Whether a window that goes beyond the image's connections is warned of.
+    pub warnings: bool,
+}
+
+/// Writes the table to the file that is asked for, once it is whole, and then prints how many stops it has; or writes
+/// it to `output`. Nothing is scanned before the lists and the window are judged and the file is made. Explanations go
+/// to `errors`, and so do progress, if it is asked for or shown on a terminal, and the warning. Returns `ACCEPTED`;
+/// `REFUSED` if a line is no stop_id, or if the window is bad, which `output` says; `COMMAND_LINE` if a list can't be
+/// asked for; `INPUT_OUTPUT`; or `OUT_OF_MEMORY`, with nothing printed unless the table itself is.
+pub fn run<H: Files + AllocGlobal + Clock + Threads + Sync, O: Write, E: Write>(
+    rt: &H,
+    image: &Verified,
+    request: MatrixRequest<'_>,
+    output: &mut O,
+    errors: &mut E,
+    notes: Notes,
+) -> u8
+    ensures status { EndsTable result }
+    ensures printed { result ≡ ACCEPTED
+        → IsTablePrinted image.now request.entry (O.contents output.old) (O.contents output.new) }
+    ensures refused { result ≡ REFUSED
+        → IsTableRefused image.now request.entry (O.contents output.old) (O.contents output.new) }
+    ensures unlisted { result ≡ COMMAND_LINE → IsTableUnlisted (O.contents output.old) (O.contents output.new) }
+    ensures silent { request.entry.out.now ≢ codes "-" → result ≡ OUT_OF_MEMORY
+        → O.contents output.new ≡ O.contents output.old }
+{
+    match stops_asked(rt, image, request, errors) {
+        Ok(stops) => {
+            let table = table_of(image, &stops.targets, &stops.sources, request);
+            make_table(rt, &table, request, output, errors, notes)
+        }
+        Err(status) => status,
+    }
+}
+
+// The stops of a table.
+#[derive(Drop)]
+struct AskedStops {
+    targets: Vec<u32>,
+    sources: Vec<u32>,
+}
+
+// The stops that are asked for, or the status that says why they aren't known.
+fn stops_asked<H: Files + AllocGlobal, E: Write>(
+    rt: &H,
+    image: &Verified,
+    request: MatrixRequest<'_>,
+    errors: &mut E,
+) -> Result<AskedStops, u8>
+    ensures targets { IfOk result (λ stops. AreOfList image.now stops.targets.items) }
+    ensures sources { IfOk result (λ stops. AreSources request.entry.from image.now stops.sources.items) }
+    ensures status { IfErr result (IsUnlisted image.now) }
+{
+    let targets = targets_asked(rt, image, request, errors)?;
+    let sources = sources_asked(rt, image, request, errors)?;
+    Ok(AskedStops { targets, sources })
+}
+
+// Writes the table that is asked for, if its window is good.
+fn make_table<H: Files + AllocGlobal + Clock + Threads + Sync, O: Write, E: Write>(
+    rt: &H,
+    table: &Table<'_>,
+    request: MatrixRequest<'_>,
+    output: &mut O,
+    errors: &mut E,
+    notes: Notes,
+) -> u8
+    requires { IsTableOf table.now.image.now request table.now }
+    ensures status { Ends result }
+    ensures shown { result ≡ ACCEPTED
+        → IsTableShown table.now request.entry.out.now (O.contents output.old) (O.contents output.new) }
+    ensures refused { result ≡ REFUSED → IsBadWindow table.now.after table.now.until table.now.by
+        (O.contents output.old) (O.contents output.new) }
+    ensures silent { request.entry.out.now ≢ codes "-" → result ≡ OUT_OF_MEMORY
+        → O.contents output.new ≡ O.contents output.old }
+{
+    if let Some(status) = refused_window(rt.alloc(), table, output, errors) {
+        return status;
+    }
+    if notes.warnings {
+        warn_of_table(table, errors);
+    }
+    write_asked(rt, table, request, output, errors, notes.is_terminal)
+}
+
+fn warn_of_table<E: Write>(table: &Table<'_>, errors: &mut E) {
+    let departures = DepartureRange {
+        first: table.after,
+        last: table.until,
+    };
+    warn_of_window(table.image, departures, errors);
+}
+
+fn table_of<'a>(
+    image: &'a Verified,
+    targets: &'a [u32],
+    sources: &'a [u32],
+    request: MatrixRequest<'_>,
+) -> Table<'a>
+    requires targets { AreOfList image.now targets.now }
+    requires sources { AreSources request.from image.now sources.now }
+    ensures { IsTableOf image.now request.entry result }
+{
+    Table {
+        image,
+        targets,
+        sources,
+        after: request.after,
+        until: request.until,
+        by: request.by,
+        criterion: request.criterion,
+        each: request.each,
+    }
+}
+
+// The stops where journeys end.
+fn targets_asked<H: Files + AllocGlobal, E: Write>(
+    rt: &H,
+    image: &Verified,
+    request: MatrixRequest<'_>,
+    errors: &mut E,
+) -> Result<Vec<u32>, u8>
+    ensures stops { IfOk result (λ stops. AreOfList image.now stops.items) }
+    ensures status { IfErr result (IsUnlisted image.now) }
+{
+    let option = ListOption {
+        name: "--to",
+        path: request.to,
+    };
+    stops_of_file(rt, image, option, errors)
+}
+
+// The stops where they begin.
+fn sources_asked<H: Files + AllocGlobal, E: Write>(
+    rt: &H,
+    image: &Verified,
+    request: MatrixRequest<'_>,
+    errors: &mut E,
+) -> Result<Vec<u32>, u8>
+    ensures stops { IfOk result (λ stops. AreSources request.entry.from image.now stops.items) }
+    ensures status { IfErr result (IsUnlisted image.now) }
+{
+    match request.from {
+        Some(path) => {
+            let option = ListOption {
+                name: "--from",
+                path,
+            };
+            stops_of_file(rt, image, option, errors)
+        }
+        None => match all_stops(rt.alloc(), image) {
+            Ok(stops) => Ok(stops),
+            Err(AllocError) => Err(status::OUT_OF_MEMORY),
+        },
+    }
+}
+
+// Refuses a bad window: prints the refusal, and says what is wrong. `None` if the window is good.
+fn refused_window<O: Write, E: Write>(
+    alloc: Global,
+    table: &Table<'_>,
+    output: &mut O,
+    errors: &mut E,
+) -> Option<u8>
+    requires some { 0 < length table.now.targets.now }
+    requires within { (target : ℕ) → Contains table.now.targets.now target
+        → target < table.now.image.now.timetable.stops }
+    ensures good { IfNone result ((target : ℕ) → Contains table.now.targets.now target
+        → CanBeAsked table.now.image.now.timetable.stops (destination table.now target)) }
+    ensures status { IfSome result EndsUndone }
+    ensures kept { IfNone result (O.contents output.new ≡ O.contents output.old) }
+    ensures refused { IfSome result (λ status. status ≡ REFUSED → IsBadWindow table.now.after table.now.until
+        table.now.by (O.contents output.old) (O.contents output.new)) }
+    ensures silent { IfSome result (λ status. status ≡ OUT_OF_MEMORY
+        → O.contents output.new ≡ O.contents output.old) }
+{
+    let target = table.targets[0];
+    match table.destination(target).check(table.image.stops()) {
+        Ok(()) => None,
+        Err(fault) => Some(print_fault(alloc, table, fault, output, errors)),
+    }
+}
+
+// Prints the refusal of a window, and says what is wrong.
+fn print_fault<O: Write, E: Write>(
+    alloc: Global,
+    table: &Table<'_>,
+    fault: QueryFault,
+    output: &mut O,
+    errors: &mut E,
+) -> u8
+    ensures status { EndsUndone result }
+    ensures printed { result ≡ REFUSED
+        → Appends (O.contents output.old) (O.contents output.new) (refusal_line (Query fault)) }
+    ensures silent { result ≡ OUT_OF_MEMORY → O.contents output.new ≡ O.contents output.old }
+{
+    let status = status::print_refusal(alloc, output, CommandRefusal::Query(fault));
+    if status == status::REFUSED && fault == QueryFault::BadWindow {
+        let reason = window_reason(table.after, table.until, table.by);
+        explain(errors, &["csa: ", reason]);
+    }
+    status
+}
+
+// Writes the table to where it is asked for, and says how that ended.
+fn write_asked<H: Files + AllocGlobal + Clock + Threads + Sync, O: Write, E: Write>(
+    rt: &H,
+    table: &Table<'_>,
+    request: MatrixRequest<'_>,
+    output: &mut O,
+    errors: &mut E,
+    is_terminal: bool,
+) -> u8
+    requires can { (target : ℕ) → Contains table.now.targets.now target → CanBeMade table.now target }
+    ensures status { EndsWritten result }
+    ensures not_refused { result ≢ REFUSED }
+    ensures shown { result ≡ ACCEPTED
+        → IsTableShown table.now request.entry.out.now (O.contents output.old) (O.contents output.new) }
+    ensures silent { request.entry.out.now ≢ codes "-" → result ≡ OUT_OF_MEMORY
+        → O.contents output.new ≡ O.contents output.old }
+{
+    let log = if request.progress || is_terminal {
+        Some(&mut *errors)
+    } else {
+        None
+    };
+    let outcome = put_reported(rt, table, request, output, log, is_terminal);
+    if request.out == "-" {
+        return printed(outcome);
+    }
+    match outcome {
+        Ok(()) => print_counts(rt.alloc(), table, output),
+        Err(error) => status::report_unwritten(errors, request.out, error.kind()),
+    }
+}
+
+// Writes the table to where it is asked for, and reports progress to `log`, if there is one.
+fn put_reported<'c, H: Files + AllocGlobal + Clock + Threads + Sync, O: Write, E: Write>(
+    rt: &'c H,
+    table: &Table<'_>,
+    request: MatrixRequest<'_>,
+    output: &mut O,
+    log: Option<&'c mut E>,
+    is_terminal: bool,
+) -> io::Result<()>
+    requires can { (target : ℕ) → Contains table.now.targets.now target → CanBeMade table.now target }
+    ensures shown { request.entry.out.now ≡ codes "-" → OnOk result ((text : List ℕ) × IsTable table.now text
+        × Appends (O.contents output.old) (O.contents output.new) text) }
+    ensures kept { request.entry.out.now ≢ codes "-" → O.contents output.new ≡ O.contents output.old }
+{
+    let mut progress = TableProgress::new(rt.alloc(), rt, log, is_terminal, table.targets.len());
+    let workers = workers_of(rt, request.workers);
+    let outcome = put_table(rt, table, workers, request.out, output, &mut progress);
+    progress.close();
+    outcome
+}
+
+// Writes the table to a path, or to `output` if that is `-`.
+fn put_table<H: Files + AllocGlobal + Threads + Sync, O: Write, P: Reports>(
+    rt: &H,
+    table: &Table<'_>,
+    workers: TableWorkers,
+    path: &str,
+    output: &mut O,
+    reports: &mut P,
+) -> io::Result<()>
+    requires can { (target : ℕ) → Contains table.now.targets.now target → CanBeMade table.now target }
+    ensures shown { path.now ≡ codes "-" → OnOk result ((text : List ℕ) × IsTable table.now text
+        × Appends (O.contents output.old) (O.contents output.new) text) }
+    ensures kept { path.now ≢ codes "-" → O.contents output.new ≡ O.contents output.old }
+{
+    if path == "-" {
+        return write_table(rt, table, workers.number, output, reports);
+    }
+    let mut file = new_file(rt, path)?;
+    let outcome = write_table(rt, table, workers.number, &mut file.file, reports);
+    settle(rt, file, outcome)
+}
+
+// How many threads work: as many as are asked for, or one for each processor.
+fn workers_of<R: Threads>(rt: &R, asked: Option<TableWorkers>) -> TableWorkers {
+    match asked {
+        Some(workers) => workers,
+        None => TableWorkers::for_processors(processors(rt)),
+    }
+}
+
+// How many processors the program may use; 1 if that isn't known.
+fn processors<R: Threads>(rt: &R) -> usize {
+    match available_parallelism(rt) {
+        Ok(count) => count.get(),
+        Err(_) => 1,
+    }
+}
+
+// The status of a table on standard output.
+fn printed(outcome: io::Result<()>) -> u8
+    ensures status { EndsWritten result }
+    ensures failed { IfErr outcome (λ _. result ≢ ACCEPTED) }
+{
+    match outcome {
+        Ok(()) => status::ACCEPTED,
+        Err(error) => match error.kind() {
+            ErrorKind::OutOfMemory => status::OUT_OF_MEMORY,
+            _ => status::INPUT_OUTPUT,
+        },
+    }
+}
+
+// Prints how many stops a table has.
+fn print_counts<O: Write>(alloc: Global, table: &Table<'_>, output: &mut O) -> u8
+    ensures status { EndsWritten result }
+    ensures printed { result ≡ ACCEPTED → Appends (O.contents output.old) (O.contents output.new)
+        (counts_text (length table.now.targets.now) (length table.now.sources.now)) }
+    ensures silent { result ≡ OUT_OF_MEMORY → O.contents output.new ≡ O.contents output.old }
+{
+    let line = counts_line(alloc, table.targets.len(), table.sources.len());
+    status::write_line(output, line, status::ACCEPTED)
+}
+
+fn counts_line(alloc: Global, targets: usize, sources: usize) -> Result<String, AllocError>
+    ensures { IfOk result (λ line. string_bytes line ≡ counts_text targets sources) }
+{
+    let mut line = String::new(alloc);
+    put_number(&mut line, "targets ", targets as u64)?;
+    put_number(&mut line, " sources ", sources as u64)?;
+    put_text(&mut line, "\n")?;
+    Ok(line)
+}

@@ -1,0 +1,6 @@
+mod Answering
+mod Joins
+mod Repeats
+mod Sought
+mod Sources
+mod Targets

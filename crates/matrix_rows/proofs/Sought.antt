@@ -1,0 +1,258 @@
+-- The names of a list, sought among the stops of an image.
+use Rattle.std.proofs.Common.{◌≡◌, ◌⊎◌, ◌<◌, ◌+◌, ℕ, suc, Bool, true, false, List, [], ◌∷◌, ◌++◌, Option, None, Some, length, map, take}
+use Rattle.std.proofs.Common.{cond, get_or, slice_get, option_map, sym, ◌∙◌, ap, subst, refl, inl, inr, arith, Contains}
+use Rattle.std.specs.Prelude.{if◌then◌else◌}
+use Rattle.std.specs.List.{AllZip}
+use Rattle.std.specs.BTreeMap.{BTreeMap, IsEmpty}
+use Rattle.std.specs.Borrow.{Bor}
+use Rattle.std.specs.Str.{bytes_eq}
+use Rattle.std.proofs.lemmas.Bool.{cases_Bool, cases_eq, true≢false}
+use Rattle.std.proofs.lemmas.List.Elements.{Contains-push_cases}
+use Rattle.std.proofs.lemmas.Slice.Eq.{bytes_eq-Decides}
+use Rattle.std.proofs.lemmas.Slice.Zip.{all_zipped_more}
+use Rattle.std.proofs.lemmas.List.{take_more}
+use Rattle.std.proofs.lemmas.Option.{get_or_from_slice_get, none-some, same_Some, slice_get-get_or, slice_get-map, slice_get_within}
+use Rattle.reasoning.proofs.ListLemmas.{contains_at, contains_cases, not_in_nil, same_at}
+use Rattle.timetable.specs.Legal.{At}
+use Rattle.timetable.specs.NamesValue.{NamesValue}
+use Rattle.answer_pictures.specs.Naming.{bytes_or_none, stop_bytes}
+use Rattle.matrix_rows.specs.Listed.{AreAllNamed, IsListFault, IsUnknownLine, IsUnnamed}
+use Rattle.journeys.specs.Questions.{IsNamed}
+use Rattle.matrix_rows.specs.Sought.{AreFoundBelow, AreSought, IsFirstMissing, IsMissing, first_of, found_at, now_found, stop_in}
+use Rattle.matrix_rows.specs.declared.lists.ListFault.{ListFault}
+use Rattle.matrix_rows.specs.declared.lists.ListFault.TheVariants.{Empty, NamedTwice, OutOfMemory, UnknownStop}
+
+-- no name is sought yet
+pub none_sought : (found : BTreeMap (Bor (List ℕ)) (Option ℕ)) → IsEmpty found → AreSought [] found
+none_sought found empty = record {
+  has = λ name h. absurd (not_in_nil name h);
+  none = λ name. ap stop_in (nothing name);
+}
+  where
+    nothing : (name : List ℕ) → found_at found name ≡ None
+    nothing name = rw empty refl
+
+-- one name more
+name_sought : (listed : List (List ℕ)) (name : List ℕ) (old new : BTreeMap (Bor (List ℕ)) (Option ℕ)) → AreSought listed old
+    → ((q : List ℕ) → found_at new q ≡ (if bytes_eq name q then Some None else found_at old q)) → AreSought (listed ++ name ∷ []) new
+name_sought listed name old new are put = record {
+  has = λ q h. by_listed q h (cases_Bool (bytes_eq name q));
+  none = λ q. by_none q (cases_Bool (bytes_eq name q));
+}
+  where
+    here : (q : List ℕ) → bytes_eq name q ≡ true → found_at new q ≡ Some None
+    here q e = put q ∙ rw e refl
+
+    apart : (q : List ℕ) → bytes_eq name q ≡ false → found_at new q ≡ found_at old q
+    apart q e = put q ∙ rw e refl
+
+    by_listed : (q : List ℕ) → Contains (listed ++ name ∷ []) q → (bytes_eq name q ≡ true) ⊎ (bytes_eq name q ≡ false) → found_at new q ≡ Some None
+    by_listed q h (inl same) = here q same
+    by_listed q h (inr differ) = elim (Contains-push_cases listed name q h) [
+      | inl before ↦ apart q differ ∙ are.has q before
+      | inr last ↦ absurd (true≢false (sym ((bytes_eq-Decides name q).1 last) ∙ differ))
+    ]
+
+    by_none : (q : List ℕ) → (bytes_eq name q ≡ true) ⊎ (bytes_eq name q ≡ false) → stop_in (found_at new q) ≡ None
+    by_none q (inl same) = ap stop_in (here q same)
+    by_none q (inr differ) = ap stop_in (apart q differ) ∙ are.none q
+
+-- one line is longer by its next name
+pub more_listed : (listed : List (List ℕ)) (index : ℕ) (name : List ℕ) → slice_get listed index ≡ Some name
+    → take (index + 1) listed ≡ take index listed ++ name ∷ []
+more_listed listed index name at =
+    take_more listed index name (slice_get_within listed index name at)
+    ∙ ap (λ (x : List ℕ). take index listed ++ x ∷ []) (get_or_from_slice_get listed index name name at)
+
+-- the item at a place is the next name
+pub at_index : {A : Type 0} (f : A → List ℕ) (items : List A) (index : ℕ) (d : A) → index < length items
+    → slice_get (map f items) index ≡ Some (f (get_or items index d))
+at_index f items index d less = slice_get-map f items index ∙ ap (option_map f) (slice_get-get_or items index d less)
+
+-- the names so far are sought, and so is the next one
+pub item_sought : {A : Type 0} (f : A → List ℕ) (items : List A) (index : ℕ) (d : A) (old new : BTreeMap (Bor (List ℕ)) (Option ℕ))
+    → index < length items → AreSought (take index (map f items)) old
+    → ((q : List ℕ) → found_at new q ≡ (if bytes_eq (f (get_or items index d)) q then Some None else found_at old q))
+    → AreSought (take (index + 1) (map f items)) new
+item_sought f items index d old new less are put =
+    let name = f (get_or items index d) in
+    subst (λ (names : List (List ℕ)). AreSought names new) (sym (more_listed (map f items) index name (at_index f items index d less)))
+    (name_sought (take index (map f items)) name old new are put)
+
+-- what a name has once a stop was found
+pub found_now : (name q : List ℕ) (old : List ℕ → Option (Option ℕ)) (seen now : Option ℕ) (stop : ℕ) (new : Option (Option ℕ)) → old name ≡ Some seen
+    → now ≡ Some (first_of seen stop) → new ≡ cond (bytes_eq name q) (Some now) (old q)
+    → new ≡ (if bytes_eq name q then now_found stop (old q) else old q)
+found_now name q old seen now stop new had is put = by (bytes_eq name q) (λ e. ap old (sym ((bytes_eq-Decides name q).0 e)) ∙ had) put
+  where
+    by : (b : Bool) → (b ≡ true → old q ≡ Some seen) → new ≡ cond b (Some now) (old q) → new ≡ (if b then now_found stop (old q) else old q)
+    by true same e = e ∙ ap (λ (o : Option ℕ). Some o) is ∙ sym (ap (now_found stop) (same refl))
+    by false same e = e
+
+-- what a name has if the list doesn't have it
+pub not_found_now : (name q : List ℕ) (old : List ℕ → Option (Option ℕ)) (stop : ℕ) → old name ≡ None
+    → old q ≡ (if bytes_eq name q then now_found stop (old q) else old q)
+not_found_now name q old stop none = by (bytes_eq name q) (λ e. ap old (sym ((bytes_eq-Decides name q).0 e)) ∙ none)
+  where
+    by : (b : Bool) → (b ≡ true → old q ≡ None) → old q ≡ (if b then now_found stop (old q) else old q)
+    by true same = same refl ∙ sym (ap (now_found stop) (same refl))
+    by false same = refl
+
+-- before a stop was looked at none is found
+pub none_found : (names : NamesValue) (listed : List (List ℕ)) (found : BTreeMap (Bor (List ℕ)) (Option ℕ)) → AreSought listed found
+    → AreFoundBelow names listed 0 found
+none_found names listed found are = record {
+  has = λ name h none. none-some None (sym none ∙ are.has name h);
+  by_stop = λ name stop is. absurd (none-some stop (sym (are.none name) ∙ is));
+  by_none = λ name is stop less. absurd (omega (arith, less));
+}
+
+-- what a name has after a stop was looked at
+none_now : (k : ℕ) (b : Bool) (old : Option (Option ℕ)) → (if b then now_found k old else old) ≡ None → old ≡ None
+none_now k b None e = refl
+none_now k true (Some x) e = absurd (none-some (Some (first_of x k)) (sym e))
+none_now k false (Some x) e = absurd (none-some x (sym e))
+
+missing_now : (k : ℕ) (b : Bool) (old : Option (Option ℕ)) → (if b then now_found k old else old) ≡ Some None → (b ≡ false) × (old ≡ Some None)
+missing_now k true None e = absurd (none-some None e)
+missing_now k true (Some x) e = absurd (none-some (first_of x k) (sym (same_Some (Some (first_of x k)) None e)))
+missing_now k false old e = (refl, e)
+
+found_by : (k : ℕ) (b : Bool) (old : Option (Option ℕ)) (stop : ℕ) → stop_in (if b then now_found k old else old) ≡ Some stop
+    → (stop_in old ≡ Some stop) ⊎ ((b ≡ true) × (old ≡ Some None) × (k ≡ stop))
+found_by k true None stop e = absurd (none-some stop e)
+found_by k true (Some None) stop e = inr (refl, refl, same_Some k stop e)
+found_by k true (Some (Some first)) stop e = inl e
+found_by k false old stop e = inl e
+
+-- the next stop is looked at, which has a name
+module _ (names : NamesValue) (listed : List (List ℕ)) (k : ℕ) (name : List ℕ) (old new : BTreeMap (Bor (List ℕ)) (Option ℕ))
+    (at : At names.stops k name) (are : AreFoundBelow names listed k old)
+    (put : (q : List ℕ) → found_at new q ≡ (if bytes_eq name q then now_found k (found_at old q) else found_at old q)) where
+  least_at : (q : List ℕ) → name ≡ q → found_at old q ≡ Some None → IsNamed names q k
+  least_at q same missing = (subst (At names.stops k) same at, λ j less other. are.by_none q missing j less other)
+
+  pub stop_found_more : AreFoundBelow names listed (k + 1) new
+  stop_found_more = record {
+    has = λ q h none. are.has q h (none_now k (bytes_eq name q) (found_at old q) (sym (put q) ∙ none));
+    by_stop = λ q stop is. elim (found_by k (bytes_eq name q) (found_at old q) stop (sym (ap stop_in (put q)) ∙ is)) [
+      | inl before ↦ are.by_stop q stop before
+      | inr here ↦ subst (IsNamed names q) here.2 (least_at q ((bytes_eq-Decides name q).0 here.0) here.1)
+    ];
+    by_none = λ q is stop less other.
+        let missing = missing_now k (bytes_eq name q) (found_at old q) (sym (put q) ∙ is) in
+        elim (cases_eq stop k) [
+          | inl here ↦
+              let same : name ≡ q = same_at names.stops k name q at (subst (λ (i : ℕ). At names.stops i q) here other) in
+              true≢false (sym ((bytes_eq-Decides name q).1 same) ∙ missing.0)
+          | inr apart ↦ are.by_none q missing.1 stop (omega (arith, less, apart)) other
+        ];
+  }
+
+-- a stop has its name
+pub stop_has_name : (names : NamesValue) (stop : ℕ) → stop < length names.stops → At names.stops stop (stop_bytes names stop)
+stop_has_name names stop less = at ∙ ap Some (sym (ap bytes_or_none at))
+  where
+    at : slice_get names.stops stop ≡ Some (get_or names.stops stop [])
+    at = slice_get-get_or names.stops stop [] less
+
+-- each of the first of two lists, pair by pair, has one of the second
+zipped_left : {A B : Type 0} (R : A → B → Type 0) (xs : List A) (ys : List B) → AllZip R xs ys → (x : A) → Contains xs x → (y : B) × R x y
+zipped_left R [] ys zipped x h = absurd (not_in_nil x h)
+zipped_left R (z ∷ xs) [] zipped x h = absurd zipped
+zipped_left R (z ∷ xs) (y ∷ ys) zipped x h = elim (contains_cases x z xs h) [
+  | inl same ↦ (y, subst (λ a. R a y) same zipped.0)
+  | inr rest ↦ zipped_left R xs ys zipped.1 x rest
+]
+
+zipped_each : {A B : Type 0} (R S : A → B → Type 0) (xs : List A) (ys : List B) → ((x : A) (y : B) → R x y → S x y) → AllZip R xs ys → AllZip S xs ys
+zipped_each R S [] [] each zipped = zipped
+zipped_each R S [] (y ∷ ys) each zipped = absurd zipped
+zipped_each R S (x ∷ xs) [] each zipped = absurd zipped
+zipped_each R S (x ∷ xs) (y ∷ ys) each zipped = (each x y zipped.0, zipped_each R S xs ys each zipped.1)
+
+-- the stops of the names so far, and of the next one
+pub item_stop : {A : Type 0} (f : A → List ℕ) (items : List A) (index : ℕ) (d : A) (found : BTreeMap (Bor (List ℕ)) (Option ℕ)) (stops now : List ℕ) (stop : ℕ)
+    → index < length items → AllZip (λ name s. stop_in (found_at found name) ≡ Some s) (take index (map f items)) stops
+    → stop_in (found_at found (f (get_or items index d))) ≡ Some stop → now ≡ stops ++ stop ∷ []
+    → AllZip (λ name s. stop_in (found_at found name) ≡ Some s) (take (index + 1) (map f items)) now
+item_stop f items index d found stops now stop less zipped is pushed =
+    let name = f (get_or items index d) in
+    subst (λ (ns : List (List ℕ)). AllZip (λ n s. stop_in (found_at found n) ≡ Some s) ns now)
+    (sym (more_listed (map f items) index name (at_index f items index d less)))
+    (subst (AllZip (λ n s. stop_in (found_at found n) ≡ Some s) (take index (map f items) ++ name ∷ [])) (sym pushed)
+    (all_zipped_more (λ n s. stop_in (found_at found n) ≡ Some s) (take index (map f items)) stops name stop zipped is))
+
+-- the names so far have stops, and the next one has none
+pub item_missing : {A : Type 0} (f : A → List ℕ) (items : List A) (index : ℕ) (d : A) (found : BTreeMap (Bor (List ℕ)) (Option ℕ)) (stops : List ℕ)
+    → index < length items → AllZip (λ name s. stop_in (found_at found name) ≡ Some s) (take index (map f items)) stops
+    → stop_in (found_at found (f (get_or items index d))) ≡ None → IsFirstMissing found (map f items) (index + 1)
+item_missing f items index d found stops less zipped is = record {
+  index = index;
+  name = f (get_or items index d);
+  numbered = more index;
+  stands = at_index f items index d less;
+  missing = is;
+  before = λ other h. zipped_left (λ n s. stop_in (found_at found n) ≡ Some s) (take index (map f items)) stops zipped other h;
+}
+  where
+    more : (n : ℕ) → n + 1 ≡ suc n
+    more n = omega arith
+
+-- all stops were looked at: those that were found are those of the names
+pub all_named : (names : NamesValue) (listed : List (List ℕ)) (below : ℕ) (found : BTreeMap (Bor (List ℕ)) (Option ℕ)) (stops : List ℕ)
+    → AreFoundBelow names listed below found → AllZip (λ name s. stop_in (found_at found name) ≡ Some s) listed stops → AllZip (IsNamed names) listed stops
+all_named names listed below found stops are zipped =
+    zipped_each (λ name s. stop_in (found_at found name) ≡ Some s) (IsNamed names) listed stops (λ name s is. are.by_stop name s is) zipped
+
+-- and the first name without one is that of no stop
+unknown_name : (names : NamesValue) (listed : List (List ℕ)) (found : BTreeMap (Bor (List ℕ)) (Option ℕ)) (number : ℕ)
+    → AreFoundBelow names listed (length names.stops) found → IsFirstMissing found listed number → IsUnknownLine names listed number
+unknown_name names listed found number are first = record {
+  index = first.index;
+  name = first.name;
+  numbered = first.numbered;
+  stands = first.stands;
+  unknown = λ stop at. by (found_at found first.name) refl stop at;
+  before = λ other h. let stop = first.before other h in (stop.0, are.by_stop other stop.0 stop.1);
+}
+  where
+    by : (had : Option (Option ℕ)) → found_at found first.name ≡ had → (stop : ℕ) → At names.stops stop first.name → ⊥
+    by None e stop at = are.has first.name (contains_at listed first.index first.name first.stands) e
+    by (Some None) e stop at = are.by_none first.name e stop (slice_get_within names.stops stop first.name at) at
+    by (Some (Some n)) e stop at = none-some n (sym first.missing ∙ ap stop_in e)
+
+pub unnamed : (names : NamesValue) (listed : List (List ℕ)) (found : BTreeMap (Bor (List ℕ)) (Option ℕ)) (fault : ListFault)
+    → AreFoundBelow names listed (length names.stops) found → IsMissing found listed fault → IsUnnamed names listed fault
+unnamed names listed found (UnknownStop number) are missing = unknown_name names listed found number are missing
+unnamed names listed found (NamedTwice first second) are missing = missing
+unnamed names listed found Empty are missing = missing
+unnamed names listed found OutOfMemory are missing = missing
+
+pub no_stops : (found : BTreeMap (Bor (List ℕ)) (Option ℕ)) (stops : List ℕ) → stops ≡ []
+    → AllZip (λ name s. stop_in (found_at found name) ≡ Some s) [] stops
+no_stops found stops none = subst (AllZip (λ name s. stop_in (found_at found name) ≡ Some s) []) (sym none) tt
+
+-- what is said of a list of names is said of their stops
+pub all_have_stops : (names : NamesValue) (listed : List (List ℕ)) (stops : List ℕ) → AllZip (IsNamed names) listed stops → AreAllNamed names listed
+all_have_stops names listed stops zipped = λ name h. zipped_left (IsNamed names) listed stops zipped name h
+
+zipped_right : {A B : Type 0} (R : A → B → Type 0) (xs : List A) (ys : List B) → AllZip R xs ys → (y : B) → Contains ys y → (x : A) × R x y
+zipped_right R xs [] zipped y h = absurd (not_in_nil y h)
+zipped_right R [] (z ∷ ys) zipped y h = absurd zipped
+zipped_right R (x ∷ xs) (z ∷ ys) zipped y h = elim (contains_cases y z ys h) [
+  | inl same ↦ (x, subst (R x) same zipped.0)
+  | inr rest ↦ zipped_right R xs ys zipped.1 y rest
+]
+
+pub all_within : (names : NamesValue) (listed : List (List ℕ)) (stops : List ℕ) → AllZip (IsNamed names) listed stops
+    → (stop : ℕ) → Contains stops stop → stop < length names.stops
+all_within names listed stops zipped stop h =
+    let name = zipped_right (IsNamed names) listed stops zipped stop h in
+    slice_get_within names.stops stop name.0 name.1.0
+
+pub fault_of_names : (names : NamesValue) (listed : List (List ℕ)) (fault : ListFault) → IsUnnamed names listed fault → IsListFault names listed fault
+fault_of_names names listed (UnknownStop number) is = is
+fault_of_names names listed (NamedTwice first second) is = absurd is
+fault_of_names names listed Empty is = absurd is
+fault_of_names names listed OutOfMemory is = is

@@ -1,0 +1,5 @@
+pub mod Joining
+pub mod Listed
+pub mod Repeated
+pub mod Sought
+pub mod Tables

@@ -1,0 +1,57 @@
+-- The names of a list, each with the lowest stop that was found to have it.
+use Rattle.std.specs.Prelude.{◌≡◌, ◌≢◌, ◌<◌, ℕ, suc, List, Option, None, Some, Contains, slice_get, take}
+use Rattle.std.specs.BTreeMap.{BTreeMap, get_by}
+use Rattle.std.specs.Borrow.{Bor}
+use Rattle.std.specs.Cmp.Lexicographic.{slice_cmp}
+use Rattle.std.specs.Ordering.{nat_cmp}
+use Rattle.timetable.specs.Legal.{At}
+use Rattle.timetable.specs.NamesValue.{NamesValue}
+use Rattle.journeys.specs.Questions.{IsNamed}
+use Rattle.matrix_rows.specs.declared.lists.ListFault.{ListFault}
+use Rattle.matrix_rows.specs.declared.lists.ListFault.TheVariants.{Empty, NamedTwice, OutOfMemory, UnknownStop}
+
+-- the stop that was found for a name, if one was; None if the list doesn't have the name
+abbrev pub found_at : BTreeMap (Bor (List ℕ)) (Option ℕ) → List ℕ → Option (Option ℕ)
+found_at found name = get_by (λ k. slice_cmp nat_cmp name k.now) found
+
+-- the stop that was found before, or else this one
+abbrev pub first_of : Option ℕ → ℕ → ℕ
+first_of None stop = stop
+first_of (Some first) stop = first
+
+-- what is known of a name that this stop has
+abbrev pub now_found : ℕ → Option (Option ℕ) → Option (Option ℕ)
+now_found stop None = None
+now_found stop (Some first) = Some (Some (first_of first stop))
+
+-- the stop that was found, if the list has the name and one was found
+abbrev pub stop_in : Option (Option ℕ) → Option ℕ
+stop_in None = None
+stop_in (Some found) = found
+
+-- the names of a list, before any stop was looked at
+pub record AreSought (listed : List (List ℕ)) (found : BTreeMap (Bor (List ℕ)) (Option ℕ)) : Type 0 where
+  pub has : (name : List ℕ) → Contains listed name → found_at found name ≡ Some None
+  pub none : (name : List ℕ) → stop_in (found_at found name) ≡ None
+
+-- the stops below a number were looked at: for a listed name that one of them has, the lowest was found
+pub record AreFoundBelow (names : NamesValue) (listed : List (List ℕ)) (below : ℕ) (found : BTreeMap (Bor (List ℕ)) (Option ℕ)) : Type 0 where
+  pub has : (name : List ℕ) → Contains listed name → found_at found name ≢ None
+  pub by_stop : (name : List ℕ) (stop : ℕ) → stop_in (found_at found name) ≡ Some stop → IsNamed names name stop
+  pub by_none : (name : List ℕ) → found_at found name ≡ Some None → (stop : ℕ) → stop < below → ¬ At names.stops stop name
+
+-- the name with this number, from 1 on, is the first for which no stop was found
+pub record IsFirstMissing (found : BTreeMap (Bor (List ℕ)) (Option ℕ)) (listed : List (List ℕ)) (number : ℕ) : Type 0 where
+  pub index : ℕ
+  pub name : List ℕ
+  pub numbered : number ≡ suc index
+  pub stands : slice_get listed index ≡ Some name
+  pub missing : stop_in (found_at found name) ≡ None
+  pub before : (other : List ℕ) → Contains (take index listed) other → (stop : ℕ) × (stop_in (found_at found other) ≡ Some stop)
+
+-- why no stop was found for some name
+abbrev pub IsMissing : BTreeMap (Bor (List ℕ)) (Option ℕ) → List (List ℕ) → ListFault → Type 0
+IsMissing found listed (UnknownStop number) = IsFirstMissing found listed number
+IsMissing found listed (NamedTwice first second) = ⊥
+IsMissing found listed Empty = ⊥
+IsMissing found listed OutOfMemory = Unit

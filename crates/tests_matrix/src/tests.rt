@@ -1,0 +1,4 @@
+//! Tables of travel times.
+
+mod figures;
+mod tables;

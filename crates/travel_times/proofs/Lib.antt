@@ -1,0 +1,4 @@
+mod FallingLemmas
+mod SameFields
+mod Tallies
+mod Waits
