@@ -10,7 +10,7 @@ use Rattle.answer_pictures.specs.Naming.{stop_bytes}
 use Rattle.answer_replies.specs.Valuing.{arrival_figures, by_arrival, by_trips, by_walking, trips_figures, walking_figures}
 use Rattle.criteria.specs.declared.name.CriterionName.{CriterionName}
 use Rattle.profile_scan.specs.Destinations.{CanBeAsked, query_from}
-use Rattle.profile_scan.specs.Kept.{IsWay}
+use Rattle.profile_scan.specs.Kept.{IsDirectSecs}
 use Rattle.profile_scan.specs.Points.{IsAnswer}
 use Rattle.profile_scan.specs.declared.destination.Destination.{Destination}
 use Rattle.travel_times.specs.Fields.{pair_fields, pair_names, point_fields, point_names}
@@ -54,7 +54,7 @@ pub record IsPairRow {V : Type 0} (figures : V → Figures) (rules : Rules V) (i
   pub walk : Option ℕ
   pub answer : IsAnswer rules image.timetable (query_from d source) points
   pub waited : IsMean figures rules image (waiting d) d.from d.until source mean
-  pub direct : IsWay image.timetable d.target source walk
+  pub direct : IsDirectSecs image.timetable d.target source walk
   pub text_is : text ≡ row_text default_writer (pair_fields (stop_bytes image.names source) (stop_bytes image.names d.target)
       (spans_of figures points) mean walk)
 

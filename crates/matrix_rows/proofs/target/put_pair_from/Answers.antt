@@ -2,7 +2,7 @@ use Rattle.std.proofs.Common.{◌∙◌, ℕ, Option, ap, subst, sym, false, ari
 use Rattle.csv.specs.Writing.{default_writer, row_text}
 use Rattle.answer_pictures.specs.Naming.{stop_bytes}
 use Rattle.profile_scan.specs.Everywhere.{destination_of, listed_from}
-use Rattle.profile_scan.specs.Kept.{IsWay}
+use Rattle.profile_scan.specs.Kept.{IsDirectSecs}
 use Rattle.profile_scan.specs.declared.destination.Destination.{Destination}
 use Rattle.travel_times.specs.Fields.{pair_fields}
 use Rattle.travel_times.specs.Rows.{text_of}
@@ -54,7 +54,7 @@ returns-clause-added g c = λ before rows.
       walk = walk;
       answer = answer_from g.C.Criterion.rules image.timetable profiles answered.criterion.now source c.requires.answered c.requires.same c.requires.source;
       waited = c.requires.mean;
-      direct = subst (λ (w : Option ℕ). IsWay image.timetable target source w) (sym c.direct_walk.ensures) all.direct;
+      direct = subst (λ (w : Option ℕ). IsDirectSecs image.timetable target source w) (sym c.direct_walk.ensures) all.direct;
       text_is = same_pair c.as_str.result.now (stop_bytes names source) answered.to.now (stop_bytes names target)
           c.deref.result.now (spans_of figures (listed_from profiles source)) c.args.mean walk
           (c.as_str.ensures.value ∙ c.in_ok-from.ensures) c.requires.to
