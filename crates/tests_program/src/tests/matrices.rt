@@ -150,7 +150,7 @@ fn a_table_has_a_row_for_each_pair(rt: HostRuntime) -> Result<(), Fail> {
 fn a_table_goes_to_a_file(rt: HostRuntime) -> Result<(), Fail> {
     try_transcripts(&rt, &[FILES])?;
     let table = fs::read_to_string(&rt, "table.csv")?;
-    let rows = "A,C,0,,,,,\nB,C,0,,,,,\n";
+    let rows = "A,C,0,,,,6600,\nB,C,0,,,,6600,\n";
     assert!(rt; table.as_str().ends_with(rows));
     fs::remove_file(&rt, "table.csv")?;
     Ok(())
