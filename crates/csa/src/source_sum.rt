@@ -2,4 +2,4 @@
 
 /// The sum of all sources but this file, as `release/sources --program` prints it. `release/stamp` writes it, and
 /// `.ci/run` compares it with the sources.
-pub const SOURCES: &str = "6e863531df11ef857369be6732d9a87a0218834b8f8f12b55a55e49a8f36cced";
+pub const SOURCES: &str = "9cf05185e7491b6c62e6141146bd0a57b50d5bd3cb86e05fc02077ae839d74ab";
