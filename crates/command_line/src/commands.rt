@@ -301,8 +301,8 @@ const NEW_IMAGE: [Argument; 1] = [Argument::Positional(
     "The file to which the image is written, by way of OUT.part; it may be IMAGE (- is a file name here)",
 )];
 
-/// The commands over an image, in the order of the help.
-const IMAGE_TASKS: [Task; 7] = [
+/// The commands over an image that check it or answer one question, in the order of the help.
+const IMAGE_TASKS: [Task; 4] = [
     Task {
         name: "verify",
         about: "Verifies that a file is the image of a legal timetable, and prints its counts",
@@ -327,6 +327,10 @@ const IMAGE_TASKS: [Task; 7] = [
         notes: texts::PROFILE,
         arguments: &[&IMAGE, &STATIONS, &TIMES, &CRITERION, &PROFILE, &WARNINGS],
     },
+];
+
+/// The commands over an image that list many stops, in the order of the help.
+const STOPS_TASKS: [Task; 3] = [
     Task {
         name: "departures",
         about: "Prints every best departure from each stop to one stop, or to any of several, within a time window",
@@ -354,7 +358,7 @@ const IMAGE_TASKS: [Task; 7] = [
     },
 ];
 
-/// The other commands, in the order of the help. There are two lists, since a single one is too large a term for a
+/// The other commands, in the order of the help. There are three lists, since a single one is too large a term for a
 /// proof.
 const OTHER_TASKS: [Task; 6] = [
     Task {
@@ -398,6 +402,10 @@ const OTHER_TASKS: [Task; 6] = [
 // A slice, since a loop over the list itself puts the whole list into each goal.
 fn image_tasks() -> &'static [Task] {
     &IMAGE_TASKS
+}
+
+fn stops_tasks() -> &'static [Task] {
+    &STOPS_TASKS
 }
 
 fn other_tasks() -> &'static [Task] {
@@ -471,10 +479,12 @@ fn command_of<'a>(alloc: Global, task: Task) -> Result<Command<'a>, AllocError> 
 
 // The command of this name.
 fn task_named(name: &str) -> Option<Task> {
-    match task_among(image_tasks(), name) {
-        Some(task) => Some(task),
-        None => task_among(other_tasks(), name),
+    for tasks in [image_tasks(), stops_tasks(), other_tasks()] {
+        if let Some(task) = task_among(tasks, name) {
+            return Some(task);
+        }
     }
+    None
 }
 
 fn task_among(tasks: &[Task], name: &str) -> Option<Task> {
@@ -524,14 +534,13 @@ fn with_tasks<'a>(
 
 /// All commands.
 pub(crate) fn program<'a>(alloc: Global) -> Result<Command<'a>, AllocError> {
-    let command = Command::new(alloc, "csa")
+    let mut command = Command::new(alloc, "csa")
         .about("Every best departure over verified public transport timetables")
         .after_help(texts::STATUSES)
         .version(texts::VERSION)
         .subcommand_required(true);
-    with_tasks(
-        alloc,
-        with_tasks(alloc, command, image_tasks())?,
-        other_tasks(),
-    )
+    for tasks in [image_tasks(), stops_tasks(), other_tasks()] {
+        command = with_tasks(alloc, command, tasks)?;
+    }
+    Ok(command)
 }
