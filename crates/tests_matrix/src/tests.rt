@@ -1,4 +1,0 @@
-//! Tables of travel times.
-
-mod figures;
-mod tables;
