@@ -19,7 +19,7 @@ DOCUMENTS = {
     "README.md": "README.md",
     "SECURITY.md": "SECURITY.md",
     "CHANGELOG.md": "CHANGELOG.md",
-    **{f"docs/{name}.md": f"{name}.md" for name in ("RUNNING", "ASKING", "GTFS", "GROWTH", "REFUSALS", "LIMITS", "IMAGE")},
+    **{f"docs/{name}.md": f"{name}.md" for name in ("RUNNING", "ASKING", "MATRIX", "GTFS", "GROWTH", "REFUSALS", "LIMITS", "IMAGE")},
     "clients/python/README.md": "PYTHON.md",
     "clients/web/README.md": "PAGE.md",
 }
@@ -42,6 +42,7 @@ PLACES = (
     (r"clients/audit/audit", "/usr/lib/csa/audit/audit"),
     (r"clients/mux/mux\b", "/usr/lib/csa/mux"),
     (r"clients/mux\b", "/usr/lib/csa/mux"),
+    (r"clients/tables/(bands|compare)", r"/usr/lib/csa/tables/\1"),
     (r"deploy/haproxy\.cfg", f"{EXAMPLES}/haproxy.cfg"),
     (r"deploy/mux\.conf", f"{EXAMPLES}/mux.conf"),
     (r"deploy/csa\.conf", f"{EXAMPLES}/city.conf"),
