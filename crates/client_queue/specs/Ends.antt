@@ -1,26 +1,21 @@
 -- What the ends of the queue show.
-use Rattle.std.specs.Prelude.{◌≡◌, ◌+◌, ◌-◌, ◌++◌, ◌∷◌, ℕ, Bool, true, false, List, []}
-use Rattle.atomic_table.specs.Seated.{TableId}
-use Rattle.atomic_table.specs.declared.badge.Badge.{Badge}
-use Rattle.crossbeam_channel.specs.declared.flavors.array.Key.{Key}
-use Rattle.client_queue.specs.declared.queue.ClientMessage.{ClientMessage}
+use Rattle.std.specs.Prelude.{◌≡◌, ◌<◌, ◌+◌, ◌-◌, ◌++◌, ◌∷◌, true, [], IsPermutation}
+use Rattle.handoff.specs.Ends.{KeeperValue, QueueId, TakerValue, times}
+use Rattle.handoff.specs.declared.queue.KeeperView.{KeeperView}
 use Rattle.client_queue.specs.declared.queue.DealerView.{DealerView}
-use Rattle.client_queue.specs.declared.queue.EndView.{EndView}
-
--- the identity of a queue
-abbrev pub QueueId : Type 0 → Type 0
-QueueId C = TableId × Badge (Key (ClientMessage C))
 
 -- the end where clients are put, as contracts see it
 pub record DealerValue (C : Type 0) : Type 0 where
   pub queue : QueueId C
   pub view : DealerView C
 
--- an end where clients are taken, as contracts see it
-pub record TakerValue (C : Type 0) : Type 0 where
-  pub queue : QueueId C
-  pub taken : List C  -- in order
-  pub closed : Bool  -- the queue was closed for this end
+-- what the end that keeps the queue knows, while no other end puts clients
+abbrev pub dealer_of : {C : Type 0} → KeeperView C → DealerView C
+dealer_of k = record { sent = k.put; closings = k.closings; out = k.taking; taken = k.taken; ended = k.ended }
+
+-- no other end puts clients, and takers may go out
+abbrev pub IsDealer : {C : Type 0} → KeeperValue C → Type 0
+IsDealer keeper = (keeper.view.putting ≡ 0) × (keeper.opens ≡ true)
 
 -- nothing was put, and no taker is out
 abbrev pub nothing_put : {C : Type 0} → DealerView C
@@ -35,11 +30,6 @@ with_sent a client = record a { view = record a.view { sent = a.view.sent ++ cli
 abbrev pub closed_once_more : {C : Type 0} → DealerValue C → DealerValue C
 closed_once_more a = record a { view = record a.view { closings = a.view.closings + 1 } }
 
--- how often the queue was closed for an end
-abbrev pub times : Bool → ℕ
-times true = 1
-times false = 0
-
 -- a taker is back, with what it had taken
 abbrev pub with_back : {C : Type 0} → DealerValue C → TakerValue C → DealerValue C
 with_back a taker = record a {
@@ -50,17 +40,6 @@ with_back a taker = record a {
   };
 }
 
--- what an end knows, by whether clients are put or taken there
-abbrev pub dealer_of : {C : Type 0} → EndView C → DealerView C
-dealer_of (EndView.Dealing view) = view
-dealer_of _ = nothing_put
-
-abbrev pub taken_of : {C : Type 0} → EndView C → List C
-taken_of (EndView.Taking taken ended) = taken
-taken_of _ = []
-
-abbrev pub IsDealerSide : {C : Type 0} → EndView C → Type 0
-IsDealerSide side = side ≡ EndView.Dealing (dealer_of side)
-
-abbrev pub IsTakerSide : {C : Type 0} → Bool → EndView C → Type 0
-IsTakerSide closed side = side ≡ EndView.Taking (taken_of side) (times closed)
+-- once no taker is out, and each came back because the queue was closed for it, what they took is what was put, each client once
+abbrev pub AllWereTaken : {C : Type 0} → DealerView C → Type 0
+AllWereTaken d = d.out ≡ 0 → 0 < d.closings → d.ended ≡ d.closings → IsPermutation d.sent d.taken

@@ -6,4 +6,4 @@ mod ends;
 mod queue;
 
 pub use ends::{Dealer, Taker, client_queue};
-pub use queue::{ClientMessage, ClientRule, EachOnce};
+pub use queue::DealerView;

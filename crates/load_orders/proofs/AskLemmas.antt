@@ -4,14 +4,16 @@ use Rattle.orders.specs.Ordering.{OrderValue, version_alone}
 use Rattle.orders.specs.declared.fault.OrderFault.{OrderFault}
 use Rattle.orders.specs.declared.ordered.OrderOutcome.{OrderOutcome}
 use Rattle.load_orders.specs.Asking.{AreAsked, Does, HasAsked, Hears, IsFirst, IsNoted, IsTurnedAway, OrderRoute, RefusesVersion, WorkerOrdersValue}
-use Rattle.load_orders.specs.Asking.{IsPutAt, nothing_asked, once_tried, order_of, route_of, unasked}
-use Rattle.load_orders.specs.Queue.{EndValue, QueueId}
+use Rattle.load_orders.specs.Asking.{nothing_asked, order_of, route_of, unasked}
+use Rattle.load_orders.specs.Keeping.{EndValue, QueueId}
 use Rattle.load_orders.specs.Ways.{WayValue}
-use Rattle.load_orders.specs.declared.queue.OrderMessage.{OrderMessage}
-use Rattle.load_orders.specs.declared.queue.QueueView.{QueueView}
+use Rattle.handoff.specs.Ends.{IsPutAt, once_tried}
+use Rattle.handoff.specs.declared.queue.Message.{Message}
+use Rattle.handoff.specs.declared.queue.EndView.{EndView}
+use Rattle.load_orders.specs.declared.queue.Order.{Order}
 use Rattle.load_orders.specs.declared.ways.LoadAnswer.{LoadAnswer}
 
-module _ {N : Type 0} (holds : List (OrderMessage N) → List QueueView → Type 0) (noted : N → ℕ) where
+module _ {N : Type 0} (holds : List (Message (Order N)) → List (EndView (Order N)) → Type 0) (noted : N → ℕ) where
   one_more : (orders : List OrderValue) (order : OrderValue) (a b c : WorkerOrdersValue N) → AreAsked holds noted orders a b
       → Does holds noted order.feed order.outcome b c → IsNoted order b c → AreAsked holds noted (orders ++ order ∷ []) a c
   one_more [] order a b c is does same = (

@@ -1,13 +1,16 @@
 -- What a worker's end of the queue shows, and why it refuses an order.
 use Rattle.std.specs.Prelude.{◌≡◌, ◌+◌, ◌<◌, ◌⊎◌, ◌++◌, ◌∷◌, ℕ, List, [], slice_get, Option, Some, None, Ok, Err, ⊤}
+use Rattle.std.proofs.Common.{refl}
 use Rattle.orders.specs.Ordering.{OrderValue}
 use Rattle.orders.specs.declared.fault.OrderFault.{OrderFault}
 use Rattle.orders.specs.declared.ordered.OrderOutcome.{OrderOutcome}
-use Rattle.load_orders.specs.Queue.{EndValue, Held, QueueId}
+use Rattle.handoff.specs.Ends.{IsPutAt, once_tried}
+use Rattle.handoff.specs.Queue.{Held}
+use Rattle.handoff.specs.declared.queue.Message.{Message}
+use Rattle.handoff.specs.declared.queue.EndView.{EndView}
+use Rattle.load_orders.specs.Keeping.{EndValue, QueueId}
 use Rattle.load_orders.specs.Ways.{WayId, WayValue, heard_at}
-use Rattle.load_orders.specs.declared.queue.OrderMessage.{OrderMessage}
-use Rattle.load_orders.specs.declared.queue.OrderMark.{OrderMark}
-use Rattle.load_orders.specs.declared.queue.QueueView.{QueueView}
+use Rattle.load_orders.specs.declared.queue.Order.{Order}
 use Rattle.load_orders.specs.declared.ways.LoadAnswer.{LoadAnswer}
 
 pub record WorkerOrdersValue (N : Type 0) : Type 0 where
@@ -27,7 +30,7 @@ route_of orders = record { names = orders.names; queue = orders.end.queue }
 -- nothing was asked for yet, by an end that may have tried to put orders
 abbrev pub nothing_asked : {N : Type 0} → OrderRoute N → ℕ → WorkerOrdersValue N
 nothing_asked route tries =
-    record { names = route.names; end = record { queue = route.queue; orders = []; tries = tries }; asked = []; heard = [] }
+    record { names = route.names; end = record { queue = route.queue; items = []; tries = tries }; asked = []; heard = [] }
 
 -- a worker's orders, with what was asked for left empty: it isn't looked at
 abbrev pub unasked : {N : Type 0} → List (List ℕ) → EndValue N → List (WayValue N) → WorkerOrdersValue N
@@ -49,19 +52,11 @@ fault_of_answer (Some (LoadAnswer.Refused refusal)) = Some (OrderFault.LoadRefus
 fault_of_answer None = Some OrderFault.LoaderGone
 
 -- an order that nobody waits for, and one that carries a way back
-abbrev pub order_of : ℕ → OrderMark
-order_of index = record { feed = index; way = None }
+abbrev pub order_of : {N : Type 0} → ℕ → Order N
+order_of index = record { feed = index; way_back = None }
 
-abbrev pub awaited_order : ℕ → WayId → OrderMark
-awaited_order index way = record { feed = index; way = Some way }
-
--- the end, once it has tried to put an order, and none was put
-abbrev pub once_tried : {N : Type 0} → EndValue N → EndValue N
-once_tried end = record end { tries = end.tries + 1 }
-
--- this order is put, by one try
-abbrev pub IsPutAt : {N : Type 0} → EndValue N → OrderMark → EndValue N → Type 0
-IsPutAt before order after = (after.orders ≡ before.orders ++ order ∷ []) × (after.tries ≡ before.tries + 1)
+abbrev pub awaited_order : {N : Type 0} → ℕ → WayId → Order N
+awaited_order index way = record { feed = index; way_back = Some way }
 
 -- an order of the first feed of this name is put
 abbrev pub IsPut : {N : Type 0} → List ℕ → WorkerOrdersValue N → WorkerOrdersValue N → Type 0
@@ -85,11 +80,15 @@ IsTriedInVain name before after = ((index : ℕ) × IsFirst before.names name in
 abbrev pub IsNoted : {N : Type 0} → OrderValue → WorkerOrdersValue N → WorkerOrdersValue N → Type 0
 IsNoted order before after = (route_of after ≡ route_of before) × (after.asked ≡ before.asked ++ order ∷ [])
 
+-- the room of the queue
+abbrev pub four_wait : ◌≡◌ {A = ℕ} 4 4
+four_wait = refl
+
 -- over the rule of the queue: what it holds, and what its ends know
-module _ {N : Type 0} (holds : List (OrderMessage N) → List QueueView → Type 0) where
+module _ {N : Type 0} (holds : List (Message (Order N)) → List (EndView (Order N)) → Type 0) where
   -- why the queue takes no order: it held four at one moment since this try began; of a loader that is gone nothing is said
   abbrev pub IsTurnedAway : EndValue N → OrderFault → Type 0
-  IsTurnedAway end OrderFault.OrdersFull = Held holds 4 (QueueView.Putting end.orders (end.tries + 1))
+  IsTurnedAway end OrderFault.OrdersFull = Held holds 4 (EndView.Putting end.items (end.tries + 1))
   IsTurnedAway end OrderFault.LoaderGone = ⊤
   IsTurnedAway end _ = ⊥
 

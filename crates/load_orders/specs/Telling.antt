@@ -1,8 +1,8 @@
 -- What the loader tells of the orders that it took.
 use Rattle.std.specs.Prelude.{◌≡◌, ◌⊎◌, ◌∷◌, Bool, List, [], length, Option, Some, None}
-use Rattle.load_orders.specs.Queue.{QueueId}
+use Rattle.load_orders.specs.Keeping.{QueueId}
 use Rattle.load_orders.specs.Ways.{WayId, WayValue}
-use Rattle.load_orders.specs.declared.queue.OrderMark.{OrderMark}
+use Rattle.load_orders.specs.declared.queue.Order.{Order}
 use Rattle.load_orders.specs.declared.ways.LoadAnswer.{LoadAnswer}
 
 -- an answer, and where it was told, if somebody may wait for it
@@ -13,7 +13,7 @@ pub record AnsweredValue (N : Type 0) : Type 0 where
 -- the loader's end of a queue
 pub record LoaderOrdersValue (N : Type 0) : Type 0 where
   pub queue : QueueId N
-  pub taken : List OrderMark  -- in order
+  pub taken : List (Order N)  -- in order
   pub answered : List (AnsweredValue N)  -- in order
   pub over : Bool  -- it asked for another one, and none came
   pub closed : Bool  -- the queue was closed for it

@@ -1,16 +1,15 @@
 //! The loader's end of the queue.
 
 ghost use Rattle.std.specs.Prelude.{◌≡◌, ◌++◌, ◌∷◌, [], IfNone, MatchOption, Option, false, is_none, true};
-ghost use Rattle.load_orders.specs.Queue.{Held, mark_of};
+ghost use Rattle.handoff.specs.Queue.{Held};
+ghost use Rattle.handoff.specs.declared.queue.EndView.{EndView};
 ghost use Rattle.load_orders.specs.Telling.{AllAnswered, IsSentBack};
 ghost use Rattle.load_orders.specs.Ways.{WayValue};
-ghost use Rattle.load_orders.specs.declared.queue.QueueView.{QueueView};
 
 use crate::notes::Notes;
-use crate::queue::{
-    EachOrderOnce, Order, OrderMessage, OrderMoves, OrderPass, OrderReceiver, OrderRule,
-};
+use crate::queue::Order;
 use crate::ways::{LoadAnswer, UsedWay, WayBack};
+use handoff::{EachItemOnce, TakeEnd, TakeRule, UsedTakeEnd};
 use std::marker::Model;
 use std::sync::Wait;
 use timetable::GhostValue;
@@ -33,59 +32,49 @@ impl<N: Drop> Model for OrderAnswer<N> {
 /// The loader's end of the queue. Contracts see which queue; the orders that it took, and what it answered, in order;
 /// whether it last asked for an order and none came; and whether the queue was closed for it.
 #[derive(Drop)]
-pub struct LoaderOrders<N: Drop, P: OrderRule<N> = EachOrderOnce> {
-    pub(crate) receiver: OrderReceiver<N, P>,
-    pub(crate) pass: OrderPass<N>,
+pub struct LoaderOrders<N: Drop, P: TakeRule<Order<N>> = EachItemOnce<4>> {
+    pub(crate) end: TakeEnd<Order<N>, P>,
     pub(crate) answered: Notes<OrderAnswer<N>>,
     pub(crate) over: bool,
-    pub(crate) closed: bool,
 }
 
-impl<N: Drop, P: OrderRule<N>> Model for LoaderOrders<N, P> {
-    ghost use Rattle.crossbeam_channel.specs.Claims.{IsSeatAt, view as view_of};
-    ghost use Rattle.crossbeam_channel.specs.Ends.{receives_on};
-    ghost use Rattle.load_orders.specs.Queue.{IsTakingSide, orders_of};
+impl<N: Drop, P: TakeRule<Order<N>>> Model for LoaderOrders<N, P> {
     ghost use Rattle.load_orders.specs.Telling.{LoaderOrdersValue};
 
     ghost Value = { LoaderOrdersValue N };
 
     ghost view = { λ s. record {
-      queue = (s.pass.table_id, s.pass.me.0.of);
-      taken = orders_of (view_of s.pass);
+      queue = s.end.queue;
+      taken = s.end.taken;
       answered = s.answered;
       over = s.over;
-      closed = s.closed;
+      closed = s.end.closed;
     } };
-
-    ghost invariant = { λ s. IsSeatAt (receives_on s.receiver) s.pass × IsTakingSide s.closed (view_of s.pass) };
 }
 
 /// The loader's end once it has come back, with what it took and answered. It takes no bytes.
 #[derive(Drop)]
 pub struct UsedLoader<N: Drop> {
-    pub(crate) known: GhostValue<OrderPass<N>>,
+    pub(crate) end: UsedTakeEnd<Order<N>>,
     pub(crate) answered: Notes<OrderAnswer<N>>,
     pub(crate) over: bool,
-    pub(crate) closed: bool,
 }
 
 impl<N: Drop> Model for UsedLoader<N> {
-    ghost use Rattle.crossbeam_channel.specs.Claims.{view as view_of};
-    ghost use Rattle.load_orders.specs.Queue.{orders_of};
     ghost use Rattle.load_orders.specs.Telling.{LoaderOrdersValue};
 
     ghost Value = { LoaderOrdersValue N };
 
     ghost view = { λ s. record {
-      queue = (s.known.value.table_id, s.known.value.me.0.of);
-      taken = orders_of (view_of s.known.value);
+      queue = s.end.queue;
+      taken = s.end.taken;
       answered = s.answered;
       over = s.over;
-      closed = s.closed;
+      closed = s.end.closed;
     } };
 }
 
-impl<N: Drop, P: OrderRule<N>> LoaderOrders<N, P> {
+impl<N: Drop, P: TakeRule<Order<N>>> LoaderOrders<N, P> {
     /// Takes the order that has waited longest, or waits for one. Each order taken before must have been answered. None
     /// if the queue was closed for the loader; then none ever comes. None also if all other ends are gone and the queue
     /// is empty: the contract says only that it was empty at one moment of the call; that the ends are gone, only tests
@@ -94,42 +83,16 @@ impl<N: Drop, P: OrderRule<N>> LoaderOrders<N, P> {
         requires { AllAnswered self.old }
         ensures queue { self.new.queue ≡ self.old.queue }
         ensures taken { MatchOption result (self.new.taken ≡ self.old.taken) (λ order. self.new.taken
-            ≡ self.old.taken ++ mark_of order ∷ []) }
+            ≡ self.old.taken ++ order ∷ []) }
         ensures answered { self.new.answered ≡ self.old.answered }
         ensures over { self.new.over ≡ is_none result }
         ensures none { IfNone result (self.new.closed ≡ false → Held P.Protocol.holds 0
-            (QueueView.Taking self.old.taken 0)) }
+            (EndView.Taking self.old.taken 0)) }
         ensures closed { self.old.closed ≡ true → self.new.closed ≡ true }
     {
-        let order = self.take(rt);
+        let order = self.end.next(rt);
         self.over = order.is_none();
         order
-    }
-
-    // Takes the order that waits longest, or waits for one; or is told that the queue is closed.
-    fn take<R: Wait>(&mut self, rt: &R) -> Option<Order<N>>
-        ensures queue { self.new.queue ≡ self.old.queue }
-        ensures taken { MatchOption result (self.new.taken ≡ self.old.taken) (λ order. self.new.taken
-            ≡ self.old.taken ++ mark_of order ∷ []) }
-        ensures answered { self.new.answered ≡ self.old.answered }
-        ensures none { IfNone result (self.new.closed ≡ false → Held P.Protocol.holds 0
-            (QueueView.Taking self.old.taken 0)) }
-        ensures closed { self.old.closed ≡ true → self.new.closed ≡ true }
-    {
-        if self.closed {
-            return None;
-        }
-        match self
-            .receiver
-            .recv_as::<OrderMoves<P>, R>(rt, &mut self.pass)
-        {
-            Ok(OrderMessage::Order { order }) => Some(order),
-            Ok(OrderMessage::Closing) => {
-                self.closed = true;
-                None
-            }
-            Err(_) => None,
-        }
     }
 
     /// Tells whoever waits for the order what came of it, by the order's own way back. Perhaps nobody waits for it, or

@@ -3,17 +3,18 @@
 ghost use Rattle.std.specs.Prelude.{◌≡◌, ◌++◌, ◌∷◌, [], map, string_bytes, Some, IfOk, IfErr, OnOk};
 ghost use Rattle.orders.specs.Ordering.{IsNotTaken, order_value, version_alone, waited_value};
 ghost use Rattle.load_orders.specs.Asking.{Hears, IsNotAwaited, IsPut, RefusesOrder, RefusesVersion};
-ghost use Rattle.load_orders.specs.Asking.{HasAsked, IsPutAt, OrderRoute, awaited_order, fault_of_answer};
+ghost use Rattle.handoff.specs.Ends.{IsPutAt, once_tried};
+ghost use Rattle.load_orders.specs.Asking.{HasAsked, IsTurnedAway, OrderRoute, awaited_order, fault_of_answer};
 ghost use Rattle.load_orders.specs.Asking.{route_of, unasked};
 ghost use Rattle.load_orders.specs.Ways.{WayId, heard_at};
 ghost use Rattle.load_orders.specs.declared.ways.LoadAnswer.{LoadAnswer};
 
-use crate::ends::OrderEnd;
 use crate::names::index_of;
 use crate::notes::Notes;
-use crate::queue::{EachOrderOnce, Order, OrderPass, OrderRule};
+use crate::queue::{Order, OrderRule};
 use crate::ways::{LoadAnswer, UsedWay, way_back};
 use epochs::Versions;
+use handoff::{EachItemOnce, NotPut, PutEnd, UsedPutEnd};
 use orders::{OrderFault, OrderRecord, Orders};
 use std::alloc::Global;
 use std::collections::LinkedList;
@@ -28,13 +29,13 @@ pub struct WorkerOrders<
     R: Wait,
     N: Drop,
     T: Versions<Notice = N>,
-    P: OrderRule<N> = EachOrderOnce,
+    P: OrderRule<N> = EachItemOnce<4>,
 > {
     rt: &'a R,
     alloc: Global,
     names: &'a [String],
     shelves: &'a T,
-    end: OrderEnd<N, P>,
+    end: PutEnd<Order<N>, P>,
     asked: Notes<OrderRecord>,
     heard: Notes<UsedWay<N>>,
 }
@@ -68,31 +69,17 @@ impl<'a, R: Wait, N: Drop, T: Versions<Notice = N>, P: OrderRule<N>> Model
 #[derive(Drop)]
 pub struct UsedOrders<N: Drop> {
     names: GhostValue<LinkedList<LinkedList<u8>>>,
-    pub(crate) pass: OrderPass<N>,
+    pub(crate) end: UsedPutEnd<Order<N>>,
     asked: Notes<OrderRecord>,
     heard: Notes<UsedWay<N>>,
 }
 
 impl<N: Drop> Model for UsedOrders<N> {
-    ghost use Rattle.std.specs.Prelude.{◌≡◌, []};
-    ghost use Rattle.crossbeam_channel.specs.Claims.{view as view_of};
     ghost use Rattle.load_orders.specs.Asking.{WorkerOrdersValue};
-    ghost use Rattle.load_orders.specs.Queue.{IsPuttingSide, orders_of, tries_of};
 
     ghost Value = { WorkerOrdersValue N };
 
-    ghost view = { λ u. record {
-      names = u.names.value;
-      end = record {
-        queue = (u.pass.table_id, u.pass.me.0.of);
-        orders = orders_of (view_of u.pass);
-        tries = tries_of (view_of u.pass);
-      };
-      asked = u.asked;
-      heard = u.heard;
-    } };
-
-    ghost invariant = { λ u. (u.pass.me.1 ≡ []) × IsPuttingSide (view_of u.pass) };
+    ghost view = { λ u. record { names = u.names.value; end = u.end; asked = u.asked; heard = u.heard } };
 }
 
 impl<'a, R: Wait, N: Drop, T: Versions<Notice = N>, P: OrderRule<N>> WorkerOrders<'a, R, N, T, P> {
@@ -103,9 +90,9 @@ impl<'a, R: Wait, N: Drop, T: Versions<Notice = N>, P: OrderRule<N>> WorkerOrder
         alloc: Global,
         names: &'a [String],
         shelves: &'a T,
-        end: OrderEnd<N, P>,
+        end: PutEnd<Order<N>, P>,
     ) -> WorkerOrders<'a, R, N, T, P>
-        requires { end.orders ≡ [] }
+        requires { end.items ≡ [] }
         ensures { result ≡ record { names = map string_bytes names.now; end = end; asked = []; heard = [] } }
     {
         WorkerOrders {
@@ -126,18 +113,36 @@ impl<'a, R: Wait, N: Drop, T: Versions<Notice = N>, P: OrderRule<N>> WorkerOrder
     {
         let names = GhostValue::at(&self.names, &());
         let WorkerOrders {
-            end: OrderEnd { sender, pass },
+            end,
             asked,
             heard,
             ..
         } = self;
-        drop(sender);
+        let end = end.into_used();
         UsedOrders {
             names,
-            pass,
+            end,
             asked,
             heard,
         }
+    }
+}
+
+// Puts an order, where there is room.
+fn put<R: Wait, N: Drop, P: OrderRule<N>>(
+    rt: &R,
+    end: &mut PutEnd<Order<N>, P>,
+    order: Order<N>,
+) -> Result<(), OrderFault>
+    ensures queue { end.new.queue ≡ end.old.queue }
+    ensures put { OnOk result (IsPutAt end.old order end.new) }
+    ensures refused { IfErr result (λ fault. IsTurnedAway P.Protocol.holds end.old fault
+        × (end.new ≡ once_tried end.old)) }
+{
+    match end.try_put(rt, order) {
+        Ok(()) => Ok(()),
+        Err(NotPut::Full) => Err(OrderFault::OrdersFull),
+        Err(NotPut::NoTaker) => Err(OrderFault::LoaderGone),
     }
 }
 
@@ -147,7 +152,7 @@ fn wait_for<R: Wait, N: Drop, T: Versions<Notice = N>, P: OrderRule<N>>(
     alloc: Global,
     names: &[String],
     feed: &str,
-    end: &mut OrderEnd<N, P>,
+    end: &mut PutEnd<Order<N>, P>,
     heard: &mut Notes<UsedWay<N>>,
 ) -> Result<(u64, N), OrderFault>
     ensures queue { end.new.queue ≡ end.old.queue }
@@ -173,7 +178,7 @@ fn put_awaited<R: Wait, N: Drop, P: OrderRule<N>>(
     rt: &R,
     alloc: Global,
     index: usize,
-    end: &mut OrderEnd<N, P>,
+    end: &mut PutEnd<Order<N>, P>,
     heard: &mut Notes<UsedWay<N>>,
 ) -> Result<Option<LoadAnswer<N>>, OrderFault>
     ensures queue { end.new.queue ≡ end.old.queue }
@@ -190,7 +195,7 @@ fn put_awaited<R: Wait, N: Drop, P: OrderRule<N>>(
         feed: index,
         way_back: Some(way_back),
     };
-    match end.put(rt, order) {
+    match put(rt, end, order) {
         Ok(()) => {
             let (answer, way) = awaited.hear(rt);
             heard.note(&way);
@@ -238,8 +243,9 @@ impl<'a, R: Wait, N: Drop, T: Versions<Notice = N>, P: OrderRule<N>> Orders
         ensures refused { IfErr result (λ fault. RefusesOrder P.Protocol.holds feed.now fault self.old self.new) }
     {
         let outcome = match index_of(self.names, feed) {
-            Some(index) => self.end.put(
+            Some(index) => put(
                 self.rt,
+                &mut self.end,
                 Order {
                     feed: index,
                     way_back: None,

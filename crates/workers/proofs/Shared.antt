@@ -3,8 +3,8 @@ use Rattle.std.proofs.Common.{◌≡◌, ◌∙◌, ◌+◌, ◌-◌, ◌++◌, 
 use Rattle.std.proofs.lemmas.List.{append_assoc, append-nil, length-append, map-append}
 use Rattle.epochs.specs.Seats.{SeatValue}
 use Rattle.load_orders.specs.Asking.{OrderRoute, WorkerOrdersValue}
-use Rattle.load_orders.specs.Queue.{KeeperValue, QueueId, with_one_out, with_orders}
-use Rattle.load_orders.specs.declared.queue.OrderMark.{OrderMark}
+use Rattle.load_orders.specs.Keeping.{KeeperValue, QueueId, with_one_out, with_orders}
+use Rattle.load_orders.specs.declared.queue.Order.{Order}
 use Rattle.shelf_steps.specs.declared.views.KnownHistory.{KnownHistory}
 use Rattle.session.specs.declared.reply_form.ReplyForm.{ReplyForm}
 use Rattle.workers.specs.Ends.{Session}
@@ -145,10 +145,10 @@ one_more_out {C} dealer dealer_then workers workers_then worker more before grow
 
 -- a worker's orders behind the others
 pub put_also : {N : Type 0} (workers : List (WorkerOrdersValue N)) (orders : WorkerOrdersValue N)
-    → put_by (workers ++ orders ∷ []) ≡ put_by workers ++ orders.end.orders
-put_also [] orders = append-nil orders.end.orders
+    → put_by (workers ++ orders ∷ []) ≡ put_by workers ++ orders.end.items
+put_also [] orders = append-nil orders.end.items
 put_also (first ∷ workers) orders =
-    ap (λ list. first.end.orders ++ list) (put_also workers orders) ∙ sym (append_assoc first.end.orders (put_by workers) orders.end.orders)
+    ap (λ list. first.end.items ++ list) (put_also workers orders) ∙ sym (append_assoc first.end.items (put_by workers) orders.end.items)
 
 -- the workers that are left have their ends of the queue of orders, and none was back
 pub keeper_none : {N H : Type 0} (queue : QueueId N) (keeper : KeeperValue N) (all left : List H) (used : List (WorkerOrdersValue N))
@@ -162,14 +162,14 @@ keeper_none {N} {H} queue keeper all left used before same none =
 pub keeper_next : {N H : Type 0} (queue : QueueId N) (keeper keeper_then : KeeperValue N) (left left_then : List H) (worker : H)
     (used used_then : List (WorkerOrdersValue N)) (orders : WorkerOrdersValue N)
     → IsKeeperOf queue (put_by used) (length left) keeper → left ≡ worker ∷ left_then → used_then ≡ used ++ orders ∷ []
-    → keeper_then ≡ with_orders keeper orders.end.orders → IsKeeperOf queue (put_by used_then) (length left_then) keeper_then
+    → keeper_then ≡ with_orders keeper orders.end.items → IsKeeperOf queue (put_by used_then) (length left_then) keeper_then
 keeper_next {N} queue keeper keeper_then left left_then worker used used_then orders before step grows back =
-    let Kept : List OrderMark → ℕ → KeeperValue N = λ put out. record { queue = queue; put = put; out = out; closings = 0 } in
-    let With : KeeperValue N → KeeperValue N = λ k. with_orders k orders.end.orders in
+    let Kept : List (Order N) → ℕ → KeeperValue N = λ put out. record { queue = queue; put = put; out = out; closings = 0 } in
+    let With : KeeperValue N → KeeperValue N = λ k. with_orders k orders.end.items in
     let longer = ap length step in
     let shorter : length left - 1 ≡ length left_then = omega (arith, longer) in
-    let put : put_by used_then ≡ put_by used ++ orders.end.orders = ap put_by grows ∙ put_also used orders in
-    back ∙ ap With before ∙ ap (Kept (put_by used ++ orders.end.orders)) shorter ∙ ap (λ list. Kept list (length left_then)) (sym put)
+    let put : put_by used_then ≡ put_by used ++ orders.end.items = ap put_by grows ∙ put_also used orders in
+    back ∙ ap With before ∙ ap (Kept (put_by used ++ orders.end.items)) shorter ∙ ap (λ list. Kept list (length left_then)) (sym put)
 
 -- an end more goes out, to one worker more
 pub keeper_out : {N H : Type 0} (queue : QueueId N) (keeper keeper_then : KeeperValue N) (workers workers_then : List H) (worker : H)

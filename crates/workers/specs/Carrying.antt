@@ -4,9 +4,9 @@ use Rattle.epochs.specs.declared.seats.LoaderAnswer.{LoaderAnswer}
 use Rattle.feed_files.specs.Files.{FileRead}
 use Rattle.feed_loader.specs.Faults.{failed_by, failed_in}
 use Rattle.feed_loader.specs.declared.plan.Plan.{Plan}
-use Rattle.load_orders.specs.Queue.{QueueId}
+use Rattle.load_orders.specs.Keeping.{QueueId}
 use Rattle.load_orders.specs.Telling.{AnsweredValue, IsSentBack, LoaderOrdersValue}
-use Rattle.load_orders.specs.declared.queue.OrderMark.{OrderMark}
+use Rattle.load_orders.specs.declared.queue.Order.{Order}
 use Rattle.load_orders.specs.declared.ways.LoadAnswer.{LoadAnswer}
 use Rattle.orders.specs.Ordering.{order_fault_number}
 use Rattle.orders.specs.declared.fault.OrderFault.{OrderFault}
@@ -27,7 +27,7 @@ module _ {N D : Type 0} (noted : N → ℕ) (are_files : ℕ → D → Type 0) (
     (failed : D → List (List ℕ)) (is_plan : Plan → Type 0) (places : ℕ) where
   -- the files of the feed at this index, drawn when just these orders had been taken from this queue, are loaded, and the answer is what came of
   -- that; or there is no such feed, and none are drawn
-  abbrev pub IsLoadOf : QueueId N → List OrderMark → ℕ → Option (DrawnFiles D N) → LoadAnswer N → List LoaderAnswer → List LoaderAnswer → Type 0
+  abbrev pub IsLoadOf : QueueId N → List (Order N) → ℕ → Option (DrawnFiles D N) → LoadAnswer N → List LoaderAnswer → List LoaderAnswer → Type 0
   IsLoadOf queue taken feed (Some drawn) answer before after =
       (plan : Plan) × (outcome : Result (LoadedVersion × Option N) LoadRefusal) × IsDrawnAt queue taken drawn × are_files feed drawn.first.value × is_plan plan
       × IsOutcome noted (holds drawn.first.value) (reads drawn.first.value) (reads drawn.files) plan before outcome after
@@ -37,13 +37,13 @@ module _ {N D : Type 0} (noted : N → ℕ) (are_files : ℕ → D → Type 0) (
 
   -- this order is carried out, once just these were taken: its own feed is loaded, from files that are drawn for it, and what came of that very
   -- load is sent by its own way back
-  abbrev pub IsCarriedOut : QueueId N → List OrderMark → OrderMark → Option (DrawnFiles D N) → AnsweredValue N
+  abbrev pub IsCarriedOut : QueueId N → List (Order N) → Order N → Option (DrawnFiles D N) → AnsweredValue N
       → List LoaderAnswer → List LoaderAnswer → Type 0
   IsCarriedOut queue taken order files answered before after =
-      IsSentBack order.way answered.answer answered.sent × IsLoadOf queue taken order.feed files answered.answer before after
+      IsSentBack order.way_back answered.answer answered.sent × IsLoadOf queue taken order.feed files answered.answer before after
 
   -- after these earlier orders of the queue, further ones are carried out in turn, each once, and each with files of its own
-  abbrev pub AreCarriedOut : QueueId N → List OrderMark → List OrderMark → List (Option (DrawnFiles D N)) → List (AnsweredValue N)
+  abbrev pub AreCarriedOut : QueueId N → List (Order N) → List (Order N) → List (Option (DrawnFiles D N)) → List (AnsweredValue N)
       → List LoaderAnswer → List LoaderAnswer → Type 0
   AreCarriedOut queue earlier [] [] [] before after = after ≡ before
   AreCarriedOut queue earlier (order ∷ orders) (files ∷ others) (answered ∷ rest) before after =

@@ -1,10 +1,11 @@
 -- Where workers' orders go, and what they did.
 use Rattle.std.specs.Prelude.{◌≡◌, ℕ, List, String, IsPermutation, flat_map, map, string_bytes}
 use Rattle.std.specs.Global.{Global}
+use Rattle.handoff.specs.Queue.{IsQueue}
 use Rattle.load_orders.specs.Asking.{HasAsked, OrderRoute, WorkerOrdersValue, route_of}
-use Rattle.load_orders.specs.Queue.{EndValue, KeeperValue, QueueId, waiting}
+use Rattle.load_orders.specs.Keeping.{EndValue, KeeperValue, QueueId}
 use Rattle.load_orders.specs.Telling.{LoaderOrdersValue}
-use Rattle.load_orders.specs.declared.queue.OrderMark.{OrderMark}
+use Rattle.load_orders.specs.declared.queue.Order.{Order}
 use Rattle.workers.specs.declared.shares.RouteTo.{RouteTo}
 
 -- orders of feeds of these names, by this queue
@@ -13,15 +14,15 @@ route_to names queue = record { names = map string_bytes names; queue = queue }
 
 -- a worker's orders go this way, and each order that was asked for did at this queue what its answer says
 abbrev pub IsAskedBy : {N : Type 0} → (N → ℕ) → OrderRoute N → WorkerOrdersValue N → Type 0
-IsAskedBy noted route orders = (route_of orders ≡ route) × HasAsked waiting noted orders
+IsAskedBy noted route orders = (route_of orders ≡ route) × HasAsked (IsQueue 4) noted orders
 
 -- two routes to the same queue, for the same feeds
 abbrev pub GoesBy : {N F : Type 0} → RouteTo (EndValue N) F → RouteTo (KeeperValue N) F → Type 0
 GoesBy route other = (route.end.value.queue ≡ other.end.value.queue) × (route.feeds.value ≡ other.feeds.value)
 
 -- the orders that were put at these workers' ends of the queue, end after end
-abbrev pub put_by : {N : Type 0} → List (WorkerOrdersValue N) → List OrderMark
-put_by workers = flat_map (λ orders. orders.end.orders) workers
+abbrev pub put_by : {N : Type 0} → List (WorkerOrdersValue N) → List (Order N)
+put_by workers = flat_map (λ orders. orders.end.items) workers
 
 -- the loader took what these workers put, each order once, and nothing else
 abbrev pub AreAllTaken : {N : Type 0} → List (WorkerOrdersValue N) → LoaderOrdersValue N → Type 0
@@ -29,5 +30,5 @@ AreAllTaken workers loader = IsPermutation (put_by workers) loader.taken
 
 -- the end that keeps this queue, while so many ends are out at which orders are put: these orders were put at the ends that came back, and the
 -- queue isn't closed
-abbrev pub IsKeeperOf : {N : Type 0} → QueueId N → List OrderMark → ℕ → KeeperValue N → Type 0
+abbrev pub IsKeeperOf : {N : Type 0} → QueueId N → List (Order N) → ℕ → KeeperValue N → Type 0
 IsKeeperOf queue put out keeper = keeper ≡ record { queue = queue; put = put; out = out; closings = 0 }

@@ -3,7 +3,6 @@
 ghost use Rattle.std.specs.Prelude.{◌≡◌, ◌≤◌, ◌∷◌, ◌++◌, [], ℕ, OnOk, Option, Result, length};
 ghost use Rattle.std.specs.Io.KnownBytes.{Appends};
 ghost use Rattle.feed_loader.specs.declared.plan.Plan.{Plan};
-ghost use Rattle.load_orders.specs.Queue.{mark_of};
 ghost use Rattle.load_orders.specs.Telling.{AnsweredValue};
 ghost use Rattle.workers.specs.Carrying.{AllCarriedOut, FailedAsReported, IsCarriedOut, IsLoadOf};
 ghost use Rattle.workers.specs.Learned.{LoaderLearns};
@@ -87,7 +86,7 @@ impl<'a, R: Wait, N: Drop, T: Versions<Notice = N> + Loads, F: Feeds> LoadContex
             × IsCarriedOut T.Versions.noted (F.are_files self.now.feeds.now) F.Files.holds F.Files.reads
             F.Files.failures F.Files.failed
             (F.is_plan self.now.feeds.now)
-            (length (F.named self.now.feeds.now)) orders.old.queue orders.old.taken (mark_of order) files answer
+            (length (F.named self.now.feeds.now)) orders.old.queue orders.old.taken order files answer
             (T.Loads.answers seat.old) (T.Loads.answers seat.new) }
     {
         let (answer, files) = self.load_at(order.feed, orders, seat, errors);

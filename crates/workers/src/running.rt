@@ -192,7 +192,7 @@ where
                     ShareAt::<C, T::Notice, T, F>::of(shelves, &taker, &seat, form, way),
                     move || -> (Share<C, T::Seat>, UsedOrders<T::Notice>)
                         requires { T.Versions.fits shelves.now seat × (taker.taken ≡ []) × (nobody_yet ≡ [])
-                            × (end.orders ≡ [])
+                            × (end.items ≡ [])
                             × MayClose form C.opens C.Reader.remaining C.Writer.contents T.Versions.number
                             T.Versions.value T.Versions.known (T.Versions.fits shelves.now) C.closes }
                         ensures { (result.0.taker.queue ≡ taker.queue)
@@ -217,7 +217,7 @@ where
                 let Ok(worker) = begun else {
                     return Err(WorkersFault);
                 };
-                also(&mut workers, worker)?;
+                push_worker(&mut workers, worker)?;
             }
             let served = deal_and_join(
                 rt, shelves, form, clients, dealer, workers, room, &mut asks, route,
@@ -242,7 +242,7 @@ where
 }
 
 // Adds the worker at the end.
-fn also<W: Drop>(workers: &mut Vec<W>, worker: W) -> Result<(), AllocError>
+fn push_worker<W: Drop>(workers: &mut Vec<W>, worker: W) -> Result<(), AllocError>
     ensures { OnOk result (workers.new.items ≡ workers.old.items ++ worker ∷ []) }
 {
     match workers.push(worker) {

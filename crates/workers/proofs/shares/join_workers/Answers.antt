@@ -1,10 +1,10 @@
 use Rattle.std.proofs.Common.{rules, ◌≡◌, ◌∙◌, ℕ, All, true, suc, sym, subst, refl, map, ap, arith, length}
 use Rattle.std.proofs.lemmas.List.Elements.{All-nil, All-push}
 use Rattle.std.specs.Prelude.{IsPermutation}
-use Rattle.client_queue.specs.Ends.{times}
+use Rattle.handoff.specs.Ends.{times}
 use Rattle.std.specs.Prelude.{String, List}
 use Rattle.std.specs.Global.{Global}
-use Rattle.load_orders.specs.Queue.{QueueId}
+use Rattle.load_orders.specs.Keeping.{QueueId}
 use Rattle.workers.specs.Ordering.{GoesBy, IsKeeperOf, put_by, route_to}
 use Rattle.workers.specs.Sessions.{AreAllServed, IsShare}
 use Rattle.session.specs.declared.reply_form.ReplyForm.{ReplyForm}
@@ -38,6 +38,13 @@ loop-worker-init g c =
           _ _ _ _ _ _ _ refl ready.nothing_back c.none-orders.ensures c.new-served.ensures c.requires.room;
       keeper = keeper_none _ _ _ _ _ c.requires.keeper items c.none-orders.ensures;
     }
+
+-- the worker's taker is one of the dealer's queue
+pub take_back-requires : goal.take_back-requires
+take_back-requires g c =
+    let was = c.loop-worker.invariant in
+    let queues = subst (λ workers. All (λ worker. worker.promise.taker.value.queue ≡ c.args.dealer.queue) workers) c.in-Some.ensures.steps.0 was.queues in
+    c.join-share.ensures.0 ∙ queues 0 c.in-Some.worker (omega arith) ∙ sym was.queue
 
 -- the worker's end is one of the keeper's queue
 pub take_in-requires : goal.take_in-requires

@@ -1,5 +1,4 @@
 use Rattle.std.proofs.Common.{◌∙◌, [], length, refl}
-use Rattle.load_orders.specs.Queue.{mark_of}
 use Rattle.workers.proofs.Carried.{all_carried, carries_also, carries_nothing, each_answered}
 use Rattle.workers.proofs.Learning.{loader_on, loader_same}
 use Rattle.workers.proofs.carrying.LoadContext.load_all.Goals as goal
@@ -44,7 +43,7 @@ loop-preserved g c =
       carried = carries_also g.T.Versions.noted (g.F.Feeds.are_files feeds) g.F.Files.FeedFiles.holds g.F.Files.FeedFiles.reads
           g.F.Files.FeedFiles.failures g.F.Files.FeedFiles.failed (g.F.Feeds.is_plan feeds)
           (length (g.F.Feeds.named feeds)) c.args.orders.queue c.loop.orders c.next-in-loop.new.self c.load_feed.new.orders
-          c.loop.used c.load_feed.new.used (mark_of c.in-Some-next.order)
+          c.loop.used c.load_feed.new.used c.in-Some-next.order
           (g.T.Loads.answers c.args.seat) (g.T.Loads.answers c.loop.seat) (g.T.Loads.answers c.load_feed.new.seat)
           c.loop.invariant.carried at_queue c.in-Some-next.ensures.taken c.in-Some-next.ensures.answered one.taken one.carried;
     }

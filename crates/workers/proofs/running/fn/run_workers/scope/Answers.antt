@@ -4,7 +4,7 @@ use Rattle.client_queue.specs.Ends.{nothing_put}
 use Rattle.workers.proofs.Shared.{keeper_out, one_more_out, seated_none, seated_next, seated_all}
 use mathlib.Core.Path.{sym}
 use Rattle.std.specs.Prelude.{IsPermutation}
-use Rattle.load_orders.specs.Queue.{QueueId}
+use Rattle.load_orders.specs.Keeping.{QueueId}
 use Rattle.workers.specs.Carrying.{AllCarriedOut}
 use Rattle.workers.specs.Learned.{LoaderLearns}
 use Rattle.workers.specs.Ordering.{GoesBy, route_to}
@@ -18,7 +18,7 @@ spawn_with-begun-requires-clause-runs g c =
     subst (λ items. All (g.T.Versions.fits c.captures.shelves.now) items) c.in-Some.ensures.steps.0 c.loop-seat.invariant.fit in
     let fits : g.T.Versions.fits c.captures.shelves.now c.in-Some.seat = left 0 c.in-Some.seat (omega arith) in
     let ready : g.T.Versions.fits c.captures.shelves.now c.in-Some.seat × (c.in_ok-taker.taker.taken ≡ []) × (c.new-nobody_yet.result ≡ [])
-    × (c.in_ok-end.end.orders ≡ [])
+    × (c.in_ok-end.end.items ≡ [])
     × MayClose c.captures.form g.C.Client.opens g.C.Reader.Read.remaining g.C.Writer.Write.contents
     g.T.Versions.number g.T.Versions.value g.T.Versions.known (g.T.Versions.fits c.captures.shelves.now) g.C.Client.closes =
     (fits, ap (λ taker. taker.taken) c.in_ok-taker.ensures.taker, c.new-nobody_yet.ensures, c.in_ok-end.ensures.nothing, c.requires.15) in
@@ -36,7 +36,7 @@ loop-seat-preserved g c =
     let short = ap length step.0 in
     let worker = c.in-Ok-begun.worker in
     let promise = c.in-Ok-begun.ensures.ok in
-    let items = c.in_ok-also.ensures in
+    let items = c.in_ok-push_worker.ensures in
     let out = c.in_ok-taker.ensures.out in
     let taker = c.in_ok-taker.ensures.taker in
     let queue = ap (λ dealer. dealer.queue) out in

@@ -1,0 +1,5 @@
+pub mod Queue
+pub mod Ends
+pub mod ArrivalLemmas
+pub mod SumLemmas
+pub mod Rules

@@ -1,0 +1,29 @@
+-- What the end that keeps the queue of orders shows.
+use Rattle.std.specs.Prelude.{◌≡◌, ◌+◌, ◌-◌, ◌++◌, ℕ, List, []}
+use Rattle.handoff.specs.Ends.{KeeperValue as QueueKeeperValue, PutterValue, QueueId as QueueIdOf}
+use Rattle.load_orders.specs.declared.queue.Order.{Order}
+
+-- which queue of orders, of all that there are
+abbrev pub QueueId : Type 0 → Type 0
+QueueId N = QueueIdOf (Order N)
+
+-- an end of a queue, at which orders are put
+abbrev pub EndValue : Type 0 → Type 0
+EndValue N = PutterValue (Order N)
+
+-- the end that keeps a queue, while the loader is out
+pub record KeeperValue (N : Type 0) : Type 0 where
+  pub queue : QueueId N
+  pub put : List (Order N)  -- at the ends that came back
+  pub out : ℕ  -- how many ends are out, at which orders are put
+  pub closings : ℕ  -- how often the queue was closed
+
+-- one end takes orders, and none came back at which any were taken
+abbrev pub IsOrderKeeper : {N : Type 0} → QueueKeeperValue (Order N) → Type 0
+IsOrderKeeper keeper = (keeper.view.taking ≡ 1) × (keeper.view.taken ≡ [])
+
+abbrev pub with_one_out : {N : Type 0} → KeeperValue N → KeeperValue N
+with_one_out a = record a { out = a.out + 1 }
+
+abbrev pub with_orders : {N : Type 0} → KeeperValue N → List (Order N) → KeeperValue N
+with_orders a orders = record a { out = a.out - 1; put = a.put ++ orders }

@@ -1,0 +1,118 @@
+//! The end that keeps the queue of orders.
+
+ghost use Rattle.std.specs.Prelude.{◌≡◌, ◌+◌, [], false, IfOk, IfSome, IsPermutation, MatchBool, OnErr, OnOk};
+ghost use Rattle.load_orders.specs.Keeping.{KeeperValue, with_one_out, with_orders};
+
+use crate::loader::{LoaderOrders, UsedLoader};
+use crate::notes::Notes;
+use crate::queue::{Order, OrderEnd};
+use crate::taking::UsedOrders;
+use handoff::{Keeper, empty_queue};
+use std::alloc::{AllocError, Global};
+use std::marker::Model;
+use std::sync::Wait;
+
+/// The end that keeps the queue, in which four orders may wait: others go out from it and come back, it closes the
+/// queue behind all orders, and the loader comes back to it. Contracts see which queue, what was put at the ends that
+/// came back, how many are out, and how often the queue was closed.
+#[derive(Drop)]
+pub struct OrderKeeper<N: Drop> {
+    keeper: Keeper<Order<N>, 4>,
+}
+
+impl<N: Drop> Model for OrderKeeper<N> {
+    ghost use Rattle.load_orders.specs.Keeping.{IsOrderKeeper, KeeperValue};
+
+    ghost Value = { KeeperValue N };
+
+    ghost view = { λ s. record {
+      queue = s.keeper.queue;
+      put = s.keeper.view.put;
+      out = s.keeper.view.putting;
+      closings = s.keeper.view.closings;
+    } };
+
+    ghost invariant = { λ s. IsOrderKeeper s.keeper };
+}
+
+/// An empty queue for four orders: the end that keeps it, and the loader's.
+pub fn order_queue<N: Drop>(alloc: Global) -> Result<(OrderKeeper<N>, LoaderOrders<N>), AllocError>
+    ensures queue { IfOk result (λ ends. ends.0.queue ≡ ends.1.queue) }
+    ensures keeper { IfOk result (λ ends. ends.0 ≡ record {
+      queue = ends.0.queue;
+      put = [];
+      out = 0;
+      closings = 0;
+    }) }
+    ensures loader { IfOk result (λ ends. ends.1.taken ≡ []) }
+    ensures unanswered { IfOk result (λ ends. ends.1.answered ≡ []) }
+    ensures unfinished { IfOk result (λ ends. ends.1.over ≡ false) }
+{
+    let mut keeper = empty_queue::<Order<N>, 4>(alloc)?;
+    let end = keeper.last_taker();
+    let loader = LoaderOrders {
+        end,
+        answered: Notes::none(),
+        over: false,
+    };
+    Ok((OrderKeeper { keeper }, loader))
+}
+
+impl<N: Drop> OrderKeeper<N> {
+    /// A new end of this queue, at which orders are put; none was put there yet.
+    pub fn another_end(&mut self) -> Result<OrderEnd<N>, AllocError>
+        requires { self.old.closings ≡ 0 }
+        ensures queue { IfOk result (λ end. end.queue ≡ self.old.queue) }
+        ensures nothing { IfOk result (λ end. end.items ≡ []) }
+        ensures out { OnOk result (self.new ≡ with_one_out self.old) }
+        ensures refused { OnErr result (self.new ≡ self.old) }
+    {
+        self.keeper.another_putter()
+    }
+
+    /// An end comes back, with what was put there.
+    pub fn take_in(&mut self, used: UsedOrders<N>)
+        requires { used.end.queue ≡ self.old.queue }
+        ensures { self.new ≡ with_orders self.old used.end.items }
+    {
+        self.keeper.take_in(used.end);
+    }
+
+    /// Puts a closing behind all orders, once there is room: the loader that takes it takes no more. False if the
+    /// loader is gone.
+    pub fn close<R: Wait>(&mut self, rt: &R) -> bool
+        requires { self.old.out ≡ 0 }
+        ensures same { self.new ≡ record self.old { closings = self.new.closings } }
+        ensures closed { MatchBool result (self.new.closings ≡ self.old.closings + 1)
+            (self.new.closings ≡ self.old.closings) }
+    {
+        self.keeper.close(rt)
+    }
+
+    /// Takes back the loader's end, once all other ends are back: what was put was taken there, each order once. None
+    /// if no closing was taken there.
+    pub fn finish(self, loader: LoaderOrders<N>) -> Option<UsedLoader<N>>
+        requires queue { loader.queue ≡ self.queue }
+        requires back { self.out ≡ 0 }
+        ensures same { IfSome result (λ used. used ≡ loader) }
+        ensures all { IfSome result (λ used. IsPermutation self.put used.taken) }
+    {
+        let OrderKeeper { mut keeper } = self;
+        let LoaderOrders {
+            end,
+            answered,
+            over,
+        } = loader;
+        let closed = end.is_closed();
+        let end = keeper.take_back(end);
+        if !closed {
+            return None;
+        }
+        keeper.all_were_taken();
+        Some(UsedLoader {
+            end,
+            answered,
+            over,
+        })
+    }
+}
