@@ -1,7 +1,8 @@
 //! Labels of many trips: the values that a passenger aboard each trip can reach at the target.
 //!
 //! Under a total criterion one label a trip is enough, in the trip's slot; under any other, the labels of a trip are
-//! in a run. Each call asks the criterion which it is, not the labels: so it is known when the program is compiled.
+//! in a run. Each call asks the criterion whether it is total, rather than look at the labels, so the compiler knows
+//! which case applies.
 
 ghost use Rattle.std.specs.Prelude.{◌≡◌, ◌++◌, ◌∷◌, [], ℕ, ◌<◌, cond, length, not, IfOk, OnOk, OnErr, false};
 ghost use Rattle.criteria.specs.Laws.{Admits};
@@ -20,7 +21,7 @@ pub struct Label<V> {
     pub tag: u32,
 }
 
-/// The labels of a number of trips. None of a trip's labels is no worse than another.
+/// The labels of a number of trips. Of two labels of a trip neither is no worse than the other.
 #[derive(Drop)]
 pub struct Labels<V> {
     // each trip's one label, under a total criterion

@@ -19,7 +19,8 @@ use Rattle.profile_scan.proofs.Chains.{step_admits, step_monotone, walked_admits
 use Rattle.profile_scan.proofs.Chains.{started_monotone, started_worsens, chain_gives_way}
 use Rattle.profile_scan.proofs.Outdone.{outdone_worse, outdone_ride, outdone_down}
 use Rattle.profile_scan.proofs.Listed.{cases_listed}
-use Rattle.profile_scan.proofs.Times.{boards_later}
+use Rattle.profile_scan.proofs.Times.{together_never_continue}
+use Rattle.profile_scan.proofs.Ends.{until_matters_at_source}
 use Rattle.profile_scan.proofs.Admitted.{AreAdmitted, aboard_admits, covers_weaker}
 
 module _ {V : Type 0} (rules : Rules V) (laws : Laws rules) (t : TimetableValue) (q : BetweenValue) (can : CanScan t q) (i : ℕ) where
@@ -75,10 +76,11 @@ module _ {V : Type 0} (rules : Rules V) (laws : Laws rules) (t : TimetableValue)
   changing_onward x ride rides in_i a =
       let c = connection_at t i in
       let walks = a.walks (λ e. cc) in
+      let rise = together_never_continue t can.legal in
       record {
         walks = walks;
         is_walk = a.is_walk;
-        boards = boards_later t can.legal a.goal (walk_end c.to x.walk) (c.arr + walk_secs x.walk) i (ride ∷ rides) in_i (omega arith) (λ e. cc) a.leads;
+        boards = rise.boards_later a.goal (walk_end c.to x.walk) (c.arr + walk_secs x.walk) i (ride ∷ rides) in_i (omega arith) (λ e. cc) a.leads;
         goal = a.goal;
         is_goal = a.is_goal;
         leads = a.leads;
@@ -312,7 +314,7 @@ module _ {V : Type 0} (rules : Rules V) (laws : Laws rules) (t : TimetableValue)
             counts.arrives e in
             let departs : departure + start_secs start ≡ (connection_at t i).dep = counts.departs ∙ ap (λ (n : ℕ). (connection_at t n).dep) (sym e) in
             let early = counts.not_early in
-            let late = counts.not_late in
+            let late = until_matters_at_source.is_cut t q departure (record { start = start; rides = ride ∷ rides }) c.counts in
             let v : V = walked rules ride.walk (ridden rules (final_time t 0 (ride ∷ rides)) rides) in
             let ride_v = laws.ride_admits v here.admits in
             let whole = started_admits rules laws t can.limits pair.source start (rules.ride v) counts.journey.starts ride_v in

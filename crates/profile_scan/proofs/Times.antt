@@ -101,10 +101,10 @@ module _ (t : TimetableValue) (legal : IsLegal t) where
       omega arith
 
   -- rides that lead on after a connection arrived board later ones
-  pub boards_later : (goal stop time i : ℕ) (rides : List RideValue) → i < length t.connections
+  later_are_boarded : (goal stop time i : ℕ) (rides : List RideValue) → i < length t.connections
       → (connection_at t i).arr ≤ time → rides ≢ [] → Leads t goal stop time rides → BoardsFrom (i + 1) rides
-  boards_later goal stop time i [] in_i after some leads = absurd (some refl)
-  boards_later goal stop time i (ride ∷ rides) in_i after some leads =
+  later_are_boarded goal stop time i [] in_i after some leads = absurd (some refl)
+  later_are_boarded goal stop time i (ride ∷ rides) in_i after some leads =
       let rising = leads.0.rising in
       let in_last = leads.0.in_range in
       let wait = leads.2 in
@@ -118,6 +118,7 @@ module _ (t : TimetableValue) (legal : IsLegal t) where
         let hop = hop_takes_time t legal ride.leg.last leads.0.in_range in
         let wait = leads.5.2 in
         omega arith;
+    boards_later = later_are_boarded;
   }
 
 pub together_never_continue : TogetherNeverContinue

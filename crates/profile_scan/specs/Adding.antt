@@ -57,8 +57,8 @@ pub record IsRelabelled {V : Type 0} (rules : Rules V) (trip : ℕ) (old new : L
   pub long : trips_of new ≡ trips_of old
   pub same : (k : ℕ) → (k ≡ trip → ⊥) → labels_at new k ≡ labels_at old k
 
--- a list takes an offer in while records grow from `was` to `now`: for any `before` that `was` extends, by which earlier tags are read, and any `all` that
--- extends `now`, by which later tags are
+-- a list takes an offer in while records grow from `was` to `now`: `tags.earlier` is spelled by any `before` that `was` continues, `tags.later` by any `all`
+-- that continues `now`
 abbrev pub Takes : {A V : Type 0} → Rules V → List Footpath → Story → Story → (Spellings → Offer A V) → List (Point V)
     → List (Point V) → Type 0
 Takes rules walks was now offer old new =
@@ -165,7 +165,7 @@ abbrev pub endings_and_changes : {V : Type 0} → Rules V → Spellings → ℕ 
     → List (Point V) → Offer (Option Footpath ⊎ Point V) V
 endings_and_changes rules tags i c q way bag = either (endings rules tags i c q way) (changes_from tags i c.arr bag)
 
--- a start begins at a source: none, if the connection begins at one; or a footpath from a source to another stop, which may be a source as well
+-- how one starts at a source: on no footpath, if the connection begins there; or on one from a source to another stop, possibly a source as well
 abbrev pub StartsFrom : BetweenValue → Connection → Option Footpath → Type 0
 StartsFrom q c None = Contains q.sources c.from
 StartsFrom q c (Some f) = Contains q.sources f.from × (f.to ≢ f.from)

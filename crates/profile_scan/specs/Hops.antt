@@ -38,7 +38,7 @@ pub record IsHop {V : Type 0} (rules : Rules V) (q : BetweenValue) (hop : Hop V)
   pub secs : IfSome hop.way (λ way. IsSecs way.secs)
   pub bound : (b : V) → Contains hop.bound.now b → Admits rules b
 
--- it can be looked up whether a start is from a source: for the stop where the connection begins in the hop, for the stop where a footpath begins in `starts`
+-- whether a start is from a source can be looked up: `hop.lead` says it of the stop where the connection begins, `starts` of the stop where a footpath begins
 pub record KnowsSources {V : Type 0} (sources : List ℕ) (hop : Hop V) (starts : Starts) (start : Option Footpath) : Type 0 where
   pub here : SaysSource sources hop.connection.from hop.lead.here
   pub within : IfSome start (λ walk. walk.from < length starts.leads.items)

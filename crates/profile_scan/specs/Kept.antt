@@ -25,12 +25,12 @@ use Rattle.profile_scan.specs.declared.ways.Ways.{Ways}
 abbrev pub points_at : {K V : Type 0} → Stops K V → ℕ → List (Point V)
 points_at stops stop = list_points stops.lists (slice_index stops.heads.items stop)
 
--- what a stop was offered last: for each time before `before`, its points have one that departs then or later and is no worse than `value`
+-- a stop's `LastOffer` is right: for each time before `before`, its points have one that departs then or later and is no worse than `value`
 pub record IsLastOffer {V : Type 0} (rules : Rules V) (points : List (Point V)) (offered : LastOffer V) : Type 0 where
   pub admitted : Admits rules offered.value
   pub covers : (time : ℕ) → time < offered.before → IsCovered rules points time offered.value
 
--- `count` lists under a criterion, and what each was offered last
+-- `count` lists under a criterion, each with a right `LastOffer`
 pub record AreStops {K V : Type 0} (rules_of : K → Rules V) (criterion : K) (count : ℕ)
     (stops : Stops K V) : Type 0 where
   pub under : lists_criterion stops.lists ≡ criterion

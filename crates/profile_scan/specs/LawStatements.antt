@@ -17,7 +17,7 @@ use Rattle.profile_scan.specs.Points.{Before, untagged}
 use Rattle.profile_scan.specs.Window.{window, falling}
 use Rattle.sources.specs.FirstAt.{IsFirstAt}
 use Rattle.profile_scan.specs.Between.{BetweenValue, IsAnswerBetween}
-use Rattle.profile_scan.specs.Continuations.{Onward, Aboard, IsOnward, IsAboard, CountsFrom}
+use Rattle.profile_scan.specs.Continuations.{Onward, Aboard, BoardsFrom, IsOnward, IsAboard, CountsFrom}
 use Rattle.profile_scan.specs.Plain.{IsPlainOf}
 use Rattle.profile_scan.specs.Matching.{Spelling, Spellings, Matches, ScanValue, MatchesFrom}
 
@@ -43,14 +43,16 @@ ChainsGiveWay rules =
     → (stop : ℕ) (chain : List Footpath) → chain ≢ [] → IsWalk t stop chain
     → (f : Footpath) × IsInstead rules t stop chain f
 
--- connections that depart together can't continue one another: a trip's connections depart one after the other, and
--- each leg departs later than the one before it was left
+-- connections that depart together can't continue one another: a trip's connections depart one after the other, each
+-- leg departs later than the one before it was left, and whoever rides on after connection i boards a later one
 pub record DeparturesRise (t : TimetableValue) : Type 0 where
   pub in_trips : (i j : ℕ) → i < j → j < length t.connections → (connection_at t i).trip ≡ (connection_at t j).trip
       → (connection_at t i).dep < (connection_at t j).dep
   pub in_rides : (goal stop time : ℕ) (ride next : RideValue) (rides : List RideValue)
       → Leads t goal stop time (ride ∷ next ∷ rides)
       → (connection_at t ride.leg.last).dep < (connection_at t next.leg.first).dep
+  pub boards_later : (goal stop time i : ℕ) (rides : List RideValue) → i < length t.connections
+      → (connection_at t i).arr ≤ time → rides ≢ [] → Leads t goal stop time rides → BoardsFrom (i + 1) rides
 
 abbrev pub TogetherNeverContinue : Type 0
 TogetherNeverContinue = (t : TimetableValue) → IsLegal t → DeparturesRise t

@@ -1,4 +1,4 @@
--- What a scan keeps, and when it matches all that may follow over the later connections.
+-- What a scan keeps, and when it matches all ways on over the later connections.
 use Rattle.std.specs.Prelude.{◌≡◌, ◌⊎◌, ℕ, ◌<◌, ◌≤◌, List, Contains, Option, Some}
 use Rattle.criteria.specs.Laws.{Rules, NoWorse, RidingWorsens}
 use Rattle.bags.specs.declared.point.Point.{Point}
@@ -11,7 +11,7 @@ use Rattle.profile_scan.specs.Points.{Covers}
 use Rattle.profile_scan.specs.Continuations.{Onward, Aboard, IsOnward, IsAboard, CountsFrom, onward_value, aboard_value}
 use Rattle.profile_scan.specs.Plain.{IsPlainOnward, IsPlainAboard, IsPlainOf}
 
--- what the tags of the points of stops, of labels and of the points found spell: how one goes on, or nothing
+-- what a tag of a stop's point, of a label, or of a point found spells: how one goes on, or nothing
 pub record Spelling : Type 0 where
   pub onward : ℕ → Option Onward
   pub aboard : ℕ → Option Aboard
@@ -40,8 +40,7 @@ pub record IsAttained {V X : Type 0} (spelled : ℕ → Option X) (IsThere : ℕ
   pub plain : IsPlainWay way
   pub worth : p.value ≡ value way
 
--- points match the ways that are there: each point is attained by what its tag spells, and of each way, plain or not,
--- departure and value are covered
+-- points match the ways that are there: each point is attained by what its tag spells, and each way's departure and value, plain or not, are covered
 pub record Matches {V X : Type 0} (rules : Rules V) (spelled : ℕ → Option X) (IsThere : ℕ → X → Type 0) (IsPlainWay : X
     → Type 0) (value : X → V) (points : List (Point V)) : Type 0 where
   pub sound : (p : Point V) → Contains points p → IsAttained spelled IsThere IsPlainWay value p
@@ -56,7 +55,7 @@ pub record IsOutdone {V : Type 0} (rules : Rules V) (t : TimetableValue) (found 
   pub in_time : (k : ℕ) → k < i → (connection_at t k).dep ≤ by.departure
   pub no_worse : NoWorse rules by.value v
 
--- points match the ways that are there, except those with outdone values: each point is attained, and of each way that isn't outdone departure and value are
+-- points match the ways that are there, except those with outdone values: each point is attained, and the departure and value of each way not outdone are
 -- covered
 pub record MatchesBut {V X : Type 0} (rules : Rules V) (spelled : ℕ → Option X) (IsThere : ℕ → X → Type 0)
     (IsPlainWay : X → Type 0) (value : X → V) (Outdone : V → Type 0) (points : List (Point V)) : Type 0 where
@@ -64,7 +63,7 @@ pub record MatchesBut {V X : Type 0} (rules : Rules V) (spelled : ℕ → Option
   pub complete : (departure : ℕ) (x : X) → IsThere departure x → Covers rules points departure (value x)
       ⊎ Outdone (value x)
 
--- a passenger in a trip has departed: labels have departure 0
+-- passengers in a trip have departed, so labels have departure 0
 pub record IsLabelled (t : TimetableValue) (q : BetweenValue) (i trip departure : ℕ) (x : Aboard) : Type 0 where
   pub departed : departure ≡ 0
   pub aboard : IsAboard t q i trip x
@@ -75,8 +74,7 @@ pub record ScanValue (V : Type 0) : Type 0 where
   pub labels : ℕ → List (Point V)
   pub found : List (Point V)
 
--- it matches every way to go on over the connections from index i on: at stops except those that points found outdo; in trips except those whose value with the
--- ride they outdo
+-- it matches every way to go on over the connections from index i on: except ways whose value (in a trip, with the ride) a point found outdoes
 pub record MatchesFrom {V : Type 0} (rules : Rules V) (t : TimetableValue) (q : BetweenValue) (tags : Spelling) (i : ℕ)
     (scan : ScanValue V) : Type 0 where
   pub at_stops : (stop : ℕ) → stop < t.stops

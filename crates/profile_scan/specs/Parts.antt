@@ -101,7 +101,7 @@ BoardsAfter {K} {V} rules hop walk_index walk ridden old new =
     → (stop : ℕ)
     → StopTakes rules walks stop (λ tags. boardings_by rules tags hop.place hop.connection stop labels walk) old new
 
--- the same for the footpaths at indices from `begin` on, before `end`
+-- the same for the footpaths at the indices `begin..end`
 abbrev pub BoardsAfterEach : {K V : Type 0}
     → Rules V → List Footpath → ℕ → ℕ → Hop V → List (RiddenLabel V) → Stops K V → Stops K V → Type 0
 BoardsAfterEach {K} {V} rules walks begin end hop ridden old new =
@@ -116,8 +116,8 @@ BoardsAfterEach {K} {V} rules walks begin end hop ridden old new =
 abbrev pub points_of_trip : {K V : Type 0} {c : _} → State K V c → Hop V → List (Point V)
 points_of_trip state hop = trip_points state.trips.labels hop.connection.trip
 
--- a state takes a connection in, in the order of the code: alighting changes the labels of its trip; by these one sets out, which changes the points found, and
--- boards, which changes the points of every stop
+-- a state takes in a connection, in the order of the code: alighting changes the labels of its trip; with these one sets out, which changes the points found,
+-- and boards, which changes the points of stops
 pub record TakesConnection {K V : Type 0} {c : _} (rules : Rules V) (t : TimetableValue) (q : BetweenValue) (hop : Hop V)
     (old new : State K V c) : Type 0 where
   pub between : Story

@@ -48,7 +48,7 @@ pub record IsAnswerOf {V : Type 0} (rules : Rules V) (IsThere : ℕ → V → Ty
   pub unbeaten : (departure : ℕ) (v : V) → IsThere departure v → Covers rules points departure v
   pub ordered : AllPairs (Before rules) points
 
--- the answer of a query: so its undominated points, which cover every journey that counts
+-- the answer of a query: its undominated points, which cover every journey that counts
 abbrev pub IsAnswer : {V : Type 0} → Rules V → TimetableValue → Query → List (Point V) → Type 0
 IsAnswer rules t q = IsAnswerOf rules (IsPoint rules t q)
 

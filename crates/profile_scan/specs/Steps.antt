@@ -14,14 +14,15 @@ use Rattle.profile_scan.specs.Continuations.{Onward, Aboard}
 use Rattle.profile_scan.specs.declared.ways.Way.{Way}
 use Rattle.profile_scan.specs.Matching.{Spelling, Spellings, Keeps, from_to, IsOutdone, ScanValue}
 
--- an offer to a list of points: the ways (elements of A) that are open; for each its departure, its value and the tags that fit
+-- an offer to a list of points. Each element of A is something that could be offered; `is_open` says which are; the other fields give the point's departure,
+-- value and possible tags
 pub record Offer (A V : Type 0) : Type 1 where
   pub is_open : A → Type 0
   pub departure : A → ℕ
   pub value : A → V
   pub fits_tag : A → ℕ → Type 0
 
--- a point is one of an offer
+-- a point is among those offered
 pub record IsOffered {A V : Type 0} (offer : Offer A V) (p : Point V) : Type 0 where
   pub way : A
   pub is_open : offer.is_open way
@@ -29,13 +30,13 @@ pub record IsOffered {A V : Type 0} (offer : Offer A V) (p : Point V) : Type 0 w
   pub worth : p.value ≡ offer.value way
   pub fits : offer.fits_tag way p.tag
 
--- a list takes an offer in: each point was there before or is offered, what was covered stays covered, and all that is offered is covered
+-- a list takes in an offer: each point was there before or is offered, what was covered stays covered, and all that is offered is covered
 pub record TakesIn {A V : Type 0} (rules : Rules V) (offer : Offer A V) (old new : List (Point V)) : Type 0 where
   pub only : (p : Point V) → Contains new p → Contains old p ⊎ IsOffered offer p
   pub kept : (departure : ℕ) (v : V) → Admits rules v → Covers rules old departure v → Covers rules new departure v
   pub covered : (way : A) → offer.is_open way → Covers rules new (offer.departure way) (offer.value way)
 
--- how a passenger may leave a trip where a connection ends: at a target; one footpath before a target; or to change, as a point of that stop does
+-- how a passenger may leave a trip where a connection ends: at a target; a footpath before one; or to change, going on by a point of that stop
 pub data Leaving (V : Type 0) : Type 0 where
   ends : Leaving V
   ends_after : Footpath → Leaving V
@@ -111,7 +112,7 @@ pub record SettingOut (V : Type 0) : Type 0 where
   pub start : Option Footpath
   pub label : Point V
 
--- one may set out from a source by a start of some kind; only here the query's earliest and latest departure matter
+-- one may set out from a source by a start of some kind; of a step, only this needs `from` and `until`
 pub record MaySetOutBy {V : Type 0} (IsOfKind : ℕ → Option Footpath → Type 0) (t : TimetableValue) (q : BetweenValue) (i : ℕ)
     (labels : List (Point V))
     (way : SettingOut V) : Type 0 where
@@ -140,17 +141,16 @@ settings_out rules t q tags i labels = record {
       → tags.later.journey tag ≡ Some (record { start = way.start; rides = boarded i x });
 }
 
--- the points carried on: all, but those may be left out whose value with the ride is outdone by a point found (at i + 1: it departs no earlier than connection
--- i and all before it)
+-- the points carried on: a point may be left out if a point found outdoes its value with the ride. Index i + 1 makes that point depart no earlier than
+-- connection i and those before it
 pub record AreCarried {V : Type 0} (rules : Rules V) (t : TimetableValue) (found : List (Point V)) (i : ℕ)
     (points carried : List (Point V)) : Type 0 where
   pub only : (p : Point V) → Contains carried p → Contains points p
   pub all : (p : Point V) → Contains points p → Contains carried p
       ⊎ IsOutdone rules t found (i + 1) (rules.ride p.value)
 
--- the step of one connection, from what a scan keeps of the later ones: first the labels of its trip change, by the end and by the points of the stop where it
--- ends; `between` is what tags spell then; by these labels and `between`, the points found and the points of every stop change. All labels are offered to the
--- points found; what these outdo isn't carried on to labels and stops
+-- the step of one connection, from what a scan keeps of the later ones. First the labels of its trip take in the ways to leave it where the connection ends;
+-- `between` is what tags spell then. Then all of the trip's labels, new and old, are offered to the points found, and those not outdone to every stop
 pub record IsStep {V : Type 0} (rules : Rules V) (t : TimetableValue) (q : BetweenValue) (tags : Spellings) (i : ℕ)
     (old new : ScanValue V) : Type 0 where
   pub between : Spelling
@@ -168,8 +168,7 @@ pub record IsStep {V : Type 0} (rules : Rules V) (t : TimetableValue) (q : Betwe
   pub sets_out : TakesIn rules
       (settings_out rules t q (from_to between tags.later) i (new.labels (connection_at t i).trip)) old.found new.found
 
--- a connection at which nothing is offered: its trip has no labels, and a passenger who gets off can neither end there nor go on, on foot or by a point of
--- the stop
+-- a connection at which nothing is offered: its trip has no labels, and who gets off is neither at a target nor a footpath away, and finds no point at the stop
 pub record IsIdle {V : Type 0} (c : Connection) (way : Option Way)
     (labels bag : List (Point V)) : Type 0 where
   pub no_labels : labels ≡ []

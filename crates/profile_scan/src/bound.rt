@@ -22,8 +22,8 @@ pub struct Bound<C: Criterion> {
     pub values: Vec<C::V>,
     // how many points had ever been found at the last reading: the list of the points found may grow shorter
     count: usize,
-    // the index of the first point to read again: those before it depart later than the last `time`, and points still
-    // to come depart then or earlier, so they are put in here or behind
+    // where the next reading begins. The points before this index depart later than the last `time`. New points depart
+    // at that time or earlier, so none is inserted before it
     index: usize,
     // the departure of the first point that wasn't late enough at the last reading, or 0 if all were read
     next: u32,
@@ -63,8 +63,8 @@ impl<C: Criterion> Bound<C> {
     }
 
     /// Adds the values of points found that depart at `time` or later and weren't read yet. `count` is how many points
-    /// were ever found, by which it is known whether there are new ones. Points that depart exactly at `time` are read
-    /// again at the next call, since more of them may be found. What the bound excluded stays excluded.
+    /// were ever found: if it hasn't changed since the last call, there are no new ones. Points that depart exactly at
+    /// `time` are read again at the next call, since more of them may be found. What the bound excluded stays excluded.
     /// Nothing is added unless the criterion says `riding_worsens`.
     pub fn renew(
         &mut self,

@@ -57,7 +57,7 @@ impl<C: Criterion> StateOfAll<C> {
         })
     }
 
-    // Returns true only if the connection can add nothing, as many can't; false is always safe.
+    // Returns true only if the connection can add nothing, like many; false is always safe.
     fn is_idle(&self, asked: &ScanQuery<C>, connection: &Connection, way: Option<Way>) -> bool
         requires trip { HasTrip (C.rules asked.now.criterion) connection.now.trip self.now.trips }
         requires stop { HasStop C.rules asked.now.criterion connection.now.to self.now.stops }
@@ -169,7 +169,7 @@ pub fn scan_for_all<S: ConnSource, C: Criterion>(
     let none = Vec::new(alloc);
     let mut place = window.end;
     // Invariant: for every stop as the source, what is kept matches every way to go on over the connections from index
-    // `place` on, but for what the points found from there outdo at stops and in trips (`MatchesFrom`, as `matched` in
+    // `place` on, but for what the points found from there outdo at stops and in trips (`MatchesFrom`, `matched` in
     // proofs/everywhere/scan_for_all/Invariants.antt).
     while window.start < place {
         place -= 1;

@@ -90,7 +90,7 @@ pub fn in_order<C: Criterion>(
     Ok(points)
 }
 
-// Puts a point among points in order. A bag's points come nearly by departure, so the index is near the end.
+// Puts a point among points in order. A bag's points come nearly in order, so the index is near the end.
 fn put<C: Criterion>(
     criterion: &C,
     points: &mut Vec<Point<C::V>>,
@@ -100,13 +100,13 @@ fn put<C: Criterion>(
     ensures ordered { OnOk result (AllPairs (Before (C.rules criterion.now)) points.new.items) }
     ensures put { OnOk result ((p : _) → Contains points.new.items p ↔ ((point ≡ p) ⊎ Contains points.old.items p)) }
 {
-    let index = place_for(criterion, points, &point);
+    let index = index_for(criterion, points, &point);
     points.insert(index, point)?;
     Ok(())
 }
 
 // The index at which to put a point among points in order.
-fn place_for<C: Criterion>(criterion: &C, points: &[Point<C::V>], point: &Point<C::V>) -> usize
+fn index_for<C: Criterion>(criterion: &C, points: &[Point<C::V>], point: &Point<C::V>) -> usize
     requires { CanPut (C.rules criterion.now) points.now point.now }
     ensures within { result ≤ length points.now }
     ensures before { (k : ℕ) (d : _) → k < result

@@ -31,7 +31,7 @@ pub struct Hop<'a, V> {
     // there is none
     pub way: Option<Way>,
     // the bound, renewed before this connection is taken in: values of points found that depart no earlier than it. A
-    // stop's point isn't carried on to labels, nor a label to stops, if one of them is no worse than its value with the
-    // ride. Empty in a scan for all sources
+    // stop's point isn't offered to labels, nor a label to stops, if a value of the bound is no worse than the point's
+    // or label's value with the ride. Empty in a scan for all sources
     pub bound: &'a [V],
 }

@@ -12,8 +12,9 @@ use criteria::Criterion;
 use fronts::copies;
 use std::alloc::{AllocError, Global};
 
-/// What a stop was offered last: for each time before `before`, its list has a point that departs then or later and is
-/// no worse than `value`. `before` is a time in seconds, and 0 until something is offered: no time is before 0.
+/// An offer that a stop took: a passenger at the stop at any time less than `before` finds in its list a point that
+/// departs at that time or later and is no worse than `value`. `before` is a time in seconds, and 0 until something is
+/// offered: no time is before 0.
 #[derive(Clone, Copy, Drop)]
 pub struct LastOffer<V> {
     pub before: u32,

@@ -21,6 +21,7 @@ ghost use Rattle.profile_scan.specs.LawStatements.{WindowIsReadBackward};
 use crate::answering::profile;
 use crate::found::Found;
 use criteria::Criterion;
+use image_verifier::Verified;
 use sources::{ConnSource, Decoded, InPlace};
 use std::alloc::{AllocError, Global};
 use timetable::Query;
@@ -117,40 +118,42 @@ pub fn two_sources<A: ConnSource, B: ConnSource, C: Criterion>(
     Ok((found, again))
 }
 
-/// An image read in place and its lists decoded, as any two sources of one timetable: the same points, tags aside,
-/// and each is asked once for each connection of the window, or only for a first part of them if memory runs out.
+/// What an image read in place and its decoded lists answered to one query, and both sources: their logs say which
+/// connections each was asked for.
+#[derive(Drop)]
+pub struct FromBoth<'a, C: Criterion> {
+    pub in_place: InPlace<'a>,
+    pub decoded: Decoded,
+    pub found_in_place: Found<C>,
+    pub found_decoded: Found<C>,
+}
+
+/// An image read in place and its lists decoded give a query the same points, tags aside, and each is asked once for
+/// each connection of the window, from the last to the first. The only error is that memory runs out.
 pub fn both_sources<'a, C: Criterion>(
     alloc: Global,
-    in_place: &mut InPlace<'a>,
-    decoded: &mut Decoded,
+    image: &'a Verified,
     criterion: &C,
     query: &Query,
-) -> Result<(Found<C>, Found<C>), AllocError>
-    requires askable { IsAskable (⟦<InPlace<'a> as ConnSource>⟧.timetable in_place.old).stops query.now }
-    requires alike { ⟦<Decoded as ConnSource>⟧.timetable decoded.old
-        ≡ ⟦<InPlace<'a> as ConnSource>⟧.timetable in_place.old }
-    ensures answers { IfOk result
-        (λ found. Answers criterion.now (C.rules criterion.now)
-        (⟦<InPlace<'a> as ConnSource>⟧.timetable in_place.old) query.now found.0
-        × Answers criterion.now (C.rules criterion.now)
-        (⟦<InPlace<'a> as ConnSource>⟧.timetable in_place.old) query.now found.1) }
-    ensures same { IfOk result (λ found. map untagged (listed found.0) ≡ map untagged (listed found.1)) }
-    ensures timetable { ⟦<InPlace<'a> as ConnSource>⟧.timetable in_place.new
-        ≡ ⟦<InPlace<'a> as ConnSource>⟧.timetable in_place.old }
-    ensures decoded_timetable { ⟦<Decoded as ConnSource>⟧.timetable decoded.new
-        ≡ ⟦<Decoded as ConnSource>⟧.timetable decoded.old }
-    ensures log { OnOk result (⟦<InPlace<'a> as ConnSource>⟧.log in_place.new
-        ≡ ⟦<InPlace<'a> as ConnSource>⟧.log in_place.old
-        ++ reverse (window (⟦<InPlace<'a> as ConnSource>⟧.timetable in_place.old) query.now)) }
-    ensures decoded_log { OnOk result (⟦<Decoded as ConnSource>⟧.log decoded.new
-        ≡ ⟦<Decoded as ConnSource>⟧.log decoded.old
-        ++ reverse (window (⟦<InPlace<'a> as ConnSource>⟧.timetable in_place.old) query.now)) }
-    ensures err { OnErr result ((n : ℕ) × (⟦<InPlace<'a> as ConnSource>⟧.log in_place.new
-        ≡ ⟦<InPlace<'a> as ConnSource>⟧.log in_place.old
-        ++ take n (reverse (window (⟦<InPlace<'a> as ConnSource>⟧.timetable in_place.old) query.now)))) }
-    ensures decoded_err { OnErr result ((n : ℕ) × (⟦<Decoded as ConnSource>⟧.log decoded.new
-        ≡ ⟦<Decoded as ConnSource>⟧.log decoded.old
-        ++ take n (reverse (window (⟦<InPlace<'a> as ConnSource>⟧.timetable in_place.old) query.now)))) }
+) -> Result<FromBoth<'a, C>, AllocError>
+    requires { IsAskable image.now.timetable.stops query.now }
+    ensures answers { IfOk result (λ both.
+        Answers criterion.now (C.rules criterion.now) image.now.timetable query.now both.found_in_place
+        × Answers criterion.now (C.rules criterion.now) image.now.timetable query.now both.found_decoded) }
+    ensures same { IfOk result
+        (λ both. map untagged (listed both.found_in_place) ≡ map untagged (listed both.found_decoded)) }
+    ensures log { IfOk result (λ both. ⟦<InPlace<'a> as ConnSource>⟧.log both.in_place
+        ≡ reverse (window image.now.timetable query.now)) }
+    ensures decoded_log { IfOk result (λ both. ⟦<Decoded as ConnSource>⟧.log both.decoded
+        ≡ reverse (window image.now.timetable query.now)) }
 {
-    two_sources(alloc, in_place, decoded, criterion, query)
+    let mut in_place = InPlace::new(image);
+    let mut decoded = Decoded::of(alloc, image)?;
+    let found = two_sources(alloc, &mut in_place, &mut decoded, criterion, query)?;
+    Ok(FromBoth {
+        in_place,
+        decoded,
+        found_in_place: found.0,
+        found_decoded: found.1,
+    })
 }

@@ -1,26 +1,37 @@
 //! The answer of a profile query, and the laws by which one backward scan finds it.
 //!
 //! A profile query asks for all best departures of a window: of the points (departure, value) of all journeys, those
-//! that no other dominates. The scan goes once over the connections, from the last to the first, as the profile variant
-//! of the Connection Scan Algorithm does (Dibbelt, Pajor, Strasser, Wagner, ACM Journal of Experimental Algorithmics,
-//! 2018). `profile` is that scan, reading from any `ConnSource`, under any criterion. Its loop is `scan::scan_window`,
-//! which calls `Scan::step` for each index from the window's end down. A step returns at once if the connection can add
-//! nothing; else it brings the bound up to the connection's departure, makes a `Hop` and calls `State::take`:
+//! that no other dominates. `IsAnswerBetween` (specs/Between.antt) defines it. The scan goes once over the connections,
+//! from the last to the first, as the profile variant of the Connection Scan Algorithm does (Dibbelt, Pajor, Strasser,
+//! Wagner, ACM Journal of Experimental Algorithmics, 2018). `profile` is that scan, reading from any `ConnSource`,
+//! under any criterion. The window is the connections that depart at `from` or later and before `by`, since a later leg
+//! may depart after `until`. The loop is `scan::scan_window`, which calls `Scan::step` for each index from the window's
+//! end down; by `log`, no step reads another connection. A step returns at once if the connection can add nothing; else
+//! it renews the bound for the connection's departure, makes a `Hop` and calls `State::take`:
 //!
-//! 1. Leave the trip: `Trips::alight` changes only the labels of the connection's trip and appends to `exits`; it reads
-//!    the stops as they were before this connection, and `hop.bound`. The journey may end there: `Trips::end` offers
-//!    the value of the arrival at the target, which `value_at_end` makes. Or the passenger may change: `Trips::change`
-//!    offers the points of the stop.
+//! 1. Leave the trip: `Trips::alight` changes only the labels of the connection's trip, by `fronts::offer_label`, and
+//!    appends to `exits`; it reads the stops as they were before this connection, and `hop.bound`. The journey may end
+//!    there, or one footpath on (`hop.way`): `Trips::end` offers the value that `value_at_end` makes. Or the passenger
+//!    may change: `Trips::change` offers the stop's points that depart at the arrival or later. Such a point departs
+//!    when the walk to the next connection begins. That walk is one footpath, within the stop its loop, whose seconds
+//!    are the change time: so change times count in 3. `Leads` (timetable's specs/Journeys.antt) defines when one may
+//!    change, and `journeys::check` tests it of one journey.
 //! 2. Set out: `Origin::set_out` changes only the points found and appends to `set_outs`; it reads the labels that
-//!    `alight` left, and not the bound. It makes a start of each footpath from a source to the connection; the table
-//!    `Starts` only says which stops are sources, and to which a footpath leads from one.
-//! 3. Board: `Stops::board` appends to the lists and changes `heads`, `offers` and the scratch vector `ridden`; it
+//!    `alight` left, and not the bound. It sets out without a footpath if the connection begins at a source, and after
+//!    each footpath, loops excepted, from a source to there; `Starts` only marks the sources and the stops that such
+//!    footpaths lead to.
+//! 3. Board: for each footpath into the stop where the connection begins, its loop included, `Stops::board` offers, to
+//!    the stop where that footpath begins, points that depart its seconds earlier (`board_walk`, and `board_walk_one`
+//!    for a single value). It appends to the lists and changes `heads`, `offers` and the scratch vector `ridden`; it
 //!    reads the same labels and `hop.bound`, and never the points found.
+//!
+//! A ride is counted where the trip is boarded, in 2 and 3: a label's value doesn't include it.
 //!
 //! `hop.bound` has values of points found that depart no earlier than the connection. 1 leaves out a point of the stop,
 //! and 3 a label, if one of these values is no worse than that point's or label's own value with the ride in this trip.
-//! The bound is renewed before 1, so neither sees what 2 finds at this connection. It stays empty unless the criterion
-//! says `riding_worsens`.
+//! What remains is `carried` (specs/Bound.antt); `AreCarried` (specs/Steps.antt) says what a step may leave out. The
+//! bound is renewed before 1, so 3 doesn't see what 2 has just found. It stays empty unless the criterion says
+//! `riding_worsens`.
 //!
 //! The invariant is `MatchesFrom` (specs/Matching.antt) at the index i that the scan has come down to. At every stop,
 //! in every trip and at the source, each point is attained by what its tag spells, and each way to go on over the
@@ -28,14 +39,16 @@
 //! left uncovered if its value (in a trip, with the ride in it) is outdone (`IsOutdone`): riding never improves a
 //! value, and some point found is no worse and departs no earlier than every connection before i. The loop of
 //! `scan_window` carries the invariant (`matched` in proofs/scan/scan_window/Invariants.antt): the law
-//! `nothing_follows` begins it, `one_index_down` keeps it at each step, and `match_is_the_answer` ends it. What a step
-//! is, and why that is enough, is said in `specs/` (Points, Continuations, Matching, Steps, then Parts) and proved by
-//! the functions of `laws`.
+//! `nothing_follows` begins it, `one_index_down` keeps it at each step, and `match_is_the_answer` ends it. `specs/`
+//! (Points, Continuations, Matching, Steps, then Parts) says what a step is; the functions of `laws` prove that it
+//! suffices. The invariant holds at each index, so the points found at any of them match the journeys that board there
+//! or later; only `match_is_the_answer` needs the window's start.
 //!
-//! A tag is an index: a label's into `Trips::exits`, that of a stop's point into the steps of `Stops::lists`, that of a
-//! point found into `Origin::set_outs`, and in `Found` into the nodes. An offer's tag is the vector's length before the
-//! offer, and the record is pushed only if the offer is accepted; these vectors only grow while a scan runs, so a tag
-//! keeps its meaning.
+//! A tag is an index: of a label, into `Trips::exits`; of a stop's point, into the steps of `Stops::lists`; of a point
+//! found, into `Origin::set_outs`, and once it is in `Found`, into its nodes. An offer's tag is the vector's length
+//! before the offer, and the record is pushed only if the offer is accepted; these vectors only grow while a scan runs,
+//! so a tag keeps its meaning. `spelling_of` (specs/Story.antt) says what a tag spells; `telling` makes nodes of it,
+//! and `journeys::extract` a journey of these.
 //!
 //! `profiles_to_any` answers from every stop to any of several targets by another scan, `everywhere::scan_for_all`: the
 //! same steps, but points found for each stop, and no bound. Its loop carries `MatchesFrom` for every stop as the

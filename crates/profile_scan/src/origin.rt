@@ -52,7 +52,7 @@ impl<C: Criterion> Origin<C> {
         }
     }
 
-    // Offers one point to the points found. How one sets out for it is kept only if the point was accepted.
+    // Offers one point to the points found. `set_out` is kept only if the point was accepted.
     fn offer(
         &mut self,
         criterion: &C,
@@ -74,8 +74,8 @@ impl<C: Criterion> Origin<C> {
         Ok(())
     }
 
-    /// Offers to the points found, for each label of the connection's trip, the point of boarding the connection with
-    /// it after this departure.
+    /// Offers to the points found, for each label of the connection's trip, the point of departing so and boarding with
+    /// that label.
     #[inline(never)]
     pub fn set_out_after(
         &mut self,
@@ -106,8 +106,8 @@ impl<C: Criterion> Origin<C> {
         Ok(())
     }
 
-    // Offers to the points found, for each label of the connection's trip, the point of boarding the connection with it
-    // after `start`; nothing if that isn't a start from a source, or departs at a time that the query doesn't allow.
+    // Offers to the points found, for each label of the connection's trip, the point of boarding with it after `start`;
+    // nothing unless `MayStart` (specs/Adding.antt) allows it.
     #[inline(always)]
     fn set_out_by(
         &mut self,
@@ -180,7 +180,7 @@ pub struct SourceDeparture {
     pub time: u32,
 }
 
-// Whether a start for the connection of a hop begins at a source and isn't a loop.
+// Whether a start for the hop's connection begins at a source and isn't a loop.
 #[inline(always)]
 fn is_from_source<C: Criterion>(
     asked: &ScanQuery<C>,
@@ -202,7 +202,7 @@ fn is_from_source<C: Criterion>(
     }
 }
 
-/// How one sets out by a start to board a connection, if the query allows that departure.
+/// The departure of a start that leads to a connection, if the query allows it.
 #[inline(always)]
 pub fn departure_with(
     query: &Between,

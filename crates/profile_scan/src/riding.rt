@@ -66,7 +66,7 @@ fn ride_label<C: Criterion>(
     Ok(())
 }
 
-/// Makes a list of the labels' values with the ride, without each that a value of the bound is no worse than.
+/// Fills `ridden` with each label's value with the ride, except where a value of the bound is no worse.
 #[inline(always)]
 pub fn ride_labels<C: Criterion>(
     criterion: &C,

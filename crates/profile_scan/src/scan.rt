@@ -50,7 +50,7 @@ impl<C: Criterion> State<C> {
         })
     }
 
-    // Returns true only if the connection can add nothing, as most can't; false is always safe.
+    // Returns true only if the connection can add nothing, like most; false is always safe.
     fn is_idle(&self, asked: &ScanQuery<C>, connection: &Connection, way: Option<Way>) -> bool
         requires trip { HasTrip (C.rules asked.now.criterion) connection.now.trip self.now.trips }
         requires stop { HasStop C.rules asked.now.criterion connection.now.to self.now.stops }
@@ -93,10 +93,10 @@ impl<C: Criterion> State<C> {
     }
 }
 
-/// Whether getting off where a connection ends leads nowhere: passengers may not get off there; or no footpath leads
-/// from that stop to a target (from a target its own loop does), and it has no points by which a passenger would go on.
-/// `way` is that footpath, `head` the head of the stop's list, which is 0 if it has no points. Whether the connection's
-/// trip has labels isn't asked.
+/// Whether getting off where a connection ends leads nowhere: true if passengers may not get off there, or if that stop
+/// has neither a footpath to a target (a target's own loop counts) nor points.
+/// `way` is that footpath, `head` the head of the stop's list, which is 0 if it has no points. It ignores the labels of
+/// the connection's trip.
 pub fn alighting_leads_nowhere(connection: &Connection, way: Option<Way>, head: u32) -> bool
     ensures { (result ≡ true) ↔ (connection.now.alight ≡ true → (way ≡ None) × (head ≡ 0)) }
 {
@@ -128,8 +128,7 @@ impl<C: Criterion> Scan<C> {
     ghost use Rattle.profile_scan.specs.Kept.{IsScan, kept_by, story_of};
     ghost use Rattle.profile_scan.specs.Hops.{IsAsked, StandsAt};
 
-    // Takes in the connection at index `place`, after bringing the bound up to its departure, unless it can add
-    // nothing.
+    // Unless the connection at index `place` can add nothing, renews the bound and takes the connection in.
     fn step<S: ConnSource>(
         &mut self,
         asked: &ScanQuery<C>,
@@ -176,7 +175,7 @@ ghost use Rattle.profile_scan.specs.Between.{question};
 ghost use Rattle.profile_scan.specs.Window.{falling};
 ghost use Rattle.profile_scan.specs.Parts.{HasFound};
 
-/// Scans the connections of a window, the last first. The points found match every journey that boards there.
+/// Scans the connections of a window, the last first. The points found match every journey boarding in it.
 pub fn scan_window<S: ConnSource, C: Criterion>(
     alloc: Global,
     source: &mut S,
@@ -200,8 +199,7 @@ pub fn scan_window<S: ConnSource, C: Criterion>(
     };
     let mut place = window.end;
     // Invariant: what is kept matches every way to go on over the connections from index `place` on, but for what the
-    // points found outdo at stops and in trips (`MatchesFrom`, as `matched` in
-    // proofs/scan/scan_window/Invariants.antt).
+    // points found outdo at stops and in trips (`MatchesFrom`, `matched` in proofs/scan/scan_window/Invariants.antt).
     while window.start < place {
         place -= 1;
         let connection = source.connection(place);

@@ -17,8 +17,8 @@ pub struct Lead {
     pub led: bool,
 }
 
-/// For each stop how one may set out from there. To most stops no footpath leads from a source, so setting out mostly
-/// skips the footpaths.
+/// For each stop how one may set out for the connections that begin there. To most stops no footpath leads from a
+/// source, so setting out mostly skips the footpaths.
 #[derive(Drop)]
 pub struct Starts {
     leads: Vec<Lead>,

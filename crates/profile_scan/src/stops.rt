@@ -13,14 +13,14 @@ use std::alloc::{AllocError, Global};
 use std::ops::Range;
 use timetable::Footpath;
 
-/// A list of points for each stop, by its head, and what each was offered last. The tag of a point is the index of its
-/// step in `lists`: the connection that is boarded, the label by which one rides on, and the footpath before it.
+/// A list of points for each stop, by its head, and its `LastOffer`. A point's tag is the index in `lists` of its step:
+/// a footpath, the connection boarded after it, and the label by which one rides on.
 #[derive(Drop)]
 pub struct Stops<C: Criterion> {
     pub lists: FrontLists<C>,
     pub heads: Vec<u32>,
     pub offers: Vec<LastOffer<C::V>>,
-    // scratch memory: the values of a trip's labels with the ride, if it has several, overwritten by each boarding
+    // scratch memory of boarding a trip with several labels: their values with the ride, overwritten each time
     pub ridden: Vec<RiddenLabel<C::V>>,
 }
 
@@ -79,8 +79,8 @@ impl<C: Criterion> Stops<C> {
         criterion.no_worse(&offered.value, value)
     }
 
-    // Offers to the list of the stop where a footpath begins, for each ridden value, the point of boarding the
-    // connection with it after that footpath.
+    // Offers, for each ridden value, the point of taking a footpath and then boarding, to the list of the stop where
+    // the footpath begins.
     #[inline(always)]
     fn board_walk(
         &mut self,
@@ -141,8 +141,8 @@ impl<C: Criterion> Stops<C> {
         Ok(())
     }
 
-    // Offers to the list of the stop where a footpath begins the point of boarding the connection with one ridden value
-    // after that footpath, unless the last offer to the stop shows that its list covers it.
+    // Like `board_walk` for a single ridden value, unless the last offer to the stop shows that its list covers the
+    // point.
     #[inline(always)]
     fn board_walk_one(
         &mut self,
@@ -244,9 +244,9 @@ impl<C: Criterion> Stops<C> {
         Ok(())
     }
 
-    /// Boards a connection, if passengers may get on there: offers to the list of every stop, for each label of the
-    /// connection's trip, the points of boarding from there with it, except where a value of `hop.bound` is no worse
-    /// than the label's value with the ride.
+    /// Boards a connection, if passengers may get on there: offers to the list of each stop with a footpath there, for
+    /// each label of the trip, the point of boarding with it, unless a value of `hop.bound` is no worse than the
+    /// label's value with the ride.
     #[inline(always)]
     pub fn board<S: ConnSource>(
         &mut self,

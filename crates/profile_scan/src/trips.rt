@@ -1,5 +1,5 @@
-//! What a scan keeps for each trip: labels, each with the value of what comes after the trip is left, without the ride
-//! in it, and how the trip is left.
+//! What a scan keeps for each trip: its labels. A label says how the trip is left, and what the rest of the journey is
+//! worth, without the ride in this trip.
 //!
 //! A trip is left where a connection ends: at a target, one footpath before one, or to change.
 
@@ -61,7 +61,7 @@ impl<C: Criterion> Trips<C> {
         })
     }
 
-    // Offers one value to the labels of a trip. How one goes on from it is kept only if it was accepted.
+    // Offers one value to the labels of a trip. `exit` is kept only if the value was accepted.
     fn offer(&mut self, criterion: &C, trip: u32, value: C::V, exit: Exit) -> Result<(), AllocError>
         requires trip { HasTrip (C.rules criterion.now) trip self.old }
         requires admitted { Admits (C.rules criterion.now) value }
@@ -78,8 +78,8 @@ impl<C: Criterion> Trips<C> {
     }
 
     // Offers to the labels of the connection's trip one point of the stop where it ends, unless a value of `hop.bound`
-    // is no worse than the point's value with the ride. The value is compared with the labels first, since mostly one
-    // of them is no worse already, and otherwise with the bound.
+    // is no worse than the point's value with the ride. The value is compared with the labels first, since one of them
+    // is usually no worse, and then with the bound.
     fn change_by(
         &mut self,
         asked: &ScanQuery<C>,
@@ -113,11 +113,10 @@ impl<C: Criterion> Trips<C> {
         self.offer(&asked.criterion, hop.connection.trip, point.value, exit)
     }
 
-    // A passenger changes: offers to the labels of the connection's trip each point of the stop where it ends that
-    // departs at the arrival or later, except where a value of `hop.bound` is no worse than the point's value with the
-    // ride. The front from then on is enough: for each such point it has one that is no worse. `front_point` reads the
-    // first point of a front (`own`) from the entry and the others from the items: with the first ahead of the loop,
-    // the loop reads items only.
+    // A passenger changes: the labels of the connection's trip come to cover each point of the stop where it ends that
+    // departs at the arrival or later, unless a value of `hop.bound` is no worse than the point's value with the ride.
+    // It suffices to offer the front at the arrival, which covers all such points. Its first point (`own`) is in its
+    // entry, not among the items, so it is offered before the loop.
     #[inline(always)]
     fn change(
         &mut self,
@@ -136,7 +135,7 @@ impl<C: Criterion> Trips<C> {
             self.old self.new) }
     {
         let head = stops.head(hop.connection.to);
-        // the index of the front's entry, 0 if no point departs so late
+        // the index of the front's entry, 0 if all points depart earlier
         let entry = stops.lists.front_from(head, hop.connection.arr);
         let count = stops.lists.front_len(entry);
         if count == 0 {
@@ -152,8 +151,8 @@ impl<C: Criterion> Trips<C> {
         Ok(())
     }
 
-    // Offers to the labels of the connection's trip the end of the journey, if a passenger who gets off is at a target
-    // by `query.by`, at once or after the footpath there.
+    // Offers the end of the journey to the labels of the connection's trip, if a passenger who gets off reaches a
+    // target by `query.by`, at once or by footpath.
     fn end(&mut self, asked: &ScanQuery<C>, hop: &Hop<C::V>) -> Result<(), AllocError>
         requires hop { IsHop (C.rules asked.now.criterion) (question asked.now.query) hop.now }
         requires trip { HasTrip (C.rules asked.now.criterion) hop.now.connection.trip self.old }

@@ -307,17 +307,9 @@ fn give_one_answer(alloc: Global, words: &[u32]) -> Result<bool, Fail> {
     if ASKED.check(image.stops()).is_err() {
         return Ok(false);
     }
-    let mut in_place = InPlace::new(&image);
-    let mut decoded = Decoded::of(alloc, &image)?;
-    let (found, again) = laws::both_sources(
-        alloc,
-        &mut in_place,
-        &mut decoded,
-        &ArrivalTrips,
-        &ASKED,
-    )?;
-    laws::found_answers(&found);
-    Ok(depart_together(&found, &again))
+    let both = laws::both_sources(alloc, &image, &ArrivalTrips, &ASKED)?;
+    laws::found_answers(&both.found_in_place);
+    Ok(depart_together(&both.found_in_place, &both.found_decoded))
 }
 
 /// The image in place and its lists decoded give as many points, with the same departures.

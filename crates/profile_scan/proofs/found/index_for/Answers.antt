@@ -1,7 +1,7 @@
 use Rattle.std.proofs.Common.{◌-◌, arith, sym, ◌∙◌, inl, inr}
 use Rattle.profile_scan.specs.Points.{Before}
 use Rattle.profile_scan.proofs.OrderLemmas.{before_by_test, not_before_by_test, before_here, after_here}
-use Rattle.profile_scan.proofs.found.place_for.Goals as goal
+use Rattle.profile_scan.proofs.found.index_for.Goals as goal
 
 pub loop-index-preserved : goal.loop-index-preserved
 loop-index-preserved g c =

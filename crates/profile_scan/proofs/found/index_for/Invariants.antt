@@ -1,6 +1,6 @@
 use Rattle.std.proofs.Common.{◌<◌, ◌≤◌, ℕ, length, slice_index_or}
 use Rattle.profile_scan.specs.Points.{Before}
-use Rattle.profile_scan.proofs.found.place_for.Given as goal
+use Rattle.profile_scan.proofs.found.index_for.Given as goal
 
 abbrev pub invariant-loop-index : goal.invariant-loop-index
 invariant-loop-index g l = record {
