@@ -1,8 +1,8 @@
 -- What the answers from all stops say of one of them.
 use Rattle.std.proofs.Common.{◌≡◌, ◌<◌, ◌≤◌, ◌+◌, ◌++◌, ◌∙◌, ℕ, zero, suc, List, [], ◌∷◌, Option, Result, Ok, Err, IfOk, OnOk, length, take, get_or}
-use Rattle.std.proofs.Common.{append_assoc, inl, inr, sym, ap, subst, arith, slice_index_or}
+use Rattle.std.proofs.Common.{append_assoc, inl, inr, refl, sym, ap, subst, arith, slice_index_or}
+use Rattle.std.specs.Global.{Vec}
 use Rattle.std.specs.List.{AllPairs, AllZip, flat_map}
-use Rattle.std.proofs.lemmas.Bool.Decides.{eqb_tells}
 use Rattle.std.proofs.lemmas.Grind.{flat_map-append}
 use Rattle.std.proofs.lemmas.List.{append-nil, get_or-map, length-map, take_more}
 use Rattle.std.proofs.lemmas.Slice.Zip.{all_zipped_more}
@@ -11,35 +11,30 @@ use Rattle.criteria.specs.Laws.{Rules}
 use Rattle.criteria.specs.declared.figures.Figures.{Figures}
 use Rattle.bags.specs.declared.point.Point.{Point}
 use Rattle.image_layout.specs.Image.{ImageValue}
-use Rattle.profile_scan.specs.Destinations.{CanBeAsked, query_from}
-use Rattle.profile_scan.specs.Everywhere.{AnswerAll, AnswersFrom, criterion_of_profiles, destination_of, listed_from}
-use Rattle.profile_scan.specs.Points.{Before, IsAnswer}
-use Rattle.profile_scan.specs.declared.destination.Destination.{Destination}
-use Rattle.profile_scan.specs.declared.profiles.Profiles.{Profiles}
+use Rattle.profile_scan.specs.Between.{BetweenValue, IsAnswerBetween, IsAskableBetween}
+use Rattle.profile_scan.specs.Everywhere.{AnswerToAny, asked_to_any, criterion_to_any, listed_to_any}
+use Rattle.profile_scan.specs.Origins.{from_stop}
+use Rattle.profile_scan.specs.Points.{Before}
+use Rattle.profile_scan.specs.declared.to_any.ProfilesToAny.{ProfilesToAny}
 use Rattle.timetable.specs.TimetableValue.{TimetableValue}
 use Rattle.travel_times.specs.Fields.{pair_fields}
 use Rattle.travel_times.specs.Figures.{AreInOrder}
 use Rattle.travel_times.specs.declared.spans.Span.{Span}
-use Rattle.matrix_rows.specs.Tables.{IsMean, destination, point_row, span_of, spans_of, waiting}
+use Rattle.matrix_rows.specs.Tables.{IsMeanFrom, destination, point_row, span_of, spans_of, waiting}
 use Rattle.matrix_rows.specs.declared.table.Table.{Table}
 
--- from each stop, also the target
-pub answers_from : {K V : Type 0} {c : _} (rules_of : K → Rules V) (t : TimetableValue) (profiles : Profiles K V c) (stop : ℕ)
-    → AnswerAll rules_of t profiles → stop < t.stops
-    → AnswersFrom (rules_of (criterion_of_profiles profiles)) t (query_from (destination_of profiles) stop) profiles
-answers_from rules_of t profiles stop all lt = elim (eqb_tells stop (destination_of profiles).target) [
-  | inl same ↦ subst (λ s. AnswersFrom (rules_of (criterion_of_profiles profiles)) t (query_from (destination_of profiles) s) profiles)
-      (sym same.1) all.at_target
-  | inr other ↦ all.each stop lt other.1
-]
+-- the answer from a stop, under the criterion that was asked for
+pub answer_at : {K V : Type 0} {c : _} (rules_of : K → Rules V) (t : TimetableValue) (profiles : ProfilesToAny K V c) (criterion : K) (stop : ℕ)
+    → AnswerToAny rules_of t profiles → criterion_to_any profiles ≡ criterion → stop < t.stops
+    → IsAnswerBetween (rules_of criterion) t (from_stop (asked_to_any profiles) stop) (listed_to_any profiles stop)
+answer_at {K} {V} {c} rules_of t profiles criterion stop all same lt =
+    subst (λ (k : K). IsAnswerBetween (rules_of k) t (from_stop (asked_to_any profiles) stop) (listed_to_any profiles stop)) same (all.each stop lt).answer
 
--- the answer, under the criterion that was asked for
-pub answer_from : {K V : Type 0} {c : _} (rules_of : K → Rules V) (t : TimetableValue) (profiles : Profiles K V c) (criterion : K) (stop : ℕ)
-    → AnswerAll rules_of t profiles → criterion_of_profiles profiles ≡ criterion → stop < t.stops
-    → IsAnswer (rules_of criterion) t (query_from (destination_of profiles) stop) (listed_from profiles stop)
-answer_from {K} {V} {c} rules_of t profiles criterion stop all same lt =
-    subst (λ (k : K). IsAnswer (rules_of k) t (query_from (destination_of profiles) stop) (listed_from profiles stop)) same
-    (answers_from rules_of t profiles stop all lt).answer
+-- a list of one
+pub one_stop : (stops : List ℕ) (d : ℕ) → length stops ≡ 1 → get_or stops 0 d ∷ [] ≡ stops
+one_stop [] d is = absurd (omega (arith, is))
+one_stop (stop ∷ []) d is = refl
+one_stop (stop ∷ other ∷ stops) d is = absurd (omega (arith, is))
 
 -- points in order depart in order
 no_later : {V : Type 0} (rules : Rules V) (p q : Point V) → Before rules p q → p.departure ≤ q.departure
@@ -59,41 +54,43 @@ in_order figures rules (point ∷ points) ordered i j d lt below =
     omega (arith, first, second, le)
 
 -- also those who may leave as late as they arrive can be asked for
-pub waiting_asked : (stops : ℕ) (d : Destination) → CanBeAsked stops d → CanBeAsked stops (waiting d)
-waiting_asked stops d can = record {
-  target = can.target;
+pub waiting_asked : (stops : ℕ) (b : BetweenValue) → IsAskableBetween stops b → IsAskableBetween stops (waiting b)
+waiting_asked stops b can = record {
+  sources = can.sources;
+  targets = can.targets;
+  differ = can.differ;
   window = can.in_time;
   in_time = can.in_time;
   small = (can.small.0, can.small.2, can.small.2);
 }
 
 -- if they may anyway, they are asked for
-abbrev asked_until : Table → ℕ → ℕ → Destination
-asked_until table target until = record { target = target; from = table.after; until = until; by = table.by }
+abbrev asked_until : Table → List ℕ → ℕ → BetweenValue
+asked_until table targets until = record { sources = []; targets = targets; from = table.after; until = until; by = table.by }
 
-waits_as_asked : (table : Table) (target : ℕ) → table.until ≡ table.by → waiting (destination table target) ≡ destination table target
-waits_as_asked table target same = ap (asked_until table target) (sym same)
+waits_as_asked : (table : Table) (targets : List ℕ) → table.until ≡ table.by → waiting (destination table targets) ≡ destination table targets
+waits_as_asked table targets same = ap (asked_until table targets) (sym same)
 
-module _ {V : Type 0} (figures : V → Figures) (rules : Rules V) (image : ImageValue) (table : Table) (target : ℕ) (sources : List ℕ)
+module _ {V : Type 0} (figures : V → Figures) (rules : Rules V) (image : ImageValue) (table : Table) (targets : List ℕ) (sources : List (Vec ℕ))
     (means : List (Option ℕ)) where
-  pub means_waited : (found : Destination) → found ≡ destination table target
-      → AllZip (IsMean figures rules image (waiting (destination table target)) table.after table.until) sources means
-      → AllZip (IsMean figures rules image (waiting found) found.from found.until) sources means
+  pub means_waited : (found : BetweenValue) → found ≡ destination table targets
+      → AllZip (IsMeanFrom figures rules image (waiting (destination table targets)) table.after table.until) sources means
+      → AllZip (IsMeanFrom figures rules image (waiting found) found.from found.until) sources means
   means_waited found is zipped =
-      subst (λ (d : Destination). AllZip (IsMean figures rules image (waiting d) d.from d.until) sources means) (sym is) zipped
+      subst (λ (d : BetweenValue). AllZip (IsMeanFrom figures rules image (waiting d) d.from d.until) sources means) (sym is) zipped
 
-  pub means_asked : (found : Destination) → found ≡ destination table target → table.until ≡ table.by
-      → AllZip (IsMean figures rules image found table.after table.until) sources means
-      → AllZip (IsMean figures rules image (waiting found) found.from found.until) sources means
+  pub means_asked : (found : BetweenValue) → found ≡ destination table targets → table.until ≡ table.by
+      → AllZip (IsMeanFrom figures rules image found table.after table.until) sources means
+      → AllZip (IsMeanFrom figures rules image (waiting found) found.from found.until) sources means
   means_asked found is same zipped = means_waited found is
-      (subst (λ (d : Destination). AllZip (IsMean figures rules image d table.after table.until) sources means)
-      (is ∙ sym (waits_as_asked table target same)) zipped)
+      (subst (λ (d : BetweenValue). AllZip (IsMeanFrom figures rules image d table.after table.until) sources means)
+      (is ∙ sym (waits_as_asked table targets same)) zipped)
 
-  pub means_of_waiting : (found : Destination) → found ≡ waiting (destination table target)
-      → AllZip (IsMean figures rules image found table.after table.until) sources means
-      → AllZip (IsMean figures rules image (waiting (destination table target)) table.after table.until) sources means
+  pub means_of_waiting : (found : BetweenValue) → found ≡ waiting (destination table targets)
+      → AllZip (IsMeanFrom figures rules image found table.after table.until) sources means
+      → AllZip (IsMeanFrom figures rules image (waiting (destination table targets)) table.after table.until) sources means
   means_of_waiting found is zipped =
-      subst (λ (d : Destination). AllZip (IsMean figures rules image d table.after table.until) sources means) is zipped
+      subst (λ (d : BetweenValue). AllZip (IsMeanFrom figures rules image d table.after table.until) sources means) is zipped
 
 -- one more pair of two lists
 pub zipped_push : {A B : Type 0} (R : A → B → Type 0) (xs : List A) (index : ℕ) (d : A) (ys now : List B) (y : B) → index < length xs

@@ -1,6 +1,9 @@
 mod Answering
 mod Joins
+mod Merges
 mod Repeats
+mod SetLemmas
 mod Sought
 mod Sources
 mod Targets
+mod Walks

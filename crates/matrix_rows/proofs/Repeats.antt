@@ -1,5 +1,5 @@
 -- A name that a list has twice.
-use Rattle.std.proofs.Common.{◌≡◌, ◌≢◌, ◌⊎◌, ◌<◌, ◌+◌, ℕ, true, false, List, [], ◌∷◌, ◌++◌, None, Some, length, map, take}
+use Rattle.std.proofs.Common.{◌≡◌, ◌≢◌, ◌⊎◌, ◌<◌, ◌+◌, ℕ, suc, true, false, List, [], ◌∷◌, ◌++◌, None, Some, length, map, take}
 use Rattle.std.proofs.Common.{get_or, slice_get, sym, ◌∙◌, ap, subst, refl, inl, inr, arith, Contains}
 use Rattle.std.specs.Prelude.{if◌then◌else◌}
 use Rattle.std.specs.BTreeMap.{BTreeMap, IsEmpty}
@@ -9,9 +9,9 @@ use Rattle.std.proofs.lemmas.Bool.{cases_Bool, true≢false}
 use Rattle.std.proofs.lemmas.List.Elements.{Contains-get_or, Contains-push_cases}
 use Rattle.std.proofs.lemmas.List.Quantifiers.{all_pairs_push}
 use Rattle.std.proofs.lemmas.Slice.Eq.{bytes_eq-Decides}
-use Rattle.std.proofs.lemmas.Option.{none-some, same_Some}
+use Rattle.std.proofs.lemmas.Option.{get_or_from_slice_get, none-some, same_Some, slice_get_within}
 use Rattle.reasoning.proofs.ListLemmas.{not_in_nil}
-use Rattle.matrix_rows.specs.Listed.{AreDifferent, IsNamedTwice}
+use Rattle.matrix_rows.specs.Listed.{AreDifferent, HasStopTwice, IsLineTwice, ids_in}
 use Rattle.matrix_rows.specs.Repeated.{IsRepeated, place_at}
 use Rattle.matrix_rows.proofs.Sought.{at_index, more_listed}
 
@@ -92,15 +92,52 @@ item_repeated f items index first d places less are is =
     }
 
 -- the same by numbers, from 1 on
-pub twice_named : (listed : List (List ℕ)) (earlier later first second : ℕ) → first ≡ earlier + 1 → second ≡ later + 1
-    → IsRepeated listed earlier later → IsNamedTwice listed first second
-twice_named listed earlier later first second one other is = record {
+pub line_twice : (listed : List (List ℕ)) (earlier later first second : ℕ) → first ≡ earlier + 1 → second ≡ later + 1
+    → IsRepeated listed earlier later → IsLineTwice listed first second
+line_twice listed earlier later first second one other is = record {
   earlier = earlier;
   later = later;
-  name = is.name;
+  line = is.name;
   numbered = (omega (arith, one), omega (arith, other));
   in_order = is.in_order;
   stands = is.stands;
   again = is.again;
   before = is.before;
 }
+
+-- what has a text twice isn't all different
+pub repeated_apart : (listed : List (List ℕ)) (earlier later : ℕ) → IsRepeated listed earlier later → AreDifferent listed → ⊥
+repeated_apart listed earlier later is different =
+    let within = slice_get_within listed later is.name is.again in
+    different earlier later is.name is.in_order within
+    (get_or_from_slice_get listed earlier is.name is.name is.stands ∙ sym (get_or_from_slice_get listed later is.name is.name is.again))
+
+-- the lines so far have no stop_id twice, and neither has the next one
+pub line_apart : {A : Type 0} (f : A → List ℕ) (items : List A) (index : ℕ) (d : A) (ids : List (List ℕ)) → index < length items
+    → ((line : List ℕ) → Contains (take index (map f items)) line → AreDifferent (ids_in line))
+    → ids ≡ ids_in (f (get_or items index d)) → AreDifferent ids
+    → (line : List ℕ) → Contains (take (index + 1) (map f items)) line → AreDifferent (ids_in line)
+line_apart f items index d ids less before are different line h =
+    let this = f (get_or items index d) in
+    let cases = Contains-push_cases (take index (map f items)) this line
+    (subst (λ (ls : List (List ℕ)). Contains ls line) (more_listed (map f items) index this (at_index f items index d less)) h) in
+    elim cases [
+      | inl earlier ↦ before line earlier
+      | inr last ↦ subst (λ (l : List ℕ). AreDifferent (ids_in l)) last (subst AreDifferent are different)
+    ]
+
+-- the next one has
+pub stop_twice_at : {A : Type 0} (f : A → List ℕ) (items : List A) (index : ℕ) (d : A) (ids : List (List ℕ)) → index < length items
+    → ((line : List ℕ) → Contains (take index (map f items)) line → AreDifferent (ids_in line))
+    → ids ≡ ids_in (f (get_or items index d)) → (AreDifferent ids → ⊥) → HasStopTwice (map f items) (index + 1)
+stop_twice_at f items index d ids less before are twice = record {
+  index = index;
+  line = f (get_or items index d);
+  numbered = more index;
+  stands = at_index f items index d less;
+  twice = λ different. twice (subst AreDifferent (sym are) different);
+  before = before;
+}
+  where
+    more : (n : ℕ) → n + 1 ≡ suc n
+    more n = omega arith

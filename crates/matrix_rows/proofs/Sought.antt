@@ -2,12 +2,13 @@
 use Rattle.std.proofs.Common.{◌≡◌, ◌⊎◌, ◌<◌, ◌+◌, ℕ, suc, Bool, true, false, List, [], ◌∷◌, ◌++◌, Option, None, Some, length, map, take}
 use Rattle.std.proofs.Common.{cond, get_or, slice_get, option_map, sym, ◌∙◌, ap, subst, refl, inl, inr, arith, Contains}
 use Rattle.std.specs.Prelude.{if◌then◌else◌}
-use Rattle.std.specs.List.{AllZip}
+use Rattle.std.specs.Global.{Vec}
+use Rattle.std.specs.List.{AllZip, flat_map}
 use Rattle.std.specs.BTreeMap.{BTreeMap, IsEmpty}
 use Rattle.std.specs.Borrow.{Bor}
 use Rattle.std.specs.Str.{bytes_eq}
 use Rattle.std.proofs.lemmas.Bool.{cases_Bool, cases_eq, true≢false}
-use Rattle.std.proofs.lemmas.List.Elements.{Contains-push_cases}
+use Rattle.std.proofs.lemmas.List.Elements.{Contains-append_left, Contains-append_right, Contains-push_cases}
 use Rattle.std.proofs.lemmas.Slice.Eq.{bytes_eq-Decides}
 use Rattle.std.proofs.lemmas.Slice.Zip.{all_zipped_more}
 use Rattle.std.proofs.lemmas.List.{take_more}
@@ -16,11 +17,12 @@ use Rattle.reasoning.proofs.ListLemmas.{contains_at, contains_cases, not_in_nil,
 use Rattle.timetable.specs.Legal.{At}
 use Rattle.timetable.specs.NamesValue.{NamesValue}
 use Rattle.answer_pictures.specs.Naming.{bytes_or_none, stop_bytes}
-use Rattle.matrix_rows.specs.Listed.{AreAllNamed, IsListFault, IsUnknownLine, IsUnnamed}
+use Rattle.matrix_rows.specs.Listed.{AreAllNamed, IsListFault, IsUnknownLine, IsUnnamed, ids_in}
 use Rattle.journeys.specs.Questions.{IsNamed}
-use Rattle.matrix_rows.specs.Sought.{AreFoundBelow, AreSought, IsFirstMissing, IsMissing, first_of, found_at, now_found, stop_in}
+use Rattle.matrix_rows.specs.Sought.{AreFound, AreFoundBelow, AreSought, IsFirstMissing, IsMissing, IsOneMissing, first_of, found_at, now_found}
+use Rattle.matrix_rows.specs.Sought.{stop_in}
 use Rattle.matrix_rows.specs.declared.lists.ListFault.{ListFault}
-use Rattle.matrix_rows.specs.declared.lists.ListFault.TheVariants.{Empty, NamedTwice, OutOfMemory, UnknownStop}
+use Rattle.matrix_rows.specs.declared.lists.ListFault.TheVariants.{Empty, LineTwice, OutOfMemory, StopTwice, UnknownStop}
 
 -- no name is sought yet
 pub none_sought : (found : BTreeMap (Bor (List ℕ)) (Option ℕ)) → IsEmpty found → AreSought [] found
@@ -183,59 +185,107 @@ item_stop f items index d found stops now stop less zipped is pushed =
     (subst (AllZip (λ n s. stop_in (found_at found n) ≡ Some s) (take index (map f items) ++ name ∷ [])) (sym pushed)
     (all_zipped_more (λ n s. stop_in (found_at found n) ≡ Some s) (take index (map f items)) stops name stop zipped is))
 
--- the names so far have stops, and the next one has none
-pub item_missing : {A : Type 0} (f : A → List ℕ) (items : List A) (index : ℕ) (d : A) (found : BTreeMap (Bor (List ℕ)) (Option ℕ)) (stops : List ℕ)
-    → index < length items → AllZip (λ name s. stop_in (found_at found name) ≡ Some s) (take index (map f items)) stops
-    → stop_in (found_at found (f (get_or items index d))) ≡ None → IsFirstMissing found (map f items) (index + 1)
-item_missing f items index d found stops less zipped is = record {
+-- a name for which none was found
+pub item_missing : {A : Type 0} (f : A → List ℕ) (items : List A) (index : ℕ) (d : A) (found : BTreeMap (Bor (List ℕ)) (Option ℕ)) → index < length items
+    → stop_in (found_at found (f (get_or items index d))) ≡ None → IsOneMissing found (map f items)
+item_missing f items index d found less is =
+    let name = f (get_or items index d) in
+    (name, contains_at (map f items) index name (at_index f items index d less), is)
+
+-- the sets of the lines so far, and of the next one
+pub set_more : {A : Type 0} (f : A → List ℕ) (items : List A) (index : ℕ) (d : A) (found : BTreeMap (Bor (List ℕ)) (Option ℕ)) (sets now : List (Vec ℕ))
+    (set : Vec ℕ) → index < length items → AllZip (λ line s. AreFound found (ids_in line) s.items) (take index (map f items)) sets
+    → AreFound found (ids_in (f (get_or items index d))) set.items → now ≡ sets ++ set ∷ []
+    → AllZip (λ line s. AreFound found (ids_in line) s.items) (take (index + 1) (map f items)) now
+set_more f items index d found sets now set less zipped is pushed =
+    let line = f (get_or items index d) in
+    let R = λ (l : List ℕ) (s : Vec ℕ). AreFound found (ids_in l) s.items in
+    subst (λ (ls : List (List ℕ)). AllZip R ls now) (sym (more_listed (map f items) index line (at_index f items index d less)))
+    (subst (AllZip R (take index (map f items) ++ line ∷ [])) (sym pushed)
+    (all_zipped_more R (take index (map f items)) sets line set zipped is))
+
+-- the lines so far have sets, and the next one has a stop_id without a stop
+pub line_missing : {A : Type 0} (f : A → List ℕ) (items : List A) (index : ℕ) (d : A) (found : BTreeMap (Bor (List ℕ)) (Option ℕ)) (sets : List (Vec ℕ))
+    (ids : List (List ℕ)) → index < length items → AllZip (λ line s. AreFound found (ids_in line) s.items) (take index (map f items)) sets
+    → ids ≡ ids_in (f (get_or items index d)) → IsOneMissing found ids → IsFirstMissing found (map f items) (index + 1)
+line_missing f items index d found sets ids less zipped are missing = record {
   index = index;
-  name = f (get_or items index d);
+  line = f (get_or items index d);
   numbered = more index;
   stands = at_index f items index d less;
-  missing = is;
-  before = λ other h. zipped_left (λ n s. stop_in (found_at found n) ≡ Some s) (take index (map f items)) stops zipped other h;
+  missing = subst (IsOneMissing found) are missing;
+  sets = sets;
+  before = zipped;
 }
   where
     more : (n : ℕ) → n + 1 ≡ suc n
     more n = omega arith
 
 -- all stops were looked at: those that were found are those of the names
-pub all_named : (names : NamesValue) (listed : List (List ℕ)) (below : ℕ) (found : BTreeMap (Bor (List ℕ)) (Option ℕ)) (stops : List ℕ)
-    → AreFoundBelow names listed below found → AllZip (λ name s. stop_in (found_at found name) ≡ Some s) listed stops → AllZip (IsNamed names) listed stops
-all_named names listed below found stops are zipped =
-    zipped_each (λ name s. stop_in (found_at found name) ≡ Some s) (IsNamed names) listed stops (λ name s is. are.by_stop name s is) zipped
+named_by : (names : NamesValue) (listed ids : List (List ℕ)) (below : ℕ) (found : BTreeMap (Bor (List ℕ)) (Option ℕ)) (stops : List ℕ)
+    → AreFoundBelow names listed below found → AreFound found ids stops → AllZip (IsNamed names) ids stops
+named_by names listed ids below found stops are zipped =
+    zipped_each (λ name s. stop_in (found_at found name) ≡ Some s) (IsNamed names) ids stops (λ name s is. are.by_stop name s is) zipped
 
--- and the first name without one is that of no stop
-unknown_name : (names : NamesValue) (listed : List (List ℕ)) (found : BTreeMap (Bor (List ℕ)) (Option ℕ)) (number : ℕ)
-    → AreFoundBelow names listed (length names.stops) found → IsFirstMissing found listed number → IsUnknownLine names listed number
-unknown_name names listed found number are first = record {
+pub all_named : (names : NamesValue) (ids : List (List ℕ)) (listed : List (List ℕ)) (below : ℕ) (found : BTreeMap (Bor (List ℕ)) (Option ℕ))
+    (sets : List (Vec ℕ)) → AreFoundBelow names ids below found → AllZip (λ line s. AreFound found (ids_in line) s.items) listed sets
+    → AllZip (λ line set. AllZip (IsNamed names) (ids_in line) set.items) listed sets
+all_named names ids listed below found sets are zipped =
+    zipped_each (λ line s. AreFound found (ids_in line) s.items) (λ line set. AllZip (IsNamed names) (ids_in line) set.items) listed sets
+    (λ line set is. named_by names ids (ids_in line) below found set.items are is) zipped
+
+-- what is said of the stop_ids of lines is said of their stops
+pub all_have_stops : (names : NamesValue) (listed : List (List ℕ)) (sets : List (Vec ℕ))
+    → AllZip (λ line set. AllZip (IsNamed names) (ids_in line) set.items) listed sets → AreAllNamed names listed
+all_have_stops names listed sets zipped = λ line h id within.
+    let set = zipped_left (λ l s. AllZip (IsNamed names) (ids_in l) s.items) listed sets zipped line h in
+    zipped_left (IsNamed names) (ids_in line) set.0.items set.1 id within
+
+-- a stop_id of a line is one of those of all lines
+id_of_line : (listed : List (List ℕ)) (line id : List ℕ) → Contains listed line → Contains (ids_in line) id → Contains (flat_map ids_in listed) id
+id_of_line [] line id h within = absurd (not_in_nil line h)
+id_of_line (first ∷ listed) line id h within = elim (contains_cases line first listed h) [
+  | inl same ↦ Contains-append_left (ids_in first) (flat_map ids_in listed) id (subst (λ (l : List ℕ). Contains (ids_in l) id) (sym same) within)
+  | inr rest ↦ Contains-append_right (ids_in first) (flat_map ids_in listed) id (id_of_line listed line id rest within)
+]
+
+-- and the first line that has a stop_id without one has what is that of no stop
+unknown_line : (names : NamesValue) (listed : List (List ℕ)) (found : BTreeMap (Bor (List ℕ)) (Option ℕ)) (number : ℕ)
+    → AreFoundBelow names (flat_map ids_in listed) (length names.stops) found → IsFirstMissing found listed number → IsUnknownLine names listed number
+unknown_line names listed found number are first = record {
   index = first.index;
-  name = first.name;
+  line = first.line;
+  id = first.missing.0;
   numbered = first.numbered;
   stands = first.stands;
-  unknown = λ stop at. by (found_at found first.name) refl stop at;
-  before = λ other h. let stop = first.before other h in (stop.0, are.by_stop other stop.0 stop.1);
+  has = first.missing.1;
+  unknown = λ stop at. by (found_at found first.missing.0) refl stop at;
+  before = all_have_stops names (take first.index listed) first.sets
+      (all_named names (flat_map ids_in listed) (take first.index listed) (length names.stops) found first.sets are first.before);
 }
   where
-    by : (had : Option (Option ℕ)) → found_at found first.name ≡ had → (stop : ℕ) → At names.stops stop first.name → ⊥
-    by None e stop at = are.has first.name (contains_at listed first.index first.name first.stands) e
-    by (Some None) e stop at = are.by_none first.name e stop (slice_get_within names.stops stop first.name at) at
-    by (Some (Some n)) e stop at = none-some n (sym first.missing ∙ ap stop_in e)
+    there : Contains (flat_map ids_in listed) first.missing.0
+    there = id_of_line listed first.line first.missing.0 (contains_at listed first.index first.line first.stands) first.missing.1
+
+    by : (had : Option (Option ℕ)) → found_at found first.missing.0 ≡ had → (stop : ℕ) → At names.stops stop first.missing.0 → ⊥
+    by None e stop at = are.has first.missing.0 there e
+    by (Some None) e stop at = are.by_none first.missing.0 e stop (slice_get_within names.stops stop first.missing.0 at) at
+    by (Some (Some n)) e stop at = none-some n (sym first.missing.2 ∙ ap stop_in e)
 
 pub unnamed : (names : NamesValue) (listed : List (List ℕ)) (found : BTreeMap (Bor (List ℕ)) (Option ℕ)) (fault : ListFault)
-    → AreFoundBelow names listed (length names.stops) found → IsMissing found listed fault → IsUnnamed names listed fault
-unnamed names listed found (UnknownStop number) are missing = unknown_name names listed found number are missing
-unnamed names listed found (NamedTwice first second) are missing = missing
+    → AreFoundBelow names (flat_map ids_in listed) (length names.stops) found → IsMissing found listed fault → IsUnnamed names listed fault
+unnamed names listed found (UnknownStop number) are missing = unknown_line names listed found number are missing
+unnamed names listed found (StopTwice number) are missing = missing
+unnamed names listed found (LineTwice first second) are missing = missing
 unnamed names listed found Empty are missing = missing
 unnamed names listed found OutOfMemory are missing = missing
 
-pub no_stops : (found : BTreeMap (Bor (List ℕ)) (Option ℕ)) (stops : List ℕ) → stops ≡ []
-    → AllZip (λ name s. stop_in (found_at found name) ≡ Some s) [] stops
+pub no_stops : (found : BTreeMap (Bor (List ℕ)) (Option ℕ)) (stops : List ℕ) → stops ≡ [] → AreFound found [] stops
 no_stops found stops none = subst (AllZip (λ name s. stop_in (found_at found name) ≡ Some s) []) (sym none) tt
 
--- what is said of a list of names is said of their stops
-pub all_have_stops : (names : NamesValue) (listed : List (List ℕ)) (stops : List ℕ) → AllZip (IsNamed names) listed stops → AreAllNamed names listed
-all_have_stops names listed stops zipped = λ name h. zipped_left (IsNamed names) listed stops zipped name h
+pub no_sets : (found : BTreeMap (Bor (List ℕ)) (Option ℕ)) (sets : List (Vec ℕ)) → sets ≡ []
+    → AllZip (λ line s. AreFound found (ids_in line) s.items) [] sets
+no_sets found sets none = subst (AllZip (λ line s. AreFound found (ids_in line) s.items) []) (sym none) tt
 
 zipped_right : {A B : Type 0} (R : A → B → Type 0) (xs : List A) (ys : List B) → AllZip R xs ys → (y : B) → Contains ys y → (x : A) × R x y
 zipped_right R xs [] zipped y h = absurd (not_in_nil y h)
@@ -245,14 +295,17 @@ zipped_right R (x ∷ xs) (z ∷ ys) zipped y h = elim (contains_cases y z ys h)
   | inr rest ↦ zipped_right R xs ys zipped.1 y rest
 ]
 
-pub all_within : (names : NamesValue) (listed : List (List ℕ)) (stops : List ℕ) → AllZip (IsNamed names) listed stops
-    → (stop : ℕ) → Contains stops stop → stop < length names.stops
-all_within names listed stops zipped stop h =
-    let name = zipped_right (IsNamed names) listed stops zipped stop h in
+pub all_within : (names : NamesValue) (listed : List (List ℕ)) (sets : List (Vec ℕ))
+    → AllZip (λ line set. AllZip (IsNamed names) (ids_in line) set.items) listed sets
+    → (set : Vec ℕ) → Contains sets set → (stop : ℕ) → Contains set.items stop → stop < length names.stops
+all_within names listed sets zipped set h stop within =
+    let line = zipped_right (λ l s. AllZip (IsNamed names) (ids_in l) s.items) listed sets zipped set h in
+    let name = zipped_right (IsNamed names) (ids_in line.0) set.items line.1 stop within in
     slice_get_within names.stops stop name.0 name.1.0
 
 pub fault_of_names : (names : NamesValue) (listed : List (List ℕ)) (fault : ListFault) → IsUnnamed names listed fault → IsListFault names listed fault
 fault_of_names names listed (UnknownStop number) is = is
-fault_of_names names listed (NamedTwice first second) is = absurd is
+fault_of_names names listed (StopTwice number) is = absurd is
+fault_of_names names listed (LineTwice first second) is = absurd is
 fault_of_names names listed Empty is = absurd is
 fault_of_names names listed OutOfMemory is = is

@@ -1,5 +1,6 @@
 pub mod Joining
 pub mod Listed
+pub mod Merging
 pub mod Repeated
 pub mod Sought
 pub mod Tables

@@ -1,5 +1,7 @@
 -- The names of a list, each with the lowest stop that was found to have it.
 use Rattle.std.specs.Prelude.{◌≡◌, ◌≢◌, ◌<◌, ℕ, suc, List, Option, None, Some, Contains, slice_get, take}
+use Rattle.std.specs.Global.{Vec}
+use Rattle.std.specs.List.{AllZip}
 use Rattle.std.specs.BTreeMap.{BTreeMap, get_by}
 use Rattle.std.specs.Borrow.{Bor}
 use Rattle.std.specs.Cmp.Lexicographic.{slice_cmp}
@@ -8,7 +10,8 @@ use Rattle.timetable.specs.Legal.{At}
 use Rattle.timetable.specs.NamesValue.{NamesValue}
 use Rattle.journeys.specs.Questions.{IsNamed}
 use Rattle.matrix_rows.specs.declared.lists.ListFault.{ListFault}
-use Rattle.matrix_rows.specs.declared.lists.ListFault.TheVariants.{Empty, NamedTwice, OutOfMemory, UnknownStop}
+use Rattle.matrix_rows.specs.declared.lists.ListFault.TheVariants.{Empty, LineTwice, OutOfMemory, StopTwice, UnknownStop}
+use Rattle.matrix_rows.specs.Listed.{ids_in}
 
 -- the stop that was found for a name, if one was; None if the list doesn't have the name
 abbrev pub found_at : BTreeMap (Bor (List ℕ)) (Option ℕ) → List ℕ → Option (Option ℕ)
@@ -40,18 +43,28 @@ pub record AreFoundBelow (names : NamesValue) (listed : List (List ℕ)) (below 
   pub by_stop : (name : List ℕ) (stop : ℕ) → stop_in (found_at found name) ≡ Some stop → IsNamed names name stop
   pub by_none : (name : List ℕ) → found_at found name ≡ Some None → (stop : ℕ) → stop < below → ¬ At names.stops stop name
 
--- the name with this number, from 1 on, is the first for which no stop was found
+-- for one of these names no stop was found
+abbrev pub IsOneMissing : BTreeMap (Bor (List ℕ)) (Option ℕ) → List (List ℕ) → Type 0
+IsOneMissing found listed = (name : List ℕ) × Contains listed name × (stop_in (found_at found name) ≡ None)
+
+-- the stop that was found for each of these names
+abbrev pub AreFound : BTreeMap (Bor (List ℕ)) (Option ℕ) → List (List ℕ) → List ℕ → Type 0
+AreFound found listed stops = AllZip (λ name stop. stop_in (found_at found name) ≡ Some stop) listed stops
+
+-- the line with this number, from 1 on, is the first that has a stop_id for which no stop was found
 pub record IsFirstMissing (found : BTreeMap (Bor (List ℕ)) (Option ℕ)) (listed : List (List ℕ)) (number : ℕ) : Type 0 where
   pub index : ℕ
-  pub name : List ℕ
+  pub line : List ℕ
   pub numbered : number ≡ suc index
-  pub stands : slice_get listed index ≡ Some name
-  pub missing : stop_in (found_at found name) ≡ None
-  pub before : (other : List ℕ) → Contains (take index listed) other → (stop : ℕ) × (stop_in (found_at found other) ≡ Some stop)
+  pub stands : slice_get listed index ≡ Some line
+  pub missing : IsOneMissing found (ids_in line)
+  pub sets : List (Vec ℕ)
+  pub before : AllZip (λ line set. AreFound found (ids_in line) set.items) (take index listed) sets
 
--- why no stop was found for some name
+-- why no stop was found for some stop_id
 abbrev pub IsMissing : BTreeMap (Bor (List ℕ)) (Option ℕ) → List (List ℕ) → ListFault → Type 0
 IsMissing found listed (UnknownStop number) = IsFirstMissing found listed number
-IsMissing found listed (NamedTwice first second) = ⊥
+IsMissing found listed (StopTwice number) = ⊥
+IsMissing found listed (LineTwice first second) = ⊥
 IsMissing found listed Empty = ⊥
 IsMissing found listed OutOfMemory = Unit

@@ -1,11 +1,10 @@
 //! The names of a list, found among the stops of an image.
 
-ghost use Rattle.std.specs.Prelude.{◌≡◌, ℕ, List, None, Some, IfErr, IfOk, OnOk, map, if◌then◌else◌};
-ghost use Rattle.std.specs.List.{AllZip};
+ghost use Rattle.std.specs.Prelude.{◌≡◌, ℕ, List, None, Some, IfOk, MatchOption, OnOk, map, if◌then◌else◌};
 ghost use Rattle.std.specs.Str.{bytes_eq};
-ghost use Rattle.matrix_rows.specs.Sought.{AreFoundBelow, AreSought, IsMissing, first_of, found_at, now_found, stop_in};
+ghost use Rattle.matrix_rows.specs.Sought.{AreFound, AreFoundBelow, AreSought, IsOneMissing, first_of, found_at};
+ghost use Rattle.matrix_rows.specs.Sought.{now_found, stop_in};
 
-use crate::lists::ListFault;
 use answer_pictures::stop_name;
 use image_verifier::Verified;
 use std::alloc::{AllocError, Global};
@@ -70,26 +69,23 @@ fn keep_first(first: &mut Option<u32>, stop: u32)
     }
 }
 
-/// The stop of each name, or the number of the first for which none was found.
+/// The stop of each name, if one was found for each.
 pub(crate) fn stops_found(
     alloc: Global,
     listed: &[&str],
     found: &FoundStops<'_>,
-) -> Result<Vec<u32>, ListFault>
-    ensures stops { IfOk result (λ stops. AllZip (λ name stop. stop_in (found_at found.now name) ≡ Some stop)
-        (map (λ name. name.now) listed.now) stops.items) }
-    ensures missing { IfErr result (IsMissing found.now (map (λ name. name.now) listed.now)) }
+) -> Result<Option<Vec<u32>>, AllocError>
+    ensures { IfOk result (λ stops. MatchOption stops (IsOneMissing found.now (map (λ name. name.now) listed.now))
+        (λ stops. AreFound found.now (map (λ name. name.now) listed.now) stops.items)) }
 {
     let mut stops = Vec::with_capacity(alloc, listed.len())?;
-    for index in 0..listed.len() {
-        let Some(stop) = stop_found(found, listed[index]) else {
-            return Err(ListFault::UnknownStop(index + 1));
-        };
-        let Ok(()) = stops.push(stop) else {
-            return Err(ListFault::OutOfMemory);
-        };
+    for name in listed {
+        match stop_found(found, name) {
+            None => return Ok(None),
+            Some(stop) => stops.push(stop)?,
+        }
     }
-    Ok(stops)
+    Ok(Some(stops))
 }
 
 fn stop_found(found: &FoundStops<'_>, name: &str) -> Option<u32>

@@ -2,15 +2,17 @@
 
 use criteria::CriterionName;
 use image_verifier::Verified;
-use profile_scan::Destination;
+use profile_scan::Destinations;
+use std::alloc::{AllocError, Global};
+use timetable::limits::TIME_END;
 
-/// The image, the stops where journeys end, and those where they begin; when, in seconds after the image's base; the
-/// criterion; and what has a row.
+/// The image, the sets of stops where journeys end, and those where they begin; when, in seconds after the image's
+/// base; the criterion; and what has a row.
 #[derive(Clone, Copy)]
 pub struct Table<'a> {
     pub image: &'a Verified,
-    pub targets: &'a [u32],
-    pub sources: &'a [u32],
+    pub targets: &'a [Vec<u32>],
+    pub sources: &'a [Vec<u32>],
     /// The earliest departure.
     pub after: u32,
     /// The latest departure.
@@ -18,35 +20,57 @@ pub struct Table<'a> {
     /// The latest arrival.
     pub by: u32,
     pub criterion: CriterionName,
-    /// Whether each departure has a row; otherwise each pair of stops has one.
+    /// Whether each departure has a row; otherwise each pair of sets has one.
     pub each: bool,
 }
 
 impl Table<'_> {
-    ghost use Rattle.std.specs.Prelude.{◌≡◌};
-    ghost use Rattle.matrix_rows.specs.Tables.{destination, waiting};
+    ghost use Rattle.std.specs.Prelude.{◌≡◌, [], IfOk, MatchBool};
+    ghost use Rattle.profile_scan.specs.Destinations.{question_to_any};
+    ghost use Rattle.matrix_rows.specs.Tables.{HasWindow, destination, waiting};
+    ghost use Rattle.station_answers.specs.Asking.{HasBadTimes};
 
-    /// What is asked of every stop for a target.
-    pub fn destination(&self, target: u32) -> Destination
-        ensures { result ≡ destination self.now target }
+    /// Whether the times make a window: neither the latest departure nor the latest arrival is before the earliest
+    /// departure, and none is `TIME_END` or later.
+    pub fn has_window(&self) -> bool
+        ensures { MatchBool result (HasWindow self.now) (HasBadTimes (destination self.now [])) }
     {
-        Destination {
-            target,
+        if self.until < self.after {
+            return false;
+        }
+        if self.by < self.after {
+            return false;
+        }
+        if self.until >= TIME_END {
+            return false;
+        }
+        if self.by >= TIME_END {
+            return false;
+        }
+        true
+    }
+
+    /// What is asked of every stop for a set of targets. The only error is that memory runs out.
+    pub fn destination(&self, alloc: Global, targets: &[u32]) -> Result<Destinations, AllocError>
+        ensures { IfOk result (λ made. question_to_any made ≡ destination self.now targets.now) }
+    {
+        Ok(Destinations {
+            targets: targets.to_vec(alloc)?,
             from: self.after,
             until: self.until,
             by: self.by,
-        }
+        })
     }
 
     /// The same for those who may leave as late as they arrive.
-    pub fn waiting(&self, target: u32) -> Destination
-        ensures { result ≡ waiting (destination self.now target) }
+    pub fn waiting(&self, alloc: Global, targets: &[u32]) -> Result<Destinations, AllocError>
+        ensures { IfOk result (λ made. question_to_any made ≡ waiting (destination self.now targets.now)) }
     {
-        Destination {
-            target,
+        Ok(Destinations {
+            targets: targets.to_vec(alloc)?,
             from: self.after,
             until: self.by,
             by: self.by,
-        }
+        })
     }
 }

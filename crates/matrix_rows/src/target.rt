@@ -1,34 +1,37 @@
-//! The rows of one target.
+//! The rows of one set of targets.
 
 ghost use Rattle.std.specs.Prelude.{◌≡◌, ◌<◌, ◌≤◌, ◌++◌, ◌∷◌, [], ℕ, List, true, false, Contains, IfOk, OnOk};
-ghost use Rattle.std.specs.Prelude.{slice_get};
+ghost use Rattle.std.specs.Prelude.{slice_get, string_bytes};
+ghost use Rattle.std.specs.Global.{Vec};
 ghost use Rattle.std.specs.List.{AllZip, flat_map};
-ghost use Rattle.profile_scan.specs.Destinations.{CanBeAsked};
-ghost use Rattle.profile_scan.specs.Everywhere.{AnswerAll, criterion_of_profiles, destination_of};
+ghost use Rattle.profile_scan.specs.Between.{BetweenValue, IsAnswerBetween, IsAskableBetween};
+ghost use Rattle.profile_scan.specs.Destinations.{question_to_any};
+ghost use Rattle.profile_scan.specs.Everywhere.{AnswerToAny, asked_to_any, criterion_to_any};
 ghost use Rattle.travel_times.specs.Rows.{Adds, AreWhole, text_of};
-ghost use Rattle.matrix_rows.specs.Tables.{AreRowsBy, AreRowsTo, CanBeMade, IsMean, destination, mean_in};
-ghost use Rattle.matrix_rows.specs.Tables.{point_row, span_of, spans_of, waiting};
-ghost use Rattle.answer_pictures.specs.Naming.{stop_bytes};
+ghost use Rattle.matrix_rows.specs.Tables.{AreRowsBy, AreRowsTo, AreWithin, CanBeMade, IsMean, IsMeanFrom, Meet};
+ghost use Rattle.matrix_rows.specs.Tables.{destination, from_stops, mean_in, point_row, set_bytes, span_of, spans_of};
+ghost use Rattle.matrix_rows.specs.Tables.{waiting};
 
+use crate::best::{best_points, least_walk, meet};
+use crate::set_names::set_name;
 use crate::table::Table;
-use answer_pictures::stop_name;
 use bags::Point;
 use criteria::{Arrival, ArrivalTrips, ArrivalTripsWalk, CriterionName, ShowsFigures};
 use image_verifier::Verified;
-use profile_scan::{Destination, InPlace, Profiles, profiles_to};
+use profile_scan::{Destinations, InPlace, ProfilesToAny, profiles_to_any};
 use std::alloc::{AllocError, Global};
 use travel_times::{Pair, Rows, Span, mean_wait, put_pair, put_point};
 
-/// The rows of a target: for each source except the target itself, in order, the row of the pair, or that of each
-/// departure. The only error is that memory runs out.
-pub fn rows_to(alloc: Global, table: &Table<'_>, target: u32) -> Result<Vec<u8>, AllocError>
-    requires { CanBeMade table.now target }
-    ensures { IfOk result (λ text. AreRowsBy table.now.criterion table.now target text.items) }
+/// The rows of a set of targets: for each set of sources, in order, the row of the pair, or that of each departure;
+/// nothing if one of the sources is a target. The only error is that memory runs out.
+pub fn rows_to(alloc: Global, table: &Table<'_>, targets: &[u32]) -> Result<Vec<u8>, AllocError>
+    requires { CanBeMade table.now targets.now }
+    ensures { IfOk result (λ text. AreRowsBy table.now.criterion table.now targets.now text.items) }
 {
     match table.criterion {
-        CriterionName::Arrival => rows_by(alloc, table, &Arrival, target),
-        CriterionName::ArrivalTrips => rows_by(alloc, table, &ArrivalTrips, target),
-        CriterionName::ArrivalTripsWalk => rows_by(alloc, table, &ArrivalTripsWalk, target),
+        CriterionName::Arrival => rows_by(alloc, table, &Arrival, targets),
+        CriterionName::ArrivalTrips => rows_by(alloc, table, &ArrivalTrips, targets),
+        CriterionName::ArrivalTripsWalk => rows_by(alloc, table, &ArrivalTripsWalk, targets),
     }
 }
 
@@ -37,16 +40,16 @@ fn rows_by<C: ShowsFigures>(
     alloc: Global,
     table: &Table<'_>,
     criterion: &C,
-    target: u32,
+    targets: &[u32],
 ) -> Result<Vec<u8>, AllocError>
-    requires { CanBeMade table.now target }
+    requires { CanBeMade table.now targets.now }
     ensures { IfOk result (λ text. AreRowsTo C.figures (C.rules criterion.now) table.now.each table.now.image.now
-        (destination table.now target) table.now.sources.now text.items) }
+        (destination table.now targets.now) table.now.sources.now text.items) }
 {
     if table.each {
-        return point_rows(alloc, table, criterion, target);
+        return point_rows(alloc, table, criterion, targets);
     }
-    pair_rows(alloc, table, criterion, target)
+    pair_rows(alloc, table, criterion, targets)
 }
 
 // The row of each pair.
@@ -54,16 +57,16 @@ fn pair_rows<C: ShowsFigures>(
     alloc: Global,
     table: &Table<'_>,
     criterion: &C,
-    target: u32,
+    targets: &[u32],
 ) -> Result<Vec<u8>, AllocError>
-    requires { CanBeMade table.now target }
+    requires { CanBeMade table.now targets.now }
     ensures { IfOk result (λ text. AreRowsTo C.figures (C.rules criterion.now) false table.now.image.now
-        (destination table.now target) table.now.sources.now text.items) }
+        (destination table.now targets.now) table.now.sources.now text.items) }
 {
     if table.until == table.by {
-        return pair_rows_of_one_scan(alloc, table, criterion, target);
+        return pair_rows_of_one_scan(alloc, table, criterion, targets);
     }
-    pair_rows_of_two_scans(alloc, table, criterion, target)
+    pair_rows_of_two_scans(alloc, table, criterion, targets)
 }
 
 // The row of each pair, where one may leave as late as one arrives: the answers are also those for the means.
@@ -71,14 +74,15 @@ fn pair_rows_of_one_scan<C: ShowsFigures>(
     alloc: Global,
     table: &Table<'_>,
     criterion: &C,
-    target: u32,
+    targets: &[u32],
 ) -> Result<Vec<u8>, AllocError>
-    requires can { CanBeMade table.now target }
+    requires can { CanBeMade table.now targets.now }
     requires same { table.now.until ≡ table.now.by }
     ensures { IfOk result (λ text. AreRowsTo C.figures (C.rules criterion.now) false table.now.image.now
-        (destination table.now target) table.now.sources.now text.items) }
+        (destination table.now targets.now) table.now.sources.now text.items) }
 {
-    let profiles = answers(alloc, table, criterion, &table.destination(target))?;
+    let destinations = table.destination(alloc, targets)?;
+    let profiles = answers(alloc, table, criterion, &destinations)?;
     let means = means_of(alloc, table, criterion, &profiles)?;
     pair_rows_of(alloc, table, criterion, &profiles, &means)
 }
@@ -88,14 +92,16 @@ fn pair_rows_of_two_scans<C: ShowsFigures>(
     alloc: Global,
     table: &Table<'_>,
     criterion: &C,
-    target: u32,
+    targets: &[u32],
 ) -> Result<Vec<u8>, AllocError>
-    requires { CanBeMade table.now target }
+    requires { CanBeMade table.now targets.now }
     ensures { IfOk result (λ text. AreRowsTo C.figures (C.rules criterion.now) false table.now.image.now
-        (destination table.now target) table.now.sources.now text.items) }
+        (destination table.now targets.now) table.now.sources.now text.items) }
 {
-    let means = means_to(alloc, table, criterion, &table.waiting(target))?;
-    let profiles = answers(alloc, table, criterion, &table.destination(target))?;
+    let waiting = table.waiting(alloc, targets)?;
+    let means = means_to(alloc, table, criterion, &waiting)?;
+    let destinations = table.destination(alloc, targets)?;
+    let profiles = answers(alloc, table, criterion, &destinations)?;
     pair_rows_of(alloc, table, criterion, &profiles, &means)
 }
 
@@ -104,73 +110,74 @@ fn answers<C: ShowsFigures>(
     alloc: Global,
     table: &Table<'_>,
     criterion: &C,
-    destination: &Destination,
-) -> Result<Profiles<C>, AllocError>
-    requires { CanBeAsked table.now.image.now.timetable.stops destination.now }
-    ensures answered { IfOk result (λ profiles. AnswerAll C.rules table.now.image.now.timetable profiles) }
-    ensures keeps { IfOk result (λ profiles. (criterion_of_profiles profiles ≡ criterion.now)
-        × (destination_of profiles ≡ destination.now)) }
+    destinations: &Destinations,
+) -> Result<ProfilesToAny<C>, AllocError>
+    requires { IsAskableBetween table.now.image.now.timetable.stops (question_to_any destinations.now) }
+    ensures answered { IfOk result (λ profiles. AnswerToAny C.rules table.now.image.now.timetable profiles) }
+    ensures keeps { IfOk result (λ profiles. (criterion_to_any profiles ≡ criterion.now)
+        × (asked_to_any profiles ≡ question_to_any destinations.now)) }
 {
     let mut source = InPlace::new(table.image);
-    profiles_to(alloc, &mut source, criterion, destination)
+    profiles_to_any(alloc, &mut source, criterion, destinations)
 }
 
-// For each source the mean wait, by a scan of its own, whose answers are freed.
+// For each set of sources the mean wait, by a scan of its own, whose answers are freed.
 fn means_to<C: ShowsFigures>(
     alloc: Global,
     table: &Table<'_>,
     criterion: &C,
-    destination: &Destination,
+    destinations: &Destinations,
 ) -> Result<Vec<Option<u64>>, AllocError>
-    requires asked { CanBeAsked table.now.image.now.timetable.stops destination.now }
-    requires sources { (source : ℕ) → Contains table.now.sources.now source
-        → source < table.now.image.now.timetable.stops }
+    requires asked { IsAskableBetween table.now.image.now.timetable.stops (question_to_any destinations.now) }
+    requires sources { AreWithin table.now.image.now table.now.sources.now }
     requires window { table.now.after ≤ table.now.until }
-    ensures { IfOk result (λ means. AllZip (IsMean C.figures (C.rules criterion.now) table.now.image.now destination.now
-        table.now.after table.now.until) table.now.sources.now means.items) }
+    ensures { IfOk result (λ means. AllZip (IsMeanFrom C.figures (C.rules criterion.now) table.now.image.now
+        (question_to_any destinations.now) table.now.after table.now.until) table.now.sources.now means.items) }
 {
-    let profiles = answers(alloc, table, criterion, destination)?;
+    let profiles = answers(alloc, table, criterion, destinations)?;
     means_of(alloc, table, criterion, &profiles)
 }
 
-// For each source the mean wait over the seconds of the window.
+// For each set of sources the mean wait over the seconds of the window.
 fn means_of<C: ShowsFigures>(
     alloc: Global,
     table: &Table<'_>,
     criterion: &C,
-    profiles: &Profiles<C>,
+    profiles: &ProfilesToAny<C>,
 ) -> Result<Vec<Option<u64>>, AllocError>
-    requires same { criterion_of_profiles profiles.now ≡ criterion.now }
-    requires answered { AnswerAll C.rules table.now.image.now.timetable profiles.now }
-    requires sources { (source : ℕ) → Contains table.now.sources.now source
-        → source < table.now.image.now.timetable.stops }
+    requires same { criterion_to_any profiles.now ≡ criterion.now }
+    requires answered { AnswerToAny C.rules table.now.image.now.timetable profiles.now }
+    requires asked { IsAskableBetween table.now.image.now.timetable.stops (asked_to_any profiles.now) }
+    requires sources { AreWithin table.now.image.now table.now.sources.now }
     requires window { table.now.after ≤ table.now.until }
-    ensures { IfOk result (λ means. AllZip (IsMean C.figures (C.rules criterion.now) table.now.image.now
-        (destination_of profiles.now) table.now.after table.now.until) table.now.sources.now means.items) }
+    ensures { IfOk result (λ means. AllZip (IsMeanFrom C.figures (C.rules criterion.now) table.now.image.now
+        (asked_to_any profiles.now) table.now.after table.now.until) table.now.sources.now means.items) }
 {
     let mut means = Vec::with_capacity(alloc, table.sources.len())?;
-    for source in table.sources {
-        means.push(mean_of(alloc, table, criterion, profiles, *source)?)?;
+    for sources in table.sources {
+        means.push(mean_of(alloc, table, criterion, profiles, sources)?)?;
     }
     Ok(means)
 }
 
-// The mean wait from a source.
+// The mean wait from a set of sources.
 fn mean_of<C: ShowsFigures>(
     alloc: Global,
     table: &Table<'_>,
     criterion: &C,
-    profiles: &Profiles<C>,
-    source: u32,
+    profiles: &ProfilesToAny<C>,
+    sources: &[u32],
 ) -> Result<Option<u64>, AllocError>
-    requires source { source < table.now.image.now.timetable.stops }
-    requires same { criterion_of_profiles profiles.now ≡ criterion.now }
-    requires answered { AnswerAll C.rules table.now.image.now.timetable profiles.now }
+    requires same { criterion_to_any profiles.now ≡ criterion.now }
+    requires answered { AnswerToAny C.rules table.now.image.now.timetable profiles.now }
+    requires asked { IsAskableBetween table.now.image.now.timetable.stops (asked_to_any profiles.now) }
+    requires sources { (stop : ℕ) → Contains sources.now stop → stop < table.now.image.now.timetable.stops }
     requires window { table.now.after ≤ table.now.until }
-    ensures { IfOk result (IsMean C.figures (C.rules criterion.now) table.now.image.now (destination_of profiles.now)
-        table.now.after table.now.until source) }
+    ensures { IfOk result (IsMean C.figures (C.rules criterion.now) table.now.image.now
+        (from_stops (asked_to_any profiles.now) sources.now) table.now.after table.now.until) }
 {
-    let spans = spans_of(alloc, criterion, profiles.points(source))?;
+    let points = best_points(alloc, table.image, criterion, profiles, sources)?;
+    let spans = spans_of(alloc, criterion, &points)?;
     Ok(mean_wait(&spans, table.after, table.until))
 }
 
@@ -199,14 +206,14 @@ fn span_of<C: ShowsFigures>(criterion: &C, point: &Point<C::V>) -> Span
     }
 }
 
-// The answers from all stops to a target, and what else is needed to make rows of them.
+// The answers from all stops to a set of targets, and what else is needed to make rows of them.
 #[derive(Clone, Copy)]
 struct Answered<'a, C: ShowsFigures> {
     alloc: Global,
     image: &'a Verified,
     criterion: &'a C,
-    profiles: &'a Profiles<C>,
-    /// The stop_id of the target.
+    profiles: &'a ProfilesToAny<C>,
+    /// The stop_ids of the targets.
     to: &'a str,
 }
 
@@ -215,20 +222,20 @@ fn pair_rows_of<C: ShowsFigures>(
     alloc: Global,
     table: &Table<'_>,
     criterion: &C,
-    profiles: &Profiles<C>,
+    profiles: &ProfilesToAny<C>,
     means: &[Option<u64>],
 ) -> Result<Vec<u8>, AllocError>
-    requires same { criterion_of_profiles profiles.now ≡ criterion.now }
-    requires answered { AnswerAll C.rules table.now.image.now.timetable profiles.now }
-    requires sources { (source : ℕ) → Contains table.now.sources.now source
-        → source < table.now.image.now.timetable.stops }
-    requires means { AllZip (IsMean C.figures (C.rules criterion.now) table.now.image.now
-        (waiting (destination_of profiles.now)) (destination_of profiles.now).from (destination_of profiles.now).until)
+    requires same { criterion_to_any profiles.now ≡ criterion.now }
+    requires answered { AnswerToAny C.rules table.now.image.now.timetable profiles.now }
+    requires asked { IsAskableBetween table.now.image.now.timetable.stops (asked_to_any profiles.now) }
+    requires sources { AreWithin table.now.image.now table.now.sources.now }
+    requires means { AllZip (IsMeanFrom C.figures (C.rules criterion.now) table.now.image.now
+        (waiting (asked_to_any profiles.now)) (asked_to_any profiles.now).from (asked_to_any profiles.now).until)
         table.now.sources.now means.now }
     ensures { IfOk result (λ text. AreRowsTo C.figures (C.rules criterion.now) false table.now.image.now
-        (destination_of profiles.now) table.now.sources.now text.items) }
+        (asked_to_any profiles.now) table.now.sources.now text.items) }
 {
-    let to = stop_name(alloc, table.image, profiles.destination().target)?;
+    let to = set_name(alloc, table.image, profiles.targets())?;
     let answered = Answered {
         alloc,
         image: table.image,
@@ -239,7 +246,7 @@ fn pair_rows_of<C: ShowsFigures>(
     let mut rows = Rows::new(alloc);
     for place in 0..table.sources.len() {
         let mean = mean_at(means, place);
-        put_pair_from(&mut rows, &answered, table.sources[place], mean)?;
+        put_pair_from(&mut rows, &answered, &table.sources[place], mean)?;
     }
     rows.into_text()
 }
@@ -253,44 +260,48 @@ fn mean_at(means: &[Option<u64>], place: usize) -> Option<u64>
     }
 }
 
-// Adds the row of a pair, if the source isn't the target.
+// Adds the row of a pair, if no source is a target.
 fn put_pair_from<C: ShowsFigures>(
     rows: &mut Rows,
     answered: &Answered<'_, C>,
-    source: u32,
+    sources: &[u32],
     mean: Option<u64>,
 ) -> Result<(), AllocError>
     requires whole { AreWhole rows.old }
-    requires source { source < answered.now.image.now.timetable.stops }
-    requires same { criterion_of_profiles answered.now.profiles.now ≡ answered.now.criterion.now }
-    requires answered { AnswerAll C.rules answered.now.image.now.timetable answered.now.profiles.now }
+    requires sources { (stop : ℕ) → Contains sources.now stop → stop < answered.now.image.now.timetable.stops }
+    requires same { criterion_to_any answered.now.profiles.now ≡ answered.now.criterion.now }
+    requires answered { AnswerToAny C.rules answered.now.image.now.timetable answered.now.profiles.now }
+    requires asked { IsAskableBetween answered.now.image.now.timetable.stops (asked_to_any answered.now.profiles.now) }
     requires to { answered.now.to.now
-        ≡ stop_bytes answered.now.image.now.names (destination_of answered.now.profiles.now).target }
+        ≡ set_bytes answered.now.image.now.names (asked_to_any answered.now.profiles.now).targets }
     requires mean { IsMean C.figures (C.rules answered.now.criterion.now) answered.now.image.now
-        (waiting (destination_of answered.now.profiles.now)) (destination_of answered.now.profiles.now).from
-        (destination_of answered.now.profiles.now).until source mean }
+        (from_stops (waiting (asked_to_any answered.now.profiles.now)) sources.now)
+        (asked_to_any answered.now.profiles.now).from (asked_to_any answered.now.profiles.now).until mean }
     ensures whole { OnOk result (AreWhole rows.new) }
-    ensures added { (before : List ℕ) → AreRowsTo C.figures (C.rules answered.now.criterion.now) false
-        answered.now.image.now (destination_of answered.now.profiles.now) before (text_of rows.old)
+    ensures added { (before : List (Vec ℕ)) (set : Vec ℕ) → set.items ≡ sources.now
+        → AreRowsTo C.figures (C.rules answered.now.criterion.now) false answered.now.image.now
+        (asked_to_any answered.now.profiles.now) before (text_of rows.old)
         → OnOk result (AreRowsTo C.figures (C.rules answered.now.criterion.now) false
-        answered.now.image.now (destination_of answered.now.profiles.now) (before ++ source ∷ [])
-        (text_of rows.new)) }
+        answered.now.image.now (asked_to_any answered.now.profiles.now) (before ++ set ∷ []) (text_of rows.new)) }
 {
-    if source == answered.profiles.destination().target {
+    if meet(sources, answered.profiles.targets()) {
         return Ok(());
     }
-    let from = stop_name(answered.alloc, answered.image, source)?;
-    let spans = spans_of(
+    let from = set_name(answered.alloc, answered.image, sources)?;
+    let points = best_points(
         answered.alloc,
+        answered.image,
         answered.criterion,
-        answered.profiles.points(source),
+        answered.profiles,
+        sources,
     )?;
+    let spans = spans_of(answered.alloc, answered.criterion, &points)?;
     let pair = Pair {
         from: from.as_str(),
         to: answered.to,
         spans: &spans,
         mean,
-        walk: answered.profiles.direct_walk(source),
+        walk: least_walk(answered.image, answered.profiles, sources),
     };
     put_pair(rows, answered.alloc, &pair)
 }
@@ -300,13 +311,14 @@ fn point_rows<C: ShowsFigures>(
     alloc: Global,
     table: &Table<'_>,
     criterion: &C,
-    target: u32,
+    targets: &[u32],
 ) -> Result<Vec<u8>, AllocError>
-    requires { CanBeMade table.now target }
+    requires { CanBeMade table.now targets.now }
     ensures { IfOk result (λ text. AreRowsTo C.figures (C.rules criterion.now) true table.now.image.now
-        (destination table.now target) table.now.sources.now text.items) }
+        (destination table.now targets.now) table.now.sources.now text.items) }
 {
-    let profiles = answers(alloc, table, criterion, &table.destination(target))?;
+    let destinations = table.destination(alloc, targets)?;
+    let profiles = answers(alloc, table, criterion, &destinations)?;
     point_rows_of(alloc, table, criterion, &profiles)
 }
 
@@ -315,16 +327,16 @@ fn point_rows_of<C: ShowsFigures>(
     alloc: Global,
     table: &Table<'_>,
     criterion: &C,
-    profiles: &Profiles<C>,
+    profiles: &ProfilesToAny<C>,
 ) -> Result<Vec<u8>, AllocError>
-    requires same { criterion_of_profiles profiles.now ≡ criterion.now }
-    requires answered { AnswerAll C.rules table.now.image.now.timetable profiles.now }
-    requires sources { (source : ℕ) → Contains table.now.sources.now source
-        → source < table.now.image.now.timetable.stops }
+    requires same { criterion_to_any profiles.now ≡ criterion.now }
+    requires answered { AnswerToAny C.rules table.now.image.now.timetable profiles.now }
+    requires asked { IsAskableBetween table.now.image.now.timetable.stops (asked_to_any profiles.now) }
+    requires sources { AreWithin table.now.image.now table.now.sources.now }
     ensures { IfOk result (λ text. AreRowsTo C.figures (C.rules criterion.now) true table.now.image.now
-        (destination_of profiles.now) table.now.sources.now text.items) }
+        (asked_to_any profiles.now) table.now.sources.now text.items) }
 {
-    let to = stop_name(alloc, table.image, profiles.destination().target)?;
+    let to = set_name(alloc, table.image, profiles.targets())?;
     let answered = Answered {
         alloc,
         image: table.image,
@@ -334,43 +346,46 @@ fn point_rows_of<C: ShowsFigures>(
     };
     let mut rows = Rows::new(alloc);
     for place in 0..table.sources.len() {
-        put_points_from(&mut rows, &answered, table.sources[place])?;
+        put_points_from(&mut rows, &answered, &table.sources[place])?;
     }
     rows.into_text()
 }
 
-// Adds the row of each departure from a source, if it isn't the target.
+// Adds the row of each departure from a set of sources, if none of them is a target.
 fn put_points_from<C: ShowsFigures>(
     rows: &mut Rows,
     answered: &Answered<'_, C>,
-    source: u32,
+    sources: &[u32],
 ) -> Result<(), AllocError>
     requires whole { AreWhole rows.old }
-    requires source { source < answered.now.image.now.timetable.stops }
-    requires same { criterion_of_profiles answered.now.profiles.now ≡ answered.now.criterion.now }
-    requires answered { AnswerAll C.rules answered.now.image.now.timetable answered.now.profiles.now }
+    requires sources { (stop : ℕ) → Contains sources.now stop → stop < answered.now.image.now.timetable.stops }
+    requires same { criterion_to_any answered.now.profiles.now ≡ answered.now.criterion.now }
+    requires answered { AnswerToAny C.rules answered.now.image.now.timetable answered.now.profiles.now }
+    requires asked { IsAskableBetween answered.now.image.now.timetable.stops (asked_to_any answered.now.profiles.now) }
     requires to { answered.now.to.now
-        ≡ stop_bytes answered.now.image.now.names (destination_of answered.now.profiles.now).target }
+        ≡ set_bytes answered.now.image.now.names (asked_to_any answered.now.profiles.now).targets }
     ensures whole { OnOk result (AreWhole rows.new) }
-    ensures added { (before : List ℕ) → AreRowsTo C.figures (C.rules answered.now.criterion.now) true
-        answered.now.image.now (destination_of answered.now.profiles.now) before (text_of rows.old)
+    ensures added { (before : List (Vec ℕ)) (set : Vec ℕ) → set.items ≡ sources.now
+        → AreRowsTo C.figures (C.rules answered.now.criterion.now) true answered.now.image.now
+        (asked_to_any answered.now.profiles.now) before (text_of rows.old)
         → OnOk result (AreRowsTo C.figures (C.rules answered.now.criterion.now) true
-        answered.now.image.now (destination_of answered.now.profiles.now) (before ++ source ∷ [])
-        (text_of rows.new)) }
+        answered.now.image.now (asked_to_any answered.now.profiles.now) (before ++ set ∷ []) (text_of rows.new)) }
 {
-    if source == answered.profiles.destination().target {
+    if meet(sources, answered.profiles.targets()) {
         return Ok(());
     }
-    let from = stop_name(answered.alloc, answered.image, source)?;
-    put_points(
-        rows,
-        answered,
-        from.as_str(),
-        answered.profiles.points(source),
-    )
+    let from = set_name(answered.alloc, answered.image, sources)?;
+    let points = best_points(
+        answered.alloc,
+        answered.image,
+        answered.criterion,
+        answered.profiles,
+        sources,
+    )?;
+    put_points(rows, answered, from.as_str(), &points)
 }
 
-// Adds the row of each of the points from the stop called `from`.
+// Adds the row of each of the points from the stops called `from`.
 fn put_points<C: ShowsFigures>(
     rows: &mut Rows,
     answered: &Answered<'_, C>,

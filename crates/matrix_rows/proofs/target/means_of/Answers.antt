@@ -1,20 +1,35 @@
+use Rattle.std.proofs.Common.{ℕ, List, Contains, subst, sym}
+use Rattle.std.specs.Global.{Vec}
 use Rattle.std.proofs.lemmas.List.Elements.{Contains-get_or}
-use Rattle.profile_scan.specs.Everywhere.{destination_of}
-use Rattle.matrix_rows.specs.Tables.{IsMean}
+use Rattle.profile_scan.specs.Everywhere.{asked_to_any}
+use Rattle.matrix_rows.specs.Tables.{IsMean, IsMeanFrom, from_stops}
 use Rattle.matrix_rows.proofs.Answering.{no_pairs, zipped_push}
 use Rattle.matrix_rows.proofs.target.means_of.Goals as goal
 
-pub loop-source-init : goal.loop-source-init
-loop-source-init g c = no_pairs (IsMean g.C.ShowsFigures.figures (g.C.Criterion.rules c.args.criterion.now) c.args.table.now.image.now
-    (destination_of c.args.profiles.now) c.args.table.now.after c.args.table.now.until) c.in_ok-means.means.items c.in_ok-means.ensures.items
+pub loop-sources-init : goal.loop-sources-init
+loop-sources-init g c = no_pairs (IsMeanFrom g.C.ShowsFigures.figures (g.C.Criterion.rules c.args.criterion.now) c.args.table.now.image.now
+    (asked_to_any c.args.profiles.now) c.args.table.now.after c.args.table.now.until) c.in_ok-means.means.items c.in_ok-means.ensures.items
 
-pub mean_of-requires-clause-source : goal.mean_of-requires-clause-source
-mean_of-requires-clause-source g c =
-    c.requires.sources _ (Contains-get_or c.args.table.now.sources.now c.loop-source.source-index 0 c.loop-source-test.true)
+pub mean_of-requires-clause-sources : goal.mean_of-requires-clause-sources
+mean_of-requires-clause-sources g c = λ stop h.
+    let set = c.sources-item.result in
+    let sets = c.args.table.now.sources.now in
+    let index = c.loop-sources.sources-index in
+    c.requires.sources set
+    (subst (λ (s : Vec ℕ). Contains sets s) (sym c.sources-item.is) (Contains-get_or sets index set c.loop-sources-test.true)) stop
+    (subst (λ (xs : List ℕ). Contains xs stop) c.deref.ensures.value h)
 
-pub loop-source-preserved : goal.loop-source-preserved
-loop-source-preserved g c =
-    zipped_push (IsMean g.C.ShowsFigures.figures (g.C.Criterion.rules c.args.criterion.now) c.args.table.now.image.now
-    (destination_of c.args.profiles.now) c.args.table.now.after c.args.table.now.until)
-    c.args.table.now.sources.now c.loop-source.source-index 0 c.loop-source.means.items c.push.new.self.items c.in_ok-mean_of.field-0
-    c.loop-source-test.true c.loop-source.invariant c.in_ok-mean_of.ensures c.in_ok-push.ensures.items
+pub loop-sources-preserved : goal.loop-sources-preserved
+loop-sources-preserved g c =
+    let figures = g.C.ShowsFigures.figures in
+    let rules = g.C.Criterion.rules c.args.criterion.now in
+    let table = c.args.table.now in
+    let d = asked_to_any c.args.profiles.now in
+    let set = c.sources-item.result in
+    let is = IsMeanFrom figures rules table.image.now d table.after table.until in
+    zipped_push is table.sources.now c.loop-sources.sources-index set c.loop-sources.means.items c.push.new.self.items c.in_ok-mean_of.field-0
+    c.loop-sources-test.true c.loop-sources.invariant
+    (subst (λ (s : Vec ℕ). is s c.in_ok-mean_of.field-0) c.sources-item.is
+    (subst (λ (xs : List ℕ). IsMean figures rules table.image.now (from_stops d xs) table.after table.until c.in_ok-mean_of.field-0) c.deref.ensures.value
+    c.in_ok-mean_of.ensures))
+    c.in_ok-push.ensures.items

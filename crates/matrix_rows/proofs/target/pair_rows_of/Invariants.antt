@@ -1,5 +1,5 @@
 use Rattle.std.proofs.Common.{false, take}
-use Rattle.profile_scan.specs.Everywhere.{destination_of}
+use Rattle.profile_scan.specs.Everywhere.{asked_to_any}
 use Rattle.travel_times.specs.Rows.{AreWhole, text_of}
 use Rattle.matrix_rows.specs.Tables.{AreRowsTo}
 use Rattle.matrix_rows.proofs.target.pair_rows_of.Given as goal
@@ -7,6 +7,6 @@ use Rattle.matrix_rows.proofs.target.pair_rows_of.Given as goal
 abbrev pub invariant-loop-place : goal.invariant-loop-place
 invariant-loop-place g l = record {
   whole : AreWhole l.rows;
-  rows : AreRowsTo g.C.ShowsFigures.figures (g.C.Criterion.rules l.criterion) false l.table.image.now (destination_of l.profiles)
+  rows : AreRowsTo g.C.ShowsFigures.figures (g.C.Criterion.rules l.criterion) false l.table.image.now (asked_to_any l.profiles)
       (take l.place l.table.sources.now) (text_of l.rows);
 }

@@ -1,25 +1,35 @@
 use Rattle.std.proofs.Common.{◌∙◌, List, Option, ℕ, IfOk, false, subst, sym}
 use Rattle.std.specs.List.{AllZip}
-use Rattle.profile_scan.specs.Everywhere.{destination_of}
-use Rattle.profile_scan.specs.declared.destination.Destination.{Destination}
-use Rattle.matrix_rows.specs.Tables.{AreRowsTo, IsMean, waiting}
-use Rattle.matrix_rows.proofs.Answering.{means_asked}
+use Rattle.profile_scan.specs.Between.{BetweenValue, IsAskableBetween}
+use Rattle.profile_scan.specs.Everywhere.{asked_to_any}
+use Rattle.matrix_rows.specs.Tables.{AreRowsTo, IsMeanFrom, destination, waiting}
+use Rattle.matrix_rows.proofs.Answering.{means_asked, means_of_waiting, means_waited, waiting_asked}
 use Rattle.matrix_rows.proofs.target.pair_rows_of_one_scan.Goals as goal
+
+pub pair_rows_of-requires-clause-asked : goal.pair_rows_of-requires-clause-asked
+pair_rows_of-requires-clause-asked g c =
+    subst (IsAskableBetween c.args.table.now.image.now.timetable.stops) (sym (c.in_ok-profiles.ensures.keeps.1 ∙ c.in_ok-destinations.ensures))
+    c.requires.can.asked
+
+pub means_of-requires-clause-asked : goal.means_of-requires-clause-asked
+means_of-requires-clause-asked g c =
+    subst (IsAskableBetween c.args.table.now.image.now.timetable.stops) (sym (c.in_ok-profiles.ensures.keeps.1 ∙ c.in_ok-destinations.ensures))
+    c.requires.can.asked
 
 pub pair_rows_of-requires-clause-means : goal.pair_rows_of-requires-clause-means
 pair_rows_of-requires-clause-means g c =
     let table = c.args.table.now in
-    let found = destination_of c.in_ok-profiles.profiles in
+    let found = asked_to_any c.in_ok-profiles.profiles in
     let figures = g.C.ShowsFigures.figures in
     let rules = g.C.Criterion.rules c.args.criterion.now in
-    subst (λ (means : List (Option ℕ)). AllZip (IsMean figures rules table.image.now (waiting found) found.from found.until) table.sources.now means)
+    subst (λ (means : List (Option ℕ)). AllZip (IsMeanFrom figures rules table.image.now (waiting found) found.from found.until) table.sources.now means)
     (sym c.deref.ensures.value)
-    (means_asked figures rules table.image.now table c.args.target table.sources.now c.in_ok-means.means.items found
-    (c.in_ok-profiles.ensures.keeps.1 ∙ c.destination.ensures) c.requires.same c.in_ok-means.ensures)
+    (means_asked figures rules table.image.now table c.args.targets.now table.sources.now c.in_ok-means.means.items found
+    (c.in_ok-profiles.ensures.keeps.1 ∙ c.in_ok-destinations.ensures) c.requires.same c.in_ok-means.ensures)
 
 pub returns : goal.returns
 returns g c =
     let table = c.args.table.now in
-    subst (λ (d : Destination). IfOk c.pair_rows_of.result (λ text. AreRowsTo g.C.ShowsFigures.figures (g.C.Criterion.rules c.args.criterion.now) false
+    subst (λ (d : BetweenValue). IfOk c.pair_rows_of.result (λ text. AreRowsTo g.C.ShowsFigures.figures (g.C.Criterion.rules c.args.criterion.now) false
     table.image.now d table.sources.now text.items))
-    (c.in_ok-profiles.ensures.keeps.1 ∙ c.destination.ensures) c.pair_rows_of.ensures
+    (c.in_ok-profiles.ensures.keeps.1 ∙ c.in_ok-destinations.ensures) c.pair_rows_of.ensures

@@ -1,11 +1,19 @@
-use Rattle.std.proofs.Common.{◌∙◌, IfOk, true, subst}
-use Rattle.profile_scan.specs.declared.destination.Destination.{Destination}
-use Rattle.matrix_rows.specs.Tables.{AreRowsTo}
+use Rattle.std.proofs.Common.{◌∙◌, List, Option, ℕ, IfOk, true, subst, sym}
+use Rattle.std.specs.List.{AllZip}
+use Rattle.profile_scan.specs.Between.{BetweenValue, IsAskableBetween}
+use Rattle.profile_scan.specs.Everywhere.{asked_to_any}
+use Rattle.matrix_rows.specs.Tables.{AreRowsTo, IsMeanFrom, destination, waiting}
+use Rattle.matrix_rows.proofs.Answering.{means_asked, means_of_waiting, means_waited, waiting_asked}
 use Rattle.matrix_rows.proofs.target.point_rows.Goals as goal
+
+pub point_rows_of-requires-clause-asked : goal.point_rows_of-requires-clause-asked
+point_rows_of-requires-clause-asked g c =
+    subst (IsAskableBetween c.args.table.now.image.now.timetable.stops) (sym (c.in_ok-profiles.ensures.keeps.1 ∙ c.in_ok-destinations.ensures))
+    c.requires.asked
 
 pub returns : goal.returns
 returns g c =
     let table = c.args.table.now in
-    subst (λ (d : Destination). IfOk c.point_rows_of.result (λ text. AreRowsTo g.C.ShowsFigures.figures (g.C.Criterion.rules c.args.criterion.now) true
+    subst (λ (d : BetweenValue). IfOk c.point_rows_of.result (λ text. AreRowsTo g.C.ShowsFigures.figures (g.C.Criterion.rules c.args.criterion.now) true
     table.image.now d table.sources.now text.items))
-    (c.in_ok-profiles.ensures.keeps.1 ∙ c.destination.ensures) c.point_rows_of.ensures
+    (c.in_ok-profiles.ensures.keeps.1 ∙ c.in_ok-destinations.ensures) c.point_rows_of.ensures

@@ -1,4 +1,5 @@
 use Rattle.std.proofs.Common.{◌∙◌, List, ℕ, IfOk, get_or, length, subst, sym}
+use Rattle.std.specs.Global.{Vec}
 use Rattle.matrix_rows.specs.Tables.{AreRowsOf}
 use Rattle.matrix_rows.proofs.Joins.{in_part, parts_cover, parts_joined}
 use Rattle.matrix_rows.proofs.whole.texts_of_run.Goals as goal
@@ -15,5 +16,5 @@ returns g c =
     parts_joined c.args.table.now size texts run
     (λ n d lt.
     let call = (c.in_ok-texts.ensures.each n d lt).1 in
-    subst (λ (part : List ℕ). IfOk (get_or texts n d) (λ text. AreRowsOf c.args.table.now part text.items)) call.argument_is.value call.call)
+    subst (λ (part : List (Vec ℕ)). IfOk (get_or texts n d) (λ text. AreRowsOf c.args.table.now part text.items)) call.argument_is.value call.call)
     (parts_cover (length texts) (length run) size c.requires.size (sym c.in_ok-texts.texts.ok.0 ∙ c.in_ok-texts.ensures.len))

@@ -1,10 +1,11 @@
 use Rattle.std.proofs.Common.{◌≡◌, ◌∙◌, ℕ, List, [], ◌++◌, refl, sym, subst, ap, rules, append_assoc}
 use Rattle.std.proofs.lemmas.List.{append-nil, nil_from_length}
+use Rattle.std.specs.Global.{Vec}
 use Rattle.std.specs.Io.KnownBytes.{Appends}
 use Rattle.std.specs.Slice.Iter.{chunks_rest}
 use Rattle.csv.specs.Writing.{default_writer, row_text}
-use Rattle.matrix_rows.specs.Tables.{AreRowsOf, names_of}
-use Rattle.matrix_rows.proofs.Joins.{appended_and_kept, appended_in_turns, at_value, in_middle}
+use Rattle.matrix_rows.specs.Tables.{AreRowsOf, IsBegun, IsTableBegun, names_of}
+use Rattle.matrix_rows.proofs.Joins.{appended_and_kept, appended_in_turns, at_error, at_value, begun_by_all, begun_by_nothing, in_middle, run_begun}
 use Rattle.matrix_rows.proofs.Targets.{no_targets, targets_joined}
 use Rattle.matrix_rows.proofs.whole.write_table.Goals as goal
 
@@ -12,13 +13,13 @@ pub loop-run-init : goal.loop-run-init
 loop-run-init g c =
     let names = row_text default_writer (names_of c.args.table.now.each) in
     let is : c.deref.result.now ≡ names ++ [] = c.deref.ensures.value ∙ c.in_ok-names.ensures ∙ sym (append-nil names) in
-    (search rules, tt, ([], [], no_targets c.args.table.now [] refl, subst (Appends _ _) is c.in_ok-write_all.ensures.bytes, search rules))
+    (search rules, tt, ([], [], no_targets c.args.table.now [] refl, subst (Appends _ _) is c.in_ok-write_bytes.ensures.written, search rules))
 
 pub write_run-requires-clause-can : goal.write_run-requires-clause-can
 write_run-requires-clause-can g c κs within = λ target h.
     let written = c.loop-run.invariant.2 in
     c.requires.can target (in_middle written.0 c.in-Some.run'.now _ c.args.table.now.targets.now
-    (ap (λ (t : List ℕ). written.0 ++ t) (sym c.in-Some.ensures.steps.1.0) ∙ written.4) target h)
+    (ap (λ (t : List (Vec ℕ)). written.0 ++ t) (sym c.in-Some.ensures.steps.1.0) ∙ written.4) target h)
 
 pub loop-run-preserved : goal.loop-run-preserved
 loop-run-preserved g c =
@@ -26,7 +27,7 @@ loop-run-preserved g c =
     let done = written.0 in
     let rows = written.1 in
     let run = c.in-Some.run'.now in
-    let more = c.in_ok-write_run.ensures in
+    let more = c.in_ok-write_run.ensures.written in
     let names = row_text default_writer (names_of c.args.table.now.each) in (
       search rules,
       tt,
@@ -35,22 +36,69 @@ loop-run-preserved g c =
         rows ++ more.0,
         targets_joined c.args.table.now done run rows more.0 written.2 more.1,
         subst (Appends _ _) (append_assoc names rows more.0) (appended_in_turns _ _ _ (names ++ rows) more.0 written.3 more.2),
-        append_assoc done run _ ∙ ap (λ (t : List ℕ). done ++ t) (sym c.in-Some.ensures.steps.1.0) ∙ written.4,
+        append_assoc done run _ ∙ ap (λ (t : List (Vec ℕ)). done ++ t) (sym c.in-Some.ensures.steps.1.0) ∙ written.4,
       ),
     )
 
-pub returns : goal.returns
-returns g c =
+pub returns-clause-written : goal.returns-clause-written
+returns-clause-written g c =
     let written = c.loop-run.invariant.2 in
     let done = written.0 in
     let none = nil_from_length (chunks_rest c.loop-run.run-iterator) c.in-None.ensures.steps.1.0 in
-    let all : done ≡ c.args.table.now.targets.now = sym (append-nil done) ∙ ap (λ (t : List ℕ). done ++ t) (sym none) ∙ written.4 in
+    let all : done ≡ c.args.table.now.targets.now = sym (append-nil done) ∙ ap (λ (t : List (Vec ℕ)). done ++ t) (sym none) ∙ written.4 in
     at_value c.flush.result (
       row_text default_writer (names_of c.args.table.now.each) ++ written.1,
       record {
         rows = written.1;
-        are = subst (λ (ts : List ℕ). AreRowsOf c.args.table.now ts written.1) all written.2;
+        are = subst (λ (ts : List (Vec ℕ)). AreRowsOf c.args.table.now ts written.1) all written.2;
         text_is = refl;
       },
       appended_and_kept _ _ _ (row_text default_writer (names_of c.args.table.now.each) ++ written.1) written.3 c.flush.ensures.bytes,
     )
+
+pub returns-clause-begun : goal.returns-clause-begun
+returns-clause-begun g c =
+    let written = c.loop-run.invariant.2 in
+    let done = written.0 in
+    let none = nil_from_length (chunks_rest c.loop-run.run-iterator) c.in-None.ensures.steps.1.0 in
+    at_error c.flush.result (record {
+      first = done;
+      others = [];
+      rows = written.1;
+      targets = ap (λ (t : List (Vec ℕ)). done ++ t) (sym none) ∙ written.4;
+      are = written.2;
+      begun = begun_by_all _ _ _
+          (appended_and_kept _ _ _ (row_text default_writer (names_of c.args.table.now.each) ++ written.1) written.3 c.flush.ensures.bytes);
+    })
+
+pub returns-in_err-names-clause-begun : goal.returns-in_err-names-clause-begun
+returns-in_err-names-clause-begun g c = at_error {P = IsTableBegun c.args.table.now (g.W.Write.contents c.args.out.now) (g.W.Write.contents c.args.out.now)}
+    c.from_residual.result (record {
+      first = [];
+      others = c.args.table.now.targets.now;
+      rows = [];
+      targets = refl;
+      are = no_targets c.args.table.now [] refl;
+      begun = begun_by_nothing _ _;
+    })
+
+pub returns-in_err-write_bytes-clause-begun : goal.returns-in_err-write_bytes-clause-begun
+returns-in_err-write_bytes-clause-begun g c =
+    at_error {P = IsTableBegun c.args.table.now (g.W.Write.contents c.args.out.now) (g.W.Write.contents c.write_bytes.new.out)}
+    c.from_residual-in_err-write_bytes.result (record {
+      first = [];
+      others = c.args.table.now.targets.now;
+      rows = [];
+      targets = refl;
+      are = no_targets c.args.table.now [] refl;
+      begun = subst (IsBegun _ _)
+          (c.deref.ensures.value ∙ c.in_ok-names.ensures ∙ sym (append-nil (row_text default_writer (names_of c.args.table.now.each))))
+          c.in_err-write_bytes.ensures.begun;
+    })
+
+pub returns-in_err-write_run-clause-begun : goal.returns-in_err-write_run-clause-begun
+returns-in_err-write_run-clause-begun g c =
+    let written = c.loop-run.invariant.2 in
+    at_error _ (run_begun c.args.table.now written.0 c.in-Some.run'.now _ written.1 _ _ _
+    (ap (λ (t : List (Vec ℕ)). written.0 ++ t) (sym c.in-Some.ensures.steps.1.0) ∙ written.4)
+    written.2 written.3 c.in_err-write_run.ensures.begun)

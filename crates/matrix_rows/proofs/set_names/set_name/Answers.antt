@@ -1,0 +1,17 @@
+use Rattle.std.proofs.Common.{◌∙◌, ◌++◌, ap, arith, get_or, map, sym, take}
+use Rattle.answer_pictures.specs.Naming.{stop_bytes}
+use Rattle.matrix_rows.specs.Joining.{tab_before}
+use Rattle.matrix_rows.specs.Tables.{set_bytes, tabbed}
+use Rattle.matrix_rows.proofs.SetLemmas.{all_names, name_more, no_name}
+use Rattle.matrix_rows.proofs.set_names.set_name.Goals as goal
+
+pub loop-index-init : goal.loop-index-init
+loop-index-init c = c.new-names.ensures.bytes ∙ sym (no_name c.args.image.now.names)
+
+pub loop-index-preserved : goal.loop-index-preserved
+loop-index-preserved c =
+    name_more c.args.image.now.names c.args.stops.now c.loop-index.index _ _ _ _ (omega arith)
+    c.loop-index.invariant (c.as_str.ensures.value ∙ c.in_ok-name.ensures) c.in_ok-put_name.ensures
+
+pub returns : goal.returns
+returns c = c.loop-index.invariant ∙ all_names c.args.image.now.names c.args.stops.now c.loop-index.index (omega arith)

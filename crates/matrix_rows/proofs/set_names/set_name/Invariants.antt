@@ -1,0 +1,6 @@
+use Rattle.std.proofs.Common.{◌≡◌, string_bytes, take}
+use Rattle.matrix_rows.specs.Tables.{set_bytes}
+use Rattle.matrix_rows.proofs.set_names.set_name.Given as goal
+
+abbrev pub invariant-loop-index : goal.invariant-loop-index
+invariant-loop-index l = string_bytes l.names ≡ set_bytes l.image.names (take l.index l.stops)

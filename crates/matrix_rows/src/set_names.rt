@@ -1,0 +1,31 @@
+//! What a set of stops is called.
+
+ghost use Rattle.std.specs.Prelude.{◌≡◌, ◌++◌, IfOk, OnOk, string_bytes};
+ghost use Rattle.matrix_rows.specs.Joining.{tab_before};
+ghost use Rattle.matrix_rows.specs.Tables.{set_bytes};
+
+use answer_pictures::stop_name;
+use image_verifier::Verified;
+use std::alloc::{AllocError, Global};
+
+/// The stop_ids of some stops, with a tab between two of them.
+pub(crate) fn set_name(alloc: Global, image: &Verified, stops: &[u32]) -> Result<String, AllocError>
+    ensures { IfOk result (λ name. string_bytes name ≡ set_bytes image.now.names stops.now) }
+{
+    let mut names = String::new(alloc);
+    for index in 0..stops.len() {
+        let name = stop_name(alloc, image, stops[index])?;
+        put_name(&mut names, index, name.as_str())?;
+    }
+    Ok(names)
+}
+
+// Adds a name to others, after a tab if it isn't the first.
+fn put_name(names: &mut String, index: usize, name: &str) -> Result<(), AllocError>
+    ensures { OnOk result (string_bytes names.new ≡ string_bytes names.old ++ (tab_before index ++ name.now)) }
+{
+    if index > 0 {
+        names.push_str("\t")?;
+    }
+    names.push_str(name)
+}
