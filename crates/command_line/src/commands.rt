@@ -123,7 +123,7 @@ const MATRIX: [Argument; 5] = [
     Argument::Option(
         "to",
         "FILE",
-        "The stops where journeys end: a file with one stop_id on each line (- is a file name here)",
+        "Where journeys end: a file with a stop_id, or several with tabs between, on each line (- is a file name here)",
     ),
     Argument::MaybeOption(
         "from",
@@ -239,6 +239,11 @@ const BUILD: [Argument; 2] = [
         "Show progress on standard error (the default on a terminal)",
     ),
 ];
+
+const FAULTS: [Argument; 1] = [Argument::Flag(
+    "all-faults",
+    "Report on standard error all faults of a feed that is refused, up to 100 of each kind in a file",
+)];
 
 const WARNINGS: [Argument; 1] = [Argument::Flag(
     "no-warnings",
@@ -365,7 +370,7 @@ const OTHER_TASKS: [Task; 6] = [
         name: "tables",
         about: "Checks the files of a GTFS feed, and prints how many records each has",
         notes: texts::TABLES,
-        arguments: &[&FOLDER],
+        arguments: &[&FOLDER, &FAULTS],
     },
     Task {
         name: "days",
@@ -383,7 +388,7 @@ const OTHER_TASKS: [Task; 6] = [
         name: "build",
         about: "Builds the image of a GTFS feed, and prints its counts",
         notes: texts::BUILD,
-        arguments: &[&FOLDER, &OUT, &DAYS, &BUILD, &WARNINGS],
+        arguments: &[&FOLDER, &OUT, &DAYS, &BUILD, &FAULTS, &WARNINGS],
     },
     Task {
         name: "upgrade",

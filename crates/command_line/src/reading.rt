@@ -7,8 +7,8 @@ use clap::{ArgMatches, Error};
 use command_requests::{
     AnswerForm, BuildRequest, CommandRequest, DeparturesForm, DeparturesRequest, FirstDay,
     JourneyRequest, MatrixRequest, NamedFolder, PictureRows, PlanText, ProfileRequest, Question,
-    Seconds, ServeRequest, StationsRequest, StopsRequest, TableWorkers, UpgradeRequest, Workers,
-    days_of,
+    Seconds, ServeRequest, StationsRequest, StopsRequest, TableWorkers, TablesRequest,
+    UpgradeRequest, Workers, days_of,
 };
 use criteria::CriterionName;
 use std::alloc::{AllocError, Global};
@@ -256,7 +256,7 @@ fn plain_request<'a>(name: &str, matches: &ArgMatches<'a>) -> Option<CommandRequ
         "journey" => journey_request(matches).map(CommandRequest::Journey),
         "matrix" => matrix_request(matches).map(CommandRequest::Matrix),
         "stops" => stops_request(matches).map(CommandRequest::Stops),
-        "tables" => matches.get_str("folder").map(CommandRequest::Tables),
+        "tables" => tables_request(matches).map(CommandRequest::Tables),
         "days" => matches.get_str("folder").map(CommandRequest::Days),
         "stations" => stations_request(matches).map(CommandRequest::Stations),
         "upgrade" => upgrade_request(matches).map(CommandRequest::Upgrade),
@@ -350,6 +350,13 @@ fn stations_request<'a>(matches: &ArgMatches<'a>) -> Option<StationsRequest<'a>>
         folder: matches.get_str("folder")?,
         text: matches.get_str("text").unwrap_or(""),
         json: matches.get_flag("json"),
+    })
+}
+
+fn tables_request<'a>(matches: &ArgMatches<'a>) -> Option<TablesRequest<'a>> {
+    Some(TablesRequest {
+        folder: matches.get_str("folder")?,
+        all_faults: matches.get_flag("all-faults"),
     })
 }
 
@@ -562,6 +569,7 @@ fn build_request<'a>(matches: &ArgMatches<'a>) -> Option<BuildRequest<'a>> {
         out: matches.get_str("out")?,
         plan: plan(matches, matches.get_flag("strict"))?,
         progress: matches.get_flag("progress"),
+        all_faults: matches.get_flag("all-faults"),
     })
 }
 

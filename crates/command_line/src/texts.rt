@@ -1,12 +1,12 @@
 //! What the help prints below the arguments of each command.
 
 /// The program's version, as `--version` prints it.
-pub(crate) const VERSION: &str = "1.4.0";
+pub(crate) const VERSION: &str = "1.5.0";
 
 pub(crate) const STATUSES: &str = "Exit status:\n\
 \x20 0   accepted\n\
 \x20 2   refused: standard output has one line `refused NUMBER NAME PLACES`, standard error may explain it;\n\
-\x20     for departures also if a line of --from FILE is not a stop_id, which standard error alone says;\n\
+\x20     for departures and matrix also if a line of a FILE is not a stop_id, which standard error alone says;\n\
 \x20     for serve if a session sent too many requests\n\
 \x20 3   a file cannot be read or written, the server cannot listen at its port, a line cannot be written,\n\
 \x20     or a session failed\n\
@@ -44,9 +44,10 @@ pub(crate) const TABLES: &str =
     "Standard output has one line, with the number of records of each file:\n\
 \x20 tables agencies 1 stops 3 trips 2 stop_times 5 calendar 1 calendar_dates 0 transfers 0\n\
 stops counts stations too, agencies is agency.txt. frequencies.txt is checked, and not counted.\n\
-A refusal names the first fault: mend it and run this again.\n\
+A refusal names the first fault. With --all-faults the others are reported on standard error, file by\n\
+file. The times of trips are judged once nothing else is wrong.\n\
 \n\
-Example: csa tables examples/base";
+Example: csa tables examples/base --all-faults";
 
 pub(crate) const DAYS: &str = "Each line is a word and a value, with a space between:\n\
 \x20 first           the first day, YYYYMMDD, on which a row of calendar.txt or calendar_dates.txt\n\
@@ -130,10 +131,12 @@ With --json it is: {\"from\":\"A\",\"points\":[{\"arr\":\"08:20:00\",\"dep\":\"0
 and at the end: {\"points\":2,\"read\":3,\"stops\":2}";
 
 pub(crate) const MATRIX: &str =
-    "OUT has a first row with the names of the columns, and then for each stop of --to, in the order of its file, a\n\
-row for each stop of --from, in the order of its file or of the image, except that stop itself:\n\
-\x20 from             the stop_id of the stop where journeys begin\n\
-\x20 to               the stop_id of the stop where they end\n\
+    "A line of a FILE is a stop_id, or a set: several with a tab between two of them. Journeys begin and end at any\n\
+stop of a set. OUT has a first row with the names of the columns, and then for each line of --to, in the order of its\n\
+file, a row for each of --from, in the order of its file, or else for each stop of the image, unless the two have a\n\
+stop in common:\n\
+\x20 from             the stop_ids of the stops where journeys begin, as the line has them\n\
+\x20 to               those of the stops where they end\n\
 \x20 points           how many best departures there are, as csa departures prints them\n\
 \x20 first_departure  the first one, HH:MM:SS after the image's base\n\
 \x20 last_departure   the last one\n\
@@ -144,9 +147,9 @@ row for each stop of --from, in the order of its file or of the image, except th
 A figure that is not there is blank. With --each a row is one best departure: from, to, departure, arrival, seconds\n\
 between them, trips, walked (blank if the criterion does not count them); a pair without one has no row.\n\
 Standard output has one line, `targets N sources N`, or the table if OUT is -.\n\
-If a line of a FILE is not a stop_id of the image, standard error has its number and its text, and the status is 2;\n\
-if a FILE has no line, the same stop_id twice, or a tab, it is 64.\n\
-A stop of --to takes a scan, or two if --until is not --by; --by with the value of --until takes one.\n\
+If a line of a FILE has what is not a stop_id of the image, standard error has its number and that text, and the\n\
+status is 2; if a FILE has no line, a line twice, or a stop_id twice in a line, it is 64.\n\
+A line of --to takes a scan, or two if --until is not --by; --by with the value of --until takes one.\n\
 \n\
 Example: csa matrix examples/base.csa - --to targets --after 08:00:00 --until 08:12:00 --by 10:00:00 \
 --criterion arrival\n\

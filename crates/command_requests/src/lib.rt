@@ -16,5 +16,5 @@ pub use plans::{
 pub use requests::{
     AnswerForm, BuildRequest, CommandRequest, DeparturesForm, DeparturesRequest, JourneyRequest,
     MatrixRequest, NamedFolder, ProfileRequest, Question, ServeRequest, StationsRequest,
-    StopsRequest, UpgradeRequest,
+    StopsRequest, TablesRequest, UpgradeRequest,
 };

@@ -19,7 +19,7 @@ pub enum CommandRequest<'a> {
     /// To write a table of travel times over an image.
     Matrix(MatrixRequest<'a>),
     /// To read the tables of a feed's folder.
-    Tables(&'a str),
+    Tables(TablesRequest<'a>),
     /// To print which service days the feed of a folder has.
     Days(&'a str),
     /// To list the stations of a feed's folder, with their stops.
@@ -95,7 +95,7 @@ pub struct MatrixRequest<'a> {
     pub image: &'a str,
     /// The file for the table; `-` is standard output.
     pub out: &'a str,
-    /// A file with one stop_id on each line.
+    /// A file with a stop_id on each line, or several with tabs between them.
     pub to: &'a str,
     /// Another one.
     pub from: Option<&'a str>,
@@ -171,6 +171,13 @@ pub struct UpgradeRequest<'a> {
     pub out: &'a str,
 }
 
+/// A feed's folder, and whether all its faults are reported, or the first alone.
+#[derive(Clone, Copy, Drop)]
+pub struct TablesRequest<'a> {
+    pub folder: &'a str,
+    pub all_faults: bool,
+}
+
 /// Where a feed is, where its image goes, and what is made of it.
 #[derive(Drop)]
 pub struct BuildRequest<'a> {
@@ -179,6 +186,8 @@ pub struct BuildRequest<'a> {
     pub plan: PlanText<'a>,
     /// Whether progress is shown.
     pub progress: bool,
+    /// Whether all faults of a feed that is refused are reported, or the first alone.
+    pub all_faults: bool,
 }
 
 /// A feed that may be loaded by its name.

@@ -4,7 +4,7 @@
 mod source_sum;
 
 use crate::source_sum::SOURCES;
-use csa_program::{explain_no_words, print_sources, run};
+use csa_program::{WatchedWriter, explain_no_words, print_sources, run};
 use std::env;
 use std::fs::File;
 use std::io::{ErrorKind, IsTerminal};
@@ -31,7 +31,7 @@ fn main(rt: HostRuntime) -> ExitCode {
         }
     };
     let mut input = rt.stdin();
-    let mut output = rt.stdout();
+    let mut output = WatchedWriter::of(rt.stdout());
     let is_terminal = errors.is_terminal();
     let status = run(
         &rt,

@@ -2,6 +2,7 @@ mod AnswerLemmas
 mod Appended
 mod MissingFile
 mod OfFolder
+pub mod Outcomes
 mod Picturing
 mod Ranges
 mod StopLines

@@ -1,56 +1,87 @@
 -- Whether a table can be made, and why it isn't.
-use Rattle.std.proofs.Common.{◌≡◌, ◌≢◌, ◌<◌, ◌∙◌, ℕ, Bool, true, false, List, Option, None, Some, Contains, MatchBool, get_or, length}
-use Rattle.std.proofs.Common.{inl, inr, subst, refl, arith}
-use Rattle.std.proofs.lemmas.Bool.{false≢true}
-use Rattle.std.proofs.lemmas.List.{get_or_default}
-use Rattle.std.specs.Io.KnownBytes.{Appends}
+use Rattle.std.proofs.Common.{◌≡◌, ◌≢◌, ◌<◌, ◌⊎◌, ◌∙◌, ℕ, List, [], ◌∷◌, Option, None, Some, Result, Ok, Err, Contains, IfErr, IfOk, MatchResult}
+use Rattle.std.proofs.Common.{OnErr, arith, codes, inl, inr, subst, sym}
+use Rattle.std.specs.Borrow.{Bor}
+use Rattle.std.specs.Global.{Vec}
+use Rattle.std.specs.List.{AllZip}
+use Rattle.std.proofs.lemmas.List.Elements.{Contains-append_right}
+use Rattle.reasoning.proofs.ListLemmas.{contains_cases, contains_first, not_in_nil}
 use Rattle.image_layout.specs.Image.{ImageValue}
-use Rattle.timetable.specs.declared.query.QueryFault.{QueryFault}
-use Rattle.timetable.specs.declared.query.QueryFault.TheVariants.{BadWindow, SameStop, UnknownStop}
-use Rattle.profile_scan.specs.Destinations.{CanBeAsked, IsDestinationFault}
-use Rattle.profile_scan.specs.declared.destination.Destination.{Destination}
-use Rattle.matrix_rows.specs.Tables.{destination}
+use Rattle.matrix_rows.specs.Tables.{AreWithin, CanBeMade, HasWindow, IsTableBegun}
 use Rattle.matrix_rows.specs.declared.table.Table.{Table}
 use Rattle.command_requests.specs.declared.requests.MatrixRequest.{MatrixRequest}
-use Rattle.command_requests.specs.declared.statuses.TheConstants.{ACCEPTED, COMMAND_LINE}
-use Rattle.csa_commands.specs.Ending.{Ends}
-use Rattle.csa_commands.specs.Matrices.{AreBadTimes, AreSources, EndsTable, EndsUnlisted, HasTab, IsBadWindow, IsTableOf, IsUnlisted}
+use Rattle.command_requests.specs.declared.statuses.TheConstants.{ACCEPTED, COMMAND_LINE, INPUT_OUTPUT, OUT_OF_MEMORY}
+use Rattle.csa_commands.specs.Ending.{Ends, IsBegun}
+use Rattle.timetable.specs.declared.query.QueryFault.TheVariants.{BadWindow}
+use Rattle.csa_commands.specs.Listed.{IsTextAt}
+use Rattle.csa_commands.specs.Matrices.{AreBadTimes, AreListedIn, AreNoSources, AreOfList, AreSources, EndsTable, EndsUnlisted, IsBadWindow, IsCutShort}
+use Rattle.csa_commands.specs.Matrices.{IsShownInPart, IsTableOf, IsUnasked, IsUnlisted, IsUnlistedIn, counts_of}
 use Rattle.csa_commands.specs.Refusing.{refusal_line}
 use Rattle.csa_commands.specs.declared.refusal.CommandRefusal.TheVariants.{Query}
 use Rattle.csa_commands.proofs.Ranges.{below_all}
 
--- what can be asked of one target can be asked of each
-pub asked_of_each : (stops : ℕ) (table : Table) (first target : ℕ) → CanBeAsked stops (destination table first) → target < stops
-    → CanBeAsked stops (destination table target)
-asked_of_each stops table first target can less = record {
-  target = less;
-  window = can.window;
-  in_time = can.in_time;
-  small = can.small;
+-- the stops of sets of one stop each
+each_within : (limit : ℕ) (stops : List ℕ) (sets : List (Vec ℕ)) → ((n : ℕ) → Contains stops n → n < limit)
+    → AllZip (λ stop set. set.items ≡ stop ∷ []) stops sets → (set : Vec ℕ) → Contains sets set → (stop : ℕ) → Contains set.items stop → stop < limit
+each_within limit [] [] below zipped set h stop within = absurd (not_in_nil set h)
+each_within limit [] (s ∷ sets) below zipped set h stop within = absurd zipped
+each_within limit (x ∷ xs) [] below zipped set h stop within = absurd zipped
+each_within limit (x ∷ xs) (s ∷ sets) below zipped set h stop within = elim (contains_cases set s sets h) [
+  | inl same ↦
+      let one : Contains (x ∷ []) stop = subst (λ (ys : List ℕ). Contains ys stop) zipped.0
+      (subst (λ (v : Vec ℕ). Contains v.items stop) (sym same) within) in
+      elim (contains_cases stop x [] one) [
+        | inl is ↦ subst (λ (n : ℕ). n < limit) is (below x (contains_first x xs))
+        | inr none ↦ absurd (not_in_nil stop none)
+      ]
+  | inr rest ↦ each_within limit xs sets (λ n k. below n (Contains-append_right (x ∷ []) xs n k)) zipped.1 set rest stop within
+]
+
+pub sources_within : (may_hold : List ℕ → Option (List ℕ) → Type 0) (from : Option (Bor (List ℕ))) (image : ImageValue) (sets : List (Vec ℕ))
+    → AreSources may_hold from image sets → AreWithin image sets
+sources_within may_hold None image sets are =
+    each_within image.timetable.stops _ sets (λ n h. below_all image.timetable.stops n h) are
+sources_within may_hold (Some path) image sets are = are.2.within
+
+-- a table can be made if its stops are those of the image, and its times make a window
+pub can_be_made : (table : Table) → AreWithin table.image.now table.targets.now → AreWithin table.image.now table.sources.now → HasWindow table
+    → (targets : Vec ℕ) → Contains table.targets.now targets → CanBeMade table targets.items
+can_be_made table within sources window targets h = record {
+  sources = sources;
+  asked = record {
+    sources = λ stop none. absurd (not_in_nil stop none);
+    targets = within targets h;
+    differ = λ stop none. absurd (not_in_nil stop none);
+    window = window.window;
+    in_time = window.in_time;
+    small = window.small;
+  };
 }
 
-pub sources_within : {A : Type 0} (from : Option A) (image : ImageValue) (sources : List ℕ) → AreSources from image sources
-    → (source : ℕ) → Contains sources source → source < image.timetable.stops
-sources_within None image sources are source h = below_all image.timetable.stops source (subst (λ (xs : List ℕ). Contains xs source) are h)
-sources_within (Some path) image sources are source h = are.1.within source h
+-- the table that was made is the one that is asked for
+pub table_asked : (may_hold : List ℕ → Option (List ℕ) → Type 0) (image : ImageValue) (request : MatrixRequest) (table : Table)
+    (targets sources : List (Vec ℕ)) → table.image.now ≡ image → table.targets.now ≡ targets → table.sources.now ≡ sources
+    → (table.after ≡ request.after) × (table.until ≡ request.until) × (table.by ≡ request.by)
+    → (table.criterion ≡ request.criterion) × (table.each ≡ request.each)
+    → AreOfList may_hold request.to.now image targets → AreSources may_hold request.from image sources → IsTableOf may_hold image request table
+table_asked may_hold image request table targets sources is same_targets same_sources times form listed from = record {
+  image_is = is;
+  targets = subst (AreOfList may_hold request.to.now image) (sym same_targets) listed;
+  sources = subst (AreSources may_hold request.from image) (sym same_sources) from;
+  times = times;
+  form = form;
+}
 
--- of a target that is a stop, nothing but the window can be bad
-pub window_is_bad : (stops : ℕ) (table : Table) (target : ℕ) (fault : QueryFault) → IsDestinationFault stops (destination table target) fault
-    → target < stops → (fault ≡ BadWindow) × AreBadTimes table.after table.until table.by
-window_is_bad stops table target UnknownStop is less = absurd (omega (arith, is, less))
-window_is_bad stops table target SameStop is less = absurd is
-window_is_bad stops table target BadWindow is less = (refl, is.1)
+pub targets_are_within : (may_hold : List ℕ → Option (List ℕ) → Type 0) (image : ImageValue) (request : MatrixRequest) (table : Table)
+    → IsTableOf may_hold image request table → AreWithin table.image.now table.targets.now
+targets_are_within may_hold image request table of =
+    subst (λ (i : ImageValue). AreWithin i table.targets.now) (sym of.image_is) of.targets.2.within
 
-pub refused_by : (stops n : ℕ) (table : Table) (target : ℕ) (d : Destination) (fault : QueryFault) (before now : Option (List ℕ)) → n ≡ stops
-    → d ≡ destination table target → IsDestinationFault n d fault → target < stops → Appends before now (refusal_line (Query fault))
-    → IsBadWindow table.after table.until table.by before now
-refused_by stops n table target d fault before now same-n same-d is less printed =
-    let is-table : IsDestinationFault stops (destination table target) fault =
-    subst (λ (x : ℕ). IsDestinationFault x (destination table target) fault) same-n
-    (subst (λ (x : Destination). IsDestinationFault n x fault) same-d is)
-    in
-    let bad = window_is_bad stops table target fault is-table less in
-    (bad.1, subst (λ (f : QueryFault). Appends before now (refusal_line (Query f))) bad.0 printed)
+pub sources_are_within : (may_hold : List ℕ → Option (List ℕ) → Type 0) (image : ImageValue) (request : MatrixRequest) (table : Table)
+    → IsTableOf may_hold image request table → AreWithin table.image.now table.sources.now
+sources_are_within may_hold image request table of =
+    subst (λ (i : ImageValue). AreWithin i table.sources.now) (sym of.image_is)
+    (sources_within may_hold request.from image table.sources.now of.sources)
 
 -- the window of a table is that of its request
 bad_times_of : (after until by a u b : ℕ) (before now : Option (List ℕ)) → a ≡ after → u ≡ until → b ≡ by → IsBadWindow a u b before now
@@ -60,9 +91,10 @@ bad_times_of after until by a u b before now same-a same-u same-b bad =
     (subst (λ (x : ℕ). IsBadWindow a x by before now) same-u
     (subst (λ (x : ℕ). IsBadWindow a u x before now) same-b bad))
 
-pub bad_window_of : (image : ImageValue) (request : MatrixRequest) (table : Table) (before now : Option (List ℕ)) → IsTableOf image request table
+pub bad_window_of : (may_hold : List ℕ → Option (List ℕ) → Type 0) (image : ImageValue) (request : MatrixRequest) (table : Table)
+    (before now : Option (List ℕ)) → IsTableOf may_hold image request table
     → IsBadWindow table.after table.until table.by before now → IsBadWindow request.after request.until request.by before now
-bad_window_of image request table before now of bad =
+bad_window_of may_hold image request table before now of bad =
     bad_times_of _ _ _ _ _ _ before now of.times.0 of.times.1 of.times.2 bad
 
 -- a command whose lists aren't known ends otherwise than with 0
@@ -76,8 +108,9 @@ ends_table : (status : ℕ) → EndsUnlisted status → EndsTable status
 ends_table status (inl undone) = inl (inr undone)
 ends_table status (inr is) = inr is
 
-pub unlisted_table : (image : ImageValue) (status : ℕ) → IsUnlisted image status → EndsTable status × (status ≢ ACCEPTED)
-unlisted_table image status why = (ends_table status why.1.ends, ends_not_accepted status why.1.ends)
+pub unasked_table : (may_hold : List ℕ → Option (List ℕ) → Type 0) (request : MatrixRequest) (image : ImageValue) (status : ℕ)
+    → IsUnasked may_hold request image status → EndsTable status × (status ≢ ACCEPTED)
+unasked_table may_hold request image status why = (ends_table status why.ends, ends_not_accepted status why.ends)
 
 -- a table that was begun doesn't end as a bad command line does
 pub ends_asked : (status : ℕ) → Ends status → status ≢ COMMAND_LINE
@@ -86,8 +119,80 @@ ends_asked status (inr (inl is)) e = omega (arith, is, e)
 ends_asked status (inr (inr (inl is))) e = omega (arith, is, e)
 ends_asked status (inr (inr (inr is))) e = omega (arith, is, e)
 
--- a tab that was found in a list, or not
-pub tab_found : (list : List ℕ) (found : Bool) → (found ≡ true → (k : ℕ) × (k < length list) × (get_or list k 0 ≡ 9))
-    × ((k : ℕ) → k < length list → get_or list k 0 ≡ 9 → found ≡ true) → MatchBool found (HasTab list) (¬ HasTab list)
-tab_found list true h = (let f = h.0 refl in (f.0, f.1, get_or_default list f.0 9 0 f.1 ∙ f.2))
-tab_found list false h = λ has. (let e = h.1 has.0 has.1 (get_or_default list has.0 0 9 has.1 ∙ has.2) in absurd (false≢true e))
+-- why the targets aren't known, or the sources, is why the request can't be asked
+pub unasked_targets : (may_hold : List ℕ → Option (List ℕ) → Type 0) (request : MatrixRequest) (image : ImageValue) (status : ℕ)
+    → IsUnlisted may_hold request.to.now image status → IsUnasked may_hold request image status
+unasked_targets may_hold request image status why = record {
+  ends = why.ends;
+  unknown = λ is. inl (why.unknown is);
+  bad = λ is. inl (why.bad is);
+}
+
+pub unasked_sources : (may_hold : List ℕ → Option (List ℕ) → Type 0) (request : MatrixRequest) (image : ImageValue) (status : ℕ) (from : Option (Bor (List ℕ)))
+    → request.from ≡ from → AreNoSources may_hold from image status → IsUnasked may_hold request image status
+unasked_sources may_hold request image status None same is = record {
+  ends = inl (inr (inr is));
+  unknown = λ e. absurd (omega (arith, is, e));
+  bad = λ e. absurd (omega (arith, is, e));
+}
+unasked_sources may_hold request image status (Some path) same why = record {
+  ends = why.ends;
+  unknown = λ is. inr (path, same, why.unknown is);
+  bad = λ is. inr (path, same, why.bad is);
+}
+
+-- the sets of a text that was read, or why there are none
+pub listed_at : (may_hold : List ℕ → Option (List ℕ) → Type 0) (path text : List ℕ) (image : ImageValue) (r : Result (Vec (Vec ℕ)) ℕ)
+    → IsTextAt may_hold path text → IfOk r (λ sets. AreListedIn image sets.items text) → IfErr r (IsUnlistedIn image text)
+    → MatchResult r (λ sets. AreOfList may_hold path image sets.items) (IsUnlisted may_hold path image)
+listed_at may_hold path text image (Ok sets) at listed why = (text, at, listed)
+listed_at may_hold path text image (Err status) at listed why = record {
+  ends = why.ends;
+  unknown = λ is. (text, at, why.unknown is);
+  bad = λ is. (text, at, why.bad is);
+}
+
+pub unread_list : (may_hold : List ℕ → Option (List ℕ) → Type 0) (path : List ℕ) (image : ImageValue) (status : ℕ)
+    → (status ≡ INPUT_OUTPUT) ⊎ (status ≡ OUT_OF_MEMORY) → IsUnlisted may_hold path image status
+unread_list may_hold path image status (inl is) = record {
+  ends = inl (inr (inl is));
+  unknown = λ e. absurd (omega (arith, is, e));
+  bad = λ e. absurd (omega (arith, is, e));
+}
+unread_list may_hold path image status (inr is) = record {
+  ends = inl (inr (inr is));
+  unknown = λ e. absurd (omega (arith, is, e));
+  bad = λ e. absurd (omega (arith, is, e));
+}
+
+-- what was printed of a table that standard output was to have
+pub cut_printed : {T E : Type 0} (outcome : Result T E) (status : ℕ) (table : Table) (out : List ℕ) (before after : Option (List ℕ)) → out ≡ codes "-"
+    → IfOk outcome (λ _. status ≡ ACCEPTED) → OnErr outcome (IsTableBegun table before after) → (status ≡ INPUT_OUTPUT) ⊎ (status ≡ OUT_OF_MEMORY)
+    → (after ≡ before) ⊎ IsShownInPart table out before after
+cut_printed (Ok x) status table out before after same done begun (inl is) = absurd (omega (arith, done, is))
+cut_printed (Ok x) status table out before after same done begun (inr is) = absurd (omega (arith, done, is))
+cut_printed (Err e) status table out before after same done begun ends =
+    inr (record { begun = λ _. begun; counted = λ differs. absurd (differs same) })
+
+-- what was printed of its counts
+pub cut_counts : (status : ℕ) (table : Table) (out : List ℕ) (before between after : Option (List ℕ)) → out ≢ codes "-" → between ≡ before
+    → (status ≡ INPUT_OUTPUT → IsBegun between after (counts_of table)) → (status ≡ OUT_OF_MEMORY → after ≡ between)
+    → (status ≡ INPUT_OUTPUT) ⊎ (status ≡ OUT_OF_MEMORY) → (after ≡ before) ⊎ IsShownInPart table out before after
+cut_counts status table out before between after differs kept begun silent (inl is) =
+    inr (record {
+      begun = λ same. absurd (differs same);
+      counted = λ _. subst (λ (u : Option (List ℕ)). IsBegun u after (counts_of table)) kept (begun is);
+    })
+cut_counts status table out before between after differs kept begun silent (inr is) = inl (silent is ∙ kept)
+
+-- what was printed of a table that was begun, or of a line for its times
+pub cut_table : (table : Table) (out : List ℕ) (before after : Option (List ℕ)) → HasWindow table
+    → (after ≡ before) ⊎ IsShownInPart table out before after → IsCutShort table out before after
+cut_table table out before after window (inl same) = inl same
+cut_table table out before after window (inr part) = inr (inr (window, part))
+
+pub cut_refusal : (status : ℕ) (table : Table) (out : List ℕ) (before after : Option (List ℕ)) → AreBadTimes table.after table.until table.by
+    → (status ≡ INPUT_OUTPUT → IsBegun before after (refusal_line (Query BadWindow))) → (status ≡ OUT_OF_MEMORY → after ≡ before)
+    → (status ≡ INPUT_OUTPUT) ⊎ (status ≡ OUT_OF_MEMORY) → IsCutShort table out before after
+cut_refusal status table out before after bad begun silent (inl is) = inr (inl (bad, begun is))
+cut_refusal status table out before after bad begun silent (inr is) = inl (silent is)

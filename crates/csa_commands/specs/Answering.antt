@@ -1,6 +1,5 @@
 -- What `csa profile` prints.
 use Rattle.std.specs.Prelude.{◌≡◌, ℕ, List, Option, Result, Ok, Err, Contains, length, map, string_bytes}
-use Rattle.std.specs.Io.KnownBytes.{Appends}
 use Rattle.criteria.specs.Laws.{Rules}
 use Rattle.criteria.specs.declared.name.CriterionName.{CriterionName}
 use Rattle.criteria.specs.declared.figures.Figures.{Figures}
@@ -72,12 +71,10 @@ IsProfile image request (Ok profile) = AnswersRequest image request profile
 IsProfile image request (Err (Bad fault)) = HasFault image request fault
 IsProfile image request (Err OutOfMemory) = Unit {0}
 
--- the text of an answer was added to what was printed before, and nothing else. No clause says what is in the picture's file
-abbrev pub IsPrinted : ImageValue → ProfileRequest → Option (List ℕ) → Option (List ℕ) → Type 0
-IsPrinted image request before after =
-    (profile : Profile) × AnswersRequest image request profile × Appends before after (string_bytes profile.text)
+-- the text is that of an answer. No clause says what is in the picture's file
+abbrev pub IsAnswered : ImageValue → ProfileRequest → List ℕ → Type 0
+IsAnswered image request text = (profile : Profile) × AnswersRequest image request profile × (text ≡ string_bytes profile.text)
 
--- the request makes no question of the image: the line of its fault was added to what was printed before, and nothing else
-abbrev pub IsNoRequest : ImageValue → ProfileRequest → Option (List ℕ) → Option (List ℕ) → Type 0
-IsNoRequest image request before after =
-    (fault : QueryFault) × HasFault image request fault × Appends before after (refusal_line (OfQuery fault))
+-- the request makes no question of the image: this is the line of its fault
+abbrev pub IsNoRequest : ImageValue → ProfileRequest → List ℕ → Type 0
+IsNoRequest image request line = (fault : QueryFault) × HasFault image request fault × (line ≡ refusal_line (OfQuery fault))

@@ -1,6 +1,5 @@
 -- The line that `csa build` prints of an image that it made.
-use Rattle.std.specs.Prelude.{List, ℕ, Option, ◌++◌, codes, decimal}
-use Rattle.std.specs.Io.KnownBytes.{Appends}
+use Rattle.std.specs.Prelude.{◌≡◌, List, ℕ, ◌++◌, codes, decimal}
 use Rattle.connections.specs.declared.report.Report.{Report}
 use Rattle.feed_loader.specs.Refused.{IsWantOfMemory}
 use Rattle.feed_loader.specs.declared.fault.LoadFault.{LoadFault}
@@ -34,9 +33,8 @@ changed_text report =
 unfoldable pub report_line : Report → List ℕ
 report_line report = made_text report ++ changed_text report ++ codes "\n"
 
--- the counts of an image of the folder's files were added to what was printed before, and nothing else
-abbrev pub IsReported : {D : Type 0} → (D → List ℕ → MayGive) → List ℕ → PlanText
-    → Option (List ℕ) → Option (List ℕ) → Type 0
-IsReported gives folder asked before after =
+-- the line has the counts of an image of the folder's files
+abbrev pub IsReportLine : {D : Type 0} → (D → List ℕ → MayGive) → List ℕ → PlanText → List ℕ → Type 0
+IsReportLine gives folder asked line =
     (t : TimetableValue) × (names : NamesValue) × (report : Report) × IsBuiltFrom gives folder asked t names report
-    × Appends before after (report_line report)
+    × (line ≡ report_line report)

@@ -1,13 +1,15 @@
--- What a command over an image prints, and why it is refused.
-use Rattle.std.specs.Prelude.{ℕ, List, Option}
-use Rattle.std.specs.Io.KnownBytes.{Appends}
+-- What a command over an image prints, of what is done and of what is refused.
+use Rattle.std.specs.Prelude.{◌≡◌, ℕ, List}
 use Rattle.image_layout.specs.Image.{ImageValue}
-use Rattle.csa_commands.specs.Answering.{IsNoRequest, IsPrinted}
+use Rattle.image_facts.specs.Facts.{AreFacts}
+use Rattle.command_requests.specs.declared.requests.DeparturesRequest.{DeparturesRequest}
+use Rattle.command_requests.specs.declared.requests.ProfileRequest.{ProfileRequest}
+use Rattle.csa_commands.specs.Answering.{IsAnswered, IsNoRequest}
 use Rattle.csa_commands.specs.Counting.{counts_line}
-use Rattle.csa_commands.specs.Departing.{AreAllPrinted, IsNoneAsked}
-use Rattle.csa_commands.specs.Informing.{IsInformed}
+use Rattle.csa_commands.specs.Departing.{AreAllShown, IsNoneAsked}
+use Rattle.csa_commands.specs.Ending.{Prints, PrintsOnly}
 use Rattle.csa_commands.specs.Judging.{IsAccepted, IsFaulty}
-use Rattle.csa_commands.specs.StopLines.{AreStopsPrinted}
+use Rattle.csa_commands.specs.StopLines.{AreStopLines}
 use Rattle.csa_commands.specs.declared.asked.ImageRequest.{ImageRequest}
 use Rattle.csa_commands.specs.declared.asked.ImageRequest.TheVariants.{Verify, Info, Journey, Profile, Departures, Stops, Upgrade}
 
@@ -21,23 +23,21 @@ path_of (Departures request) = request.now.image.now
 path_of (Stops request) = request.image.now
 path_of (Upgrade request) = request.image.now
 
--- what was asked of the image was added to what was printed before, and nothing else
-abbrev pub IsDone : ImageValue → ImageRequest → Option (List ℕ) → Option (List ℕ) → Type 0
-IsDone image (Verify path) before after = Appends before after (counts_line image)
-IsDone image (Info path) before after = IsInformed image before after
-IsDone image (Journey request) before after = IsAccepted image request.question request.text.now before after
-IsDone image (Profile request) before after = IsPrinted image request.now before after
-IsDone image (Departures request) before after = AreAllPrinted image request.now before after
-IsDone image (Stops request) before after = AreStopsPrinted image request.text.now before after
-IsDone image (Upgrade request) before after = Appends before after (counts_line image)
+-- what a question's answer is, or why it can't be asked
+abbrev pub PrintsProfile : ImageValue → ProfileRequest → ℕ → List ℕ → Type 0
+PrintsProfile image request = Prints (IsAnswered image request) (IsNoRequest image request)
 
--- a journey or a question is refused for its first fault, whose line was added to what was printed before, and nothing else; a list of stops is refused for a
--- line that is no stop_id, and then nothing was printed. Nothing else is refused
-abbrev pub IsRefusedAs : ImageValue → ImageRequest → Option (List ℕ) → Option (List ℕ) → Type 0
-IsRefusedAs image (Verify path) before after = ⊥
-IsRefusedAs image (Info path) before after = ⊥
-IsRefusedAs image (Journey request) before after = IsFaulty image request.question request.text.now before after
-IsRefusedAs image (Profile request) before after = IsNoRequest image request.now before after
-IsRefusedAs image (Departures request) before after = IsNoneAsked image request.now before after
-IsRefusedAs image (Stops request) before after = ⊥
-IsRefusedAs image (Upgrade request) before after = ⊥
+-- the same of the queries from every stop
+abbrev pub PrintsDepartures : ImageValue → DeparturesRequest → ℕ → List ℕ → Type 0
+PrintsDepartures image request = Prints (AreAllShown image request) (IsNoneAsked image request)
+
+-- what the command may print of the image, and with which status. A journey or a question is refused for its first fault; a list of stops is refused for a line
+-- that is no stop_id, and then nothing is printed; nothing else is refused
+abbrev pub PrintsAsked : ImageValue → ImageRequest → ℕ → List ℕ → Type 0
+PrintsAsked image (Verify path) = PrintsOnly (λ text. text ≡ counts_line image)
+PrintsAsked image (Info path) = PrintsOnly (AreFacts image)
+PrintsAsked image (Journey request) = Prints (IsAccepted image request.question request.text.now) (IsFaulty image request.question request.text.now)
+PrintsAsked image (Profile request) = PrintsProfile image request.now
+PrintsAsked image (Departures request) = PrintsDepartures image request.now
+PrintsAsked image (Stops request) = PrintsOnly (AreStopLines image.names request.text.now image.timetable.stops)
+PrintsAsked image (Upgrade request) = PrintsOnly (λ text. text ≡ counts_line image)

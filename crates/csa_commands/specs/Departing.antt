@@ -1,6 +1,5 @@
 -- What `csa departures` prints of an image.
 use Rattle.std.specs.Prelude.{◌≡◌, ◌≢◌, ◌⊎◌, ℕ, List, [], Option, None, map}
-use Rattle.std.specs.Io.KnownBytes.{Appends}
 use Rattle.std.specs.Str.Lines.{lines}
 use Rattle.std.specs.declared.io.ErrorKind.{ErrorKind}
 use Rattle.std.specs.declared.io.ErrorKind.TheVariants as kinds
@@ -76,26 +75,20 @@ list_status Unreadable = INPUT_OUTPUT
 list_status NotText = INPUT_OUTPUT
 list_status OutOfMemory = OUT_OF_MEMORY
 
--- the departures from the stops that are wanted were added to what was printed before, and nothing else
-abbrev pub ArePrinted : CriterionName → DeparturesForm → ImageValue → BetweenValue → WantedStops → Option (List ℕ) → Option (List ℕ) → Type 0
-ArePrinted criterion form image b wanted before after =
-    (printed : List ℕ) × AreShownBy criterion form image b wanted printed × Appends before after printed
-
--- the departures to the stops that are asked for, and which can be asked, were printed
-abbrev pub AreAllPrinted : ImageValue → DeparturesRequest → Option (List ℕ) → Option (List ℕ) → Type 0
-AreAllPrinted image request before after =
+-- the text shows the departures to the stops that are asked for, and which can be asked, from the stops that are wanted
+abbrev pub AreAllShown : ImageValue → DeparturesRequest → List ℕ → Type 0
+AreAllShown image request printed =
     (b : BetweenValue) × (wanted : WantedStops) × IsAskableBetween image.timetable.stops b
     × AsksBetween image.names [] (targets_asked request) (window_asked request) b × IsWantedFrom image.names request.from wanted
-    × ArePrinted request.criterion request.form image b wanted before after
+    × AreShownBy request.criterion request.form image b wanted printed
 
--- the request can't be asked of the image: it has a fault, whose line was added to what was printed before, and nothing else
-abbrev pub IsBadQueryOfAll : ImageValue → DeparturesRequest → Option (List ℕ) → Option (List ℕ) → Type 0
-IsBadQueryOfAll image request before after =
-    (fault : QueryFault) × IsFaultBetween image [] (targets_asked request) (window_asked request) fault
-    × Appends before after (refusal_line (Query fault))
+-- the request can't be asked of the image: it has a fault, and this is its line
+abbrev pub IsBadQueryOfAll : ImageValue → DeparturesRequest → List ℕ → Type 0
+IsBadQueryOfAll image request line =
+    (fault : QueryFault) × IsFaultBetween image [] (targets_asked request) (window_asked request) fault × (line ≡ refusal_line (Query fault))
 
--- the request has such a fault; or a file is given, some list has a line that is no stop_id, and nothing was printed
-abbrev pub IsNoneAsked : ImageValue → DeparturesRequest → Option (List ℕ) → Option (List ℕ) → Type 0
-IsNoneAsked image request before after =
-    IsBadQueryOfAll image request before after
-    ⊎ ((request.from ≢ None) × (list : List ℕ) × (number : ℕ) × IsUnknownLine image.names (lines list) number × (after ≡ before))
+-- the request has such a fault; or a file is given, some list has a line that is no stop_id, and nothing is printed
+abbrev pub IsNoneAsked : ImageValue → DeparturesRequest → List ℕ → Type 0
+IsNoneAsked image request line =
+    IsBadQueryOfAll image request line
+    ⊎ ((request.from ≢ None) × (list : List ℕ) × (number : ℕ) × IsUnknownLine image.names (lines list) number × (line ≡ []))

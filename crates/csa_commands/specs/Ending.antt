@@ -1,5 +1,6 @@
--- The statuses with which a command ends.
-use Rattle.std.specs.Prelude.{◌≡◌, ◌⊎◌, ℕ}
+-- How a command ends: with which status, and what it has printed then.
+use Rattle.std.specs.Prelude.{◌≡◌, ◌⊎◌, ℕ, List, Option, take}
+use Rattle.std.specs.Io.KnownBytes.{Appends}
 use Rattle.command_requests.specs.declared.statuses.TheConstants.{ACCEPTED, INPUT_OUTPUT, OUT_OF_MEMORY, REFUSED}
 
 -- what was given is refused, or a file or a line can't be read or written, or memory ran out
@@ -9,3 +10,28 @@ EndsUndone status = (status ≡ REFUSED) ⊎ (status ≡ INPUT_OUTPUT) ⊎ (stat
 -- one of these, or what was asked for is done
 abbrev pub Ends : ℕ → Type 0
 Ends status = (status ≡ ACCEPTED) ⊎ EndsUndone status
+
+-- a first part of the text, possibly empty or all of it, was added to what was written before, and nothing else
+pub record IsBegun (before after : Option (List ℕ)) (text : List ℕ) : Type 0 where
+  pub count : ℕ
+  pub added : Appends before after (take count text)
+
+-- `Is status text` says which texts a command may print, and with which status it ends once it has printed such a text. It ended so; or a write failed, and
+-- a first part of such a text was printed; or a file can't be read or written, or memory ran out, and nothing was printed
+abbrev pub IsOutcome : (ℕ → List ℕ → Type 0) → ℕ → Option (List ℕ) → Option (List ℕ) → Type 0
+IsOutcome Is status before after =
+    ((text : List ℕ) × Is status text × Appends before after text)
+    ⊎ ((status ≡ INPUT_OUTPUT) × (whole : ℕ) × (text : List ℕ) × Is whole text × IsBegun before after text)
+    ⊎ (((status ≡ INPUT_OUTPUT) ⊎ (status ≡ OUT_OF_MEMORY)) × (after ≡ before))
+
+-- it prints such a text if what was asked for is done
+abbrev pub PrintsOnly : (List ℕ → Type 0) → ℕ → List ℕ → Type 0
+PrintsOnly IsText status text = (status ≡ ACCEPTED) × IsText text
+
+-- it prints such a line if what was given is refused
+abbrev pub PrintsRefusal : (List ℕ → Type 0) → ℕ → List ℕ → Type 0
+PrintsRefusal IsLine status line = (status ≡ REFUSED) × IsLine line
+
+-- it prints such a text if what was asked for is done, and such a line if that is refused
+abbrev pub Prints : (List ℕ → Type 0) → (List ℕ → Type 0) → ℕ → List ℕ → Type 0
+Prints IsText IsLine status text = PrintsOnly IsText status text ⊎ PrintsRefusal IsLine status text

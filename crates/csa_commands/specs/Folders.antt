@@ -1,7 +1,7 @@
 -- What a command reads from a folder.
-use Rattle.std.specs.Prelude.{◌⊎◌, ℕ, List, [], Option, All, false}
-use Rattle.std.specs.Io.KnownBytes.{Appends}
+use Rattle.std.specs.Prelude.{◌⊎◌, ℕ, List, [], All, false}
 use Rattle.connections.specs.declared.report.Report.{Report}
+use Rattle.feed_days.specs.Days.{AreDayLines}
 use Rattle.feed_files.specs.Files.{FileRead, MayBeRead, MayGive}
 use Rattle.feed_files.specs.Reading.{Content, HoldsTables}
 use Rattle.feed_files.specs.Reads.{AreRead, MayHold, SomeWereRead, all_tables}
@@ -16,9 +16,7 @@ use Rattle.gtfs_tables.specs.declared.tables.Feed.{Feed}
 use Rattle.gtfs_tables.specs.declared.tables.Tables.{Tables}
 use Rattle.timetable.specs.NamesValue.{NamesValue}
 use Rattle.timetable.specs.TimetableValue.{TimetableValue}
-use Rattle.csa_commands.specs.Refusing.{RefusesFeed, refusal_line}
 use Rattle.csa_commands.specs.Zoning.{IsNoZoneOf}
-use Rattle.csa_commands.specs.declared.refusal.CommandRefusal.TheVariants.{Feed as OfFeed}
 
 -- the first files of a folder were read, and some disk may give what was read; and this holds of every content that agrees with these reads
 pub record HoldsOfRead {D : Type 0} (gives : D → List ℕ → MayGive) (folder : List ℕ) (Is : Content → Type 0) : Type 0 where
@@ -46,17 +44,19 @@ module _ {D : Type 0} (gives : D → List ℕ → MayGive) (folder : List ℕ) w
   abbrev pub IsFeedOf : Feed → Type 0
   IsFeedOf feed = (t : Tables) × AreTablesOf t × IsJoined false t feed
 
+  -- the lines are those of the days of the folder's feed
+  abbrev pub AreDaysOf : List ℕ → Type 0
+  AreDaysOf text = (feed : Feed) × IsFeedOf feed × AreDayLines feed text
+
   -- the timetable, its names and the counts are those of the folder's files, by a plan that was asked for
   abbrev pub IsBuiltFrom : PlanText → TimetableValue → NamesValue → Report → Type 0
   IsBuiltFrom asked t names report =
       (bytes : List ℕ) × (plan : Plan) × (content : Content) × IsPlanNow asked bytes plan × MayBeOf content
       × IsLoaded content plan t names report
 
-  -- the fault is the first of the folder's tables, the feed is refused for it, and its line was added to what was printed before, and nothing else
-  abbrev pub AreTablesRefusedOf : Option (List ℕ) → Option (List ℕ) → Type 0
-  AreTablesRefusedOf before after =
-      (fault : LoadFault) × RefusesFeed fault × HoldsOfRead gives folder (IsTablesRefusal fault)
-      × Appends before after (refusal_line (OfFeed fault))
+  -- the fault is the first of the folder's tables
+  abbrev pub IsTablesRefusalOf : LoadFault → Type 0
+  IsTablesRefusalOf fault = HoldsOfRead gives folder (IsTablesRefusal fault)
 
   -- the fault is that of the zone that was asked for, or the first of the folder's files by a plan that was asked for
   abbrev pub IsBuildRefusal : PlanText → LoadFault → Type 0
@@ -64,8 +64,3 @@ module _ {D : Type 0} (gives : D → List ℕ → MayGive) (folder : List ℕ) w
       IsNoZoneOf asked fault
       ⊎ ((bytes : List ℕ) × (plan : Plan) × IsPlanNow asked bytes plan
       × HoldsOfRead gives folder (λ content. IsLoadRefusal content plan fault))
-
-  -- the feed is refused for such a fault, and its line was added to what was printed before, and nothing else
-  abbrev pub IsRefusedBuild : PlanText → Option (List ℕ) → Option (List ℕ) → Type 0
-  IsRefusedBuild asked before after =
-      (fault : LoadFault) × RefusesFeed fault × IsBuildRefusal asked fault × Appends before after (refusal_line (OfFeed fault))

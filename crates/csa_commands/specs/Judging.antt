@@ -1,6 +1,5 @@
 -- What `csa journey` finds out about a journey's text and a question.
-use Rattle.std.specs.Prelude.{◌≡◌, ◌++◌, ℕ, List, Option, Some, Result, Ok, Err, codes}
-use Rattle.std.specs.Io.KnownBytes.{Appends}
+use Rattle.std.specs.Prelude.{◌≡◌, ◌++◌, ℕ, List, Some, Result, Ok, Err, codes}
 use Rattle.timetable.specs.declared.journey.Times.{Times}
 use Rattle.timetable.specs.declared.query.Query.{Query}
 use Rattle.timetable.specs.JourneyValue.{JourneyValue}
@@ -45,10 +44,9 @@ IsVerdict image question text (Err OutOfMemory) = Unit {0}
 abbrev pub times_line : Times → List ℕ
 times_line times = codes "ok " ++ times_text times.dep times.arr ++ codes "\n"
 
--- the journey counts, and its line was added to what was printed before, and nothing else
-abbrev pub IsAccepted : ImageValue → Question → List ℕ → Option (List ℕ) → Option (List ℕ) → Type 0
-IsAccepted image question text before after =
-    (times : Times) × IsVerdict image question text (Ok times) × Appends before after (times_line times)
+-- the journey counts, and this is its line
+abbrev pub IsAccepted : ImageValue → Question → List ℕ → List ℕ → Type 0
+IsAccepted image question text line = (times : Times) × IsVerdict image question text (Ok times) × (line ≡ times_line times)
 
 -- the refusal of a journey that isn't accepted; if memory ran out, there is none
 abbrev pub IsRefusedFor : Failure → CommandRefusal → Type 0
@@ -57,8 +55,8 @@ IsRefusedFor BadText refusal = refusal ≡ OfText
 IsRefusedFor (Faulty fault) refusal = refusal ≡ OfJourney fault
 IsRefusedFor OutOfMemory refusal = ⊥
 
--- there is a first fault, of the query, of the text or of the journey, and its line was added to what was printed before, and nothing else
-abbrev pub IsFaulty : ImageValue → Question → List ℕ → Option (List ℕ) → Option (List ℕ) → Type 0
-IsFaulty image question text before after =
+-- there is a first fault, of the query, of the text or of the journey, and this is its line
+abbrev pub IsFaulty : ImageValue → Question → List ℕ → List ℕ → Type 0
+IsFaulty image question text line =
     (failure : Failure) × (refusal : CommandRefusal) × IsVerdict image question text (Err failure) × IsRefusedFor failure refusal
-    × Appends before after (refusal_line refusal)
+    × (line ≡ refusal_line refusal)

@@ -7,8 +7,8 @@ pub mod Departing
 pub mod Elapsed
 pub mod Ending
 pub mod Folders
-pub mod Informing
 pub mod Judging
+pub mod Listed
 pub mod Listing
 pub mod Matrices
 pub mod Newlines

@@ -1,11 +1,11 @@
 -- Which image bytes spell, and which bytes spell none.
-use Rattle.std.specs.Prelude.{◌≡◌, ◌≢◌, ◌%◌, ℕ, List, Option, Some, length}
-use Rattle.std.specs.Io.KnownBytes.{Appends}
+use Rattle.std.specs.Prelude.{◌≡◌, ◌≢◌, ◌⊎◌, ◌%◌, ℕ, List, Option, Some, length}
 use Rattle.image_files.specs.Held.{HoldsOfBytes}
 use Rattle.image_layout.specs.Image.{ImageValue, Spells}
 use Rattle.image_layout.specs.Text.{bytes_of}
 use Rattle.image_verifier.specs.FirstFault.{first_fault}
 use Rattle.image_verifier.specs.declared.fault.ImageFault.TheVariants.{OutOfMemory}
+use Rattle.csa_commands.specs.Ending.{PrintsRefusal}
 use Rattle.csa_commands.specs.Refusing.{refusal_line}
 use Rattle.csa_commands.specs.declared.refusal.CommandRefusal.{CommandRefusal}
 use Rattle.csa_commands.specs.declared.refusal.CommandRefusal.TheVariants.{OddLength, Image, Feed, Query, BadText, Journey}
@@ -32,8 +32,15 @@ IsOfImage (Query fault) = ⊥
 IsOfImage BadText = ⊥
 IsOfImage (Journey fault) = ⊥
 
--- the line of a refusal of an image was added to what was printed before, and nothing else; and the bytes at the path are no image, for that reason
-abbrev pub IsRefusedImage : (List ℕ → Option (List ℕ) → Type 0) → List ℕ → Option (List ℕ) → Option (List ℕ) → Option (List ℕ) → Type 0
-IsRefusedImage may_hold path input before after =
-    (refusal : CommandRefusal) × IsOfImage refusal × Appends before after (refusal_line refusal)
-    × HoldsOfBytes may_hold path input (IsNoImage refusal)
+-- `may_hold` says what a file at a path may hold; the path `-` is that of the input
+module _ (may_hold : List ℕ → Option (List ℕ) → Type 0) (path : List ℕ) (input : Option (List ℕ)) where
+  -- the bytes at the path are no image, and this is the line of the refusal that says why
+  abbrev pub IsRefusedImage : List ℕ → Type 0
+  IsRefusedImage line =
+      (refusal : CommandRefusal) × IsOfImage refusal × HoldsOfBytes may_hold path input (IsNoImage refusal) × (line ≡ refusal_line refusal)
+
+  -- `Is image status text` says what a command may print of an image: what it prints of the one at the path, or that there is none
+  abbrev pub PrintsOver : (ImageValue → ℕ → List ℕ → Type 0) → ℕ → List ℕ → Type 0
+  PrintsOver Is status text =
+      ((image : ImageValue) × HoldsOfBytes may_hold path input (SpellsImage image) × Is image status text)
+      ⊎ PrintsRefusal IsRefusedImage status text

@@ -1,5 +1,5 @@
 -- How a refusal is printed, and with which status a feed is refused.
-use Rattle.std.specs.Prelude.{◌≡◌, ℕ, List, [], ◌++◌, codes, decimal}
+use Rattle.std.specs.Prelude.{◌≡◌, ◌⊎◌, ℕ, List, [], ◌++◌, codes, decimal}
 use Rattle.command_requests.specs.declared.statuses.TheConstants.{INPUT_OUTPUT, REFUSED}
 use Rattle.feed_loader.specs.Faults.{fault_name as feed_name, fault_number as feed_number}
 use Rattle.feed_loader.specs.Refused.{IsWantOfMemory}
@@ -16,6 +16,7 @@ use Rattle.journeys.specs.Texts.{number_text}
 use Rattle.journeys.specs.declared.fault.JourneyFault.{JourneyFault}
 use Rattle.journeys.specs.declared.fault.JourneyFault.TheVariants as journeys
 use Rattle.timetable.specs.Queries.{numbered_fault as numbered_query_fault}
+use Rattle.csa_commands.specs.Ending.{PrintsOnly}
 use Rattle.csa_commands.specs.Listing.{word_text}
 use Rattle.csa_commands.specs.declared.refusal.CommandRefusal.{CommandRefusal}
 use Rattle.csa_commands.specs.declared.refusal.CommandRefusal.TheVariants.{OddLength, Image, Feed, Query, BadText, Journey}
@@ -88,6 +89,15 @@ refusal_status (feeds.Day fault) = REFUSED
 refusal_status (feeds.Footpaths fault) = REFUSED
 refusal_status (feeds.Image fault) = REFUSED
 refusal_status (feeds.FileFailed table) = INPUT_OUTPUT
+
+-- the line of a feed that has such a fault, other than want of memory, with the status that goes with the fault
+abbrev pub IsFeedRefusal : (LoadFault → Type 0) → ℕ → List ℕ → Type 0
+IsFeedRefusal IsFault status line =
+    (fault : LoadFault) × (¬ (IsWantOfMemory fault)) × (status ≡ refusal_status fault) × IsFault fault × (line ≡ refusal_line (Feed fault))
+
+-- it prints such a text if what was asked for is done, and otherwise the line of a feed that has such a fault
+abbrev pub PrintsOfFeed : (List ℕ → Type 0) → (LoadFault → Type 0) → ℕ → List ℕ → Type 0
+PrintsOfFeed IsText IsFault status text = PrintsOnly IsText status text ⊎ IsFeedRefusal IsFault status text
 
 -- a feed is refused for this fault: it is neither want of memory nor a file that can't be read
 abbrev pub RefusesFeed : LoadFault → Type 0

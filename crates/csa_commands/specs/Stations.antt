@@ -1,6 +1,5 @@
 -- What `csa stations` prints of a folder's stops.txt.
 use Rattle.std.specs.Prelude.{◌≡◌, ◌⊎◌, ℕ, List, Bool, true, false, Option, Some, None, Ok, Err, Vec, IfOk, string_bytes}
-use Rattle.std.specs.Io.KnownBytes.{Appends}
 use Rattle.std.specs.declared.alloc.Global.{Global}
 use Rattle.feed_files.specs.Files.{MayGive}
 use Rattle.feed_files.specs.declared.files.FileFault.TheVariants.{Failed}
@@ -19,8 +18,6 @@ use Rattle.feed_stations.specs.Homes.{AreHomes, orphan_fault, station_named}
 use Rattle.feed_stations.specs.Labels.{AreLabels}
 use Rattle.feed_stations.specs.declared.places.Places.{Places}
 use Rattle.command_requests.specs.declared.requests.StationsRequest.{StationsRequest}
-use Rattle.csa_commands.specs.Refusing.{RefusesFeed, refusal_line}
-use Rattle.csa_commands.specs.declared.refusal.CommandRefusal.TheVariants.{Feed as OfFeed}
 
 -- the bytes of stops.txt have no fault, and these are their rows, the labels of these, and the rows by which they are listed
 pub record ArePlacesIn (bytes : List ℕ) (places : Places) : Type 0 where
@@ -59,12 +56,3 @@ module _ {D : Type 0} (gives : D → List ℕ → MayGive) (folder : List ℕ) w
       ((disk : D) × gives disk folder (file_name Stops) (Ok None) × (fault ≡ OfTable (record { file = Stops; row = 0; kind = MissingFile })))
       ⊎ ((disk : D) × gives disk folder (file_name Stops) (Err Failed) × (fault ≡ FileFailed Stops))
       ⊎ ((refusal : TableFault) × (bytes : List ℕ) × MayHoldStops bytes × IsFaultIn bytes refusal × (fault ≡ OfTable refusal))
-
-  -- the text that is asked for was added to what was printed before, and nothing else
-  abbrev pub AreStationsPrinted : StationsRequest → Option (List ℕ) → Option (List ℕ) → Type 0
-  AreStationsPrinted request before after = (text : List ℕ) × IsTextOf request text × Appends before after text
-
-  -- the folder is refused for such a fault, and its line was added to what was printed before, and nothing else
-  abbrev pub AreStationsRefused : Option (List ℕ) → Option (List ℕ) → Type 0
-  AreStationsRefused before after =
-      (fault : LoadFault) × RefusesFeed fault × IsStopsRefusal fault × Appends before after (refusal_line (OfFeed fault))

@@ -1,9 +1,7 @@
 -- The lines that `csa stops` prints.
-use Rattle.std.specs.Prelude.{◌≡◌, ◌⊎◌, ℕ, List, Option, [], ◌++◌, codes, decimal, map}
-use Rattle.std.specs.Io.KnownBytes.{Appends}
+use Rattle.std.specs.Prelude.{◌≡◌, ◌⊎◌, ℕ, List, [], ◌++◌, codes, decimal, map}
 use Rattle.std.specs.List.{AllZip, flat_map, range_with_len}
 use Rattle.timetable.specs.NamesValue.{NamesValue}
-use Rattle.image_layout.specs.Image.{ImageValue}
 use Rattle.answer_pictures.specs.Naming.{stop_bytes}
 use Rattle.feed_stations.specs.Finding.{IsIn}
 
@@ -24,8 +22,3 @@ pub record AreStopLines (names : NamesValue) (text : List ℕ) (stops : ℕ) (li
   pub parts : List (List ℕ)
   pub each : AllZip (IsFound text) (numbered names stops) parts
   pub joined : lines ≡ flat_map (λ part. part) parts
-
--- the lines of all stops of the image whose names have the text in them were added to what was printed before, and nothing else
-abbrev pub AreStopsPrinted : ImageValue → List ℕ → Option (List ℕ) → Option (List ℕ) → Type 0
-AreStopsPrinted image text before after =
-    (lines : List ℕ) × AreStopLines image.names text image.timetable.stops lines × Appends before after lines

@@ -1,6 +1,5 @@
 -- The line that `csa tables` prints of a feed's tables.
-use Rattle.std.specs.Prelude.{◌≡◌, ℕ, List, Option, ◌++◌, codes, decimal, false, length}
-use Rattle.std.specs.Io.KnownBytes.{Appends}
+use Rattle.std.specs.Prelude.{◌≡◌, ℕ, List, ◌++◌, codes, decimal, false, length}
 use Rattle.gtfs_tables.specs.Feeds.{IsJoined}
 use Rattle.gtfs_tables.specs.declared.tables.Feed.{Feed}
 use Rattle.gtfs_tables.specs.declared.tables.Tables.{Tables}
@@ -44,8 +43,6 @@ AreCountsOfJoined t counts = (feed : Feed) × IsJoined false t feed × (counts �
 abbrev pub AreCountsOf : {D : Type 0} → (D → List ℕ → MayGive) → List ℕ → TableCounts → Type 0
 AreCountsOf gives folder counts = (t : Tables) × AreTablesOf gives folder t × AreCountsOfJoined t counts
 
--- the line of these counts was added to what was printed before, and nothing else
-abbrev pub AreCounted : {D : Type 0} → (D → List ℕ → MayGive) → List ℕ
-    → Option (List ℕ) → Option (List ℕ) → Type 0
-AreCounted gives folder before after =
-    (counts : TableCounts) × AreCountsOf gives folder counts × Appends before after (counts_text counts)
+-- the line is that of these counts
+abbrev pub IsCountsLine : {D : Type 0} → (D → List ℕ → MayGive) → List ℕ → List ℕ → Type 0
+IsCountsLine gives folder line = (counts : TableCounts) × AreCountsOf gives folder counts × (line ≡ counts_text counts)

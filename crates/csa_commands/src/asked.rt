@@ -1,9 +1,7 @@
 //! The commands over an image.
 
-ghost use Rattle.std.specs.Prelude.{◌≡◌};
-ghost use Rattle.command_requests.specs.declared.statuses.TheConstants.{ACCEPTED, OUT_OF_MEMORY, REFUSED};
-ghost use Rattle.csa_commands.specs.Commands.{IsDone, IsRefusedAs};
-ghost use Rattle.csa_commands.specs.Ending.{Ends};
+ghost use Rattle.csa_commands.specs.Commands.{PrintsAsked};
+ghost use Rattle.csa_commands.specs.Ending.{IsOutcome};
 
 use crate::windows::{DepartureRange, warn_of_window};
 use crate::{departures, info, journey, profile, status, stops, upgrade, verify};
@@ -80,12 +78,7 @@ pub fn answer<H: Files + AllocGlobal, O: Write, E: Write>(
     errors: &mut E,
     warnings: bool,
 ) -> u8
-    ensures status { Ends result }
-    ensures printed { result ≡ ACCEPTED
-        → IsDone image.now asked.entry (O.contents output.old) (O.contents output.new) }
-    ensures refused { result ≡ REFUSED
-        → IsRefusedAs image.now asked.entry (O.contents output.old) (O.contents output.new) }
-    ensures silent { result ≡ OUT_OF_MEMORY → O.contents output.new ≡ O.contents output.old }
+    ensures { IsOutcome (PrintsAsked image.now asked.entry) result (O.contents output.old) (O.contents output.new) }
 {
     let status = do_asked(rt, image, asked, output, errors);
     if warnings && status == status::ACCEPTED {
@@ -102,12 +95,7 @@ fn do_asked<H: Files + AllocGlobal, O: Write, E: Write>(
     output: &mut O,
     errors: &mut E,
 ) -> u8
-    ensures status { Ends result }
-    ensures printed { result ≡ ACCEPTED
-        → IsDone image.now asked.entry (O.contents output.old) (O.contents output.new) }
-    ensures refused { result ≡ REFUSED
-        → IsRefusedAs image.now asked.entry (O.contents output.old) (O.contents output.new) }
-    ensures silent { result ≡ OUT_OF_MEMORY → O.contents output.new ≡ O.contents output.old }
+    ensures { IsOutcome (PrintsAsked image.now asked.entry) result (O.contents output.old) (O.contents output.new) }
 {
     match asked {
         ImageRequest::Verify(_) => verify::run(rt.alloc(), image, output),

@@ -1,18 +1,17 @@
-//! `csa build FOLDER OUT --first DAY --days N --zone ZONE [--strict] [--progress] [--no-warnings]`.
+//! `csa build FOLDER OUT --first DAY --days N --zone ZONE [--strict] [--progress] [--all-faults] [--no-warnings]`.
 
-ghost use Rattle.std.specs.Prelude.{◌≡◌, ◌≢◌, ◌≤◌, ◌<◌, ◌-◌, ◌^◌, ◌++◌, List, IfErr, IfOk, OnOk, string_bytes};
-ghost use Rattle.std.specs.Io.KnownBytes.{Appends};
+ghost use Rattle.std.specs.Prelude.{◌≡◌, ◌≤◌, ◌<◌, ◌-◌, ◌^◌, ◌++◌, List, IfErr, IfOk, OnOk, string_bytes};
 ghost use Rattle.connections.specs.declared.days.TheConstants.{MAX_DAYS};
-ghost use Rattle.command_requests.specs.declared.statuses.TheConstants.{ACCEPTED, OUT_OF_MEMORY, REFUSED};
 ghost use Rattle.feed_files.specs.Reading.{Content};
 ghost use Rattle.feed_files.specs.Reads.{AreRead, SomeWereRead, all_tables};
 ghost use Rattle.feed_loader.specs.Refused.{IsLoadRefusal, IsLoaded};
 ghost use Rattle.gtfs_rows.specs.declared.fault.Table.{Table};
-ghost use Rattle.csa_commands.specs.Building.{IfRefused, IsReported, changed_text, made_text, report_line};
-ghost use Rattle.csa_commands.specs.Ending.{Ends};
-ghost use Rattle.csa_commands.specs.Folders.{IsBuildRefusal, IsBuiltFrom, IsRefusedBuild};
+ghost use Rattle.csa_commands.specs.Building.{IfRefused, IsReportLine, changed_text, made_text, report_line};
+ghost use Rattle.csa_commands.specs.Ending.{IsOutcome, PrintsOnly};
+ghost use Rattle.csa_commands.specs.Folders.{IsBuildRefusal, IsBuiltFrom};
+ghost use Rattle.csa_commands.specs.Refusing.{PrintsOfFeed};
 
-use crate::explaining::explain_refused;
+use crate::explaining::explain_faults;
 use crate::planning::{PlanFailure, plan_of};
 use crate::progress::{Progress, ReportedFiles, Reports, load_reported};
 use crate::refusal::refuse_feed;
@@ -51,12 +50,9 @@ pub fn run<H: Files + Disk + AllocGlobal + Clock, O: Write, E: Write>(
     is_terminal: bool,
     warnings: bool,
 ) -> u8
-    ensures status { Ends result }
-    ensures printed { result ≡ ACCEPTED → IsReported H.gives request.entry.folder.now request.entry.plan
+    ensures { IsOutcome (PrintsOfFeed (IsReportLine H.gives request.entry.folder.now request.entry.plan)
+        (IsBuildRefusal H.gives request.entry.folder.now request.entry.plan)) result
         (O.contents output.old) (O.contents output.new) }
-    ensures refused { result ≡ REFUSED → IsRefusedBuild H.gives request.entry.folder.now request.entry.plan
-        (O.contents output.old) (O.contents output.new) }
-    ensures silent { result ≡ OUT_OF_MEMORY → O.contents output.new ≡ O.contents output.old }
 {
     let alloc = rt.alloc();
     let folder = request.folder;
@@ -73,7 +69,7 @@ pub fn run<H: Files + Disk + AllocGlobal + Clock, O: Write, E: Write>(
             print_counts(alloc, &built.report, output)
         }
         Err(Failure::Refused(fault)) => {
-            explain_refused(rt, folder, &fault, errors);
+            explain_faults(rt, folder, &fault, errors, request.all_faults);
             refuse_feed(alloc, output, fault)
         }
         Err(Failure::Unreadable(path)) => status::report_unread_zone(rt, errors, path),
@@ -143,11 +139,8 @@ fn build_reported<'a, H: Files + AllocGlobal, F: FeedFiles, R: Reports>(
 
 // Prints the line of counts. Never returns `REFUSED`.
 fn print_counts<O: Write>(alloc: Global, report: &Report, output: &mut O) -> u8
-    ensures status { Ends result }
-    ensures refused { result ≢ REFUSED }
-    ensures printed { result ≡ ACCEPTED
-        → Appends (O.contents output.old) (O.contents output.new) (report_line report.now) }
-    ensures silent { result ≡ OUT_OF_MEMORY → O.contents output.new ≡ O.contents output.old }
+    ensures { IsOutcome (PrintsOnly (λ text. text ≡ report_line report.now)) result
+        (O.contents output.old) (O.contents output.new) }
 {
     match counts(alloc, report) {
         Ok(line) => status::write_text(output, line.as_str(), status::ACCEPTED),

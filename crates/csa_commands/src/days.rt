@@ -1,12 +1,11 @@
 //! `csa days FOLDER`.
 
-ghost use Rattle.std.specs.Prelude.{◌≡◌, ◌≢◌, IfErr, IfOk};
-ghost use Rattle.command_requests.specs.declared.statuses.TheConstants.{ACCEPTED, OUT_OF_MEMORY, REFUSED};
+ghost use Rattle.std.specs.Prelude.{IfErr, IfOk};
+ghost use Rattle.feed_days.specs.Days.{AreDayLines};
 ghost use Rattle.feed_loader.specs.Refused.{IsWantOfMemory};
-ghost use Rattle.gtfs_tables.specs.declared.tables.Feed.{Feed};
-ghost use Rattle.csa_commands.specs.Ending.{Ends};
-ghost use Rattle.csa_commands.specs.Folders.{AreTablesRefusedOf, HoldsOfRead, IsFeedOf, IsTablesRefusal};
-ghost use Rattle.csa_commands.specs.Informing.{IsInformedOfDays};
+ghost use Rattle.csa_commands.specs.Ending.{IsOutcome, PrintsOnly};
+ghost use Rattle.csa_commands.specs.Folders.{AreDaysOf, HoldsOfRead, IsFeedOf, IsTablesRefusal, IsTablesRefusalOf};
+ghost use Rattle.csa_commands.specs.Refusing.{PrintsOfFeed};
 
 use crate::explaining::explain_refused;
 use crate::reading::tables_in;
@@ -29,12 +28,8 @@ pub fn run<H: Files + Disk + AllocGlobal, O: Write, E: Write>(
     output: &mut O,
     errors: &mut E,
 ) -> u8
-    ensures status { Ends result }
-    ensures printed { result ≡ ACCEPTED → (feed : Feed) × IsFeedOf H.gives folder.now feed
-        × IsInformedOfDays feed (O.contents output.old) (O.contents output.new) }
-    ensures refused { result ≡ REFUSED
-        → AreTablesRefusedOf H.gives folder.now (O.contents output.old) (O.contents output.new) }
-    ensures silent { result ≡ OUT_OF_MEMORY → O.contents output.new ≡ O.contents output.old }
+    ensures { IsOutcome (PrintsOfFeed (AreDaysOf H.gives folder.now) (IsTablesRefusalOf H.gives folder.now)) result
+        (O.contents output.old) (O.contents output.new) }
 {
     let alloc = rt.alloc();
     match read_feed(rt, folder) {
@@ -59,10 +54,7 @@ fn read_feed<H: Disk + AllocGlobal>(rt: &H, folder: &str) -> Result<Feed, LoadFa
 
 // Prints which service days a feed has. Never returns `REFUSED`.
 fn print_days<O: Write>(alloc: Global, feed: &Feed, output: &mut O) -> u8
-    ensures status { Ends result }
-    ensures refused { result ≢ REFUSED }
-    ensures printed { result ≡ ACCEPTED → IsInformedOfDays feed.now (O.contents output.old) (O.contents output.new) }
-    ensures silent { result ≡ OUT_OF_MEMORY → O.contents output.new ≡ O.contents output.old }
+    ensures { IsOutcome (PrintsOnly (AreDayLines feed.now)) result (O.contents output.old) (O.contents output.new) }
 {
     match days_text(alloc, feed) {
         Ok(lines) => status::write_text(output, lines.as_str(), status::ACCEPTED),

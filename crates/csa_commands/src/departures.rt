@@ -1,15 +1,15 @@
 //! `csa departures IMAGE --to STOP_ID.. --after .. --until .. --by .. --criterion NAME [--from FILE]
 //! [--summary | [--json] [--no-journeys]]`.
 
-ghost use Rattle.std.specs.Prelude.{◌≡◌, ◌≢◌, ℕ, [], IfOk, MatchResult, string_bytes};
+ghost use Rattle.std.specs.Prelude.{◌≡◌, ℕ, [], IfOk, MatchResult, string_bytes};
 ghost use Rattle.profile_scan.specs.Between.{IsAskableBetween, question};
 ghost use Rattle.profile_scan.specs.Destinations.{question_to_any};
 ghost use Rattle.station_answers.specs.Naming.{AsksBetween, IsNoQuestion};
-ghost use Rattle.command_requests.specs.declared.statuses.TheConstants.{ACCEPTED, OUT_OF_MEMORY, REFUSED};
+ghost use Rattle.command_requests.specs.declared.statuses.TheConstants.{REFUSED};
 ghost use Rattle.departure_lines.specs.declared.form.LineForm.{LineForm};
 ghost use Rattle.csa_commands.specs.declared.wanted_stops.NoList.TheVariants.{UnknownStop};
-ghost use Rattle.csa_commands.specs.Ending.{Ends, EndsUndone};
-ghost use Rattle.csa_commands.specs.Departing.{AreAllPrinted, ArePrinted, AreShownBy, IsNoneAsked};
+ghost use Rattle.csa_commands.specs.Ending.{EndsUndone, IsOutcome, Prints, PrintsOnly};
+ghost use Rattle.csa_commands.specs.Departing.{AreAllShown, AreShownBy, IsNoneAsked};
 ghost use Rattle.csa_commands.specs.Departing.{form_of, list_status, targets_asked, window_asked};
 
 use crate::question::{explain_ends, window_reason};
@@ -39,12 +39,8 @@ pub fn run<H: Files + AllocGlobal, O: Write, E: Write>(
     output: &mut O,
     errors: &mut E,
 ) -> u8
-    ensures status { Ends result }
-    ensures printed { result ≡ ACCEPTED
-        → AreAllPrinted image.now request.now (O.contents output.old) (O.contents output.new) }
-    ensures refused { result ≡ REFUSED
-        → IsNoneAsked image.now request.now (O.contents output.old) (O.contents output.new) }
-    ensures silent { result ≡ OUT_OF_MEMORY → O.contents output.new ≡ O.contents output.old }
+    ensures { IsOutcome (Prints (AreAllShown image.now request.now) (IsNoneAsked image.now request.now)) result
+        (O.contents output.old) (O.contents output.new) }
 {
     let destinations = match destinations_asked(rt.alloc(), image, request) {
         Ok(destinations) => destinations,
@@ -73,12 +69,9 @@ fn print_all<O: Write>(
     output: &mut O,
 ) -> u8
     requires { IsAskableBetween image.now.timetable.stops (question_to_any destinations.now) }
-    ensures status { Ends result }
-    ensures not_refused { result ≢ REFUSED }
-    ensures printed { result ≡ ACCEPTED → ArePrinted request.now.criterion request.now.form image.now
-        (question_to_any destinations.now) wanted.now
+    ensures { IsOutcome (PrintsOnly (AreShownBy request.now.criterion request.now.form image.now
+        (question_to_any destinations.now) wanted.now)) result
         (O.contents output.old) (O.contents output.new) }
-    ensures silent { result ≡ OUT_OF_MEMORY → O.contents output.new ≡ O.contents output.old }
 {
     match text_by_name(alloc, image, destinations, request, wanted) {
         Ok(text) => status::write_text(output, text.as_str(), status::ACCEPTED),

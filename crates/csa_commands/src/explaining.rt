@@ -2,9 +2,12 @@
 //!
 //! If a line can't be written, or there is no memory for it, nothing else changes.
 
-use crate::warnings::{ZONES, zone_path};
+use crate::warnings::{ZONES, ZoneFile, zone_file};
+use feed_files::{Disk, FolderFiles, ReadFault};
 use feed_loader::LoadFault;
-use feed_messages::{explain, explain_failed, explain_folder, explain_table, is_folder};
+use feed_messages::{
+    explain, explain_failed, explain_folder, explain_further, explain_table, is_folder,
+};
 use std::convert::AsStr;
 use std::io::Write;
 use std::rt::Files;
@@ -30,6 +33,30 @@ pub fn explain_refused<H: Files + AllocGlobal, E: Write>(
         }
         LoadFault::FileFailed(table) => explain_failed(rt, folder, *table, errors),
         _ => explain_load(fault, errors),
+    }
+}
+
+/// Explains the refusal of a feed, and then, if `all` is set, what else is wrong with the files of its folder.
+pub fn explain_faults<H: Files + Disk + AllocGlobal, E: Write>(
+    rt: &H,
+    folder: &str,
+    fault: &LoadFault,
+    errors: &mut E,
+    all: bool,
+) {
+    explain_refused(rt, folder, fault, errors);
+    if all && !fault.is_want_of_memory() && is_folder(rt, folder) {
+        let mut files = FolderFiles::new(rt, folder);
+        explain_further(rt, folder, &mut files, fault_of_files(fault), errors);
+    }
+}
+
+/// The fault, if it is one of the feed's files.
+fn fault_of_files(fault: &LoadFault) -> Option<ReadFault> {
+    match fault {
+        LoadFault::Table(fault) => Some(ReadFault::Table(*fault)),
+        LoadFault::FileFailed(table) => Some(ReadFault::FileFailed(*table)),
+        _ => None,
     }
 }
 
@@ -62,7 +89,7 @@ pub fn explain_zone<H: Files + AllocGlobal, S: AsStr, E: Write>(
 
 /// Says how to write the zone of this name, if the system has a file of it.
 pub fn explain_zone_named<H: Files + AllocGlobal, E: Write>(rt: &H, name: &str, errors: &mut E) {
-    if let Some(path) = zone_path(rt, name) {
+    if let ZoneFile::At(path) = zone_file(rt, name) {
         let parts = ["csa: for this zone write --zone file:", path.as_str()];
         explain(errors, &parts);
     }

@@ -1,9 +1,7 @@
 //! `csa journey IMAGE TEXT QUERY`.
 
 ghost use Rattle.std.specs.Prelude.{◌≡◌, IfOk, string_bytes};
-ghost use Rattle.std.specs.Io.KnownBytes.{Appends};
-ghost use Rattle.command_requests.specs.declared.statuses.TheConstants.{ACCEPTED, OUT_OF_MEMORY, REFUSED};
-ghost use Rattle.csa_commands.specs.Ending.{Ends};
+ghost use Rattle.csa_commands.specs.Ending.{IsOutcome, Prints};
 ghost use Rattle.csa_commands.specs.Judging.{IsAccepted, IsFaulty, IsVerdict, times_line};
 
 use crate::question::{query_asked, refuse_question};
@@ -40,12 +38,9 @@ pub fn run<O: Write, E: Write>(
     output: &mut O,
     errors: &mut E,
 ) -> u8
-    ensures status { Ends result }
-    ensures accepted { result ≡ ACCEPTED → IsAccepted image.now request.entry.question request.entry.text.now
+    ensures { IsOutcome (Prints (IsAccepted image.now request.entry.question request.entry.text.now)
+        (IsFaulty image.now request.entry.question request.entry.text.now)) result
         (O.contents output.old) (O.contents output.new) }
-    ensures refused { result ≡ REFUSED → IsFaulty image.now request.entry.question request.entry.text.now
-        (O.contents output.old) (O.contents output.new) }
-    ensures silent { result ≡ OUT_OF_MEMORY → O.contents output.new ≡ O.contents output.old }
 {
     match judge(alloc, image, &request) {
         Ok(times) => match line_of(alloc, times) {

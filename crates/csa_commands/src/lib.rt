@@ -10,6 +10,7 @@ mod elapsed;
 mod explaining;
 mod info;
 mod journey;
+mod listed_text;
 mod listing;
 pub mod matrix;
 mod matrix_lists;

@@ -1,20 +1,24 @@
 //! `csa matrix IMAGE OUT --to FILE [--from FILE] --after .. --until .. --by .. --criterion NAME [--each] [--workers N]
 //! [--progress] [--no-warnings]`.
 
-ghost use Rattle.std.specs.Prelude.{◌≡◌, ◌≢◌, ◌<◌, ℕ, List, Contains, IfErr, IfNone, IfOk, IfSome, OnOk};
-ghost use Rattle.std.specs.Prelude.{codes, length, string_bytes};
+ghost use Rattle.std.specs.Prelude.{◌≡◌, ◌≢◌, ◌⊎◌, ℕ, List, Contains, IfErr, IfNone, IfOk, IfSome, OnErr, OnOk};
+ghost use Rattle.std.specs.Prelude.{MatchResult, codes, length, string_bytes};
+ghost use Rattle.std.specs.Global.{Vec};
 ghost use Rattle.std.specs.Io.KnownBytes.{Appends};
-ghost use Rattle.profile_scan.specs.Destinations.{CanBeAsked};
-ghost use Rattle.command_requests.specs.declared.statuses.TheConstants.{ACCEPTED, COMMAND_LINE, OUT_OF_MEMORY, REFUSED};
-ghost use Rattle.matrix_rows.specs.Tables.{CanBeMade, IsTable, destination};
-ghost use Rattle.csa_commands.specs.Ending.{Ends, EndsUndone};
-ghost use Rattle.csa_commands.specs.Matrices.{AreOfList, AreSources, EndsTable, EndsWritten, IsBadWindow, IsTableOf};
-ghost use Rattle.csa_commands.specs.Matrices.{IsTablePrinted, IsTableRefused, IsTableShown, IsTableUnlisted};
-ghost use Rattle.csa_commands.specs.Matrices.{IsUnlisted, counts_text};
+ghost use Rattle.command_requests.specs.declared.statuses.TheConstants.{ACCEPTED, COMMAND_LINE, INPUT_OUTPUT};
+ghost use Rattle.command_requests.specs.declared.statuses.TheConstants.{OUT_OF_MEMORY, REFUSED};
+ghost use Rattle.matrix_rows.specs.Tables.{AreWithin, CanBeMade, HasWindow, IsTable, IsTableBegun};
+ghost use Rattle.csa_commands.specs.Ending.{Ends, EndsUndone, IsBegun};
+ghost use Rattle.csa_commands.specs.Matrices.{AreNoSources, AreOfList, AreSources, EndsTable, EndsWritten, IsBadWindow};
+ghost use Rattle.csa_commands.specs.Matrices.{IsCutShort};
+ghost use Rattle.csa_commands.specs.Matrices.{IsShownInPart, IsTableCutShort, IsTablePrinted};
+ghost use Rattle.csa_commands.specs.Matrices.{IsTableRefused, IsTableShown, IsTableUnlisted, IsUnasked, IsUnlisted};
+ghost use Rattle.csa_commands.specs.Matrices.{counts_of, counts_text};
 ghost use Rattle.csa_commands.specs.Refusing.{refusal_line};
 ghost use Rattle.csa_commands.specs.declared.refusal.CommandRefusal.TheVariants.{Query};
+ghost use Rattle.timetable.specs.declared.query.QueryFault.TheVariants.{BadWindow};
 
-use crate::matrix_lists::{ListOption, all_stops, stops_of_file};
+use crate::matrix_lists::{ListOption, all_stops, sets_of_file};
 use crate::matrix_progress::TableProgress;
 use crate::question::window_reason;
 use crate::refusal::CommandRefusal;
@@ -23,6 +27,7 @@ use crate::windows::{DepartureRange, warn_of_window};
 use crate::writing::{new_file, settle};
 use command_requests::{MatrixRequest, TableWorkers};
 use feed_messages::explain;
+use image_files::ImageDisk;
 use image_verifier::Verified;
 use matrix_rows::{Reports, Table, write_table};
 use std::alloc::{AllocError, Global};
@@ -43,12 +48,16 @@ pub struct Notes {
     pub warnings: bool,
 }
 
-/// Writes the table to the file that is asked for, once it is whole, and then prints how many stops it has; or writes
-/// it to `output`. Nothing is scanned before the lists and the window are judged and the file is made. Explanations go
-/// to `errors`, and so do progress, if it is asked for or shown on a terminal, and the warning. Returns `ACCEPTED`;
-/// `REFUSED` if a line is no stop_id, or if the window is bad, which `output` says; `COMMAND_LINE` if a list can't be
-/// asked for; `INPUT_OUTPUT`; or `OUT_OF_MEMORY`, with nothing printed unless the table itself is.
-pub fn run<H: Files + AllocGlobal + Clock + Threads + Sync, O: Write, E: Write>(
+/// Writes the table to the file that is asked for, once it is whole, and then prints how many sets of stops it has; or
+/// writes it to `output`. Nothing is scanned before the lists and the window are judged and the file is made.
+/// Explanations go to `errors`, and so do progress, if it is asked for or shown on a terminal, and the warning. Returns
+/// `ACCEPTED`; `REFUSED` if a line has what is no stop_id, or if the window is bad, which `output` says; `COMMAND_LINE`
+/// if a list can't be asked for; `INPUT_OUTPUT`; or `OUT_OF_MEMORY`, with nothing printed unless the table itself is.
+pub fn run<
+    H: Files + ImageDisk<Image = H::File> + AllocGlobal + Clock + Threads + Sync,
+    O: Write,
+    E: Write,
+>(
     rt: &H,
     image: &Verified,
     request: MatrixRequest<'_>,
@@ -57,11 +66,14 @@ pub fn run<H: Files + AllocGlobal + Clock + Threads + Sync, O: Write, E: Write>(
     notes: Notes,
 ) -> u8
     ensures status { EndsTable result }
-    ensures printed { result ≡ ACCEPTED
-        → IsTablePrinted image.now request.entry (O.contents output.old) (O.contents output.new) }
-    ensures refused { result ≡ REFUSED
-        → IsTableRefused image.now request.entry (O.contents output.old) (O.contents output.new) }
-    ensures unlisted { result ≡ COMMAND_LINE → IsTableUnlisted (O.contents output.old) (O.contents output.new) }
+    ensures printed { result ≡ ACCEPTED → IsTablePrinted (H.may_hold rt.now) image.now request.entry
+        (O.contents output.old) (O.contents output.new) }
+    ensures refused { result ≡ REFUSED → IsTableRefused (H.may_hold rt.now) image.now request.entry
+        (O.contents output.old) (O.contents output.new) }
+    ensures unlisted { result ≡ COMMAND_LINE → IsTableUnlisted (H.may_hold rt.now) request.entry
+        (O.contents output.old) (O.contents output.new) }
+    ensures cut { (result ≡ INPUT_OUTPUT) ⊎ (result ≡ OUT_OF_MEMORY) → IsTableCutShort (H.may_hold rt.now) image.now
+        request.entry (O.contents output.old) (O.contents output.new) }
     ensures silent { request.entry.out.now ≢ codes "-" → result ≡ OUT_OF_MEMORY
         → O.contents output.new ≡ O.contents output.old }
 {
@@ -74,23 +86,25 @@ pub fn run<H: Files + AllocGlobal + Clock + Threads + Sync, O: Write, E: Write>(
     }
 }
 
-// The stops of a table.
+// The sets of stops of a table.
 #[derive(Drop)]
 struct AskedStops {
-    targets: Vec<u32>,
-    sources: Vec<u32>,
+    targets: Vec<Vec<u32>>,
+    sources: Vec<Vec<u32>>,
 }
 
-// The stops that are asked for, or the status that says why they aren't known.
-fn stops_asked<H: Files + AllocGlobal, E: Write>(
+// The sets of stops that are asked for, or the status that says why they aren't known.
+fn stops_asked<H: Files + ImageDisk<Image = H::File> + AllocGlobal, E: Write>(
     rt: &H,
     image: &Verified,
     request: MatrixRequest<'_>,
     errors: &mut E,
 ) -> Result<AskedStops, u8>
-    ensures targets { IfOk result (λ stops. AreOfList image.now stops.targets.items) }
-    ensures sources { IfOk result (λ stops. AreSources request.entry.from image.now stops.sources.items) }
-    ensures status { IfErr result (IsUnlisted image.now) }
+    ensures targets { IfOk result (λ stops. AreOfList (H.may_hold rt.now) request.entry.to.now image.now
+        stops.targets.items) }
+    ensures sources { IfOk result (λ stops. AreSources (H.may_hold rt.now) request.entry.from image.now
+        stops.sources.items) }
+    ensures status { IfErr result (IsUnasked (H.may_hold rt.now) request.entry image.now) }
 {
     let targets = targets_asked(rt, image, request, errors)?;
     let sources = sources_asked(rt, image, request, errors)?;
@@ -106,17 +120,20 @@ fn make_table<H: Files + AllocGlobal + Clock + Threads + Sync, O: Write, E: Writ
     errors: &mut E,
     notes: Notes,
 ) -> u8
-    requires { IsTableOf table.now.image.now request table.now }
+    requires targets { AreWithin table.now.image.now table.now.targets.now }
+    requires sources { AreWithin table.now.image.now table.now.sources.now }
     ensures status { Ends result }
-    ensures shown { result ≡ ACCEPTED
-        → IsTableShown table.now request.entry.out.now (O.contents output.old) (O.contents output.new) }
+    ensures shown { result ≡ ACCEPTED → HasWindow table.now
+        × IsTableShown table.now request.entry.out.now (O.contents output.old) (O.contents output.new) }
     ensures refused { result ≡ REFUSED → IsBadWindow table.now.after table.now.until table.now.by
+        (O.contents output.old) (O.contents output.new) }
+    ensures cut { (result ≡ INPUT_OUTPUT) ⊎ (result ≡ OUT_OF_MEMORY) → IsCutShort table.now request.entry.out.now
         (O.contents output.old) (O.contents output.new) }
     ensures silent { request.entry.out.now ≢ codes "-" → result ≡ OUT_OF_MEMORY
         → O.contents output.new ≡ O.contents output.old }
 {
-    if let Some(status) = refused_window(rt.alloc(), table, output, errors) {
-        return status;
+    if !table.has_window() {
+        return refuse_window(rt.alloc(), table, output, errors);
     }
     if notes.warnings {
         warn_of_table(table, errors);
@@ -134,13 +151,15 @@ fn warn_of_table<E: Write>(table: &Table<'_>, errors: &mut E) {
 
 fn table_of<'a>(
     image: &'a Verified,
-    targets: &'a [u32],
-    sources: &'a [u32],
+    targets: &'a [Vec<u32>],
+    sources: &'a [Vec<u32>],
     request: MatrixRequest<'_>,
 ) -> Table<'a>
-    requires targets { AreOfList image.now targets.now }
-    requires sources { AreSources request.from image.now sources.now }
-    ensures { IsTableOf image.now request.entry result }
+    ensures image { result.image.now ≡ image.now }
+    ensures stops { (result.targets.now ≡ targets.now) × (result.sources.now ≡ sources.now) }
+    ensures times { (result.after ≡ request.entry.after) × (result.until ≡ request.entry.until)
+        × (result.by ≡ request.entry.by) }
+    ensures form { (result.criterion ≡ request.entry.criterion) × (result.each ≡ request.entry.each) }
 {
     Table {
         image,
@@ -154,32 +173,33 @@ fn table_of<'a>(
     }
 }
 
-// The stops where journeys end.
-fn targets_asked<H: Files + AllocGlobal, E: Write>(
+// The sets of stops where journeys end.
+fn targets_asked<H: Files + ImageDisk<Image = H::File> + AllocGlobal, E: Write>(
     rt: &H,
     image: &Verified,
     request: MatrixRequest<'_>,
     errors: &mut E,
-) -> Result<Vec<u32>, u8>
-    ensures stops { IfOk result (λ stops. AreOfList image.now stops.items) }
-    ensures status { IfErr result (IsUnlisted image.now) }
+) -> Result<Vec<Vec<u32>>, u8>
+    ensures { MatchResult result
+        (λ sets. AreOfList (H.may_hold rt.now) request.entry.to.now image.now sets.items)
+        (IsUnlisted (H.may_hold rt.now) request.entry.to.now image.now) }
 {
     let option = ListOption {
         name: "--to",
         path: request.to,
     };
-    stops_of_file(rt, image, option, errors)
+    sets_of_file(rt, image, option, errors)
 }
 
-// The stops where they begin.
-fn sources_asked<H: Files + AllocGlobal, E: Write>(
+// The sets of stops where they begin.
+fn sources_asked<H: Files + ImageDisk<Image = H::File> + AllocGlobal, E: Write>(
     rt: &H,
     image: &Verified,
     request: MatrixRequest<'_>,
     errors: &mut E,
-) -> Result<Vec<u32>, u8>
-    ensures stops { IfOk result (λ stops. AreSources request.entry.from image.now stops.items) }
-    ensures status { IfErr result (IsUnlisted image.now) }
+) -> Result<Vec<Vec<u32>>, u8>
+    ensures sets { IfOk result (λ sets. AreSources (H.may_hold rt.now) request.entry.from image.now sets.items) }
+    ensures status { IfErr result (AreNoSources (H.may_hold rt.now) request.entry.from image.now) }
 {
     match request.from {
         Some(path) => {
@@ -187,7 +207,7 @@ fn sources_asked<H: Files + AllocGlobal, E: Write>(
                 name: "--from",
                 path,
             };
-            stops_of_file(rt, image, option, errors)
+            sets_of_file(rt, image, option, errors)
         }
         None => match all_stops(rt.alloc(), image) {
             Ok(stops) => Ok(stops),
@@ -196,47 +216,23 @@ fn sources_asked<H: Files + AllocGlobal, E: Write>(
     }
 }
 
-// Refuses a bad window: prints the refusal, and says what is wrong. `None` if the window is good.
-fn refused_window<O: Write, E: Write>(
-    alloc: Global,
-    table: &Table<'_>,
-    output: &mut O,
-    errors: &mut E,
-) -> Option<u8>
-    requires some { 0 < length table.now.targets.now }
-    requires within { (target : ℕ) → Contains table.now.targets.now target
-        → target < table.now.image.now.timetable.stops }
-    ensures good { IfNone result ((target : ℕ) → Contains table.now.targets.now target
-        → CanBeAsked table.now.image.now.timetable.stops (destination table.now target)) }
-    ensures status { IfSome result EndsUndone }
-    ensures kept { IfNone result (O.contents output.new ≡ O.contents output.old) }
-    ensures refused { IfSome result (λ status. status ≡ REFUSED → IsBadWindow table.now.after table.now.until
-        table.now.by (O.contents output.old) (O.contents output.new)) }
-    ensures silent { IfSome result (λ status. status ≡ OUT_OF_MEMORY
-        → O.contents output.new ≡ O.contents output.old) }
-{
-    let target = table.targets[0];
-    match table.destination(target).check(table.image.stops()) {
-        Ok(()) => None,
-        Err(fault) => Some(print_fault(alloc, table, fault, output, errors)),
-    }
-}
-
 // Prints the refusal of a window, and says what is wrong.
-fn print_fault<O: Write, E: Write>(
+fn refuse_window<O: Write, E: Write>(
     alloc: Global,
     table: &Table<'_>,
-    fault: QueryFault,
     output: &mut O,
     errors: &mut E,
 ) -> u8
     ensures status { EndsUndone result }
     ensures printed { result ≡ REFUSED
-        → Appends (O.contents output.old) (O.contents output.new) (refusal_line (Query fault)) }
+        → Appends (O.contents output.old) (O.contents output.new) (refusal_line (Query BadWindow)) }
+    ensures begun { result ≡ INPUT_OUTPUT
+        → IsBegun (O.contents output.old) (O.contents output.new) (refusal_line (Query BadWindow)) }
     ensures silent { result ≡ OUT_OF_MEMORY → O.contents output.new ≡ O.contents output.old }
 {
-    let status = status::print_refusal(alloc, output, CommandRefusal::Query(fault));
-    if status == status::REFUSED && fault == QueryFault::BadWindow {
+    let refusal = CommandRefusal::Query(QueryFault::BadWindow);
+    let status = status::print_refusal(alloc, output, refusal);
+    if status == status::REFUSED {
         let reason = window_reason(table.after, table.until, table.by);
         explain(errors, &["csa: ", reason]);
     }
@@ -252,11 +248,14 @@ fn write_asked<H: Files + AllocGlobal + Clock + Threads + Sync, O: Write, E: Wri
     errors: &mut E,
     is_terminal: bool,
 ) -> u8
-    requires can { (target : ℕ) → Contains table.now.targets.now target → CanBeMade table.now target }
+    requires can { (targets : Vec ℕ) → Contains table.now.targets.now targets
+        → CanBeMade table.now targets.items }
     ensures status { EndsWritten result }
-    ensures not_refused { result ≢ REFUSED }
     ensures shown { result ≡ ACCEPTED
         → IsTableShown table.now request.entry.out.now (O.contents output.old) (O.contents output.new) }
+    ensures cut { (result ≡ INPUT_OUTPUT) ⊎ (result ≡ OUT_OF_MEMORY)
+        → (O.contents output.new ≡ O.contents output.old)
+        ⊎ IsShownInPart table.now request.entry.out.now (O.contents output.old) (O.contents output.new) }
     ensures silent { request.entry.out.now ≢ codes "-" → result ≡ OUT_OF_MEMORY
         → O.contents output.new ≡ O.contents output.old }
 {
@@ -284,9 +283,12 @@ fn put_reported<'c, H: Files + AllocGlobal + Clock + Threads + Sync, O: Write, E
     log: Option<&'c mut E>,
     is_terminal: bool,
 ) -> io::Result<()>
-    requires can { (target : ℕ) → Contains table.now.targets.now target → CanBeMade table.now target }
+    requires can { (targets : Vec ℕ) → Contains table.now.targets.now targets
+        → CanBeMade table.now targets.items }
     ensures shown { request.entry.out.now ≡ codes "-" → OnOk result ((text : List ℕ) × IsTable table.now text
         × Appends (O.contents output.old) (O.contents output.new) text) }
+    ensures begun { request.entry.out.now ≡ codes "-"
+        → OnErr result (IsTableBegun table.now (O.contents output.old) (O.contents output.new)) }
     ensures kept { request.entry.out.now ≢ codes "-" → O.contents output.new ≡ O.contents output.old }
 {
     let mut progress = TableProgress::new(rt.alloc(), rt, log, is_terminal, table.targets.len());
@@ -305,9 +307,12 @@ fn put_table<H: Files + AllocGlobal + Threads + Sync, O: Write, P: Reports>(
     output: &mut O,
     reports: &mut P,
 ) -> io::Result<()>
-    requires can { (target : ℕ) → Contains table.now.targets.now target → CanBeMade table.now target }
+    requires can { (targets : Vec ℕ) → Contains table.now.targets.now targets
+        → CanBeMade table.now targets.items }
     ensures shown { path.now ≡ codes "-" → OnOk result ((text : List ℕ) × IsTable table.now text
         × Appends (O.contents output.old) (O.contents output.new) text) }
+    ensures begun { path.now ≡ codes "-"
+        → OnErr result (IsTableBegun table.now (O.contents output.old) (O.contents output.new)) }
     ensures kept { path.now ≢ codes "-" → O.contents output.new ≡ O.contents output.old }
 {
     if path == "-" {
@@ -337,6 +342,7 @@ fn processors<R: Threads>(rt: &R) -> usize {
 // The status of a table on standard output.
 fn printed(outcome: io::Result<()>) -> u8
     ensures status { EndsWritten result }
+    ensures done { IfOk outcome (λ _. result ≡ ACCEPTED) }
     ensures failed { IfErr outcome (λ _. result ≢ ACCEPTED) }
 {
     match outcome {
@@ -348,11 +354,13 @@ fn printed(outcome: io::Result<()>) -> u8
     }
 }
 
-// Prints how many stops a table has.
+// Prints how many sets of stops a table has.
 fn print_counts<O: Write>(alloc: Global, table: &Table<'_>, output: &mut O) -> u8
     ensures status { EndsWritten result }
-    ensures printed { result ≡ ACCEPTED → Appends (O.contents output.old) (O.contents output.new)
-        (counts_text (length table.now.targets.now) (length table.now.sources.now)) }
+    ensures printed { result ≡ ACCEPTED
+        → Appends (O.contents output.old) (O.contents output.new) (counts_of table.now) }
+    ensures begun { result ≡ INPUT_OUTPUT
+        → IsBegun (O.contents output.old) (O.contents output.new) (counts_of table.now) }
     ensures silent { result ≡ OUT_OF_MEMORY → O.contents output.new ≡ O.contents output.old }
 {
     let line = counts_line(alloc, table.targets.len(), table.sources.len());

@@ -1,17 +1,18 @@
-//! The stops of a table, which files list.
+//! The sets of stops of a table, which files list.
 
-ghost use Rattle.std.specs.Prelude.{◌≡◌, ◌⊎◌, IfErr, IfOk, MatchBool, MatchResult};
-ghost use Rattle.std.specs.List.{range_with_len};
+ghost use Rattle.std.specs.Prelude.{◌≡◌, ◌⊎◌, ◌∷◌, [], IfErr, IfOk, MatchResult};
+ghost use Rattle.std.specs.List.{AllZip, range_with_len};
 ghost use Rattle.command_requests.specs.declared.statuses.TheConstants.{INPUT_OUTPUT, OUT_OF_MEMORY};
-ghost use Rattle.csa_commands.specs.Matrices.{AreListedIn, AreOfList, HasTab, IsUnlisted, IsUnlistedIn, fault_status};
+ghost use Rattle.csa_commands.specs.Matrices.{AreListedIn, AreOfList, IsUnlisted, IsUnlistedIn, fault_status};
 
+use crate::listed_text::text_at;
 use crate::question::explain_line;
 use crate::status;
 use feed_messages::{explain, quoted};
+use image_files::ImageDisk;
 use image_verifier::Verified;
-use matrix_rows::{ListFault, stops_listed};
+use matrix_rows::{ListFault, sets_listed};
 use std::alloc::{AllocError, Global};
-use std::fs;
 use std::io::{ErrorKind, Write};
 use std::rt::Files;
 
@@ -22,71 +23,45 @@ pub struct ListOption<'a> {
     pub path: &'a str,
 }
 
-/// The stops that the file of an option lists, in its order. If it doesn't list any, or says what can't be asked,
-/// explains why in `errors`, and returns the status.
-pub fn stops_of_file<H: Files + AllocGlobal, E: Write>(
+/// The sets of stops that the file of an option lists, in its order. If it doesn't list any, or says what can't be
+/// asked, explains why in `errors`, and returns the status.
+pub fn sets_of_file<H: Files + ImageDisk<Image = H::File> + AllocGlobal, E: Write>(
     rt: &H,
     image: &Verified,
     option: ListOption<'_>,
     errors: &mut E,
-) -> Result<Vec<u32>, u8>
-    ensures { MatchResult result (λ stops. AreOfList image.now stops.items) (IsUnlisted image.now) }
+) -> Result<Vec<Vec<u32>>, u8>
+    ensures { MatchResult result
+        (λ sets. AreOfList (H.may_hold rt.now) option.entry.path.now image.now sets.items)
+        (IsUnlisted (H.may_hold rt.now) option.entry.path.now image.now) }
 {
-    match fs::read_to_string(rt, option.path) {
-        Ok(text) => stops_of_list(rt.alloc(), image, option, text.as_str(), errors),
+    match text_at(rt, option.path) {
+        Ok(text) => sets_of_list(rt.alloc(), image, option, text.as_str(), errors),
         Err(error) => Err(unread(rt, option, error.kind(), errors)),
     }
 }
 
-// The stops of the text of a list.
-fn stops_of_list<E: Write>(
+// The sets of stops of the text of a list.
+fn sets_of_list<E: Write>(
     alloc: Global,
     image: &Verified,
     option: ListOption<'_>,
     list: &str,
     errors: &mut E,
-) -> Result<Vec<u32>, u8>
-    ensures stops { IfOk result (λ stops. AreListedIn image.now list.now stops.items) }
+) -> Result<Vec<Vec<u32>>, u8>
+    ensures sets { IfOk result (λ sets. AreListedIn image.now sets.items list.now) }
     ensures status { IfErr result (IsUnlistedIn image.now list.now) }
 {
-    if has_tab(list) {
-        explain_tab(alloc, option, list, errors);
-        return Err(status::COMMAND_LINE);
+    match sets_listed(alloc, image, list) {
+        Ok(sets) => Ok(sets),
+        Err(fault) => Err(refused(alloc, image, option, list, fault, errors)),
     }
-    match stops_listed(alloc, image, list) {
-        Ok(stops) => Ok(stops),
-        Err(fault) => Err(refused(alloc, option, list, fault, errors)),
-    }
-}
-
-fn has_tab(list: &str) -> bool
-    ensures { MatchBool result (HasTab list.now) (¬ HasTab list.now) }
-{
-    list.contains('\t')
-}
-
-// Says that a line has a tab, which is kept for lines with several stop_ids.
-fn explain_tab<E: Write>(alloc: Global, option: ListOption<'_>, list: &str, errors: &mut E) {
-    let number = first_tab(list);
-    let reason = "one stop_id on each line, and no tab";
-    explain_at(alloc, option, list, number, reason, errors);
-}
-
-// The number of the first line that has a tab, from 1 on; the number of lines if none has.
-fn first_tab(list: &str) -> usize {
-    let mut number = 0usize;
-    for line in list.lines() {
-        number = number.saturating_add(1);
-        if line.contains('\t') {
-            return number;
-        }
-    }
-    number
 }
 
 // Says why a list isn't accepted, and returns the status.
 fn refused<E: Write>(
     alloc: Global,
+    image: &Verified,
     option: ListOption<'_>,
     list: &str,
     fault: ListFault,
@@ -96,11 +71,15 @@ fn refused<E: Write>(
 {
     match fault {
         ListFault::UnknownStop(number) => {
-            let line = line_at(list, number);
-            explain_line(alloc, option.name, option.path, number, line, errors);
+            explain_unknown(alloc, image, option, list, number, errors);
             status::REFUSED
         }
-        ListFault::NamedTwice(first, second) => {
+        ListFault::StopTwice(number) => {
+            let reason = "it has a stop_id twice";
+            explain_at(alloc, option, list, number, reason, errors);
+            status::COMMAND_LINE
+        }
+        ListFault::LineTwice(first, second) => {
             explain_twice(alloc, option, list, first, second, errors);
             status::COMMAND_LINE
         }
@@ -115,7 +94,36 @@ fn refused<E: Write>(
     }
 }
 
-// Says that a stop_id is on two lines.
+// Says what in a line isn't a stop_id.
+fn explain_unknown<E: Write>(
+    alloc: Global,
+    image: &Verified,
+    option: ListOption<'_>,
+    list: &str,
+    number: usize,
+    errors: &mut E,
+) {
+    let line = line_at(list, number);
+    let id = first_unknown(image, line);
+    if id.is_empty() && !line.is_empty() {
+        let reason = "a tab has no stop_id before it or after it";
+        explain_at(alloc, option, list, number, reason, errors);
+    } else {
+        explain_line(alloc, option.name, option.path, number, id, errors);
+    }
+}
+
+// The first part of a line, between its tabs, that isn't a stop_id; the line if each is.
+fn first_unknown<'a>(image: &Verified, line: &'a str) -> &'a str {
+    for id in line.split('\t') {
+        if image.find(id.as_bytes()).is_none() {
+            return id;
+        }
+    }
+    line
+}
+
+// Says that a line is there again.
 fn explain_twice<E: Write>(
     alloc: Global,
     option: ListOption<'_>,
@@ -124,14 +132,14 @@ fn explain_twice<E: Write>(
     second: usize,
     errors: &mut E,
 ) {
-    match format!(in alloc; "line {first} has the same stop_id") {
+    match format!(in alloc; "line {first} is the same") {
         Ok(reason) => explain_at(alloc, option, list, second, reason.as_str(), errors),
         Err(_) => explain_at(
             alloc,
             option,
             list,
             second,
-            "a line before has the same stop_id",
+            "a line before is the same",
             errors,
         ),
     }
@@ -179,14 +187,24 @@ fn unread<H: Files, E: Write>(rt: &H, option: ListOption<'_>, kind: ErrorKind, e
     }
 }
 
-/// All stops of an image, in its order.
-pub fn all_stops(alloc: Global, image: &Verified) -> Result<Vec<u32>, AllocError>
-    ensures { IfOk result (λ stops. stops.items ≡ range_with_len 0 image.now.timetable.stops) }
+/// A set of each stop of an image, in its order.
+pub fn all_stops(alloc: Global, image: &Verified) -> Result<Vec<Vec<u32>>, AllocError>
+    ensures { IfOk result (λ sets. AllZip (λ stop set. set.items ≡ stop ∷ [])
+        (range_with_len 0 image.now.timetable.stops) sets.items) }
 {
     let stops = image.stops();
     let mut all = Vec::with_capacity(alloc, stops as usize)?;
     for stop in 0..stops {
-        all.push(stop)?;
+        let set = set_of(alloc, stop)?;
+        all.push(set)?;
     }
     Ok(all)
+}
+
+fn set_of(alloc: Global, stop: u32) -> Result<Vec<u32>, AllocError>
+    ensures { IfOk result (λ set. set.items ≡ stop ∷ []) }
+{
+    let mut set = Vec::with_capacity(alloc, 1)?;
+    set.push(stop)?;
+    Ok(set)
 }

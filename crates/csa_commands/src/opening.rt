@@ -1,11 +1,10 @@
 //! Opens an image, as every command over one does first.
 
 ghost use Rattle.std.specs.Prelude.{◌≡◌, ◌≢◌, IfErr, IfOk, OnOk};
-ghost use Rattle.std.specs.Io.KnownBytes.{Appends};
-ghost use Rattle.command_requests.specs.declared.statuses.TheConstants.{INPUT_OUTPUT, OUT_OF_MEMORY, REFUSED};
+ghost use Rattle.command_requests.specs.declared.statuses.TheConstants.{INPUT_OUTPUT};
 ghost use Rattle.image_verifier.specs.declared.fault.ImageFault.TheVariants.{OutOfMemory as WasOutOfMemory};
 ghost use Rattle.image_files.specs.Held.{HoldsOfBytes};
-ghost use Rattle.csa_commands.specs.Ending.{EndsUndone};
+ghost use Rattle.csa_commands.specs.Ending.{IsOutcome, PrintsRefusal};
 ghost use Rattle.csa_commands.specs.Opening.{IsRefusedImage, SpellsImage};
 ghost use Rattle.csa_commands.specs.Refusing.{refusal_line};
 ghost use Rattle.csa_commands.specs.declared.refusal.CommandRefusal.TheVariants.{Image as OfImage};
@@ -56,12 +55,9 @@ pub fn open_image<H: Files + ImageDisk<Image = H::File> + AllocGlobal, I: Read, 
 ) -> Result<Verified, u8>
     ensures image { IfOk result (λ image.
         HoldsOfBytes (H.may_hold rt.now) path.now (I.remaining input.old) (SpellsImage image)) }
-    ensures status { IfErr result EndsUndone }
     ensures silent { OnOk result (O.contents output.new ≡ O.contents output.old) }
-    ensures memory { IfErr result (λ status. status ≡ OUT_OF_MEMORY
-        → O.contents output.new ≡ O.contents output.old) }
-    ensures refused { IfErr result (λ status. status ≡ REFUSED
-        → IsRefusedImage (H.may_hold rt.now) path.now (I.remaining input.old)
+    ensures refused { IfErr result (λ status. IsOutcome
+        (PrintsRefusal (IsRefusedImage (H.may_hold rt.now) path.now (I.remaining input.old))) status
         (O.contents output.old) (O.contents output.new)) }
 {
     let words = match image_words(rt, path, input) {
@@ -108,11 +104,9 @@ fn refuse_words<O: Write, E: Write>(
     output: &mut O,
     errors: &mut E,
 ) -> u8
-    ensures status { EndsUndone result }
-    ensures refused { result ≡ REFUSED → fault ≢ WasOutOfMemory }
-    ensures printed { result ≡ REFUSED
-        → Appends (O.contents output.old) (O.contents output.new) (refusal_line (OfImage fault)) }
-    ensures silent { result ≡ OUT_OF_MEMORY → O.contents output.new ≡ O.contents output.old }
+    ensures { IsOutcome
+        (PrintsRefusal (λ line. (fault ≢ WasOutOfMemory) × (line ≡ refusal_line (OfImage fault)))) result
+        (O.contents output.old) (O.contents output.new) }
 {
     if fault == ImageFault::OutOfMemory {
         return status::OUT_OF_MEMORY;
@@ -137,10 +131,8 @@ fn refuse<F: fmt::Display, O: Write, E: Write>(
     output: &mut O,
     errors: &mut E,
 ) -> u8
-    ensures status { EndsUndone result }
-    ensures printed { result ≡ REFUSED
-        → Appends (O.contents output.old) (O.contents output.new) (refusal_line refusal) }
-    ensures silent { result ≡ OUT_OF_MEMORY → O.contents output.new ≡ O.contents output.old }
+    ensures { IsOutcome (PrintsRefusal (λ line. line ≡ refusal_line refusal)) result
+        (O.contents output.old) (O.contents output.new) }
 {
     let status = status::print_refusal(alloc, output, refusal);
     explain(status, path, reason, errors);

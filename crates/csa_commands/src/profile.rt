@@ -1,12 +1,12 @@
 //! `csa profile IMAGE --from STOP_ID.. --to STOP_ID.. --after .. --until .. --by .. --criterion NAME
 //! [--names | --json [--legs]] [--picture FILE [--rows N]]`.
 
-ghost use Rattle.std.specs.Prelude.{◌≡◌, ◌≢◌, IfOk, string_bytes};
+ghost use Rattle.std.specs.Prelude.{◌≡◌, IfOk, string_bytes};
 ghost use Rattle.std.specs.Io.KnownBytes.{Appends};
 ghost use Rattle.profile_scan.specs.Between.{IsAskableBetween, question};
-ghost use Rattle.command_requests.specs.declared.statuses.TheConstants.{ACCEPTED, OUT_OF_MEMORY, REFUSED};
-ghost use Rattle.csa_commands.specs.Answering.{IsNoRequest, IsPrinted, IsProfile, IsShown, IsShownBy};
-ghost use Rattle.csa_commands.specs.Ending.{Ends, EndsUndone};
+ghost use Rattle.command_requests.specs.declared.statuses.TheConstants.{INPUT_OUTPUT, OUT_OF_MEMORY, REFUSED};
+ghost use Rattle.csa_commands.specs.Answering.{IsAnswered, IsNoRequest, IsProfile, IsShown, IsShownBy};
+ghost use Rattle.csa_commands.specs.Ending.{EndsUndone, IsBegun, IsOutcome, Prints, PrintsOnly};
 ghost use Rattle.csa_commands.specs.Listing.{form_text};
 ghost use Rattle.csa_commands.specs.Refusing.{refusal_line};
 ghost use Rattle.csa_commands.specs.declared.refusal.CommandRefusal.TheVariants.{Query as OfQuery};
@@ -47,12 +47,8 @@ pub fn run<H: Files + AllocGlobal, O: Write, E: Write>(
     output: &mut O,
     errors: &mut E,
 ) -> u8
-    ensures status { Ends result }
-    ensures printed { result ≡ ACCEPTED → IsPrinted image.now request.now (O.contents output.old)
-        (O.contents output.new) }
-    ensures refused { result ≡ REFUSED → IsNoRequest image.now request.now (O.contents output.old)
-        (O.contents output.new) }
-    ensures silent { result ≡ OUT_OF_MEMORY → O.contents output.new ≡ O.contents output.old }
+    ensures { IsOutcome (Prints (IsAnswered image.now request.now) (IsNoRequest image.now request.now)) result
+        (O.contents output.old) (O.contents output.new) }
 {
     match profile_asked(rt.alloc(), image, request) {
         Ok(profile) => print_profile(rt, &profile, request, output, errors),
@@ -69,11 +65,8 @@ fn print_profile<H: Files + AllocGlobal, O: Write, E: Write>(
     output: &mut O,
     errors: &mut E,
 ) -> u8
-    ensures status { Ends result }
-    ensures not_refused { result ≢ REFUSED }
-    ensures printed { result ≡ ACCEPTED
-        → Appends (O.contents output.old) (O.contents output.new) (string_bytes profile.now.text) }
-    ensures silent { result ≡ OUT_OF_MEMORY → O.contents output.new ≡ O.contents output.old }
+    ensures { IsOutcome (PrintsOnly (λ text. text ≡ string_bytes profile.now.text)) result
+        (O.contents output.old) (O.contents output.new) }
 {
     if let (Some(path), Some(picture)) = (request.picture, &profile.picture)
         && let Err(error) = write_picture(rt, path, picture.as_str())
@@ -175,6 +168,8 @@ fn refuse<O: Write, E: Write>(
     ensures printed { result ≡ REFUSED
         → Appends (O.contents output.old) (O.contents output.new) (refusal_line (OfQuery fault)) }
     ensures silent { result ≡ OUT_OF_MEMORY → O.contents output.new ≡ O.contents output.old }
+    ensures begun { result ≡ INPUT_OUTPUT
+        → IsBegun (O.contents output.old) (O.contents output.new) (refusal_line (OfQuery fault)) }
 {
     let status = status::print_refusal(alloc, output, CommandRefusal::Query(fault));
     if status == status::REFUSED {

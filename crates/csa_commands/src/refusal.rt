@@ -10,8 +10,7 @@ ghost use Rattle.journeys.specs.declared.text_fault.TextFault.TheVariants.{BadTe
 ghost use Rattle.csa_commands.specs.Listing.{word_text};
 ghost use Rattle.csa_commands.specs.Refusing.{feed_places, image_places, journey_places, refusal_line, refusal_places};
 ghost use Rattle.csa_commands.specs.Refusing.{RefusesFeed, refusal_status, numbered_refusal};
-ghost use Rattle.csa_commands.specs.Ending.{EndsUndone};
-ghost use Rattle.csa_commands.specs.Writing.{IsBegun};
+ghost use Rattle.csa_commands.specs.Ending.{EndsUndone, IsBegun};
 ghost use Rattle.csa_commands.specs.declared.refusal.CommandRefusal.TheVariants.{Feed as OfFeed};
 
 use crate::status;

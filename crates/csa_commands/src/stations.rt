@@ -1,11 +1,11 @@
 //! `csa stations FOLDER [TEXT] [--json]`.
 
 ghost use Rattle.std.specs.Prelude.{◌≡◌, ◌≢◌, IfErr, IfOk, string_bytes};
-ghost use Rattle.command_requests.specs.declared.statuses.TheConstants.{ACCEPTED, OUT_OF_MEMORY, REFUSED};
 ghost use Rattle.feed_loader.specs.Refused.{IsWantOfMemory};
 ghost use Rattle.gtfs_rows.specs.declared.fault.FaultKind.{FaultKind as Kind};
-ghost use Rattle.csa_commands.specs.Ending.{Ends};
-ghost use Rattle.csa_commands.specs.Stations.{AreStationsPrinted, AreStationsRefused, ArePlacesIn, ArePlacesOf};
+ghost use Rattle.csa_commands.specs.Ending.{IsOutcome};
+ghost use Rattle.csa_commands.specs.Refusing.{PrintsOfFeed};
+ghost use Rattle.csa_commands.specs.Stations.{ArePlacesIn, ArePlacesOf};
 ghost use Rattle.csa_commands.specs.Stations.{IsFaultIn, IsStopsRefusal, IsTextAsked, IsTextOf, MayHoldStops};
 
 use crate::explaining::explain_refused;
@@ -31,12 +31,9 @@ pub fn run<H: Files + Disk + AllocGlobal, O: Write, E: Write>(
     output: &mut O,
     errors: &mut E,
 ) -> u8
-    ensures status { Ends result }
-    ensures printed { result ≡ ACCEPTED → AreStationsPrinted H.gives request.entry.folder.now request.entry
+    ensures { IsOutcome (PrintsOfFeed (IsTextOf H.gives request.entry.folder.now request.entry)
+        (IsStopsRefusal H.gives request.entry.folder.now)) result
         (O.contents output.old) (O.contents output.new) }
-    ensures refused { result ≡ REFUSED → AreStationsRefused H.gives request.entry.folder.now
-        (O.contents output.old) (O.contents output.new) }
-    ensures silent { result ≡ OUT_OF_MEMORY → O.contents output.new ≡ O.contents output.old }
 {
     let alloc = rt.alloc();
     match text_of(rt, request) {

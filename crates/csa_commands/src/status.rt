@@ -4,9 +4,8 @@ ghost use Rattle.std.specs.Prelude.{◌≡◌, ◌≢◌, ◌⊎◌, IfErr, IfOk
 ghost use Rattle.std.specs.declared.io.ErrorKind.TheVariants.{OutOfMemory as WasOutOfMemory};
 ghost use Rattle.std.specs.Io.KnownBytes.{Appends};
 ghost use Rattle.command_requests.specs.declared.statuses.TheConstants.{INPUT_OUTPUT, OUT_OF_MEMORY, REFUSED};
-ghost use Rattle.csa_commands.specs.Ending.{EndsUndone};
+ghost use Rattle.csa_commands.specs.Ending.{EndsUndone, IsBegun};
 ghost use Rattle.csa_commands.specs.Refusing.{refusal_line};
-ghost use Rattle.csa_commands.specs.Writing.{IsBegun};
 
 use crate::explaining::explain_zone_named;
 use crate::refusal::{CommandRefusal, refusal_line};

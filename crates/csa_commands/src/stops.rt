@@ -1,9 +1,8 @@
 //! `csa stops IMAGE [TEXT]`.
 
-ghost use Rattle.std.specs.Prelude.{◌≡◌, ◌≢◌, ◌+◌, ◌++◌, ℕ, List, decimal, IfOk, OnOk, string_bytes};
-ghost use Rattle.command_requests.specs.declared.statuses.TheConstants.{ACCEPTED, OUT_OF_MEMORY, REFUSED};
-ghost use Rattle.csa_commands.specs.StopLines.{AreStopLines, AreStopsPrinted, IsFound, stop_line};
-ghost use Rattle.csa_commands.specs.Ending.{Ends};
+ghost use Rattle.std.specs.Prelude.{◌≡◌, ◌+◌, ◌++◌, ℕ, List, decimal, IfOk, OnOk, string_bytes};
+ghost use Rattle.csa_commands.specs.StopLines.{AreStopLines, IsFound, stop_line};
+ghost use Rattle.csa_commands.specs.Ending.{IsOutcome, PrintsOnly};
 
 use crate::status;
 use answer_pictures::stop_name;
@@ -24,11 +23,9 @@ pub fn run<O: Write, E: Write>(
     output: &mut O,
     errors: &mut E,
 ) -> u8
-    ensures status { Ends result }
-    ensures refused { result ≢ REFUSED }
-    ensures printed { result ≡ ACCEPTED
-        → AreStopsPrinted image.now request.entry.text.now (O.contents output.old) (O.contents output.new) }
-    ensures silent { result ≡ OUT_OF_MEMORY → O.contents output.new ≡ O.contents output.old }
+    ensures { IsOutcome
+        (PrintsOnly (AreStopLines image.now.names request.entry.text.now image.now.timetable.stops))
+        result (O.contents output.old) (O.contents output.new) }
 {
     match lines_of(alloc, image, request.text) {
         Ok(lines) => {

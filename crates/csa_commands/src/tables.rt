@@ -1,20 +1,21 @@
-//! `csa tables FOLDER`.
+//! `csa tables FOLDER [--all-faults]`.
 
 ghost use Rattle.std.specs.Prelude.{◌≡◌, ◌≢◌, ◌++◌, false, IfErr, IfOk, OnOk, string_bytes};
-ghost use Rattle.std.specs.Io.KnownBytes.{Appends};
-ghost use Rattle.command_requests.specs.declared.statuses.TheConstants.{ACCEPTED, OUT_OF_MEMORY, REFUSED};
+ghost use Rattle.command_requests.specs.declared.statuses.TheConstants.{ACCEPTED};
 ghost use Rattle.feed_loader.specs.Refused.{IsWantOfMemory};
 ghost use Rattle.gtfs_rows.specs.declared.fault.FaultKind.{FaultKind};
 ghost use Rattle.gtfs_tables.specs.Feeds.{IsFirstFault};
-ghost use Rattle.csa_commands.specs.Ending.{Ends};
-ghost use Rattle.csa_commands.specs.Folders.{AreTablesRefusedOf, HoldsOfRead, IsTablesRefusal};
-ghost use Rattle.csa_commands.specs.Tabling.{AreCounted, AreCountsOf, AreCountsOfJoined, counts_of, counts_text};
+ghost use Rattle.csa_commands.specs.Ending.{IsOutcome, PrintsOnly};
+ghost use Rattle.csa_commands.specs.Folders.{HoldsOfRead, IsTablesRefusal, IsTablesRefusalOf};
+ghost use Rattle.csa_commands.specs.Tabling.{AreCountsOf, AreCountsOfJoined, IsCountsLine, counts_of, counts_text};
+ghost use Rattle.csa_commands.specs.Refusing.{PrintsOfFeed};
 ghost use Rattle.csa_commands.specs.Tabling.{services_text, trips_text};
 
-use crate::explaining::explain_refused;
+use crate::explaining::explain_faults;
 use crate::reading::tables_in;
 use crate::refusal::refuse_feed;
 use crate::status;
+use command_requests::TablesRequest;
 use feed_files::Disk;
 use feed_loader::LoadFault;
 use gtfs_rows::TableFault;
@@ -37,26 +38,26 @@ struct TableCounts {
 }
 
 /// Reads and joins the tables of the folder's files, and prints to `output` how many records each has; or the first
-/// fault, which it explains in `errors`. Returns `ACCEPTED`, `REFUSED`, `INPUT_OUTPUT` if a file or a line can't be
-/// read or written, or `OUT_OF_MEMORY`, with nothing printed to `output`.
+/// fault, which it explains in `errors`, with all others if they are asked for. Returns `ACCEPTED`, with nothing
+/// explained; `REFUSED`; `INPUT_OUTPUT` if a file or a line can't be read or written; or `OUT_OF_MEMORY`, with nothing
+/// printed to `output`.
 pub fn run<H: Files + Disk + AllocGlobal, O: Write, E: Write>(
     rt: &H,
-    folder: &str,
+    request: TablesRequest<'_>,
     output: &mut O,
     errors: &mut E,
 ) -> u8
-    ensures status { Ends result }
-    ensures printed { result ≡ ACCEPTED
-        → AreCounted H.gives folder.now (O.contents output.old) (O.contents output.new) }
-    ensures refused { result ≡ REFUSED
-        → AreTablesRefusedOf H.gives folder.now (O.contents output.old) (O.contents output.new) }
-    ensures silent { result ≡ OUT_OF_MEMORY → O.contents output.new ≡ O.contents output.old }
+    ensures printed { IsOutcome (PrintsOfFeed (IsCountsLine H.gives request.entry.folder.now)
+        (IsTablesRefusalOf H.gives request.entry.folder.now)) result
+        (O.contents output.old) (O.contents output.new) }
+    ensures unexplained { result ≡ ACCEPTED → E.contents errors.new ≡ E.contents errors.old }
 {
     let alloc = rt.alloc();
+    let folder = request.folder;
     match count_records(rt, folder) {
         Ok(counts) => print_counts(alloc, counts, output),
         Err(fault) => {
-            explain_refused(rt, folder, &fault, errors);
+            explain_faults(rt, folder, &fault, errors, request.all_faults);
             refuse_feed(alloc, output, fault)
         }
     }
@@ -99,11 +100,8 @@ fn counts_of(tables: &Tables) -> TableCounts
 
 // Prints the line of counts. Never returns `REFUSED`.
 fn print_counts<O: Write>(alloc: Global, counts: TableCounts, output: &mut O) -> u8
-    ensures status { Ends result }
-    ensures refused { result ≢ REFUSED }
-    ensures printed { result ≡ ACCEPTED
-        → Appends (O.contents output.old) (O.contents output.new) (counts_text counts) }
-    ensures silent { result ≡ OUT_OF_MEMORY → O.contents output.new ≡ O.contents output.old }
+    ensures { IsOutcome (PrintsOnly (λ text. text ≡ counts_text counts)) result
+        (O.contents output.old) (O.contents output.new) }
 {
     match line_of(alloc, counts) {
         Ok(line) => status::write_text(output, line.as_str(), status::ACCEPTED),

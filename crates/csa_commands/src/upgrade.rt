@@ -1,10 +1,8 @@
 //! `csa upgrade IMAGE OUT`.
 
-ghost use Rattle.std.specs.Prelude.{◌≡◌, ◌≢◌, IfOk};
-ghost use Rattle.std.specs.Io.KnownBytes.{Appends};
-ghost use Rattle.command_requests.specs.declared.statuses.TheConstants.{ACCEPTED, OUT_OF_MEMORY, REFUSED};
+ghost use Rattle.std.specs.Prelude.{◌≡◌, IfOk};
 ghost use Rattle.csa_commands.specs.Counting.{counts_line};
-ghost use Rattle.csa_commands.specs.Ending.{Ends};
+ghost use Rattle.csa_commands.specs.Ending.{IsOutcome, PrintsOnly};
 ghost use Rattle.image_layout.specs.declared.layout.TheConstants.{LAYOUT};
 ghost use Rattle.image_layout.specs.Fields.{layout_of};
 ghost use Rattle.image_layout.specs.Image.{IsImage};
@@ -26,11 +24,8 @@ pub fn run<H: Files + AllocGlobal, O: Write, E: Write>(
     output: &mut O,
     errors: &mut E,
 ) -> u8
-    ensures status { Ends result }
-    ensures refused { result ≢ REFUSED }
-    ensures printed { result ≡ ACCEPTED
-        → Appends (O.contents output.old) (O.contents output.new) (counts_line image.now) }
-    ensures silent { result ≡ OUT_OF_MEMORY → O.contents output.new ≡ O.contents output.old }
+    ensures { IsOutcome (PrintsOnly (λ text. text ≡ counts_line image.now)) result
+        (O.contents output.old) (O.contents output.new) }
 {
     let Ok(words) = upgraded(rt.alloc(), image) else {
         return status::OUT_OF_MEMORY;

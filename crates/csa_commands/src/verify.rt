@@ -1,10 +1,8 @@
 //! `csa verify IMAGE`.
 
-ghost use Rattle.std.specs.Prelude.{◌≡◌, ◌≢◌, ◌++◌, IfOk, OnOk, string_bytes};
-ghost use Rattle.std.specs.Io.KnownBytes.{Appends};
-ghost use Rattle.command_requests.specs.declared.statuses.TheConstants.{ACCEPTED, OUT_OF_MEMORY, REFUSED};
+ghost use Rattle.std.specs.Prelude.{◌≡◌, ◌++◌, IfOk, OnOk, string_bytes};
 ghost use Rattle.csa_commands.specs.Counting.{counts_line, numbers_text};
-ghost use Rattle.csa_commands.specs.Ending.{Ends};
+ghost use Rattle.csa_commands.specs.Ending.{IsOutcome, PrintsOnly};
 
 use crate::status;
 use image_verifier::Verified;
@@ -14,11 +12,8 @@ use text_pieces::{put_number, put_text};
 
 /// Prints the counts of an image. The image was verified when it was opened. Never returns `REFUSED`.
 pub fn run<O: Write>(alloc: Global, image: &Verified, output: &mut O) -> u8
-    ensures status { Ends result }
-    ensures refused { result ≢ REFUSED }
-    ensures printed { result ≡ ACCEPTED
-        → Appends (O.contents output.old) (O.contents output.new) (counts_line image.now) }
-    ensures silent { result ≡ OUT_OF_MEMORY → O.contents output.new ≡ O.contents output.old }
+    ensures { IsOutcome (PrintsOnly (λ text. text ≡ counts_line image.now)) result
+        (O.contents output.old) (O.contents output.new) }
 {
     match counts(alloc, image) {
         Ok(line) => status::write_text(output, line.as_str(), status::ACCEPTED),

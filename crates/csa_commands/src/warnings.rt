@@ -6,7 +6,7 @@ ghost use Rattle.gtfs_rows.specs.Values.{is_civil};
 use command_requests::ZoneText;
 use csv::ByteRecord;
 use feed_loader::{Plan, Report};
-use feed_messages::{advance, explain, file_bytes, is_file, is_folder, quoted};
+use feed_messages::{advance, explain, file_bytes, is_folder, quoted};
 use gtfs_rows::values::number;
 use gtfs_rows::{Day, Records, cell, column, find_record};
 use image_verifier::Verified;
@@ -249,15 +249,16 @@ fn of_zone<H: Files + AllocGlobal>(
     if is_file_of(asked, name) {
         return None;
     }
-    match zone_path(rt, name) {
-        Some(path) => other_days(rt, name, path.as_str(), plan),
-        None => no_zone(rt, name),
+    match zone_file(rt, name) {
+        ZoneFile::At(path) => other_days(rt, name, path.as_str(), plan),
+        ZoneFile::Missing => no_zone(rt, name),
+        ZoneFile::Unknown => None,
     }
 }
 
 /// The warning that the feed's own zone is none of the system's, if the system has any.
 fn no_zone<H: Files + AllocGlobal>(rt: &H, name: &str) -> Option<String> {
-    if !is_folder(rt, ZONES) || !is_unknown_zone(rt, name)? {
+    if !is_folder(rt, ZONES) {
         return None;
     }
     let name = quoted(rt.alloc(), name.as_bytes()).ok()?;
@@ -293,43 +294,48 @@ fn is_file_of(asked: &ZoneText<'_>, name: &str) -> bool {
     }
 }
 
-/// The path of the system's file of a zone, if it has one.
-pub fn zone_path<H: Files + AllocGlobal>(rt: &H, name: &str) -> Option<String> {
+/// The system's file of a zone.
+#[derive(Drop)]
+pub enum ZoneFile {
+    /// It is at this path.
+    At(String),
+    /// The system has none.
+    Missing,
+    /// It isn't known: memory ran out, the system can't say, or the file is too long to be one.
+    Unknown,
+}
+
+/// Looks for the system's file of the zone of this name.
+pub fn zone_file<H: Files + AllocGlobal>(rt: &H, name: &str) -> ZoneFile {
     if !is_zone_name(name) {
-        return None;
+        return ZoneFile::Missing;
     }
-    let path = format!(in rt.alloc(); "{ZONES}/{name}").ok()?;
-    if is_file(rt, path.as_str()) && is_short(rt, path.as_str()) {
-        Some(path)
-    } else {
-        None
+    match format!(in rt.alloc(); "{ZONES}/{name}") {
+        Ok(path) => zone_file_at(rt, path),
+        Err(_) => ZoneFile::Unknown,
     }
 }
 
-/// Whether the system has no zone of this name. None if that isn't known: memory ran out, or the system can't say.
-fn is_unknown_zone<H: Files + AllocGlobal>(rt: &H, name: &str) -> Option<bool> {
-    if !is_zone_name(name) {
-        return Some(true);
-    }
-    let path = format!(in rt.alloc(); "{ZONES}/{name}").ok()?;
+fn zone_file_at<H: Files>(rt: &H, path: String) -> ZoneFile {
     match fs::metadata(rt, path.as_str()) {
-        Ok(metadata) => Some(!metadata.is_file()),
+        Ok(metadata) => {
+            if !metadata.is_file() {
+                ZoneFile::Missing
+            } else if metadata.len() <= LONGEST_ZONE {
+                ZoneFile::At(path)
+            } else {
+                ZoneFile::Unknown
+            }
+        }
         Err(error) => match error.kind() {
-            ErrorKind::NotFound | ErrorKind::NotADirectory => Some(true),
-            _ => None,
+            ErrorKind::NotFound | ErrorKind::NotADirectory => ZoneFile::Missing,
+            _ => ZoneFile::Unknown,
         },
     }
 }
 
 fn is_zone_name(name: &str) -> bool {
     !name.is_empty() && !name.contains(':') && !name.contains('.') && !name.starts_with('/')
-}
-
-fn is_short<H: Files>(rt: &H, path: &str) -> bool {
-    match fs::metadata(rt, path) {
-        Ok(metadata) => metadata.len() <= LONGEST_ZONE,
-        Err(_) => false,
-    }
 }
 
 /// Whether the days of the plan begin at the same instants in another zone. From the first day that has no start in

@@ -1,6 +1,7 @@
 mod FeedNames
 mod Hosted
 mod NewSeats
+mod OverImages
 mod ServerEnds
 mod CountedOff
 mod ServedEnds

@@ -1,6 +1,14 @@
 //! The body of the program `csa`: words, a reader and two writers in, an exit status out.
 #![tactic(auto)]
 
+ghost use Rattle.std.specs.Prelude.{Result};
+ghost use Rattle.command_line.specs.declared.reading.NoCommand.{NoCommand};
+ghost use Rattle.command_requests.specs.declared.requests.CommandRequest.{CommandRequest};
+ghost use Rattle.csa_commands.specs.Commands.{PrintsAsked, PrintsDepartures, PrintsProfile, path_of};
+ghost use Rattle.csa_commands.specs.Ending.{IsOutcome};
+ghost use Rattle.csa_commands.specs.Opening.{PrintsOver};
+ghost use Rattle.csa_program.specs.Running.{IsEnd, IsEndOf, IsTableEnd};
+
 mod accepting;
 mod bases;
 mod draining;
@@ -17,7 +25,7 @@ mod watching;
 
 pub use crate::explaining::Explains;
 pub use crate::machine::Machine;
-use crate::watching::WatchedWriter;
+pub use crate::watching::{Watched, WatchedWriter};
 use command_line::{NoCommand, read, wants_warnings};
 use command_requests::{CommandRequest, DeparturesRequest, MatrixRequest, ProfileRequest};
 use csa_commands::matrix::Notes;
@@ -26,6 +34,7 @@ use csa_commands::{
     stations, status, tables,
 };
 pub use feed_files::Disk;
+use image_files::ImageDisk;
 use std::convert::AsStr;
 use std::io::{ErrorKind, Read, Write};
 use std::net::{Net, TcpListener, TcpStream};
@@ -42,14 +51,22 @@ use std::time::Clock;
 /// asks for nothing. `errors` also says that memory ran out, or why `output` can't be written, unless
 /// it is a pipe that nobody reads any more. Where `errors` is a terminal, progress is shown there.
 pub fn run<
-    H: Machine + Net<Listener = TcpListener, Stream = TcpStream>,
+    H: Machine + ImageDisk<Image = H::File> + Net<Listener = TcpListener, Stream = TcpStream>,
     S: AsStr,
     I: Read,
-    O: Write,
+    O: Watched,
     E: Write + Send,
->(rt: &H, words: &[S], input: &mut I, output: &mut O, errors: &mut E, is_terminal: bool) -> u8 {
-    let mut output = WatchedWriter::of(output);
-    let status = run_command(rt, words, input, &mut output, errors, is_terminal);
+>(rt: &H, words: &[S], input: &mut I, output: &mut O, errors: &mut E, is_terminal: bool) -> u8
+    ensures { (asked : Result CommandRequest NoCommand)
+        × IsEndOf (H.ImageDisk.may_hold rt.now) H.Disk.gives (I.remaining input.old) asked result
+        (O.Write.contents output.old) (O.Write.contents output.new) }
+{
+    let notes = Notes {
+        is_terminal,
+        warnings: wants_warnings(words),
+    };
+    let asked = read(rt.alloc(), words);
+    let status = run_read(rt, words, asked, input, output, errors, notes);
     if status == status::OUT_OF_MEMORY {
         explain(errors, &[NO_MEMORY]);
     }
@@ -62,8 +79,7 @@ const NO_MEMORY: &str = "csa: out of memory";
 
 /// Prints the checksum of the program's sources, below its version. The status is 0, or 3 if the line can't be written:
 /// `errors` says why, as for a command. It takes no memory.
-pub fn print_sources<O: Write, E: Write>(sources: &str, output: &mut O, errors: &mut E) -> u8 {
-    let mut output = WatchedWriter::of(output);
+pub fn print_sources<O: Watched, E: Write>(sources: &str, output: &mut O, errors: &mut E) -> u8 {
     let status = match write!(output, "sources {sources}\n") {
         Ok(()) => status::ACCEPTED,
         Err(_) => status::INPUT_OUTPUT,
@@ -94,124 +110,27 @@ fn explain_unwritten<E: Write>(errors: &mut E, fault: Option<ErrorKind>) {
     }
 }
 
-// Answers a question.
-fn answer_profile<H: Files + AllocGlobal, I: Read, O: Write, E: Write>(
-    rt: &H,
-    request: ProfileRequest<'_>,
-    input: &mut I,
-    output: &mut O,
-    errors: &mut E,
-    warnings: bool,
-) -> u8 {
-    answer_over(
-        rt,
-        ImageRequest::Profile(&request),
-        input,
-        output,
-        errors,
-        warnings,
-    )
-}
-
-// Answers the queries from every stop.
-fn answer_departures<H: Files + AllocGlobal, I: Read, O: Write, E: Write>(
-    rt: &H,
-    request: DeparturesRequest<'_>,
-    input: &mut I,
-    output: &mut O,
-    errors: &mut E,
-    warnings: bool,
-) -> u8 {
-    answer_over(
-        rt,
-        ImageRequest::Departures(&request),
-        input,
-        output,
-        errors,
-        warnings,
-    )
-}
-
-// Runs the command; the status says where memory ran out.
-fn run_command<
-    H: Machine + Net<Listener = TcpListener, Stream = TcpStream>,
+// Runs the request that was read, or says why there is none. The status says where memory ran out.
+fn run_read<
+    H: Machine + ImageDisk<Image = H::File> + Net<Listener = TcpListener, Stream = TcpStream>,
     S: AsStr,
     I: Read,
     O: Write,
     E: Write + Send,
->(rt: &H, words: &[S], input: &mut I, output: &mut O, errors: &mut E, is_terminal: bool) -> u8 {
-    let warnings = wants_warnings(words);
-    match read(rt.alloc(), words) {
-        Ok(CommandRequest::Verify(image)) => {
-            answer_over(
-                rt,
-                ImageRequest::Verify(image),
-                input,
-                output,
-                errors,
-                warnings,
-            )
-        }
-        Ok(CommandRequest::Info(image)) => {
-            answer_over(
-                rt,
-                ImageRequest::Info(image),
-                input,
-                output,
-                errors,
-                warnings,
-            )
-        }
-        Ok(CommandRequest::Journey(request)) => {
-            answer_over(
-                rt,
-                ImageRequest::Journey(request),
-                input,
-                output,
-                errors,
-                warnings,
-            )
-        }
-        Ok(CommandRequest::Profile(request)) => {
-            answer_profile(rt, request, input, output, errors, warnings)
-        }
-        Ok(CommandRequest::Departures(request)) => {
-            answer_departures(rt, request, input, output, errors, warnings)
-        }
-        Ok(CommandRequest::Matrix(request)) => {
-            let notes = Notes {
-                is_terminal,
-                warnings,
-            };
-            matrix_over(rt, request, input, output, errors, notes)
-        }
-        Ok(CommandRequest::Stops(request)) => {
-            answer_over(
-                rt,
-                ImageRequest::Stops(request),
-                input,
-                output,
-                errors,
-                warnings,
-            )
-        }
-        Ok(CommandRequest::Tables(folder)) => tables::run(rt, folder, output, errors),
-        Ok(CommandRequest::Days(folder)) => days::run(rt, folder, output, errors),
-        Ok(CommandRequest::Stations(request)) => stations::run(rt, request, output, errors),
-        Ok(CommandRequest::Build(request)) => {
-            build::run(rt, request, output, errors, is_terminal, warnings)
-        }
-        Ok(CommandRequest::Upgrade(request)) => {
-            answer_over(
-                rt,
-                ImageRequest::Upgrade(request),
-                input,
-                output,
-                errors,
-                warnings,
-            )
-        }
-        Ok(CommandRequest::Serve(request)) => serve::run(rt, request, input, output, errors),
+>(
+    rt: &H,
+    words: &[S],
+    asked: Result<CommandRequest<'_>, NoCommand>,
+    input: &mut I,
+    output: &mut O,
+    errors: &mut E,
+    notes: Notes,
+) -> u8
+    ensures { IsEndOf (H.ImageDisk.may_hold rt.now) H.Disk.gives (I.remaining input.old) asked.entry result
+        (O.contents output.old) (O.contents output.new) }
+{
+    match asked {
+        Ok(request) => run_request(rt, request, input, output, errors, notes),
         Err(NoCommand::Help(text)) => status::write_text(output, text.as_str(), status::ACCEPTED),
         Err(NoCommand::Mistake(text)) => {
             let _ = errors.write_all(text.as_bytes());
@@ -222,16 +141,119 @@ fn run_command<
     }
 }
 
+// Runs a request.
+fn run_request<
+    H: Machine + ImageDisk<Image = H::File> + Net<Listener = TcpListener, Stream = TcpStream>,
+    I: Read,
+    O: Write,
+    E: Write + Send,
+>(
+    rt: &H,
+    request: CommandRequest<'_>,
+    input: &mut I,
+    output: &mut O,
+    errors: &mut E,
+    notes: Notes,
+) -> u8
+    ensures { IsEnd (H.ImageDisk.may_hold rt.now) H.Disk.gives (I.remaining input.old) request.entry result
+        (O.contents output.old) (O.contents output.new) }
+{
+    let warnings = notes.warnings;
+    match request {
+        CommandRequest::Verify(image) => {
+            let asked = ImageRequest::Verify(image);
+            answer_over(rt, asked, input, output, errors, warnings)
+        }
+        CommandRequest::Info(image) => {
+            let asked = ImageRequest::Info(image);
+            answer_over(rt, asked, input, output, errors, warnings)
+        }
+        CommandRequest::Journey(request) => {
+            let asked = ImageRequest::Journey(request);
+            answer_over(rt, asked, input, output, errors, warnings)
+        }
+        CommandRequest::Profile(request) => {
+            answer_profile(rt, request, input, output, errors, warnings)
+        }
+        CommandRequest::Departures(request) => {
+            answer_departures(rt, request, input, output, errors, warnings)
+        }
+        CommandRequest::Matrix(request) => matrix_over(rt, request, input, output, errors, notes),
+        CommandRequest::Stops(request) => {
+            let asked = ImageRequest::Stops(request);
+            answer_over(rt, asked, input, output, errors, warnings)
+        }
+        CommandRequest::Tables(request) => tables::run(rt, request, output, errors),
+        CommandRequest::Days(folder) => days::run(rt, folder, output, errors),
+        CommandRequest::Stations(request) => stations::run(rt, request, output, errors),
+        CommandRequest::Build(request) => {
+            build::run(rt, request, output, errors, notes.is_terminal, warnings)
+        }
+        CommandRequest::Upgrade(request) => {
+            let asked = ImageRequest::Upgrade(request);
+            answer_over(rt, asked, input, output, errors, warnings)
+        }
+        CommandRequest::Serve(request) => serve::run(rt, request, input, output, errors),
+    }
+}
+
+// Answers a question.
+fn answer_profile<H: Files + ImageDisk<Image = H::File> + AllocGlobal, I: Read, O: Write, E: Write>(
+    rt: &H,
+    request: ProfileRequest<'_>,
+    input: &mut I,
+    output: &mut O,
+    errors: &mut E,
+    warnings: bool,
+) -> u8
+    ensures { IsOutcome (PrintsOver (H.ImageDisk.may_hold rt.now) request.entry.image.now (I.remaining input.old)
+        (λ image. PrintsProfile image request.entry)) result
+        (O.contents output.old) (O.contents output.new) }
+{
+    let asked = ImageRequest::Profile(&request);
+    answer_over(rt, asked, input, output, errors, warnings)
+}
+
+// Answers the queries from every stop.
+fn answer_departures<
+    H: Files + ImageDisk<Image = H::File> + AllocGlobal,
+    I: Read,
+    O: Write,
+    E: Write,
+>(
+    rt: &H,
+    request: DeparturesRequest<'_>,
+    input: &mut I,
+    output: &mut O,
+    errors: &mut E,
+    warnings: bool,
+) -> u8
+    ensures { IsOutcome (PrintsOver (H.ImageDisk.may_hold rt.now) request.entry.image.now (I.remaining input.old)
+        (λ image. PrintsDepartures image request.entry)) result
+        (O.contents output.old) (O.contents output.new) }
+{
+    let asked = ImageRequest::Departures(&request);
+    answer_over(rt, asked, input, output, errors, warnings)
+}
+
 // Opens the image and writes the table of travel times that is asked for. If the image can't be opened, returns the
 // status that says why.
-fn matrix_over<H: Files + AllocGlobal + Clock + Threads + Sync, I: Read, O: Write, E: Write>(
+fn matrix_over<
+    H: Files + ImageDisk<Image = H::File> + AllocGlobal + Clock + Threads + Sync,
+    I: Read,
+    O: Write,
+    E: Write,
+>(
     rt: &H,
     request: MatrixRequest<'_>,
     input: &mut I,
     output: &mut O,
     errors: &mut E,
     notes: Notes,
-) -> u8 {
+) -> u8
+    ensures { IsTableEnd (H.ImageDisk.may_hold rt.now) (I.remaining input.old) request.entry result
+        (O.contents output.old) (O.contents output.new) }
+{
     match open_image(rt, request.image, input, output, errors) {
         Ok(image) => matrix::run(rt, &image, request, output, errors, notes),
         Err(status) => status,
@@ -239,14 +261,18 @@ fn matrix_over<H: Files + AllocGlobal + Clock + Threads + Sync, I: Read, O: Writ
 }
 
 // Opens the image and answers what is asked of it. If it can't be opened, returns the status that says why.
-fn answer_over<H: Files + AllocGlobal, I: Read, O: Write, E: Write>(
+fn answer_over<H: Files + ImageDisk<Image = H::File> + AllocGlobal, I: Read, O: Write, E: Write>(
     rt: &H,
     asked: ImageRequest<'_>,
     input: &mut I,
     output: &mut O,
     errors: &mut E,
     warnings: bool,
-) -> u8 {
+) -> u8
+    ensures { IsOutcome (PrintsOver (H.ImageDisk.may_hold rt.now) (path_of asked.entry) (I.remaining input.old)
+        (λ image. PrintsAsked image asked.entry)) result
+        (O.contents output.old) (O.contents output.new) }
+{
     match open_image(rt, asked.path(), input, output, errors) {
         Ok(image) => answer(rt, &image, asked, output, errors, warnings),
         Err(status) => status,

@@ -8,6 +8,12 @@ ghost use Rattle.csa_program.specs.Watching.{first_fault, write_fault};
 use std::io;
 use std::io::{ErrorKind, Write};
 
+/// A writer that knows whether it could be written.
+pub trait Watched: Write {
+    /// The first reason why it couldn't be written. An interrupted write doesn't count, since it is tried again.
+    fn fault(&self) -> Option<ErrorKind>;
+}
+
 /// A writer that keeps the first reason why it couldn't be written.
 #[derive(Drop)]
 pub struct WatchedWriter<W> {
@@ -26,9 +32,10 @@ impl<W> WatchedWriter<W> {
             fault: None,
         }
     }
+}
 
-    /// The first reason why it couldn't be written. An interrupted write doesn't count, since it is tried again.
-    pub fn fault(&self) -> Option<ErrorKind>
+impl<W: Write> Watched for WatchedWriter<W> {
+    fn fault(&self) -> Option<ErrorKind>
         ensures { result ≡ self.now.fault }
     {
         self.fault

@@ -4,13 +4,18 @@
 //! No contract says that a message is right; transcripts show it.
 #![tactic(auto)]
 
+mod every_fault;
+mod file_faults;
 mod files;
 mod folders;
+mod known_ids;
 mod quotes;
 mod suspects;
 mod table_fault;
+mod wording;
 mod words;
 
+pub use every_fault::explain_further;
 pub use files::{advance, file_bytes};
 pub use folders::{explain_failed, explain_folder, folder_fault};
 pub use table_fault::explain_table;

@@ -7,9 +7,17 @@ use std::alloc::Global;
 
 /// What to say of a record, if a double quote in its first line opens a field of several lines.
 pub fn quote_in(alloc: Global, bytes: &[u8], found: &FoundRecord) -> Option<String> {
-    let field = long_field(&found.record)?;
-    let line = found.position.line;
-    let last = line.saturating_add(line_ends(field)).min(lines_of(bytes));
+    if long_field(&found.record).is_some() {
+        quote_at(alloc, &found.record, found.position.line, lines_of(bytes))
+    } else {
+        None
+    }
+}
+
+/// The same of a record that begins in a line, in a file of so many lines.
+pub fn quote_at(alloc: Global, record: &ByteRecord, line: u64, lines: u64) -> Option<String> {
+    let field = long_field(record)?;
+    let last = line.saturating_add(line_ends(field)).min(lines);
     format!(in alloc;
         "; a double quote in line {line} opens a field that goes on to line {last}"
     ).ok()
@@ -72,7 +80,7 @@ fn is_line_end(byte: u8) -> bool {
 }
 
 /// How many lines a file has.
-fn lines_of(bytes: &[u8]) -> u64 {
+pub fn lines_of(bytes: &[u8]) -> u64 {
     let text = bytes.strip_suffix(b"\n").unwrap_or(bytes);
     line_ends(text.strip_suffix(b"\r").unwrap_or(text)).saturating_add(1)
 }

@@ -3,13 +3,13 @@
 use crate::files::{advance, file_bytes, record_with};
 use crate::folders::missing_file;
 use crate::quotes::{is_long, quote_before, quote_in};
-use crate::suspects::{FieldForm, home_of, key_of, reason_of, suspects_of, whose_key};
+use crate::suspects::{FieldForm, home_of, key_of, suspects_of};
+use crate::wording::{further_text, lengths_text, twice_text, value_text};
 use crate::words::{explain, quoted};
 use csv::ByteRecord;
 use gtfs_rows::values::number;
 use gtfs_rows::{FaultKind, FoundRecord, Records, Table, TableFault, cell, column, find_record};
 use std::alloc::{AllocError, Global};
-use std::fmt::Write as _;
 use std::io::Write;
 use std::rt::Files;
 
@@ -26,21 +26,32 @@ pub fn explain_table<H: Files + AllocGlobal, E: Write>(
 }
 
 fn line_of<H: Files + AllocGlobal>(rt: &H, folder: &str, fault: &TableFault) -> Option<String> {
-    let file = fault.file.file_name();
+    let bytes = match fault.kind {
+        FaultKind::MissingFile | FaultKind::TooMany => Vec::new(rt.alloc()),
+        _ => file_bytes(rt, folder, fault.file.file_name())?,
+    };
+    message(rt, folder, fault, &bytes)
+}
+
+/// The message about a fault of a file that has these bytes.
+pub fn message<H: Files + AllocGlobal>(
+    rt: &H,
+    folder: &str,
+    fault: &TableFault,
+    bytes: &[u8],
+) -> Option<String> {
+    let alloc = rt.alloc();
     match fault.kind {
         FaultKind::MissingFile => missing_file(rt, folder, fault.file),
-        FaultKind::TooMany => too_many(rt.alloc(), fault.file),
-        FaultKind::BadUtf8 => not_utf8(rt.alloc(), file, &file_bytes(rt, folder, file)?),
-        FaultKind::MissingColumn => {
-            missing_column(rt.alloc(), fault.file, &file_bytes(rt, folder, file)?)
-        }
+        FaultKind::TooMany => too_many(alloc, fault.file),
+        FaultKind::BadUtf8 => not_utf8(alloc, fault.file.file_name(), bytes),
+        FaultKind::MissingColumn => missing_column(alloc, fault.file, bytes),
         _ => {
-            let bytes = file_bytes(rt, folder, file)?;
             let position = FaultLocation {
                 rt,
                 folder,
                 fault,
-                bytes: &bytes,
+                bytes,
             };
             position.line()
         }
@@ -153,10 +164,7 @@ impl<'a, H: Files + AllocGlobal> FaultLocation<'a, H> {
     /// How many fields the record has, and whether that is because of a double quote.
     fn row_length(&self, found: &FoundRecord) -> Option<String> {
         let alloc = self.rt.alloc();
-        let (fields, columns) = (found.record.len(), found.header.len());
-        let mut text = format!(in alloc;
-            ": the number of fields is {fields}, in the header {columns}"
-        ).ok()?;
+        let mut text = lengths_text(alloc, found.record.len(), found.header.len()).ok()?;
         if let Some(quote) = quote_in(alloc, self.bytes, found) {
             text.push_str(quote.as_str()).ok()?;
         }
@@ -180,13 +188,10 @@ impl<'a, H: Files + AllocGlobal> FaultLocation<'a, H> {
     /// other fault what is wrong, and for an id that isn't found also where it is, or how many further rows name it.
     fn what_is_wrong(&self, found: &FoundRecord, name: &str, value: &[u8]) -> Option<String> {
         let alloc = self.rt.alloc();
-        let shown = quoted(alloc, value).ok()?;
         if let Some(line) = self.earlier_line(found) {
-            let whose = whose_key(self.fault.file);
-            return format!(in alloc; ": {name} {shown}{whose} is in line {line} too").ok();
+            return twice_text(alloc, self.fault.file, name, value, line).ok();
         }
-        let reason = reason_of(self.fault, name);
-        let mut text = format!(in alloc; ": {name} {shown} {reason}").ok()?;
+        let mut text = value_text(alloc, self.fault, name, value).ok()?;
         if is_long(value) {
             text.push_str(quote_in(alloc, self.bytes, found)?.as_str())
                 .ok()?;
@@ -204,11 +209,8 @@ impl<'a, H: Files + AllocGlobal> FaultLocation<'a, H> {
         if let Some(quote) = quote_before(self.rt.alloc(), &bytes, file, id) {
             return text.push_str(quote.as_str()).ok();
         }
-        match self.further_rows(name, id)? {
-            0 => Some(()),
-            1 => text.push_str("; 1 further row names it too").ok(),
-            rows => write!(text, "; {rows} further rows name it too").ok(),
-        }
+        let further = further_text(self.rt.alloc(), self.further_rows(name, id)?).ok()?;
+        text.push_str(further.as_str()).ok()
     }
 
     /// How many rows after the faulty one name the same id, in a column whose ids are looked up as those of this one.

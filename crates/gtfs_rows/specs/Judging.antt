@@ -6,7 +6,7 @@ use Rattle.gtfs_rows.specs.Tables.{columns_of, required_of}
 use Rattle.gtfs_rows.specs.declared.fault.Table.{Table}
 use Rattle.gtfs_rows.specs.declared.table_records.TableRecords.{TableRecords}
 
--- the bytes are UTF-8, their header was read last and has the required columns, and its records are left
+-- the bytes are UTF-8, their header was read last, as the only record, and has the required columns; its records are left
 pub record IsOpened (file : Table) (bytes : List ℕ) (t : TableRecords) : Type 0 where
   pub table : t.table ≡ file
   pub text : IsUtf8 bytes
@@ -15,9 +15,12 @@ pub record IsOpened (file : Table) (bytes : List ℕ) (t : TableRecords) : Type 
   pub indices : t.indices.items ≡ indices_of (columns_of file) (last_of t.records)
   pub there : has_required (required_of file) t.indices.items ≡ true
   pub width : t.width ≡ length (last_of t.records)
+  pub count : t.records.count ≡ 1
+  pub lines : t.lines ≡ bytes
 
--- the table, the columns of its header and their number stay as they are
+-- the table, the columns of its header, their number and the bytes in which lines are counted stay as they are
 pub record IsSameTable (old new : TableRecords) : Type 0 where
   pub table : new.table ≡ old.table
   pub indices : new.indices.items ≡ old.indices.items
   pub width : new.width ≡ old.width
+  pub lines : new.lines ≡ old.lines

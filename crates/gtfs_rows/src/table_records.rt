@@ -1,7 +1,7 @@
 //! The records of a table, one at a time, and what is wrong with each of them by itself.
 
 ghost use Rattle.std.specs.Prelude.{◌≡◌, ◌≢◌, ◌+◌, ◌-◌, ◌==◌, ◌∷◌, [], if◌then◌else◌, length, Some, IfOk, IfErr, OnOk};
-ghost use Rattle.std.specs.Prelude.{MatchBool, ℕ};
+ghost use Rattle.std.specs.Prelude.{MatchBool};
 ghost use Rattle.csv.specs.Records.{fields_of};
 ghost use Rattle.gtfs_rows.specs.Faults.{IsFaultOf};
 ghost use Rattle.gtfs_rows.specs.Judging.{IsOpened, IsSameTable};
@@ -29,6 +29,8 @@ pub struct TableRecords<'a> {
     // how many fields the header has
     pub(crate) width: usize,
     table: Table,
+    // how many bytes of the file come before the record that was read last
+    begin: usize,
     lines: LineCount<'a>,
 }
 
@@ -49,6 +51,7 @@ impl<'a> TableRecords<'a> {
             Ok(false) => return Err(FaultKind::MissingColumn),
             Ok(true) => {}
         }
+        let begin = records.begin();
         let header = records.last();
         let width = header.len();
         let Ok(indices) = indices(alloc, header, table.columns()) else {
@@ -62,6 +65,7 @@ impl<'a> TableRecords<'a> {
             indices,
             width,
             table,
+            begin,
             lines: LineCount::new(bytes),
         })
     }
@@ -77,7 +81,9 @@ impl<'a> TableRecords<'a> {
             (self.new.records.count ≡ self.old.records.count + 1) (self.new.records.count ≡ self.old.records.count)) }
         ensures header { IsSameTable self.old self.new }
     {
-        self.records.advance()
+        let found = self.records.advance()?;
+        self.begin = self.records.begin();
+        Ok(found)
     }
 
     /// Returns the table.
@@ -131,11 +137,12 @@ impl<'a> TableRecords<'a> {
     /// Returns the number of the line in which the record that was read last begins. The lines before it aren't counted
     /// again for the next record.
     pub fn line(&mut self) -> u64
-        ensures line { (byte : ℕ) × (result ≡ line_at self.old.lines byte) }
+        ensures line { result ≡ line_at self.old.lines self.old.begin }
+        ensures begin { self.new.begin ≡ self.old.begin }
         ensures records { self.new.records ≡ self.old.records }
         ensures header { IsSameTable self.old self.new }
     {
-        self.lines.line_of(self.records.begin())
+        self.lines.line_of(self.begin)
     }
 }
 

@@ -1,6 +1,7 @@
 //! `transcript` reads and runs transcripts, `running` runs a command for them, and `base_feed` has the feed that most
 //! of them change.
 
+mod all_faults;
 mod base_feed;
 mod building;
 mod checking;

@@ -123,7 +123,7 @@ fn clocks_show_days_by_their_zones(rt: HostRuntime) -> Result<(), Fail> {
 #[test]
 fn a_clock_is_read(rt: HostRuntime) {
     assert!(&rt; instant(&Stopped(Some(0))) == Some(0));
-    assert!(&rt; instant(&Stopped(Some(1_705_276_800))) == Some(1_705_276_800));
+    assert!(&rt; instant(&Stopped(Some(1_705_276_801))) == Some(1_705_276_801));
     assert!(&rt; instant(&Stopped(Some(u64::MAX))) == None);
     assert!(&rt; instant(&Stopped(None)) == None);
 }

@@ -2,7 +2,8 @@
 
 use crate::tests::running::Machine;
 use crate::tests::transcript::try_transcripts;
-use csa_program::{explain_no_words, print_sources, run};
+use csa_program::{WatchedWriter, explain_no_words, print_sources, run};
+use image_files::ImageDisk;
 use image_layout::{Words, sample_words};
 use std::alloc::Global;
 use std::io;
@@ -105,22 +106,26 @@ complains 64
 ";
 
 /// The status of `csa verify` over an input, whose lines go to an output.
-fn verified<R: Machine + Net<Listener = TcpListener, Stream = TcpStream>, I: Read, O: Write>(
-    rt: &R,
-    input: &mut I,
-    output: &mut O,
-    errors: &mut Vec<u8>,
-) -> u8 {
-    run(rt, &["csa", "verify", "-"], input, output, errors, false)
+fn verified<
+    R: Machine + ImageDisk<Image = R::File> + Net<Listener = TcpListener, Stream = TcpStream>,
+    I: Read,
+    O: Write,
+>(rt: &R, input: &mut I, output: &mut O, errors: &mut Vec<u8>) -> u8 {
+    let mut watched = WatchedWriter::of(output);
+    run(
+        rt,
+        &["csa", "verify", "-"],
+        input,
+        &mut watched,
+        errors,
+        false,
+    )
 }
 
 /// The status of `csa verify` over an image, if its output has room for so many bytes.
-fn verified_into<R: Machine + Net<Listener = TcpListener, Stream = TcpStream>>(
-    rt: &R,
-    image: &[u8],
-    room: &mut [u8],
-    errors: &mut Vec<u8>,
-) -> u8 {
+fn verified_into<
+    R: Machine + ImageDisk<Image = R::File> + Net<Listener = TcpListener, Stream = TcpStream>,
+>(rt: &R, image: &[u8], room: &mut [u8], errors: &mut Vec<u8>) -> u8 {
     let (mut input, mut output) = (image, room);
     verified(rt, &mut input, &mut output, errors)
 }
@@ -148,10 +153,9 @@ impl Write for Failing {
 }
 
 /// The status of `csa verify` over an input that can't be read.
-fn verified_unread<R: Machine + Net<Listener = TcpListener, Stream = TcpStream>>(
-    rt: &R,
-    errors: &mut Vec<u8>,
-) -> u8 {
+fn verified_unread<
+    R: Machine + ImageDisk<Image = R::File> + Net<Listener = TcpListener, Stream = TcpStream>,
+>(rt: &R, errors: &mut Vec<u8>) -> u8 {
     let mut input = Failing {
         kind: ErrorKind::Other,
     };
@@ -186,7 +190,8 @@ fn is_reported_of_sources<O: Write>(
     reported: &str,
 ) -> bool {
     let mut errors: Vec<u8> = Vec::new(alloc);
-    let ended = print_sources("0123", output, &mut errors);
+    let mut watched = WatchedWriter::of(output);
+    let ended = print_sources("0123", &mut watched, &mut errors);
     ended == status && errors.as_slice() == reported.as_bytes()
 }
 

@@ -69,6 +69,38 @@ prints B,C,08:12:00,08:20:00,480,,
 answers A,B,08:00:00,08:10:00,600,,
 ";
 
+const SETS: &str = "
+# A line with several stop_ids is a set: its journeys end at any of its stops. A set of sources that has one of them has
+# no row; a stop may be in several sets.
+sample
+rows targets B\tC | C
+asks matrix - - --to targets --after 08:00:00 --until 08:12:00 --by 10:00:00 --criterion arrival --workers 1
+prints from,to,points,first_departure,last_departure,least_seconds,mean_seconds,walk
+prints A,B\tC,1,08:00:00,08:00:00,600,,
+prints A,C,1,08:00:00,08:00:00,1200,,
+answers B,C,1,08:12:00,08:12:00,480,840,
+asks matrix - - --to targets --after 08:00:00 --until 08:12:00 --by 10:00:00 --criterion arrival --workers 4
+prints from,to,points,first_departure,last_departure,least_seconds,mean_seconds,walk
+prints A,B\tC,1,08:00:00,08:00:00,600,,
+prints A,C,1,08:00:00,08:00:00,1200,,
+answers B,C,1,08:12:00,08:12:00,480,840,
+
+# Journeys of a set of sources begin at any of them: who leaves B at 08:12 is at C as soon as who leaves A at 08:00.
+rows sources A\tB | B\tA | C
+rows targets C
+asks matrix - - --to targets --from sources --after 08:00:00 --until 08:12:00 --by 10:00:00 --criterion arrival
+prints from,to,points,first_departure,last_departure,least_seconds,mean_seconds,walk
+prints A\tB,C,1,08:12:00,08:12:00,480,840,
+answers B\tA,C,1,08:12:00,08:12:00,480,840,
+asks matrix - - --to targets --from sources --after 07:00:00 --until 08:05:00 --by 10:00:00 \
+--criterion arrival+trips --each
+prints from,to,departure,arrival,seconds,trips,walked
+prints A\tB,C,08:00:00,08:20:00,1200,2,
+prints A\tB,C,08:00:00,08:30:00,1800,1,
+prints B\tA,C,08:00:00,08:20:00,1200,2,
+answers B\tA,C,08:00:00,08:30:00,1800,1,
+";
+
 const FILES: &str = "
 # A table in a file: standard output has the numbers of its stops. An older file is replaced, and nothing is left
 # beside it.
@@ -95,12 +127,29 @@ tells csa: --to targets, line 2: \"D\": no stop of the image has this stop_id \
 ends 2
 rows targets C | A | C
 asks matrix - no.csv --to targets --after 08:00:00 --until 08:12:00 --by 10:00:00 --criterion arrival
-tells csa: --to targets, line 3: \"C\": line 1 has the same stop_id
+tells csa: --to targets, line 3: \"C\": line 1 is the same
 ends 64
-rows targets A | C\tB
+rows targets A\tB | C | A\tB
 asks matrix - no.csv --to targets --after 08:00:00 --until 08:12:00 --by 10:00:00 --criterion arrival
-tells csa: --to targets, line 2: \"C\\tB\": one stop_id on each line, and no tab
+tells csa: --to targets, line 3: \"A\\tB\": line 1 is the same
 ends 64
+rows targets A | C\tB\tC
+asks matrix - no.csv --to targets --after 08:00:00 --until 08:12:00 --by 10:00:00 --criterion arrival
+tells csa: --to targets, line 2: \"C\\tB\\tC\": it has a stop_id twice
+ends 64
+rows targets A | C\t
+asks matrix - no.csv --to targets --after 08:00:00 --until 08:12:00 --by 10:00:00 --criterion arrival
+tells csa: --to targets, line 2: \"C\\t\": a tab has no stop_id before it or after it
+ends 2
+rows targets A | C\t\tB
+asks matrix - no.csv --to targets --after 08:00:00 --until 08:12:00 --by 10:00:00 --criterion arrival
+tells csa: --to targets, line 2: \"C\\t\\tB\": a tab has no stop_id before it or after it
+ends 2
+rows targets A | B\tX
+asks matrix - no.csv --to targets --after 08:00:00 --until 08:12:00 --by 10:00:00 --criterion arrival
+tells csa: --to targets, line 2: \"X\": no stop of the image has this stop_id \
+(stations aren't stops: give a platform's stop_id, which `csa stops IMAGE TEXT` lists)
+ends 2
 file targets
 asks matrix - no.csv --to targets --after 08:00:00 --until 08:12:00 --by 10:00:00 --criterion arrival
 tells csa: --to targets: it has no line
@@ -116,7 +165,7 @@ tells csa: --from sources, line 2: \"X\": no stop of the image has this stop_id 
 ends 2
 rows sources A | A
 asks matrix - no.csv --to targets --from sources --after 08:00:00 --until 08:12:00 --by 10:00:00 --criterion arrival
-tells csa: --from sources, line 2: \"A\": line 1 has the same stop_id
+tells csa: --from sources, line 2: \"A\": line 1 is the same
 ends 64
 asks matrix - no.csv --to targets --after 08:00:00 --until 07:59:59 --by 10:00:00 --criterion arrival
 tells csa: --until is before --after
@@ -142,7 +191,7 @@ lacks no.csv.part
 
 #[test]
 fn a_table_has_a_row_for_each_pair(rt: HostRuntime) -> Result<(), Fail> {
-    try_transcripts(&rt, &[PAIRS, EACH, FAULTS])
+    try_transcripts(&rt, &[PAIRS, EACH, SETS, FAULTS])
 }
 
 /// The file is the table that standard output would have.

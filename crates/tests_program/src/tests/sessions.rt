@@ -2,7 +2,8 @@
 
 use crate::tests::base_feed;
 use crate::tests::running::Machine;
-use csa_program::run;
+use csa_program::{WatchedWriter, run};
+use image_files::ImageDisk;
 use image_layout::{Words, sample_words};
 use std::alloc::Global;
 use std::io::{Read, Write};
@@ -89,10 +90,9 @@ fn port_of<R: Machine>(rt: &R, printed: &Mutex<Vec<u8>>) -> Option<u16> {
 }
 
 /// Asks at the port, and returns all replies.
-fn replies_at<R: Machine + Net<Listener = TcpListener, Stream = TcpStream>>(
-    rt: &R,
-    port: u16,
-) -> io::Result<Vec<u8>> {
+fn replies_at<
+    R: Machine + ImageDisk<Image = R::File> + Net<Listener = TcpListener, Stream = TcpStream>,
+>(rt: &R, port: u16) -> io::Result<Vec<u8>> {
     let mut stream = TcpStream::connect(rt, (Ipv4Addr::LOCALHOST, port))?;
     stream.write_all(ASKED.as_bytes())?;
     stream.shutdown(Shutdown::Write)?;
@@ -132,7 +132,8 @@ fn a_client_beside_its_server(rt: HostRuntime) -> Result<(), Fail> {
                 rt,
                 bytes: reported,
             };
-            run(rt, &WORDS, &mut input, &mut output, &mut errors, false)
+            let mut watched = WatchedWriter::of(&mut output);
+            run(rt, &WORDS, &mut input, &mut watched, &mut errors, false)
         },
         move || -> Option<Vec<u8>> { replies_at(rt, port_of(rt, printed)?).ok() },
     );

@@ -14,6 +14,7 @@
 //! | `folder PATH`, `file PATH` | makes a folder, or an empty file |
 //! | `link PATH TARGET` | makes a link at a path, to a target |
 //! | `has TEXT`, `crlf TEXT`, `cr TEXT` | adds a line to the file that was made last, ended by LF, by CR LF, or by CR |
+//! | `counts FROM TO has TEXT` | `has TEXT` for each of these numbers, which stands in place of `%`; or with `tells` |
 //! | `rows PATH LINE | LINE ..` | makes a file of these lines |
 //! | `wide PATH COUNT` | makes a file with a header of `agency_timezone` and so many further columns, and a record of one |
 //! | `remove PATH` | removes a file, or a folder with all that is in it |
@@ -37,6 +38,7 @@
 
 use crate::tests::base_feed;
 use crate::tests::running::{Machine, Outcome, outcome_of};
+use image_files::ImageDisk;
 use image_layout::{Words, sample_words, second_sample_words};
 use std::alloc::{AllocError, Global};
 use std::fs;
@@ -344,6 +346,41 @@ fn write_rows<R: Machine>(rt: &R, text: &str) -> Result<(), Fail> {
     write(rt, path, rows.as_bytes())
 }
 
+/// Adds a line for each number from one to another to the file that was made last, or to the lines that must be told.
+fn count<R: Machine>(rt: &R, stage: &mut Stage<'_>, text: &str) -> Result<(), Fail> {
+    let Some((from, rest)) = text.split_once(' ') else {
+        return Err(Fail::new("two numbers, a word and a text"));
+    };
+    let Some((to, line)) = rest.split_once(' ') else {
+        return Err(Fail::new("a second number, a word and a text"));
+    };
+    let (from, to) = (number(from)?, number(to)?);
+    for at in from..=to {
+        let numbered = numbered(rt.alloc(), line, at)?;
+        match numbered.as_str().split_once(' ') {
+            Some(("has", row)) => write_line(rt, stage, row, "\n")?,
+            Some(("tells", row)) => stage.tells(row)?,
+            _ => return Err(Fail::new("a line that is neither had nor told")),
+        }
+    }
+    Ok(())
+}
+
+/// A line with a number in place of each `%`.
+fn numbered(alloc: Global, line: &str, at: u32) -> Result<String, AllocError> {
+    let number = format!(in alloc; "{at}")?;
+    let mut text = String::new(alloc);
+    let mut is_first = true;
+    for piece in line.split('%') {
+        if !is_first {
+            text.push_str(number.as_str())?;
+        }
+        text.push_str(piece)?;
+        is_first = false;
+    }
+    Ok(text)
+}
+
 /// Makes a file with many columns, and a record that lacks them.
 fn write_wide<R: Machine>(rt: &R, text: &str) -> Result<(), Fail> {
     let Some((path, count)) = text.split_once(' ') else {
@@ -364,10 +401,9 @@ fn save<R: Machine>(rt: &R, stage: &Stage<'_>, path: &str) -> Result<(), Fail> {
 }
 
 /// Runs the command on the input.
-fn run_on_stage<R: Machine + Net<Listener = TcpListener, Stream = TcpStream>>(
-    rt: &R,
-    stage: &mut Stage<'_>,
-) -> Result<Outcome, AllocError> {
+fn run_on_stage<
+    R: Machine + ImageDisk<Image = R::File> + Net<Listener = TcpListener, Stream = TcpStream>,
+>(rt: &R, stage: &mut Stage<'_>) -> Result<Outcome, AllocError> {
     let input = stage.input(rt.alloc())?;
     stage.is_tried = true;
     Ok(outcome_of(rt, &stage.words, &input))
@@ -450,14 +486,49 @@ fn compare<R: Machine + Abort>(
     Ok(())
 }
 
+/// Whether the command is `csa tables` without an option.
+fn is_plain_tables(words: &[&str]) -> bool {
+    match words {
+        [_, command, _] => *command == "tables",
+        _ => false,
+    }
+}
+
+/// Asserts that with `--all-faults` the command prints the same and ends with the same status, and that what it told
+/// comes first; and that it tells nothing if it told nothing.
+fn compare_all_faults<
+    R: Machine
+        + ImageDisk<Image = R::File>
+        + Net<Listener = TcpListener, Stream = TcpStream>
+        + Abort,
+>(rt: &R, stage: &Stage<'_>, outcome: &Outcome) -> Result<(), Fail> {
+    let mut words = Vec::new(rt.alloc());
+    for word in &stage.words {
+        words.push(*word)?;
+    }
+    words.push("--all-faults")?;
+    let all = outcome_of(rt, &words, &[]);
+    let is_same = all.output.as_slice() == outcome.output.as_slice()
+        && all.status == outcome.status;
+    demand(rt, &words, is_same, "the output and the status");
+    let is_longer = all.errors.starts_with(&outcome.errors)
+        && all.errors.is_empty() == outcome.errors.is_empty();
+    demand(rt, &words, is_longer, "the errors");
+    Ok(())
+}
+
 /// Runs the command, which must write the expected lines to the output and the errors, and end with a status.
-fn expect_lines<R: Machine + Net<Listener = TcpListener, Stream = TcpStream> + Abort>(
-    rt: &R,
-    stage: &mut Stage<'_>,
-    status: &str,
-) -> Result<(), Fail> {
+fn expect_lines<
+    R: Machine
+        + ImageDisk<Image = R::File>
+        + Net<Listener = TcpListener, Stream = TcpStream>
+        + Abort,
+>(rt: &R, stage: &mut Stage<'_>, status: &str) -> Result<(), Fail> {
     let outcome = run_on_stage(rt, stage)?;
     compare(rt, stage, &outcome, status)?;
+    if is_plain_tables(&stage.words) {
+        compare_all_faults(rt, stage, &outcome)?;
+    }
     stage.printed.clear();
     stage.reported.clear();
     Ok(())
@@ -465,22 +536,24 @@ fn expect_lines<R: Machine + Net<Listener = TcpListener, Stream = TcpStream> + A
 
 /// Runs the command, which must print the expected lines and then this one, and end with 0, or with 2 if this line is a
 /// refusal.
-fn expect_last<R: Machine + Net<Listener = TcpListener, Stream = TcpStream> + Abort>(
-    rt: &R,
-    stage: &mut Stage<'_>,
-    line: &str,
-) -> Result<(), Fail> {
+fn expect_last<
+    R: Machine
+        + ImageDisk<Image = R::File>
+        + Net<Listener = TcpListener, Stream = TcpStream>
+        + Abort,
+>(rt: &R, stage: &mut Stage<'_>, line: &str) -> Result<(), Fail> {
     let is_refused = line.starts_with("refused ");
     add_line(&mut stage.printed, line, "\n")?;
     expect_lines(rt, stage, if is_refused { "2" } else { "0" })
 }
 
 /// Runs the command on the sample with another word at an offset, and compares its answer.
-fn answer_changed<R: Machine + Net<Listener = TcpListener, Stream = TcpStream> + Abort>(
-    rt: &R,
-    stage: &mut Stage<'_>,
-    text: &str,
-) -> Result<(), Fail> {
+fn answer_changed<
+    R: Machine
+        + ImageDisk<Image = R::File>
+        + Net<Listener = TcpListener, Stream = TcpStream>
+        + Abort,
+>(rt: &R, stage: &mut Stage<'_>, text: &str) -> Result<(), Fail> {
     let Some((word, answer)) = text.split_once(" | ") else {
         return Err(Fail::new("a word of the sample and an answer"));
     };
@@ -490,11 +563,13 @@ fn answer_changed<R: Machine + Net<Listener = TcpListener, Stream = TcpStream> +
 }
 
 /// Has a journey judged, and compares the answer: the text has its query, its legs and then the answer.
-fn judge<'a, R: Machine + Net<Listener = TcpListener, Stream = TcpStream> + Abort>(
-    rt: &R,
-    stage: &mut Stage<'a>,
-    text: &'a str,
-) -> Result<(), Fail> {
+fn judge<
+    'a,
+    R: Machine
+        + ImageDisk<Image = R::File>
+        + Net<Listener = TcpListener, Stream = TcpStream>
+        + Abort,
+>(rt: &R, stage: &mut Stage<'a>, text: &'a str) -> Result<(), Fail> {
     let Some((journey, answer)) = text.split_once(" | ") else {
         return Err(Fail::new("a journey and its answer"));
     };
@@ -512,12 +587,12 @@ fn compare_any<R: Abort>(rt: &R, words: &[&str], outcome: &Outcome, prints: bool
 
 /// Runs the command, which must write something to the output if `prints` is set, otherwise to the errors, and nothing
 /// to the other; and end with a status.
-fn expect_any<R: Machine + Net<Listener = TcpListener, Stream = TcpStream> + Abort>(
-    rt: &R,
-    stage: &mut Stage<'_>,
-    prints: bool,
-    status: u32,
-) -> Result<(), Fail> {
+fn expect_any<
+    R: Machine
+        + ImageDisk<Image = R::File>
+        + Net<Listener = TcpListener, Stream = TcpStream>
+        + Abort,
+>(rt: &R, stage: &mut Stage<'_>, prints: bool, status: u32) -> Result<(), Fail> {
     stage.all_compared()?;
     let outcome = run_on_stage(rt, stage)?;
     compare_any(rt, &stage.words, &outcome, prints, status);
@@ -566,6 +641,7 @@ fn follow_files<'a, R: Machine + Abort>(
         "has" => write_line(rt, stage, rest, "\n"),
         "crlf" => write_line(rt, stage, rest, "\r\n"),
         "cr" => write_line(rt, stage, rest, "\r"),
+        "counts" => count(rt, stage, rest),
         "wide" => write_wide(rt, rest),
         "rows" => write_rows(rt, rest),
         "remove" => remove(rt, rest),
@@ -579,11 +655,13 @@ fn follow_files<'a, R: Machine + Abort>(
 }
 
 /// Does what a line says.
-fn follow<'a, R: Machine + Net<Listener = TcpListener, Stream = TcpStream> + Abort>(
-    rt: &R,
-    stage: &mut Stage<'a>,
-    line: &'a str,
-) -> Result<(), Fail> {
+fn follow<
+    'a,
+    R: Machine
+        + ImageDisk<Image = R::File>
+        + Net<Listener = TcpListener, Stream = TcpStream>
+        + Abort,
+>(rt: &R, stage: &mut Stage<'a>, line: &'a str) -> Result<(), Fail> {
     let (kind, rest) = line.split_once(' ').unwrap_or((line, ""));
     match kind {
         "" | "#" => Ok(()),
@@ -607,11 +685,13 @@ fn follow<'a, R: Machine + Net<Listener = TcpListener, Stream = TcpStream> + Abo
 }
 
 /// Does what each line of a transcript says, in order.
-fn follow_all<'a, R: Machine + Net<Listener = TcpListener, Stream = TcpStream> + Abort>(
-    rt: &R,
-    stage: &mut Stage<'a>,
-    transcript: &'a str,
-) -> Result<(), Fail> {
+fn follow_all<
+    'a,
+    R: Machine
+        + ImageDisk<Image = R::File>
+        + Net<Listener = TcpListener, Stream = TcpStream>
+        + Abort,
+>(rt: &R, stage: &mut Stage<'a>, transcript: &'a str) -> Result<(), Fail> {
     for line in transcript.split('\n') {
         follow(rt, stage, line)?;
     }
@@ -619,20 +699,24 @@ fn follow_all<'a, R: Machine + Net<Listener = TcpListener, Stream = TcpStream> +
 }
 
 /// Runs a transcript, with nothing left of those before it.
-fn try_one<R: Machine + Net<Listener = TcpListener, Stream = TcpStream> + Abort>(
-    rt: &R,
-    transcript: &str,
-) -> Result<(), Fail> {
+fn try_one<
+    R: Machine
+        + ImageDisk<Image = R::File>
+        + Net<Listener = TcpListener, Stream = TcpStream>
+        + Abort,
+>(rt: &R, transcript: &str) -> Result<(), Fail> {
     let mut stage = Stage::empty(rt.alloc());
     follow_all(rt, &mut stage, transcript)
 }
 
 /// Runs transcripts one after another. If each had a test of its own, each would cost a proof that the machine has all
 /// that the program needs.
-pub(crate) fn try_transcripts<R: Machine + Net<Listener = TcpListener, Stream = TcpStream> + Abort>(
-    rt: &R,
-    transcripts: &[&str],
-) -> Result<(), Fail> {
+pub(crate) fn try_transcripts<
+    R: Machine
+        + ImageDisk<Image = R::File>
+        + Net<Listener = TcpListener, Stream = TcpStream>
+        + Abort,
+>(rt: &R, transcripts: &[&str]) -> Result<(), Fail> {
     for transcript in transcripts {
         try_one(rt, *transcript)?;
     }

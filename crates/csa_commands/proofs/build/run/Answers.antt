@@ -1,23 +1,33 @@
 -- The fault that is printed is the one for which the feed isn't built.
-use Rattle.std.proofs.Common.{subst}
-use Rattle.std.specs.Io.KnownBytes.{Appends}
+use Rattle.std.proofs.Common.{◌≡◌, inl, subst, sym}
+use Rattle.feed_loader.specs.Refused.{IsWantOfMemory}
 use Rattle.feed_loader.specs.declared.fault.LoadFault.{LoadFault}
-use Rattle.csa_commands.specs.Building.{IfRefused}
+use Rattle.csa_commands.specs.Building.{IfRefused, IsReportLine, report_line}
+use Rattle.csa_commands.specs.Ending.{PrintsOnly}
 use Rattle.csa_commands.specs.Folders.{IsBuildRefusal}
-use Rattle.csa_commands.specs.Refusing.{RefusesFeed, refusal_line}
+use Rattle.csa_commands.specs.Refusing.{PrintsOfFeed}
 use Rattle.csa_commands.specs.declared.build.Failure.{Failure}
-use Rattle.csa_commands.specs.declared.refusal.CommandRefusal.TheVariants.{Feed}
+use Rattle.csa_commands.proofs.Outcomes.{feed_refused, outcome_of}
 use Rattle.csa_commands.proofs.build.run.Goals as goal
 
-pub returns-in-Err-Refused-clause-refused : goal.returns-in-Err-Refused-clause-refused
-returns-in-Err-Refused-clause-refused g c refused =
+pub returns-after-warnings : goal.returns-after-warnings
+returns-after-warnings g c =
+    let gives = g.H.Disk.gives in
+    let request = c.args.request in
+    let built = c.in-Ok.built in
+    outcome_of (PrintsOnly (λ text. text ≡ report_line built.report))
+    (PrintsOfFeed (IsReportLine gives request.folder.now request.plan) (IsBuildRefusal gives request.folder.now request.plan)) _ _ _
+    (λ s text is. inl (is.0, (built.image.timetable, built.image.names, built.report, c.in-Ok.ensures.built, is.1))) c.print_counts.ensures
+
+pub returns-in-Err-Refused : goal.returns-in-Err-Refused
+returns-in-Err-Refused g c =
+    let gives = g.H.Disk.gives in
+    let request = c.args.request in
     let figures = c.in-Err-Refused in
-    let asked = c.args.request in
-    let judged = subst RefusesFeed figures.fault-is (c.refuse_feed.ensures.refused refused) in
-    let unbuilt = subst (λ (failure : Failure). IfRefused failure (IsBuildRefusal g.H.Disk.gives asked.folder.now asked.plan))
+    let unbuilt = subst (λ (failure : Failure). IfRefused failure (IsBuildRefusal gives request.folder.now request.plan))
     figures.field-0-is figures.ensures.refused in
-    let before = g.O.Write.contents c.args.output.now in
-    let after = g.O.Write.contents c.refuse_feed.new.output in
-    let printed = subst (λ (fault : LoadFault). Appends before after (refusal_line (Feed fault))) figures.fault-is
-    (c.refuse_feed.ensures.printed refused) in
-    (figures.fault, judged, unbuilt judged.0, printed)
+    let passed = subst (λ (fault : LoadFault). ¬ (IsWantOfMemory fault) → IsBuildRefusal gives request.folder.now request.plan fault)
+    (sym figures.fault-is) unbuilt in
+    let done = c.refuse_feed.ensures in
+    feed_refused (IsReportLine gives request.folder.now request.plan) (IsBuildRefusal gives request.folder.now request.plan)
+    _ _ _ _ passed done.status done.memory done.refused done.printed done.silent done.begun

@@ -1,9 +1,23 @@
+use Rattle.std.proofs.Common.{inl}
+use Rattle.feed_days.specs.Days.{AreDayLines}
+use Rattle.csa_commands.specs.Ending.{PrintsOnly}
+use Rattle.csa_commands.specs.Folders.{AreDaysOf, IsTablesRefusalOf}
+use Rattle.csa_commands.specs.Refusing.{PrintsOfFeed}
+use Rattle.csa_commands.proofs.Outcomes.{feed_refused, outcome_of}
 use Rattle.csa_commands.proofs.days.run.Goals as goal
 
-pub returns-in-Ok-clause-printed : goal.returns-in-Ok-clause-printed
-returns-in-Ok-clause-printed g c accepted = (c.in-Ok.feed, c.in-Ok.ensures.feed, c.print_days.ensures.printed accepted)
+pub returns-in-Ok : goal.returns-in-Ok
+returns-in-Ok g c =
+    let gives = g.H.Disk.gives in
+    let folder = c.args.folder.now in
+    let feed = c.in-Ok.feed in
+    outcome_of (PrintsOnly (AreDayLines feed)) (PrintsOfFeed (AreDaysOf gives folder) (IsTablesRefusalOf gives folder)) _ _ _
+    (λ s text is. inl (is.0, (feed, c.in-Ok.ensures.feed, is.1))) c.print_days.ensures
 
-pub returns-in-Err-clause-refused : goal.returns-in-Err-clause-refused
-returns-in-Err-clause-refused g c refused =
-    let judged = c.refuse_feed.ensures.refused refused in
-    (c.in-Err.fault, judged, c.in-Err.ensures.refused judged.0, c.refuse_feed.ensures.printed refused)
+pub returns-in-Err : goal.returns-in-Err
+returns-in-Err g c =
+    let gives = g.H.Disk.gives in
+    let folder = c.args.folder.now in
+    let done = c.refuse_feed.ensures in
+    feed_refused (AreDaysOf gives folder) (IsTablesRefusalOf gives folder) c.in-Err.fault _ _ _ c.in-Err.ensures.refused
+    done.status done.memory done.refused done.printed done.silent done.begun

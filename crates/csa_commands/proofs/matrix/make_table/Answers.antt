@@ -1,12 +1,16 @@
 use Rattle.std.proofs.Common.{rules}
-use Rattle.csa_commands.proofs.MatrixLemmas.{sources_within}
+use Rattle.csa_commands.proofs.MatrixLemmas.{can_be_made, cut_refusal, cut_table}
 use Rattle.csa_commands.proofs.matrix.make_table.Goals as goal
 
 pub write_asked-requires : goal.write_asked-requires
 write_asked-requires g c = (
   search rules,
-  λ target h. record {
-    sources = sources_within c.args.request.from c.args.table.now.image.now c.args.table.now.sources.now c.requires.sources;
-    asked = c.in_default.ensures.good target h;
-  },
+  can_be_made c.args.table.now c.requires.targets c.requires.sources c.if-not-has_window.ensures,
 )
+
+pub returns-then-not-has_window-clause-cut : goal.returns-then-not-has_window-clause-cut
+returns-then-not-has_window-clause-cut g c =
+    cut_refusal _ c.args.table.now _ _ _ c.if-not-has_window.ensures c.refuse_window.ensures.begun c.refuse_window.ensures.silent
+
+pub returns-clause-cut : goal.returns-clause-cut
+returns-clause-cut g c = λ ends. cut_table c.args.table.now _ _ _ c.if-not-has_window.ensures (c.write_asked.ensures.cut ends)

@@ -1,6 +1,27 @@
+use Rattle.std.proofs.Common.{◌≡◌, inl, rules, string_bytes, subst, sym}
+use Rattle.csa_commands.specs.Ending.{PrintsOnly}
+use Rattle.csa_commands.specs.Refusing.{PrintsOfFeed}
+use Rattle.csa_commands.specs.Stations.{IsStopsRefusal, IsTextOf}
+use Rattle.csa_commands.proofs.Outcomes.{feed_refused, outcome_of, written}
 use Rattle.csa_commands.proofs.stations.run.Goals as goal
 
-pub returns-in-Err-clause-refused : goal.returns-in-Err-clause-refused
-returns-in-Err-clause-refused g c refused =
-    let judged = c.refuse_feed.ensures.refused refused in
-    (c.in-Err.fault, judged, c.in-Err.ensures.refused judged.0, c.refuse_feed.ensures.printed refused)
+pub returns-in-Ok : goal.returns-in-Ok
+returns-in-Ok g c =
+    let gives = g.H.Disk.gives in
+    let request = c.args.request in
+    let folder = request.folder.now in
+    let same : c.as_str-in-Ok.result.now ≡ string_bytes c.in-Ok.text = search rules in
+    let asked = subst (IsTextOf gives folder request) (sym same) c.in-Ok.ensures.text in
+    let wrote = c.write_text.ensures in
+    outcome_of (PrintsOnly (IsTextOf gives folder request)) (PrintsOfFeed (IsTextOf gives folder request) (IsStopsRefusal gives folder)) _ _ _
+    (λ s text is. inl is)
+    (written (IsTextOf gives folder request) _ c.as_str-in-Ok.result.now _ _ asked wrote.status wrote.written wrote.begun)
+
+pub returns-in-Err : goal.returns-in-Err
+returns-in-Err g c =
+    let gives = g.H.Disk.gives in
+    let request = c.args.request in
+    let folder = request.folder.now in
+    let done = c.refuse_feed.ensures in
+    feed_refused (IsTextOf gives folder request) (IsStopsRefusal gives folder) c.in-Err.fault _ _ _ c.in-Err.ensures.refused
+    done.status done.memory done.refused done.printed done.silent done.begun

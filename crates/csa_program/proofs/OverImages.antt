@@ -1,0 +1,81 @@
+-- What a command prints over the image that was opened.
+use Rattle.std.proofs.Common.{◌≡◌, ◌≢◌, ◌⊎◌, ℕ, List, Option, arith, codes, inl, inr, subst}
+use Rattle.image_files.specs.Held.{HoldsOfBytes}
+use Rattle.image_layout.specs.Image.{ImageValue}
+use Rattle.command_requests.specs.declared.requests.MatrixRequest.{MatrixRequest}
+use Rattle.command_requests.specs.declared.statuses.TheConstants.{ACCEPTED, COMMAND_LINE, INPUT_OUTPUT, OUT_OF_MEMORY, REFUSED}
+use Rattle.csa_commands.specs.Ending.{IsOutcome, PrintsRefusal}
+use Rattle.csa_commands.specs.Opening.{IsRefusedImage, PrintsOver, SpellsImage}
+use Rattle.csa_commands.specs.Matrices.{EndsTable, IsTableCutShort, IsTablePrinted, IsTableRefused, IsTableUnlisted}
+use Rattle.csa_program.specs.Running.{IsTableEnd}
+use Rattle.csa_commands.proofs.Outcomes.{outcome_of}
+
+module _ (may_hold : List ℕ → Option (List ℕ) → Type 0) (path : List ℕ) (input : Option (List ℕ)) (Is : ImageValue → ℕ → List ℕ → Type 0)
+    (status : ℕ) (before : Option (List ℕ)) where
+  -- nothing was printed while it was opened
+  pub over_image : (image : ImageValue) (opened after : Option (List ℕ)) → HoldsOfBytes may_hold path input (SpellsImage image)
+      → opened ≡ before → IsOutcome (Is image) status opened after → IsOutcome (PrintsOver may_hold path input Is) status before after
+  over_image image opened after held silent ended =
+      subst (λ (was : Option (List ℕ)). IsOutcome (PrintsOver may_hold path input Is) status was after) silent
+      (outcome_of (Is image) (PrintsOver may_hold path input Is) status opened after (λ s text is. inl (image, held, is)) ended)
+
+  pub over_none : (after : Option (List ℕ)) → IsOutcome (PrintsRefusal (IsRefusedImage may_hold path input)) status before after
+      → IsOutcome (PrintsOver may_hold path input Is) status before after
+  over_none after ended =
+      outcome_of (PrintsRefusal (IsRefusedImage may_hold path input)) (PrintsOver may_hold path input Is) status before after (λ s text is. inr is) ended
+
+module _ (may_hold : List ℕ → Option (List ℕ) → Type 0) (input : Option (List ℕ)) (request : MatrixRequest) (status : ℕ) (before : Option (List ℕ)) where
+  pub table_over : (image : ImageValue) (opened after : Option (List ℕ)) → HoldsOfBytes may_hold request.image.now input (SpellsImage image)
+      → opened ≡ before → EndsTable status → (status ≡ ACCEPTED → IsTablePrinted may_hold image request opened after)
+      → (status ≡ REFUSED → IsTableRefused may_hold image request opened after)
+      → (status ≡ COMMAND_LINE → IsTableUnlisted may_hold request opened after)
+      → ((status ≡ INPUT_OUTPUT) ⊎ (status ≡ OUT_OF_MEMORY) → IsTableCutShort may_hold image request opened after)
+      → (request.out.now ≢ codes "-" → status ≡ OUT_OF_MEMORY → after ≡ opened) → IsTableEnd may_hold input request status before after
+  table_over image opened after held kept ends printed refused unlisted cut silent =
+      subst (λ (was : Option (List ℕ)). IsTableEnd may_hold input request status was after) kept (record {
+        ends = ends;
+        printed = λ is. (image, held, printed is);
+        refused = λ is. inr (image, held, refused is);
+        unlisted = unlisted;
+        cut = λ is. inr (inr (image, held, cut is));
+        silent = silent;
+      })
+
+  not_both : status ≡ REFUSED → (status ≡ INPUT_OUTPUT) ⊎ (status ≡ OUT_OF_MEMORY) → ⊥
+  not_both is (inl failed) = omega (arith, is, failed)
+  not_both is (inr none) = omega (arith, is, none)
+
+  pub no_table : (after : Option (List ℕ)) → IsOutcome (PrintsRefusal (IsRefusedImage may_hold request.image.now input)) status before after
+      → IsTableEnd may_hold input request status before after
+  no_table after (inl (line, is, whole)) = record {
+    ends = inl (inr (inl is.0));
+    printed = λ e. absurd (omega (arith, e, is.0));
+    refused = λ e. inl (line, is.1, whole);
+    unlisted = λ e. absurd (omega (arith, e, is.0));
+    cut = λ either. absurd (not_both is.0 either);
+    silent = λ out e. absurd (omega (arith, e, is.0));
+  }
+  no_table after (inr (inl (failed, s, text, is, begun))) = record {
+    ends = inl (inr (inr (inl failed)));
+    printed = λ e. absurd (omega (arith, e, failed));
+    refused = λ e. absurd (omega (arith, e, failed));
+    unlisted = λ e. absurd (omega (arith, e, failed));
+    cut = λ either. inr (inl (text, is.1, begun));
+    silent = λ out e. absurd (omega (arith, e, failed));
+  }
+  no_table after (inr (inr (inl failed, kept))) = record {
+    ends = inl (inr (inr (inl failed)));
+    printed = λ e. absurd (omega (arith, e, failed));
+    refused = λ e. absurd (omega (arith, e, failed));
+    unlisted = λ e. absurd (omega (arith, e, failed));
+    cut = λ either. inl kept;
+    silent = λ out e. kept;
+  }
+  no_table after (inr (inr (inr none, kept))) = record {
+    ends = inl (inr (inr (inr none)));
+    printed = λ e. absurd (omega (arith, e, none));
+    refused = λ e. absurd (omega (arith, e, none));
+    unlisted = λ e. absurd (omega (arith, e, none));
+    cut = λ either. inl kept;
+    silent = λ out e. kept;
+  }

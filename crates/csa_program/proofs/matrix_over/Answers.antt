@@ -1,0 +1,15 @@
+use Rattle.std.proofs.Common.{rules}
+use Rattle.csa_program.proofs.OverImages.{table_over, no_table}
+use Rattle.csa_program.proofs.matrix_over.Goals as goal
+
+pub returns-in-Ok : goal.returns-in-Ok
+returns-in-Ok g c =
+    let may_hold = g.H.ImageDisk.may_hold c.args.rt.now in
+    let input = g.I.Read.remaining c.args.input.now in
+    let ran = c.run.ensures in
+    table_over may_hold input c.args.request _ _ c.in-Ok.image _ _ c.in-Ok.ensures.image c.in-Ok.ensures.silent
+    ran.status ran.printed ran.refused ran.unlisted ran.cut ran.silent
+
+pub returns-in-Err : goal.returns-in-Err
+returns-in-Err g c =
+    no_table (g.H.ImageDisk.may_hold c.args.rt.now) (g.I.Read.remaining c.args.input.now) c.args.request _ _ _ c.in-Err.ensures.refused
