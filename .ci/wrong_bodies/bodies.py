@@ -14,7 +14,6 @@ class Fault(Exception):
 class Body:
     crate: str
     name: str
-    line: int
     words: list[str] = field(default_factory=list)
     # (file, old, new)
     pairs: list[tuple[str, str, str]] = field(default_factory=list)
@@ -48,38 +47,30 @@ class Body:
         return copied
 
 
-def text_of(folder, part):
-    """Returns the wrong bodies in a folder of a crate (`wrong`, or `must-fail` for those that `rt ci` tries) as one text, with a heading for each."""
-    text, wrong = "", f"{folder}/{part}"
-    for name in sorted(os.listdir(wrong)) if os.path.isdir(wrong) else ():
-        lines = (line.removeprefix("# ") for line in read(f"{wrong}/{name}").split("\n"))
-        text += "\n".join(["", "## " + name.removesuffix(".edit"), *lines])
-    return text
+def bodies_of(crate, folder, part):
+    """Returns the wrong bodies in a folder of a crate: `wrong`, or `must-fail` for those that `rt ci` tries."""
+    names = sorted(os.listdir(f"{folder}/{part}")) if os.path.isdir(f"{folder}/{part}") else []
+    return [parse(crate, name.removesuffix(".edit"), read(f"{folder}/{part}/{name}")) for name in names]
 
 
-def parse(crate, text):
-    """Returns the wrong bodies of a file."""
-    bodies, file, old = [], None, None
-    for number, line in enumerate(text.split("\n"), 1):
-        word, _, rest = line.partition(":")
+def parse(crate, name, text):
+    """Returns the wrong body of a file."""
+    body, file, old = Body(crate, name), None, None
+    for line in filter(str.strip, text.split("\n")):
+        word, _, rest = line.removeprefix("# ").partition(":")
         rest = rest.removeprefix(" ")
-        if line.startswith("## "):
-            bodies.append(Body(crate, line[3:].strip(), number))
-            file = old = None
-        elif not bodies or not line.strip():
-            continue
-        elif word == "file":
+        if word == "file":
             file = rest.strip()
         elif word == "at":
-            bodies[-1].at.append(rest.strip())
+            body.at.append(rest.strip())
         elif word == "old":
             old = rest
         elif word == "new":
-            bodies[-1].pairs.append((file, old, rest))
+            body.pairs.append((file, old, rest))
             old = None
         else:
-            bodies[-1].words.append(line.strip())
-    return bodies
+            body.words.append(line)
+    return body
 
 
 def apply(body, folder):

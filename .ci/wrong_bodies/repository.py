@@ -41,6 +41,10 @@ class Repository:
     def rlib(self, crate):
         return f"{self.folder(crate)}/out/rlib/{crate}.rlib"
 
+    def is_stamped(self, crate):
+        """Returns whether its library is of `rt lib` or `rt check`, which leave a stamp, and not of `rt ci`."""
+        return os.path.exists(f"{os.path.dirname(self.rlib(crate))}/stamp")
+
     def size(self, crate):
         """Returns how many lines a check of a crate reads: the longest goes first."""
         return sum(read(f"{at}/{it}").count("\n") for at, it in self.files(crate))

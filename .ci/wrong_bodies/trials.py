@@ -91,21 +91,15 @@ class Trial:
         if status == -signal.SIGKILL:
             # (memory ran out, most likely: once more)
             text, status, usage = run(words, room)
-        self.note(wave, text, usage)
+        self.note(usage)
         return Verdict(self.crate, text, status, tried, stubs)
 
-    def note(self, wave, text, usage):
-        """Adds up what the checks take, and writes what one printed into the folder of logs, if there is one."""
-        seconds = usage.ru_utime + usage.ru_stime
+    def note(self, usage):
+        """Adds up what the checks take."""
         with self.lock:
             self.checks += 1
-            self.seconds += seconds
+            self.seconds += usage.ru_utime + usage.ru_stime
             self.memory = max(self.memory, usage.ru_maxrss)
-            number = self.checks
-        if self.options.logs:
-            os.makedirs(self.options.logs, exist_ok=True)
-            with open(f"{self.options.logs}/{self.crate}.{number}", "w", encoding="utf-8") as out:
-                out.write(f"# {seconds:.0f} s\n" + "".join(f"# {it.name}\n" for it in wave) + text)
 
     def put_together(self):
         """Puts bodies together: those in copies are dealt out evenly, and of those in place no two change the same function."""
@@ -154,7 +148,7 @@ class Trial:
         """Returns those of the functions of which an unchanged copy is proved."""
         proved = set()
         for first in range(0, len(functions), MOST):
-            wave = [Body(self.crate, f"unchanged_{number}", number, targets=[it]) for number, it in enumerate(functions[first : first + MOST])]
+            wave = [Body(self.crate, f"unchanged_{number}", targets=[it]) for number, it in enumerate(functions[first : first + MOST])]
             verdict = self.check(wave, has_stubs)
             stands = verdict.stands() if has_stubs else verdict.is_reached
             proved |= {it.targets[0] for it in wave if stands and verdict.of_body(it).kind == PROVED}

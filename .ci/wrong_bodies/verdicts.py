@@ -6,12 +6,11 @@ from wrong_bodies.bodies import Body
 from wrong_bodies.rooms import ways_to
 
 # What each kind of refusal is called, the one that says most first.
-FALSE, WRITTEN, UNPROVED, SEARCH = "false", "written", "unproved", "search"
+FALSE, WRITTEN, SEARCH = "false", "written", "search"
 REFUSALS = {
     FALSE: "its goal is false",
     WRITTEN: "its written proof no longer fits",
-    UNPROVED: "its goal has no proof",
-    SEARCH: "a search gave up",
+    SEARCH: "a search found no proof",
 }
 # What is no refusal: it is proved, or it wasn't tried, whatever else is in the wave, or perhaps only beside the rest of it.
 PROVED, FAILED, OPEN = "proved", "failed", "open"
@@ -83,14 +82,13 @@ class Verdict:
         if stands:
             return WRITTEN, stands[0]
         if own and not written:
-            ended = [it for it in own if "gave up at one of its limits" not in it]
-            return (UNPROVED, ended[0]) if ended else (SEARCH, own[0])
+            return SEARCH, own[0]
         if written:
             return FAILED, f"its proof cites a name that is gone, which says nothing of the contract: {written[0]}"
         if fate is None:
             return OPEN, "the prover didn't come to its function"
         if "`search` did not prove" in fate:
-            return UNPROVED, fate
+            return SEARCH, fate
         return OPEN, f"its function has no verdict of its own: {fate}"
 
     def of_body(self, body):

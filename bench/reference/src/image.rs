@@ -22,8 +22,6 @@ pub struct Connection {
 pub struct Image {
     pub stops: usize,
     pub trips: usize,
-    /// The second since 1970 from which clocks count.
-    pub base: i64,
     words: Vec<u32>,
     connections: usize,
     /// The least stop of each name.
@@ -35,7 +33,7 @@ impl Image {
     pub fn read(bytes: &[u8]) -> Option<Image> {
         let (quads, rest) = bytes.as_chunks::<4>();
         let words: Vec<u32> = quads.iter().map(|quad| u32::from_le_bytes(*quad)).collect();
-        let &[MAGIC, layout @ (1 | 2), stops, trips, connections, footpaths, letters, low, high, ..] = &words[..] else {
+        let &[MAGIC, layout @ (1 | 2), stops, trips, connections, footpaths, letters, _, _, ..] = &words[..] else {
             return None;
         };
         let [stops, trips, connections, footpaths, letters] =
@@ -50,8 +48,7 @@ impl Image {
             let [begin, end] = [words[names + stop], words[names + stop + 1]].map(|place| 4 * text + place as usize);
             stop_of.entry(bytes[begin..end].to_vec()).or_insert(stop as u32);
         }
-        let base = (u64::from(high) << 32 | u64::from(low)) as i64;
-        Some(Image { stops, trips, base, words, connections, stop_of })
+        Some(Image { stops, trips, words, connections, stop_of })
     }
 
     pub fn find(&self, name: &[u8]) -> Option<u32> {

@@ -1,7 +1,6 @@
 //! A program of csa's job in plain Rust, to measure csa against. **It has no proofs and no contracts**, is tested by comparing its
 //! points with csa's alone, doesn't verify an image beyond its length, knows no journeys and no loads, and is none of csa's parts.
 //!
-//!     reference IMAGE            answers a session on standard input
 //!     reference IMAGE PORT       listens on 127.0.0.1, prints `listening PORT`, and answers each session by a thread of its own
 //!
 //! It is the plain scan: one function for all criteria, indices that are checked, no hints for the processor, and nothing known of a
@@ -14,7 +13,7 @@ mod session;
 mod values;
 
 use std::error::Error;
-use std::io::{BufReader, stdin, stdout};
+use std::io::BufReader;
 use std::net::{TcpListener, TcpStream};
 use std::process::ExitCode;
 use std::sync::Arc;
@@ -41,15 +40,10 @@ fn serve_stream(image: &Image, stream: &TcpStream) {
 
 fn run() -> Result<(), Box<dyn Error>> {
     let words: Vec<String> = std::env::args().skip(1).collect();
-    let [path, port @ ..] = &words[..] else {
-        return Err("usage: reference IMAGE [PORT]".into());
+    let [path, port] = &words[..] else {
+        return Err("usage: reference IMAGE PORT".into());
     };
-    let image = Image::read(&std::fs::read(path)?).ok_or("this is no image")?;
-    match port {
-        [] => Ok(session::serve(&image, stdin().lock(), stdout().lock())?),
-        [port] => listen(image, port.parse()?),
-        _ => Err("usage: reference IMAGE [PORT]".into()),
-    }
+    listen(Image::read(&std::fs::read(path)?).ok_or("this is no image")?, port.parse()?)
 }
 
 fn main() -> ExitCode {

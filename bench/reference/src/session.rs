@@ -1,8 +1,7 @@
-//! Sessions as csa's: requests as lines of JSON, each answered by one line. A point has no journey; there is one version, and no load.
+//! Sessions as csa's: requests as lines of JSON, each answered by one line: profiles alone. A point has no journey.
 
 use std::fmt::Write as _;
 use std::io::{self, BufRead, Write};
-use std::mem::replace;
 
 use crate::image::Image;
 use crate::scan::{Query, direct_walk, profile};
@@ -16,10 +15,9 @@ const BAD_REQUEST: Refusal = Refusal(112, "BadRequest");
 
 /// Answers all lines of a session.
 pub fn serve(image: &Image, input: impl BufRead, mut output: impl Write) -> io::Result<()> {
-    let mut pinned = false;
     for line in input.split(b'\n') {
-        let mut reply = reply_to(image, &line?, &mut pinned)
-            .unwrap_or_else(|Refusal(number, name)| format!(r#"{{"error":{number},"name":"{name}"}}"#));
+        let mut reply =
+            reply_to(image, &line?).unwrap_or_else(|Refusal(number, name)| format!(r#"{{"error":{number},"name":"{name}"}}"#));
         reply.push('\n');
         output.write_all(reply.as_bytes())?;
         output.flush()?;
@@ -27,14 +25,10 @@ pub fn serve(image: &Image, input: impl BufRead, mut output: impl Write) -> io::
     Ok(())
 }
 
-fn reply_to(image: &Image, line: &[u8], pinned: &mut bool) -> Result<String, Refusal> {
+fn reply_to(image: &Image, line: &[u8]) -> Result<String, Refusal> {
     let members = members_of(line).ok_or(BAD_JSON)?;
     let text = |key: &str| members.iter().find(|(name, _)| name == key).map(|(_, value)| value.as_str()).ok_or(BAD_REQUEST);
     match text("do")? {
-        "pin" if replace(pinned, true) => Err(Refusal(92, "AlreadyPinned")),
-        "pin" => Ok(format!(r#"{{"base":{},"ok":"pin","version":1}}"#, image.base)),
-        "release" if !replace(pinned, false) => Err(Refusal(93, "NotPinned")),
-        "release" => Ok(r#"{"ok":"release"}"#.to_owned()),
         "profile" => {
             let clock = |key| text(key).and_then(|it| seconds_of(it).ok_or(BAD_REQUEST));
             let [from, until, by] = [clock("after")?, clock("until")?, clock("by")?];
