@@ -7,8 +7,6 @@ A link to a document that the package lacks becomes its text. The status is 1, w
 document names a file of a clone that the package has in another place.
 """
 
-from __future__ import annotations
-
 import re
 import sys
 from pathlib import Path
@@ -28,7 +26,7 @@ FOLDERS = {"clients/python": "PYTHON.md", "clients/web": "PAGE.md"}
 # sections and paragraphs that are of no use to whoever has the package
 LEFT_OUT = {
     "README.md": ("## Install", "## Test", "To assess or change csa: "),
-    "docs/RUNNING.md": ("### From a clone", "## A new program", "## What has been tried"),
+    "docs/RUNNING.md": ("### From a clone", "## Upgrading csa", "## What has been tried"),
     "clients/python/README.md": ("    python3 -m venv ", "On Debian, run "),
     "clients/web/README.md": ("## Tests",),
 }
@@ -67,11 +65,9 @@ This is the copy in csa's package, whose documents are in {DOC}. Files in bench/
 """
 
 
-def without_parts(text: str, parts: tuple[str, ...]) -> str:
+def without_parts(text, parts):
     """The text without the sections that begin with these headings, and without the paragraphs that begin with these words."""
-    kept: list[str] = []
-    level = 0
-    in_paragraph = False
+    kept, level, in_paragraph = [], 0, False
     for line in text.split("\n"):
         heading = re.match(r"(#+) ", line)
         if heading and level and len(heading[1]) <= level:
@@ -84,16 +80,15 @@ def without_parts(text: str, parts: tuple[str, ...]) -> str:
     return re.sub("\n{3,}", "\n\n", "\n".join(kept))
 
 
-def packaged(source: str) -> str:
+def packaged(source):
     """A document as it is in the package."""
 
-    def link(matched: re.Match[str]) -> str:
+    def link(matched):
         text, target = matched[1], matched[2]
         name, hash_, heading = target.partition("#")
         if re.match("[a-z]+:", target) or not name:
             return matched[0]
-        path = (TOP / source).parent.joinpath(name).resolve()
-        relative = str(path.relative_to(TOP))
+        relative = str((TOP / source).parent.joinpath(name).resolve().relative_to(TOP))
         found = DOCUMENTS.get(relative) or FOLDERS.get(relative)
         return f"[{text}]({found}{hash_}{heading})" if found else text
 
@@ -106,32 +101,29 @@ def packaged(source: str) -> str:
     return text
 
 
-def anchors(text: str) -> set[str]:
+def anchors(text):
     """The anchors of a document's headings, as GitHub makes them."""
     heads = re.findall(r"^#+ (.*)$", text, re.MULTILINE)
     return {re.sub(r"[^\w\- ]", "", head.strip().lower()).replace(" ", "-") for head in heads}
 
 
-def faults(name: str, text: str, all_: dict[str, str]) -> list[str]:
-    found = []
+def faults(name, text, all_):
+    """The links of a document that lead nowhere, and the files that it names as a clone has them."""
     for number, line in enumerate(text.split("\n"), 1):
         for _, target in LINK.findall(line):
             to, _, heading = target.partition("#")
             document = to or name
             if not re.match("[a-z]+:", target) and (document not in all_ or heading and heading not in anchors(all_[document])):
-                found.append(f"{name}:{number}: {target} leads nowhere")
-        found += [f"{name}:{number}: the package has no {path}" for path in OF_A_CLONE.findall(line)]
-    return found
+                yield f"{name}:{number}: {target} leads nowhere"
+        yield from (f"{name}:{number}: the package has no {path}" for path in OF_A_CLONE.findall(line))
 
 
-def main() -> int:
-    folder = Path(sys.argv[1])
+def main():
     texts = {name: packaged(source) for source, name in DOCUMENTS.items()}
-    found = [fault for name, text in texts.items() for fault in faults(name, text, texts)]
-    for fault in found:
-        print(f"package_docs: {fault}", file=sys.stderr)
+    found = [f"package_docs: {fault}\n" for name, text in texts.items() for fault in faults(name, text, texts)]
+    sys.stderr.writelines(found)
     for name, text in texts.items():
-        (folder / name).write_text(text)
+        Path(sys.argv[1], name).write_text(text)
     return 1 if found else 0
 
 
