@@ -2,7 +2,7 @@
 use Rattle.std.proofs.Common.{◌≡◌, ℕ, zero, suc, ◌+◌, ◌<◌, Bool, true, false, cond, not, nat_eq, List, [], ◌∷◌, ◌++◌, length, take, drop, set, Contains}
 use Rattle.std.proofs.Common.{inl, inr, refl, sym, ◌∙◌, ap, subst, arith}
 use Rattle.std.specs.Prelude.{Option, Some, None, Result, Ok, Err, IfOk, OnOk, slice_get, replicate}
-use Rattle.std.proofs.lemmas.Bool.{cases_eq, eq-eqb, ne_eqb}
+use Rattle.std.proofs.lemmas.Bool.{cases_eq, eq-eqb, false≢true, ne_eqb}
 use Rattle.std.proofs.lemmas.List.Elements.{Contains-push_cases}
 use Rattle.std.proofs.lemmas.Option.{slice_get_past}
 use Rattle.std.proofs.Math.Bool.{or-false}
@@ -34,6 +34,13 @@ module _ {V : Type 0} (slots others : List (Label V)) (trip : ℕ) where
   pub none_there : ((slot : Label V) → slice_get slots trip ≡ Some slot → label_in slot ≡ []) → others ≡ []
       → slot_or (slice_get slots trip) others ≡ []
   none_there empty none = empty_by (slice_get slots trip) refl empty none
+
+-- what a criterion answers is what it says
+pub says : {answer said : Bool} → answer ≡ said → answer ≡ true → said ≡ true
+says is said = sym is ∙ said
+
+pub says_not : {answer said : Bool} → answer ≡ said → answer ≡ false → said ≡ true → ⊥
+says_not is unsaid said = false≢true (sym unsaid ∙ is ∙ said)
 
 -- under a total criterion each trip has a slot, and under any other there are none
 pub in_slots : (P : Type 0) (trip slots runs : ℕ) → trip < slots + runs → (0 < runs → P → ⊥) → P → trip < slots

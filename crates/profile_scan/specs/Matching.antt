@@ -74,7 +74,7 @@ pub record ScanValue (V : Type 0) : Type 0 where
   pub labels : ℕ → List (Point V)
   pub found : List (Point V)
 
--- it matches every way to go on over the connections from index i on: except ways whose value (in a trip, with the ride) a point found outdoes
+-- it matches every way to go on over the connections from index i on, except, at stops and in trips (there with the ride), those outdone
 pub record MatchesFrom {V : Type 0} (rules : Rules V) (t : TimetableValue) (q : BetweenValue) (tags : Spelling) (i : ℕ)
     (scan : ScanValue V) : Type 0 where
   pub at_stops : (stop : ℕ) → stop < t.stops

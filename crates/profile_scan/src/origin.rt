@@ -137,8 +137,8 @@ impl<C: Criterion> Origin<C> {
     }
 
     /// Sets out for a connection, if passengers may get on there: offers to the points found, for each label of its
-    /// trip, the point of boarding the connection with it: without a start, if the connection begins at a source; and
-    /// after each footpath, except a loop, from a source to where it begins.
+    /// trip, the point of boarding with it, if the query allows its departure: without a start, at a source; after each
+    /// footpath, except a loop, from a source to where the connection begins.
     pub fn set_out<S: ConnSource>(
         &mut self,
         asked: &ScanQuery<C>,

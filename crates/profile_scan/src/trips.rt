@@ -115,8 +115,8 @@ impl<C: Criterion> Trips<C> {
 
     // A passenger changes: the labels of the connection's trip come to cover each point of the stop where it ends that
     // departs at the arrival or later, unless a value of `hop.bound` is no worse than the point's value with the ride.
-    // It suffices to offer the front at the arrival, which covers all such points. Its first point (`own`) is in its
-    // entry, not among the items, so it is offered before the loop.
+    // It suffices to offer the front at the arrival, which covers all such points. A front's first point (`own`) is
+    // read from its entry, the others from its items.
     #[inline(always)]
     fn change(
         &mut self,

@@ -1,13 +1,13 @@
 use Rattle.std.proofs.Common.{◌∙◌, ap, arith, length}
 use Rattle.fronts.specs.RunLabels.{run_labels}
-use Rattle.fronts.proofs.Slots.{no_slot, no_slots_are, none_there}
+use Rattle.fronts.proofs.Slots.{no_slot, no_slots_are, none_there, says, says_not}
 use Rattle.fronts.proofs.labels.no_labels.Goals as goal
 
 pub returns-then-is_total-clause-labels : goal.returns-then-is_total-clause-labels
 returns-then-is_total-clause-labels g c = record {
   slots = c.in_ok-slots.ensures.slots;
   runs = c.in_ok-runs.ensures.labels (g.C.Criterion.rules c.args.criterion.now);
-  total = λ some. c.is_total.ensures.total c.if-is_total.true;
+  total = λ some. says c.is_total.ensures c.if-is_total.true;
   partial = λ some total. (let long = c.in_ok-runs.ensures.long in absurd (omega (arith, long, some)));
 }
 
@@ -23,7 +23,7 @@ returns-clause-labels g c =
       slots = no_slots_are rules c.new-3.result.items c.new-3.ensures.items;
       runs = c.in_ok-runs-2.ensures.labels rules;
       total = λ some. absurd (omega (arith, none, some));
-      partial = λ some. c.is_total.ensures.partial c.if-is_total.false;
+      partial = λ some. says_not c.is_total.ensures c.if-is_total.false;
     }
 
 pub returns-clause-none : goal.returns-clause-none

@@ -1,25 +1,29 @@
 use Rattle.std.proofs.Common.{◌+◌, ◌++◌, ◌∷◌, [], cond, not, length, refl, sym, ◌∙◌, ap, arith}
 use Rattle.std.proofs.lemmas.Result.{IfOk-weaker, on_err_weaker, on_ok_weaker}
-use Rattle.criteria.specs.Laws.{IsTotal}
 use Rattle.fronts.specs.declared.labels.Label.{Label}
 use Rattle.fronts.specs.Offered.{is_beaten, others}
+use Rattle.fronts.specs.Labels.{SaysTotal}
 use Rattle.fronts.specs.RunLabels.{run_labels, runs_of}
 use Rattle.fronts.specs.SlotLabels.{slot_or}
-use Rattle.fronts.proofs.Slots.{if_ok_both, in_slot, in_slots, labels_stay, no_slot, no_slots}
+use Rattle.fronts.proofs.Slots.{if_ok_both, in_slot, in_slots, labels_stay, no_slot, no_slots, says, says_not}
 use Rattle.fronts.proofs.labels.offer_label.Goals as goal
 
 pub offer_slot-requires-clause-trip : goal.offer_slot-requires-clause-trip
 offer_slot-requires-clause-trip g c =
     let labels = c.args.labels.now in
-    in_slots (IsTotal (g.C.Criterion.rules c.args.criterion.now)) c.args.trip (length labels.slots.items) (length (runs_of labels.runs))
-    c.requires.trip c.requires.labels.partial (c.is_total.ensures.total c.if-is_total.true)
+    in_slots (SaysTotal (g.C.Criterion.rules c.args.criterion.now)) c.args.trip (length labels.slots.items) (length (runs_of labels.runs))
+    c.requires.trip c.requires.labels.partial (says c.is_total.ensures c.if-is_total.true)
+
+pub offer_slot-requires-clause-total : goal.offer_slot-requires-clause-total
+offer_slot-requires-clause-total g c =
+    (g.met.C.Criterion.laws c.args.criterion.now).total (says c.is_total.ensures c.if-is_total.true)
 
 pub returns-then-is_total-clause-labels : goal.returns-then-is_total-clause-labels
 returns-then-is_total-clause-labels g c =
     let labels = c.args.labels.now in
     let trip = c.args.trip in
-    let below = in_slots (IsTotal (g.C.Criterion.rules c.args.criterion.now)) trip (length labels.slots.items) (length (runs_of labels.runs))
-    c.requires.trip c.requires.labels.partial (c.is_total.ensures.total c.if-is_total.true) in
+    let below = in_slots (SaysTotal (g.C.Criterion.rules c.args.criterion.now)) trip (length labels.slots.items) (length (runs_of labels.runs))
+    c.requires.trip c.requires.labels.partial (says c.is_total.ensures c.if-is_total.true) in
     on_ok_weaker c.offer_slot.result (λ slots. record {
       slots = slots;
       runs = c.requires.labels.runs;
@@ -40,8 +44,8 @@ pub returns-then-is_total-clause-stands : goal.returns-then-is_total-clause-stan
 returns-then-is_total-clause-stands g c =
     let labels = c.args.labels.now in
     let trip = c.args.trip in
-    let below = in_slots (IsTotal (g.C.Criterion.rules c.args.criterion.now)) trip (length labels.slots.items) (length (runs_of labels.runs))
-    c.requires.trip c.requires.labels.partial (c.is_total.ensures.total c.if-is_total.true) in
+    let below = in_slots (SaysTotal (g.C.Criterion.rules c.args.criterion.now)) trip (length labels.slots.items) (length (runs_of labels.runs))
+    c.requires.trip c.requires.labels.partial (says c.is_total.ensures c.if-is_total.true) in
     let rules = g.C.Criterion.rules c.args.criterion.now in
     let here = in_slot labels.slots.items (run_labels labels.runs trip) trip below in
     IfOk-weaker c.offer_slot.result _ _ (λ stands is. is ∙ ap (λ xs. not (is_beaten rules xs c.args.value)) (sym here)) c.offer_slot.ensures.stands
@@ -50,8 +54,8 @@ pub returns-then-is_total-clause-taken : goal.returns-then-is_total-clause-taken
 returns-then-is_total-clause-taken g c =
     let labels = c.args.labels.now in
     let trip = c.args.trip in
-    let below = in_slots (IsTotal (g.C.Criterion.rules c.args.criterion.now)) trip (length labels.slots.items) (length (runs_of labels.runs))
-    c.requires.trip c.requires.labels.partial (c.is_total.ensures.total c.if-is_total.true) in
+    let below = in_slots (SaysTotal (g.C.Criterion.rules c.args.criterion.now)) trip (length labels.slots.items) (length (runs_of labels.runs))
+    c.requires.trip c.requires.labels.partial (says c.is_total.ensures c.if-is_total.true) in
     let rules = g.C.Criterion.rules c.args.criterion.now in
     let new : Label g.row.C-V.Denot = record { value = c.args.value; tag = c.args.tag } in
     let here = in_slot labels.slots.items (run_labels labels.runs trip) trip below in
@@ -63,21 +67,21 @@ pub offer_run-requires-clause-trip : goal.offer_run-requires-clause-trip
 offer_run-requires-clause-trip g c =
     let labels = c.args.labels.now in
     let trip = c.args.trip in
-    let none = no_slots (IsTotal (g.C.Criterion.rules c.args.criterion.now)) (length labels.slots.items) c.requires.labels.total
-    (c.is_total.ensures.partial c.if-is_total.false) in
+    let none = no_slots (SaysTotal (g.C.Criterion.rules c.args.criterion.now)) (length labels.slots.items) c.requires.labels.total
+    (says_not c.is_total.ensures c.if-is_total.false) in
     omega (arith, none, c.requires.trip)
 
 pub returns-clause-labels : goal.returns-clause-labels
 returns-clause-labels g c =
     let labels = c.args.labels.now in
     let trip = c.args.trip in
-    let none = no_slots (IsTotal (g.C.Criterion.rules c.args.criterion.now)) (length labels.slots.items) c.requires.labels.total
-    (c.is_total.ensures.partial c.if-is_total.false) in
+    let none = no_slots (SaysTotal (g.C.Criterion.rules c.args.criterion.now)) (length labels.slots.items) c.requires.labels.total
+    (says_not c.is_total.ensures c.if-is_total.false) in
     on_ok_weaker c.offer_run.result (λ runs. record {
       slots = c.requires.labels.slots;
       runs = runs;
       total = c.requires.labels.total;
-      partial = λ some. c.is_total.ensures.partial c.if-is_total.false;
+      partial = λ some. says_not c.is_total.ensures c.if-is_total.false;
     }) c.offer_run.ensures.labels
 
 pub returns-clause-long : goal.returns-clause-long
@@ -88,8 +92,8 @@ pub returns-clause-same : goal.returns-clause-same
 returns-clause-same g c =
     let labels = c.args.labels.now in
     let trip = c.args.trip in
-    let none = no_slots (IsTotal (g.C.Criterion.rules c.args.criterion.now)) (length labels.slots.items) c.requires.labels.total
-    (c.is_total.ensures.partial c.if-is_total.false) in
+    let none = no_slots (SaysTotal (g.C.Criterion.rules c.args.criterion.now)) (length labels.slots.items) c.requires.labels.total
+    (says_not c.is_total.ensures c.if-is_total.false) in
     let slots = labels.slots.items in
     on_ok_weaker c.offer_run.result (λ same k other. no_slot slots (run_labels c.offer_run.new.labels k) k none ∙ same k other
     ∙ sym (no_slot slots (run_labels labels.runs k) k none)) c.offer_run.ensures.same
@@ -98,8 +102,8 @@ pub returns-clause-stands : goal.returns-clause-stands
 returns-clause-stands g c =
     let labels = c.args.labels.now in
     let trip = c.args.trip in
-    let none = no_slots (IsTotal (g.C.Criterion.rules c.args.criterion.now)) (length labels.slots.items) c.requires.labels.total
-    (c.is_total.ensures.partial c.if-is_total.false) in
+    let none = no_slots (SaysTotal (g.C.Criterion.rules c.args.criterion.now)) (length labels.slots.items) c.requires.labels.total
+    (says_not c.is_total.ensures c.if-is_total.false) in
     let rules = g.C.Criterion.rules c.args.criterion.now in
     let here = no_slot labels.slots.items (run_labels labels.runs trip) trip none in
     IfOk-weaker c.offer_run.result _ _ (λ stands is. is ∙ ap (λ xs. not (is_beaten rules xs c.args.value)) (sym here)) c.offer_run.ensures.stands
@@ -108,8 +112,8 @@ pub returns-clause-taken : goal.returns-clause-taken
 returns-clause-taken g c =
     let labels = c.args.labels.now in
     let trip = c.args.trip in
-    let none = no_slots (IsTotal (g.C.Criterion.rules c.args.criterion.now)) (length labels.slots.items) c.requires.labels.total
-    (c.is_total.ensures.partial c.if-is_total.false) in
+    let none = no_slots (SaysTotal (g.C.Criterion.rules c.args.criterion.now)) (length labels.slots.items) c.requires.labels.total
+    (says_not c.is_total.ensures c.if-is_total.false) in
     let rules = g.C.Criterion.rules c.args.criterion.now in
     let new : Label g.row.C-V.Denot = record { value = c.args.value; tag = c.args.tag } in
     let here = no_slot labels.slots.items (run_labels labels.runs trip) trip none in
@@ -129,8 +133,8 @@ returns-then-is_total-clause-needed g c =
     let labels = c.args.labels.now in
     let trip = c.args.trip in
     let rules = g.C.Criterion.rules c.args.criterion.now in
-    let below = in_slots (IsTotal rules) trip (length labels.slots.items) (length (runs_of labels.runs))
-    c.requires.trip c.requires.labels.partial (c.is_total.ensures.total c.if-is_total.true) in
+    let below = in_slots (SaysTotal rules) trip (length labels.slots.items) (length (runs_of labels.runs))
+    c.requires.trip c.requires.labels.partial (says c.is_total.ensures c.if-is_total.true) in
     on_err_weaker c.offer_slot.result (λ free. ap (λ xs. is_beaten rules xs c.args.value)
     (in_slot labels.slots.items (run_labels labels.runs trip) trip below) ∙ free) c.offer_slot.ensures.needed
 
@@ -147,6 +151,6 @@ returns-clause-needed g c =
     let labels = c.args.labels.now in
     let trip = c.args.trip in
     let rules = g.C.Criterion.rules c.args.criterion.now in
-    let none = no_slots (IsTotal rules) (length labels.slots.items) c.requires.labels.total (c.is_total.ensures.partial c.if-is_total.false) in
+    let none = no_slots (SaysTotal rules) (length labels.slots.items) c.requires.labels.total (says_not c.is_total.ensures c.if-is_total.false) in
     on_err_weaker c.offer_run.result (λ free. ap (λ xs. is_beaten rules xs c.args.value)
     (no_slot labels.slots.items (run_labels labels.runs trip) trip none) ∙ free) c.offer_run.ensures.needed
