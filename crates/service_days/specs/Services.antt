@@ -1,5 +1,6 @@
 -- The days on which a service runs.
-use Rattle.std.specs.Prelude.{◌≡◌, ◌==◌, ◌&&◌, ◌||◌, not, if◌then◌else◌, ℕ, List, [], pos, map, filter, get_or, nat_le, nat_lt, Bool, true, false, Option, None, Some}
+use Rattle.std.specs.Prelude.{◌≡◌, ◌==◌, ◌&&◌, ◌||◌, not, if◌then◌else◌, ℕ, List, [], pos, map, filter, get_or, nat_le, nat_lt, Bool, true, false}
+use Rattle.std.specs.Prelude.{Option, None, Some}
 use Rattle.std.specs.List.{list_any}
 use Rattle.std.specs.Option.{option_map_or}
 use Rattle.std.specs.Str.{bytes_eq}
