@@ -1,4 +1,4 @@
-mod Counted
+mod Ridden
 mod Listed
 mod Order
 mod Rows

@@ -22,7 +22,7 @@ from_more day zero = refl
 from_more day (suc n) =
     ap (λ (days : List Day). day ∷ days) (from_more (day_after day) n ∙ ap (λ (d : Day). days_from (day_after day) n ++ d ∷ []) (after_first day n))
 
-pub days_more : (day : Day) (n : ℕ) → days_from day (n + 1) ≡ days_from day n ++ days_after day n ∷ []
+days_more : (day : Day) (n : ℕ) → days_from day (n + 1) ≡ days_from day n ++ days_after day n ∷ []
 days_more day n = let e : n + 1 ≡ suc n = omega arith in rw e (from_more day n)
 
 pub after_more : (first day : Day) (n : ℕ) → day ≡ days_after first n → day_after day ≡ days_after first (n + 1)
@@ -37,15 +37,13 @@ pub after_none : (first : Day) → first ≡ days_after first 0
 unfolding days_after
 after_none first = refl
 
--- a line more
-pub line_more : (line : Day → List ℕ) (first day : Day) (n : ℕ) (old before new : List ℕ) → day ≡ days_after first n
-    → before ≡ old ++ flat_map line (days_from first n) → new ≡ before ++ line day → new ≡ old ++ flat_map line (days_from first (n + 1))
-line_more line first day n old before new is was now =
-    now ∙ ap (λ (xs : List ℕ). xs ++ line day) was ∙ flat_map_more line old (days_from first n) day
-    ∙ ap (λ (d : Day). old ++ flat_map line (days_from first n ++ d ∷ [])) is
-    ∙ ap (λ (days : List Day). old ++ flat_map line days) (sym (days_more first n))
+-- a day more
+pub day_more : (first day : Day) (n : ℕ) (before new : List Day) → day ≡ days_after first n → before ≡ days_from first n
+    → new ≡ before ++ day ∷ [] → new ≡ days_from first (n + 1)
+day_more first day n before new is was now =
+    now ∙ ap (λ (days : List Day). days ++ day ∷ []) was ∙ ap (λ (d : Day). days_from first n ++ d ∷ []) is ∙ sym (days_more first n)
 
--- all days have their lines
+-- all days are listed
 pub all_listed : (span : Span) (n : ℕ) → day_number span.last ≡ day_number span.first + n → n < 366
     → (listed_days span ≡ days_from span.first (n + 1)) × (first_unlisted span ≡ None)
 unfolding listed_days first_unlisted

@@ -1,3 +1,3 @@
 pub mod Days
-pub mod Served
+pub mod Counting
 pub mod Service

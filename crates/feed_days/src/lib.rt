@@ -9,6 +9,6 @@ mod listing;
 mod putting;
 mod span;
 
-pub use counting::{FeedServices, trips_on};
+pub use counting::trips_on_days;
 pub use listing::{MOST_DAYS, days_text};
 pub use span::{Span, span_of};

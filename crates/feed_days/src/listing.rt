@@ -1,13 +1,14 @@
 //! The lines of a feed's service days.
 
-ghost use Rattle.std.specs.Prelude.{◌≡◌, ◌++◌, true, IfOk, OnOk, string_bytes};
+ghost use Rattle.std.specs.Prelude.{◌≡◌, ◌++◌, [], true, IfOk, OnOk, string_bytes};
 ghost use Rattle.std.specs.List.{flat_map};
 ghost use Rattle.gtfs_rows.specs.Values.{is_civil};
+ghost use Rattle.gtfs_tables.specs.declared.tables.Feed.{Feed as JoinedFeed};
 ghost use Rattle.service_days.specs.Services.{is_not_after};
-ghost use Rattle.feed_days.specs.Served.{AreServicesOf};
 ghost use Rattle.feed_days.specs.Days.{AreDayLines, first_unlisted, listed_days, span_text, trips_line, unlisted_line};
+ghost use Rattle.feed_days.specs.Service.{trips_on};
 
-use crate::counting::{FeedServices, trips_on};
+use crate::counting::trips_on_days;
 use crate::putting::{put_date, put_date_line};
 use crate::span::{Span, span_of};
 use gtfs_tables::{Day, Feed};
@@ -41,32 +42,26 @@ fn append_span(lines: &mut String, alloc: Global, feed: &Feed, span: Span) -> Re
 {
     put_date_line(lines, "first ", span.first)?;
     put_date_line(lines, "last ", span.last)?;
-    let services = FeedServices::new(alloc, feed)?;
-    let unlisted = append_days(lines, alloc, feed, &services, span)?;
+    let mut days = Vec::new(alloc);
+    let unlisted = list_days(&mut days, span)?;
+    append_days(lines, alloc, feed, &days)?;
     append_unlisted(lines, unlisted)?;
     Ok(())
 }
 
-// Adds a line for each day that gets one, and returns the first day that doesn't, if there is one.
-fn append_days(
-    lines: &mut String,
-    alloc: Global,
-    feed: &Feed,
-    services: &FeedServices,
-    span: Span,
-) -> Result<Option<Day>, AllocError>
-    requires services { AreServicesOf feed.now services.now }
+// Lists each day that gets a line, and returns the first day that doesn't, if there is one.
+fn list_days(days: &mut Vec<Day>, span: Span) -> Result<Option<Day>, AllocError>
+    requires none { days.old.items ≡ [] }
     requires first { is_civil span.first ≡ true }
     requires last { is_civil span.last ≡ true }
     requires in_order { is_not_after span.first span.last ≡ true }
-    ensures lines { OnOk result (string_bytes lines.new
-        ≡ string_bytes lines.old ++ flat_map (trips_line feed.now) (listed_days span)) }
+    ensures days { OnOk result (days.new.items ≡ listed_days span) }
     ensures unlisted { IfOk result (λ day. day ≡ first_unlisted span) }
 {
     let mut day = span.first;
     let mut listed = 0;
     while listed < MOST_DAYS {
-        append_day(lines, alloc, feed, services, day)?;
+        days.push(day)?;
         if day == span.last {
             return Ok(None);
         }
@@ -76,18 +71,28 @@ fn append_days(
     Ok(Some(day))
 }
 
-// Adds the line of a day.
-fn append_day(
+// Adds a line for each of the days.
+fn append_days(
     lines: &mut String,
     alloc: Global,
     feed: &Feed,
-    services: &FeedServices,
-    day: Day,
+    days: &[Day],
 ) -> Result<(), AllocError>
-    requires { AreServicesOf feed.now services.now }
-    ensures { OnOk result (string_bytes lines.new ≡ string_bytes lines.old ++ trips_line feed.now day) }
+    ensures { OnOk result (string_bytes lines.new
+        ≡ string_bytes lines.old ++ flat_map (trips_line feed.now) days.now) }
 {
-    let trips = trips_on(alloc, feed, services, day)?;
+    let counts = trips_on_days(alloc, feed, days)?;
+    for (index, count) in counts.iter().enumerate() {
+        append_day(lines, days[index], *count)?;
+    }
+    Ok(())
+}
+
+// Adds the line of a day on which so many trips run.
+fn append_day(lines: &mut String, day: Day, trips: usize) -> Result<(), AllocError>
+    ensures { (feed : JoinedFeed) → trips ≡ trips_on feed day
+        → OnOk result (string_bytes lines.new ≡ string_bytes lines.old ++ trips_line feed day) }
+{
     put_text(lines, "trips-")?;
     put_date(lines, day)?;
     put_number(lines, " ", trips as u64)?;
