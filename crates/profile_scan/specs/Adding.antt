@@ -57,8 +57,8 @@ pub record IsRelabelled {V : Type 0} (rules : Rules V) (trip : ℕ) (old new : L
   pub long : trips_of new ≡ trips_of old
   pub same : (k : ℕ) → (k ≡ trip → ⊥) → labels_at new k ≡ labels_at old k
 
--- a list takes an offer in while records grow from `was` to `now`: `tags.earlier` is spelled by any `before` that `was` continues, `tags.later` by any `all`
--- that continues `now`
+-- a list takes an offer in while records grow from `was` to `now`, for every story `before` that grew into `was` and every story `all` that `now` grows
+-- into: `tags.earlier` are read in `before`, `tags.later` in `all`
 abbrev pub Takes : {A V : Type 0} → Rules V → List Footpath → Story → Story → (Spellings → Offer A V) → List (Point V)
     → List (Point V) → Type 0
 Takes rules walks was now offer old new =

@@ -63,9 +63,9 @@ impl<C: Criterion> Bound<C> {
     }
 
     /// Adds the values of points found that depart at `time` or later and weren't read yet. `count` is how many points
-    /// were ever found: if it hasn't changed since the last call, there are no new ones. Points that depart exactly at
-    /// `time` are read again at the next reading, since more of them may be found. What the bound excluded stays
-    /// excluded. Nothing is added unless the criterion says `riding_worsens`.
+    /// were ever found: if it hasn't changed since the last call, there are no new ones. The next reading begins at the
+    /// first point that departs at `time` or earlier, since one found later may be put among those that depart at
+    /// `time`. What the bound excluded stays excluded. Nothing is added unless the criterion says `riding_worsens`.
     pub fn renew(
         &mut self,
         criterion: &C,
