@@ -43,15 +43,18 @@
 //! proofs/scan/scan_window/Invariants.antt): the law `nothing_follows` begins it, `one_index_down` keeps it at each
 //! step, and `match_is_the_answer` ends it. `specs/` (Points, Continuations, Matching, Steps, then Parts) says what a
 //! step is; the functions of `laws` prove that it suffices. The invariant holds at each index, so the points found at
-//! any of them match the journeys that board there or later; only `match_is_the_answer` needs the window's start.  A
-//! tag is an index: of a label, into `Trips::exits`; of a stop's point, into the steps of `Stops::lists`; of a point
+//! any of them match the journeys that board there or later; only `match_is_the_answer` needs the window's start.
+//!
+//! A tag is an index: of a label, into `Trips::exits`; of a stop's point, into the steps of `Stops::lists`; of a point
 //! found, into `Origin::set_outs`, and once it is in `Found`, into its nodes. An offer's tag is the vector's length
 //! before the offer, and the record is pushed only if the offer is accepted; these vectors only grow while a scan runs,
 //! so a tag keeps its meaning. `spelling_of` (specs/Story.antt) says what a tag spells; `telling` makes nodes of it,
-//! and `journeys::extract` a journey of these.  `profiles_to_any` answers from every stop to any of several targets by
-//! another scan, `everywhere::scan_for_all`: the same steps, but points found for each stop, and no bound. Its loop
-//! carries `MatchesFrom` for every stop as the source (`matched` in proofs/everywhere/scan_for_all/Invariants.antt).
-//! `profiles_to` is this scan to a single target.
+//! and `journeys::extract` a journey of these.
+//!
+//! `profiles_to_any` answers from every stop to any of several targets by another scan, `everywhere::scan_for_all`: the
+//! same steps, but points found for each stop, and no bound. Its loop carries `MatchesFrom` for every stop as the
+//! source (`matched` in proofs/everywhere/scan_for_all/Invariants.antt). `profiles_to` is this scan to a single target.
+#![tactic(auto)]
 
 mod answering;
 mod between;
