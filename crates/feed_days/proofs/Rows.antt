@@ -74,14 +74,6 @@ weekly_from row d is = (of_row row d is).from
 pub weekly_to : (row : CalendarRow) (d : Day) → gives_weekly row d ≡ true → is_not_after d row.end ≡ true
 weekly_to row d is = (of_row row d is).to
 
--- a row without a weekday gives none
-pub no_weekday : (row : CalendarRow) → list_any (λ flag. flag) row.weekdays ≡ false → HoldsOfNone (gives_weekly row)
-no_weekday row none =
-    none_if (gives_weekly row) (λ d is. elim (cases_lt (weekday_on d) (length row.weekdays)) [
-      | inl within ↦ false≢true (sym none ∙ list_any_at (λ flag. flag) row.weekdays (weekday_on d) false within (of_row row d is).weekday)
-      | inr past ↦ false≢true (sym (get_or_past row.weekdays (weekday_on d) false past) ∙ (of_row row d is).weekday)
-    ])
-
 -- where the days are gone through from
 pub starts : (row : CalendarRow) (day : Day) → (is_civil row.start ≡ true → day ≡ row.start) → (is_civil row.start ≡ false → day ≡ first_day)
     → (is_civil day ≡ true) × HoldsFrom (gives_weekly row) day

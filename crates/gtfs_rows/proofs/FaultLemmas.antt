@@ -68,14 +68,3 @@ pub held_of_file : {T : Type 0} (s : Shape) (bytes : List ℕ) (header : Record)
     → List Record → T → Type 0) (t : T) → IsUtf8 bytes → table_records bytes ≡ header ∷ records
     → HoldsUnder s holds header records t → HoldsFile s holds bytes t
 held_of_file s bytes header records holds t text e held = (text, rw e held)
-
--- what holds of a file's records
-pub holds_weaker : {T U : Type 0} (s : Shape) (bytes : List ℕ) (holds : ColumnIndices → List Record → T
-    → Type 0) (other : ColumnIndices → List Record → U → Type 0) (t : T) (u : U)
-    → ((indices : ColumnIndices) (records : List Record) → holds indices records t → other indices records u) → HoldsFile s holds bytes t
-    → HoldsFile s other bytes u
-holds_weaker s bytes holds other t u go h = (h.0, by (table_records bytes) h.1)
-  where
-    by : (records : List Record) → HoldsRecords s holds records t → HoldsRecords s other records u
-    by [] h = h
-    by (header ∷ records) h = (h.0, h.1, go (indices_of s.names header) records h.2)

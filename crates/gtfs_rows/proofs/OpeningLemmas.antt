@@ -12,14 +12,6 @@ use Rattle.gtfs_rows.proofs.CellLemmas.{text_rest}
 use Rattle.gtfs_rows.proofs.FaultLemmas.{fault_of_file, fault_under, held_of_file, held_under}
 use Rattle.gtfs_rows.proofs.TextLemmas.{records_text}
 
--- what the records of an opened file hold is held by the file
-pub opened_held : {T : Type 0} (file : Table) (bytes : List ℕ) (t : TableRecords) (holds : ColumnIndices → List Record → T → Type 0) (held : T)
-    → IsOpened file bytes t → IsFaultless (length_first t.width (judge_of file t.indices.items)) (left_of t.records)
-    × holds t.indices.items (left_of t.records) held → HoldsFile (shape_of file) holds bytes held
-opened_held file bytes t holds held o h =
-    held_of_file (shape_of file) bytes (last_of t.records) (left_of t.records) holds held o.text o.records
-    (held_under (shape_of file) (last_of t.records) (left_of t.records) t.indices.items t.width holds held o.indices o.width o.there h)
-
 -- and the first fault of the records is that of the file
 pub opened_fault : (file : Table) (bytes : List ℕ) (t : TableRecords) (n : ℕ) (kind : FaultKind) → IsOpened file bytes t
     → ((k : ℕ) × (n ≡ k + 1) × IsFirstFault (length_first t.width (judge_of file t.indices.items)) (left_of t.records) k kind)

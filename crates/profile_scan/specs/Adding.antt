@@ -69,10 +69,6 @@ Takes rules walks was now offer old new =
 abbrev pub StandsBefore : {X : Type 0} → List X → ℕ → X → Type 0
 StandsBefore points n x = (k : ℕ) × (k < n) × (slice_get points k ≡ Some x)
 
--- the element is at one of these indices
-abbrev pub StandsAtOne : {X : Type 0} → List X → List ℕ → X → Type 0
-StandsAtOne points places x = (k : ℕ) × Contains places k × (slice_get points k ≡ Some x)
-
 -- offered to the points of a stop: for each label of a trip, boarding connection i with it after a footpath
 abbrev pub boardings_after : {V : Type 0} → Rules V → Spellings → ℕ → ℕ → Footpath → List (Point V) → Offer (Point V) V
 boardings_after rules tags i departure walk labels = record {

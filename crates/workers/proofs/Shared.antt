@@ -129,10 +129,6 @@ moved_next all left left_then moved moved_then put x before step grows same =
     let more : moved_then ≡ moved ++ x ∷ [] = grows ∙ ap (λ last. moved ++ last ∷ []) same in
     before ∙ ap (λ list. moved ++ list) step ∙ sym (append_assoc moved (x ∷ []) left_then) ∙ sym (ap (λ list. list ++ left_then) more)
 
--- and all were
-pub moved_all : {X : Type 0} (all left moved : List X) → all ≡ moved ++ left → length left ≡ 0 → moved ≡ all
-moved_all all left moved before none = sym (before ∙ ap (λ list. moved ++ list) (nothing_left left none) ∙ append-nil moved)
-
 -- a worker more is out, and one more is among them
 pub one_more_out : {C H : Type 0} (dealer dealer_then : DealerValue C) (workers workers_then : List H) (worker : H)
     → dealer_then ≡ out_once_more dealer → dealer.view ≡ record nothing_put { out = length workers } → workers_then ≡ workers ++ worker ∷ []
