@@ -99,6 +99,10 @@ same_list (x ∷ c) (y ∷ d) in_c in_d there back =
     (ap (λ (g : Footpath). g.to) (sym same ∙ e))) (at_contains (x ∷ c) f (back f (contains_at (y ∷ d) (suc i) f at)))) in
     ap (λ (g : Footpath). g ∷ c) same ∙ ap (λ (xs : List Footpath). y ∷ xs) rest
   where
+    into_tail : (z : Footpath) (zs : List Footpath) (f : Footpath) → (z ≡ f → ⊥) → (i : ℕ) × At (z ∷ zs) i f → Contains zs f
+    into_tail z zs f differ (zero, at) = absurd (differ (same_Some z f at))
+    into_tail z zs f differ (suc i, at) = contains_at zs i f at
+
     first_same : (i : ℕ) × At (y ∷ d) i x → (j : ℕ) × At (x ∷ c) j y → x ≡ y
     first_same (zero, at) other = sym (same_Some y x at)
     first_same (suc i, at) (zero, at_y) = same_Some x y at_y

@@ -18,6 +18,10 @@ pub record LeadsTo {V : Type 0} (entries : List (FrontEntry V)) (items : List (I
   pub only : (p : Item V) → Contains (points_from entries items m) p → Contains (points_from entries items head) p
   pub all : (p : Item V) → Contains (points_from entries items head) p → time ≤ p.departure → Contains (points_from entries items m) p
 
+pub leads_here : {V : Type 0} (entries : List (FrontEntry V)) (items : List (Item V)) (head time : ℕ) → head < length entries
+    → LeadsTo entries items head time head
+leads_here entries items head time lt = record { within = lt; only = λ p h. h; all = λ p h late. h }
+
 pub departs_at : {V : Type 0} (entries : List (FrontEntry V)) (m : ℕ) (e : FrontEntry V) → m < length entries
     → e ≡ get_or entries m e → departure_of entries m ≡ e.departure
 departs_at entries m e lt is = ap departure_in (slice_get-get_or entries m e lt ∙ ap Some (sym is))
@@ -87,6 +91,12 @@ module _ {V : Type 0} (rules : Rules V) (entries : List (FrontEntry V)) (items :
       → ((m : ℕ) (p : Item V) → 0 < next_of entries m → P (next_of entries m) p → P m p)
       → (m : ℕ) (p : Item V) → Contains (points_from entries items m) p → P m p
   along P here on m p h = along_to P here on m m (omega arith) p h
+
+  -- a list's points depart no earlier than its first entry
+  pub points_late : (m : ℕ) (p : Item V) → Contains (points_from entries items m) p → departure_of entries m ≤ p.departure
+  points_late =
+      along (λ m p. departure_of entries m ≤ p.departure) (λ m p h. (are.each m).late p h)
+      (λ m p some le. let lt = (are.each m).rises some in omega arith)
 
   pub points_admitted : (m : ℕ) (p : Item V) → Contains (points_from entries items m) p → Admits rules p.value
   points_admitted = along (λ m p. Admits rules p.value) (λ m p h. (are.each m).admitted p h) (λ m p some a. a)
@@ -160,6 +170,25 @@ first_betters rules points rest p v e t = ap (λ ps. betters rules ps v) e ∙ a
 pub rest_betters : {V : Type 0} (rules : Rules V) (points rest : List (Item V)) (p : Item V) (v : V) → points ≡ p ∷ rest
     → rules.no_worse p.value v ≡ false → betters rules points v ≡ betters rules rest v
 rest_betters rules points rest p v e t = ap (λ ps. betters rules ps v) e ∙ ap (λ b. b || betters rules rest v) t
+
+-- whether a front is outdone, by what its entry has
+pub one_outdone : {V : Type 0} (rules : Rules V) (v : V) (points items : List (Item V)) (e : FrontEntry V)
+    → points ≡ own e ∷ take e.count (drop e.rest items) → e.count ≡ 0 → outdoes_alone rules v points ≡ rules.no_worse v e.value
+one_outdone rules v points items e is none =
+    ap (outdoes_alone rules v) (is ∙ ap (λ n. own e ∷ take n (drop e.rest items)) none)
+
+of_several : {V : Type 0} (rules : Rules V) (v : V) (p : Item V) (points : List (Item V)) → 0 < length points
+    → outdoes_alone rules v (p ∷ points) ≡ false
+of_several rules v p [] some = absurd (omega arith)
+of_several rules v p (q ∷ points) some = refl
+
+pub several_not_outdone : {V : Type 0} (rules : Rules V) (v : V) (points items : List (Item V)) (e : FrontEntry V)
+    → points ≡ own e ∷ take e.count (drop e.rest items) → 0 < e.count → e.rest + e.count ≤ length items
+    → outdoes_alone rules v points ≡ false
+several_not_outdone rules v points items e is some within =
+    let len = length-drop e.rest items in
+    let long = length-take-le e.count (drop e.rest items) (omega arith) in
+    ap (outdoes_alone rules v) is ∙ of_several rules v (own e) (take e.count (drop e.rest items)) (omega arith)
 
 pub entry_part : {V : Type 0} (rules : Rules V) (entries : List (FrontEntry V)) (items : List (Item V))
     → AreEntries rules entries items → (m : ℕ) (e : FrontEntry V) → m < length entries → e ≡ get_or entries m e

@@ -22,6 +22,18 @@ use Rattle.shelf_steps.specs.Loading.{MayLoad, Loads, Frees, FindsBusy}
 abbrev IsReady : ℕ → ℕ → ℕ → View → Type 0
 IsReady shelf version before u = OfLoader u (λ l. MayLoad shelf version before l)
 
+pub may_gather : (shelf version before : ℕ) (u : View) (c : List (ℕ × Option Edition)) → IsReady shelf version before u → c ≡ [] → MayGather shelf u c
+may_gather shelf version before (View.Working v) c may none = absurd may
+may_gather shelf version before (View.Noting x') c may none = absurd may
+may_gather shelf version before View.Spent c may none = absurd may
+may_gather shelf version before (View.Loading l) c may none = (may.free, may.empty, none)
+
+pub gathered_block : (shelf : ℕ) (u : View) (c : List (ℕ × Option Edition)) (m1 : Mine) → GathersOn shelf (u, c) m1 → IsBlock nothings shelf m1.1
+gathered_block shelf (View.Working v) c m1 g = absurd g
+gathered_block shelf (View.Noting x') c m1 g = absurd g
+gathered_block shelf View.Spent c m1 g = absurd g
+gathered_block shelf (View.Loading l) c m1 g = ap (λ (m : Mine). m.1) g.1
+
 abbrev front_of : List (ℕ × Option Edition) → Option Edition
 front_of [] = None
 front_of (x ∷ xs) = x.1
@@ -84,9 +96,39 @@ module _ (shelf version before : ℕ) (l : LoaderView) (image : ImageValue) (f :
   other_shelf : before ≢ shelf
   other_shelf e = let z : Some Shelf.Free ≡ Some (Shelf.Open l.current) = sym may.free ∙ (ap (λ n. slice_get l.shelves n) (sym e) ∙ may.before_open) in cc
 
+  still_open : slice_get (set l.shelves shelf (Shelf.Open version)) before ≡ Some (Shelf.Open l.current)
+  still_open = slice_get-set_other l.shelves shelf before (Shelf.Open version) other_shelf ∙ may.before_open
+
   module _ (m3 m4 : Mine) (o : OpensOn shelf m2 m3) (p : PublishesOn version shelf m3 m4) where
     published_so : PublishesOn version shelf (View.Loading (with_open (with_hand l (Some shelf) g.0) shelf version (opened_so m3 o).0), []) m4
     published_so = subst (λ (m : Mine). PublishesOn version shelf m m4) (opened_so m3 o).1 p
+
+    may_close_now : MayClose before m4.0
+    may_close_now = subst (λ (m : Mine). MayClose before m.0) (sym published_so.1) (l.current, still_open, older)
+
+    loaded_so : (m5 : Mine) → ClosesOn before m4 m5 → Loads shelf version before image (View.Loading l) m5.0 × (m5.1 ≡ [])
+    loaded_so m5 k =
+        let p' = published_so in
+        let h = subst (λ (m : Mine). ClosesOn before m m5) p'.1 k in
+        let z : Some (Shelf.Open l.current) ≡ Some (Shelf.Open h.0) = sym still_open ∙ h.2 in let same : l.current ≡ h.0 = cc in
+        subst (λ (m : Mine). Loads shelf version before image (View.Loading l) m.0 × (m.1 ≡ [])) (sym h.3) (
+          record {
+            gathered = g.0;
+            opened = (opened_so m3 o).0;
+            published = p'.0;
+            gather = g.2.0;
+            opening = (opened_so m3 o).2;
+            publish = p'.2.0;
+            close = h.4.0;
+            images = h.4.1 ∙ (p'.2.1 ∙ (opened_so m3 o).3);
+            current = (refl, refl);
+            shelves = ap (λ n. set (set l.shelves shelf (Shelf.Open version)) before (Shelf.Closing n)) (sym same);
+            handed = refl;
+            notes = refl;
+            hand = refl;
+          },
+          refl,
+        )
 
 pub may_open_then : (shelf version before : ℕ) (u : View) (image : ImageValue) (f : ℕ
     → Option Edition) (c : List (ℕ × Option Edition)) (m1 m2 : Mine) → IsReady shelf version before u
@@ -139,3 +181,54 @@ freed_block shelf version n (View.Noting x') c m1 h is = absurd h
 freed_block shelf version n View.Spent c m1 h is = absurd h
 freed_block shelf version n (View.Loading l) c m1 h is =
     let k = subst (λ (b : Bool). CollectsFound l shelf version n b m1) is h in (k.0, ap (λ (m : Mine). m.1) k.2)
+
+pub may_put_back : (shelf version n : ℕ) (u : View) (c : List (ℕ × Option Edition)) (m1 m2 : Mine)
+    → MayCollect shelf version u c → CollectsOn shelf version n (u, c) m1 → (n == 512 + 65536 * version) ≡ true
+    → m2 ≡ (m1.0, down_from nothings (16 * shelf) 16 []) → MayPutBack shelf m2.0 m2.1
+may_put_back shelf version n (View.Working v) c m1 m2 may h is e = absurd h
+may_put_back shelf version n (View.Noting x') c m1 m2 may h is e = absurd h
+may_put_back shelf version n View.Spent c m1 m2 may h is e = absurd h
+may_put_back shelf version n (View.Loading l) c m1 m2 may h is e =
+    let k = subst (λ (b : Bool). CollectsFound l shelf version n b m1) is h in
+    let second : m2 ≡ (View.Loading (with_free l shelf k.1), down_from nothings (16 * shelf) 16 []) =
+    e ∙ ap (λ (m : Mine). (m.0, down_from nothings (16 * shelf) 16 [])) k.2 in
+    subst (λ (m : Mine). MayPutBack shelf m.0 m.1) (sym second)
+    (slice_get-set_same l.shelves shelf Shelf.Free (slice_get_within l.shelves shelf _ may.0), refl, refl)
+
+pub frees_then : (shelf version n : ℕ) (u : View) (c : List (ℕ × Option Edition)) (m1 m2 m3 : Mine)
+    → MayCollect shelf version u c → CollectsOn shelf version n (u, c) m1 → (n == 512 + 65536 * version) ≡ true
+    → m2 ≡ (m1.0, down_from nothings (16 * shelf) 16 []) → PutsBackOn shelf m2 m3 → Frees shelf u m3.0 × (m3.1 ≡ [])
+frees_then shelf version n (View.Working v) c m1 m2 m3 may h is e p = absurd h
+frees_then shelf version n (View.Noting x') c m1 m2 m3 may h is e p = absurd h
+frees_then shelf version n View.Spent c m1 m2 m3 may h is e p = absurd h
+frees_then shelf version n (View.Loading l) c m1 m2 m3 may h is e p =
+    let k = subst (λ (b : Bool). CollectsFound l shelf version n b m1) is h in
+    let second : m2 ≡ (View.Loading (with_free l shelf k.1), down_from nothings (16 * shelf) 16 []) =
+    e ∙ ap (λ (m : Mine). (m.0, down_from nothings (16 * shelf) 16 [])) k.2 in
+    let q : PutsBackOn shelf (View.Loading (with_free l shelf k.1), down_from nothings (16 * shelf) 16 []) m3 =
+    subst (λ (m : Mine). PutsBackOn shelf m m3) second p in
+    subst (λ (m : Mine). Frees shelf (View.Loading l) m.0 × (m.1 ≡ [])) (sym q.1) (
+      record {
+        freed = k.1;
+        collect = k.3.0;
+        put_back = q.2.0;
+        images = q.2.1 ∙ k.3.1;
+        current = (refl, refl);
+        shelves = refl;
+        handed = refl;
+        notes = refl;
+        hand = refl;
+      },
+      refl,
+    )
+
+pub busy_then : (shelf version n : ℕ) (u : View) (c : List (ℕ × Option Edition)) (m1 : Mine)
+    → CollectsOn shelf version n (u, c) m1 → (n == 512 + 65536 * version) ≡ false
+    → FindsBusy shelf (n % 256) u m1.0 × (m1.1 ≡ [])
+busy_then shelf version n (View.Working v) c m1 h is = absurd h
+busy_then shelf version n (View.Noting x') c m1 h is = absurd h
+busy_then shelf version n View.Spent c m1 h is = absurd h
+busy_then shelf version n (View.Loading l) c m1 h is =
+    let k = subst (λ (b : Bool). CollectsFound l shelf version n b m1) is h in
+    subst (λ (m : Mine). FindsBusy shelf (n % 256) (View.Loading l) m.0 × (m.1 ≡ [])) (sym k.1)
+    (record { collect = k.2.0; some_one = k.3; images = k.2.1; current = (refl, refl); shelves = refl; handed = refl; notes = refl; hand = refl }, refl)
