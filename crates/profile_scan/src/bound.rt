@@ -102,7 +102,26 @@ pub fn is_bettered<C: Criterion>(criterion: &C, values: &[C::V], value: &C::V) -
     requires value { Admits (C.rules criterion.now) value.now }
     ensures { result ≡ is_bettered (C.rules criterion.now) values.now value.now }
 {
+    if criterion.is_total() {
+        return first_betters(criterion, values, value);
+    }
     some_no_worse(criterion, values, value)
+}
+
+// The same, but the first value is asked before the others. Under a total criterion there are hardly ever others.
+#[inline(always)]
+fn first_betters<C: Criterion>(criterion: &C, values: &[C::V], value: &C::V) -> bool
+    requires values { (b : _) → Contains values.now b → Admits (C.rules criterion.now) b }
+    requires value { Admits (C.rules criterion.now) value.now }
+    ensures { result ≡ is_bettered (C.rules criterion.now) values.now value.now }
+{
+    let Some((first, others)) = values.split_first() else {
+        return false;
+    };
+    if criterion.no_worse(first, value) {
+        return true;
+    }
+    some_no_worse(criterion, others, value)
 }
 
 // Whether `other` stays when `value` is added.
