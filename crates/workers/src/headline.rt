@@ -1,17 +1,16 @@
 //! Workers at shelves without a lock, under a name that the caller picks.
 
-ghost use Rattle.std.specs.Prelude.{◌≡◌, ◌≤◌, [], All, length, IfOk};
+ghost use Rattle.std.specs.Prelude.{◌≡◌, [], All, IfOk};
 ghost use Rattle.epochs.specs.Pinned.{PinnedAreLeftAlone};
-ghost use Rattle.epochs.specs.ShelfSeats.{NoticeValue, ShelfSeatValue};
-ghost use Rattle.shelf_steps.specs.Events.{known_of};
-ghost use Rattle.workers.specs.Carrying.{AllCarriedOut};
-ghost use Rattle.workers.specs.Learned.{LoaderLearns};
-ghost use Rattle.workers.specs.Ordering.{AreAllTaken, route_to};
-ghost use Rattle.workers.specs.Sessions.{AreServedSince, MayClose};
+ghost use Rattle.workers.specs.Headline.{AllLoaded, AllServed, AreReadyAt, IsLeft, house_of};
+ghost use Rattle.workers.specs.Sessions.{MayClose};
+ghost use Rattle.workers.specs.Shelves.{shelf_loader, shelf_seats};
+ghost use Rattle.workers.specs.Words.{files_of, loads_of, outcomes_of, sessions_of};
 
 use crate::clients::{Client, Clients};
 use crate::feeds::Feeds;
-use crate::running::{ServingOutcome, WorkersFault, run_workers};
+use crate::outcome::ServingOutcome;
+use crate::running::{WorkersFault, run_workers};
 use epochs::laws::pinned_images_are_left_alone;
 use epochs::{
     NamedLoader, NamedNotice, NamedSeat, NamedShelves, ShelfLoader, ShelfSeat, Shelves, ShelvesName,
@@ -27,9 +26,17 @@ use std::thread::Threads;
 /// seats come back without the shelves' name.
 ///
 /// This contract is the headline of the program, except for what a scan reads: that is a clause of
-/// `station_answers::answer_between`. Clause `shares`: each profile in each session is answered exactly, over the image
-/// that was published as the version that the reply names. Clause `pinned`: no image is collected while a seat has it
-/// pinned. Clauses `loads` and `learns`: the published images are those of the bytes that the feeds' files gave.
+/// `station_answers::answer_between`. Each clause is one name of `specs/Headline.antt`, `Sessions` or `epochs`:
+///
+/// - `ready`: 1 to 16 seats and the loader's are of these shelves.
+/// - `closes`: a client's reader and writer may be closed after whatever session may be served over them.
+/// - `left`: no further client comes, and what held of their source holds still; the seats are of these shelves.
+/// - `served`: each client who came was dealt to exactly one worker and had one session at its seat. Each line that was
+///   read has its reply, up to where the session ended; and each profile is answered exactly, over the image that was
+///   published as the version that the reply names.
+/// - `loaded`: the loader took exactly the orders that the sessions put, each once, and carried out each. Each image
+///   that it published is that of the bytes that the files of the ordered feed gave.
+/// - `pinned`: no image is collected while a seat has it pinned.
 pub fn run_shelves<
     B: ShelvesName + Send + Sync,
     C: Client + Drop + Send,
@@ -49,30 +56,20 @@ pub fn run_shelves<
     gate: &G,
     form: ReplyForm,
     errors: E,
-) -> Result<ServingOutcome<C, K, ShelfSeat, ShelfLoader, NamedNotice<B>, F::Files>, WorkersFault>
-    requires shelves { shelves ≡ B.table }
-    requires seats { All (λ seat. seat.table ≡ B.table) seats.items }
-    requires loader { loader.table ≡ B.table }
-    requires some { 1 ≤ length seats.items }
-    requires few { length seats.items ≤ 16 }
-    requires closes { MayClose form C.opens C.Reader.remaining C.Writer.contents
-        (λ (seat : ShelfSeatValue). seat.number) (λ seat. seat.shown) (λ seat. known_of seat.view)
-        (λ seat. seat.table ≡ shelves) C.closes }
-    ensures none_left { IfOk result (λ ran. K.none_left ran.clients) }
-    ensures holds { IfOk result (λ ran. (fact : K.Fact) → K.holds clients fact → K.holds ran.clients fact) }
-    ensures seats { IfOk result (λ ran. All (λ seat. seat.table ≡ shelves) ran.seats.items) }
-    ensures loader { IfOk result (λ ran. ran.loader.table ≡ shelves) }
-    ensures shares { IfOk result (λ ran. AreServedSince form C.opens C.Reader.remaining C.Writer.contents
-        (λ seat. seat.number) (λ seat. seat.shown) (λ seat. known_of seat.view)
-        (λ (notice : NoticeValue). notice.version) (route_to (F.named feeds.now) ran.orders.queue)
-        (K.came clients) (K.came ran.clients) seats.items ran.asked ran.served ran.seats.items) }
-    ensures taken { IfOk result (λ ran. AreAllTaken ran.asked ran.orders) }
-    ensures loads { IfOk result (λ ran. AllCarriedOut (λ (notice : NoticeValue). notice.version)
-        (F.are_files feeds.now) F.Files.holds F.Files.reads
-        F.Files.failures F.Files.failed (F.is_plan feeds.now) (length (F.named feeds.now))
-        ran.orders ran.used loader.answers ran.loader.answers) }
-    ensures learns { IfOk result (λ ran. LoaderLearns (known_of loader.view) loader.answers
-        (known_of ran.loader.view) ran.loader.answers) }
+) -> Result<
+    ServingOutcome<C::Reader, C::Writer, K, ShelfSeat, ShelfLoader, NamedNotice<B>, F::Files>,
+    WorkersFault,
+>
+    requires ready { AreReadyAt B.table (house_of clients shelves seats.items loader feeds.now) }
+    requires closes { MayClose (sessions_of form C.words C.Reader.remaining C.Writer.contents shelf_seats) shelves }
+    ensures left { IfOk result (IsLeft shelf_seats shelf_loader K.words
+        (house_of clients shelves seats.items loader feeds.now)) }
+    ensures served { IfOk result (AllServed (sessions_of form C.words C.Reader.remaining C.Writer.contents shelf_seats)
+        K.words F.words (house_of clients shelves seats.items loader feeds.now)) }
+    ensures loaded { IfOk result (AllLoaded (loads_of F.words
+        (outcomes_of
+        (files_of F.Files.holds F.Files.reads F.Files.failures F.Files.failed) shelf_loader shelf_seats.version))
+        (house_of clients shelves seats.items loader feeds.now)) }
     ensures pinned { PinnedAreLeftAlone }
 {
     pinned_images_are_left_alone();

@@ -1,6 +1,6 @@
 use Rattle.std.proofs.Common.{◌≡◌, ◌∷◌, All, ap, arith, length, suc, subst}
 use Rattle.workers.proofs.Shared.{moved_next}
-use Rattle.workers.proofs.naming.named_seats.Goals as goal
+use Rattle.workers.proofs.headline.named_seats.Goals as goal
 
 -- one seat more is named, and one is left less
 pub loop-seat-preserved : goal.loop-seat-preserved

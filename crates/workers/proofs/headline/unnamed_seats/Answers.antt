@@ -1,7 +1,7 @@
 use Rattle.std.proofs.Common.{rules, ◌≡◌, All, ap, arith, length, sym, subst}
 use Rattle.std.proofs.lemmas.List.Elements.{All-nil, All-push}
 use Rattle.workers.proofs.Shared.{moved_next}
-use Rattle.workers.proofs.naming.unnamed_seats.Goals as goal
+use Rattle.workers.proofs.headline.unnamed_seats.Goals as goal
 
 pub loop-seat-init : goal.loop-seat-init
 loop-seat-init g c = record {
