@@ -225,13 +225,13 @@ grouped form counted low [] up = refl
 grouped form counted low (day ∷ rest) up =
     elim (cases_Bool (is_last_of day rest)) [
       | inl last ↦ (let after = later day rest last up.1 in
-          let others = same_lines (λ d. day_text form (with_counted 0 rest d) d) (λ d. day_text form (with_counted counted (day ∷ rest) d) d) (suc day) (distinct rest)
-          (distinct_rises (suc day) rest after) (λ d high. ap (λ n. day_text form n d) (with_others counted day d rest high)) in
+          let others = same_lines (λ d. day_text form (with_counted 0 rest d) d) (λ d. day_text form (with_counted counted (day ∷ rest) d) d)
+          (suc day) (distinct rest) (distinct_rises (suc day) rest after) (λ d high. ap (λ n. day_text form n d) (with_others counted day d rest high)) in
           let own = sym (with_all counted day rest after) in
           rw last (ap (λ n. day_text form n day ++ rest_text form 0 rest) own
           ∙ ap (λ text. day_text form (with_counted counted (day ∷ rest) day) day ++ text) (grouped form 0 (suc day) rest after ∙ others)))
-      | inr more ↦ (let same = same_lines (λ d. day_text form (with_counted (counted + 1) rest d) d) (λ d. day_text form (with_counted counted (day ∷ rest) d) d) day
-          (distinct rest) (distinct_rises day rest up.1) (λ d high. ap (λ n. day_text form n d) (with_one_more counted day d rest more)) in
+      | inr more ↦ (let same = same_lines (λ d. day_text form (with_counted (counted + 1) rest d) d)
+          (λ d. day_text form (with_counted counted (day ∷ rest) d) d) day (distinct rest) (distinct_rises day rest up.1) (λ d high. ap (λ n. day_text form n d) (with_one_more counted day d rest more)) in
           rw more (grouped form (counted + 1) day rest up.1 ∙ same))
     ]
 
