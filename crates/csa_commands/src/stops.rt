@@ -195,7 +195,7 @@ fn append_object(
     let quoted = quoted_name(alloc, image, stop)?;
     put_text(json, "{\"id\":")?;
     put_text(json, quoted.as_str())?;
-    put_number(json, ",\"number\":", u64::from(stop))?;
+    put_number(json, ",\"number\":", stop as u64)?;
     put_text(json, "}")?;
     Ok(())
 }

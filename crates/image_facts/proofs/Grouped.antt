@@ -231,7 +231,8 @@ grouped form counted low (day ∷ rest) up =
           rw last (ap (λ n. day_text form n day ++ rest_text form 0 rest) own
           ∙ ap (λ text. day_text form (with_counted counted (day ∷ rest) day) day ++ text) (grouped form 0 (suc day) rest after ∙ others)))
       | inr more ↦ (let same = same_lines (λ d. day_text form (with_counted (counted + 1) rest d) d)
-          (λ d. day_text form (with_counted counted (day ∷ rest) d) d) day (distinct rest) (distinct_rises day rest up.1) (λ d high. ap (λ n. day_text form n d) (with_one_more counted day d rest more)) in
+          (λ d. day_text form (with_counted counted (day ∷ rest) d) d) day (distinct rest) (distinct_rises day rest up.1)
+          (λ d high. ap (λ n. day_text form n d) (with_one_more counted day d rest more)) in
           rw more (grouped form (counted + 1) day rest up.1 ∙ same))
     ]
 

@@ -1,4 +1,3 @@
-use Rattle.std.proofs.Common.{refl}
 use Rattle.csa_commands.proofs.StopLines.{none_found}
 use Rattle.csa_commands.proofs.stops.found_stops.Goals as goal
 
