@@ -1,22 +1,22 @@
 -- What a command over an image prints, of what is done and of what is refused.
 use Rattle.std.specs.Prelude.{◌≡◌, ℕ, List}
 use Rattle.image_layout.specs.Image.{ImageValue}
-use Rattle.image_facts.specs.Facts.{AreFacts}
 use Rattle.command_requests.specs.declared.requests.DeparturesRequest.{DeparturesRequest}
 use Rattle.command_requests.specs.declared.requests.ProfileRequest.{ProfileRequest}
 use Rattle.csa_commands.specs.Answering.{IsAnswered, IsNoRequest}
 use Rattle.csa_commands.specs.Counting.{counts_line}
 use Rattle.csa_commands.specs.Departing.{AreAllShown, IsNoneAsked}
 use Rattle.csa_commands.specs.Ending.{Prints, PrintsOnly}
+use Rattle.csa_commands.specs.Informing.{IsInfo}
 use Rattle.csa_commands.specs.Judging.{IsAccepted, IsFaulty}
-use Rattle.csa_commands.specs.StopLines.{AreStopLines}
+use Rattle.csa_commands.specs.StopLines.{AreStopsAsked}
 use Rattle.csa_commands.specs.declared.asked.ImageRequest.{ImageRequest}
 use Rattle.csa_commands.specs.declared.asked.ImageRequest.TheVariants.{Verify, Info, Journey, Profile, Departures, Stops, Upgrade}
 
 -- the path of the image
 abbrev pub path_of : ImageRequest → List ℕ
 path_of (Verify image) = image.now
-path_of (Info image) = image.now
+path_of (Info request) = request.image.now
 path_of (Journey request) = request.image.now
 path_of (Profile request) = request.now.image.now
 path_of (Departures request) = request.now.image.now
@@ -35,9 +35,9 @@ PrintsDepartures image request = Prints (AreAllShown image request) (IsNoneAsked
 -- that is no stop_id, and then nothing is printed; nothing else is refused
 abbrev pub PrintsAsked : ImageValue → ImageRequest → ℕ → List ℕ → Type 0
 PrintsAsked image (Verify path) = PrintsOnly (λ text. text ≡ counts_line image)
-PrintsAsked image (Info path) = PrintsOnly (AreFacts image)
+PrintsAsked image (Info request) = PrintsOnly (IsInfo request.json image)
 PrintsAsked image (Journey request) = Prints (IsAccepted image request.question request.text.now) (IsFaulty image request.question request.text.now)
 PrintsAsked image (Profile request) = PrintsProfile image request.now
 PrintsAsked image (Departures request) = PrintsDepartures image request.now
-PrintsAsked image (Stops request) = PrintsOnly (AreStopLines image.names request.text.now image.timetable.stops)
+PrintsAsked image (Stops request) = PrintsOnly (AreStopsAsked image request)
 PrintsAsked image (Upgrade request) = PrintsOnly (λ text. text ≡ counts_line image)

@@ -7,6 +7,7 @@ pub mod Departing
 pub mod Elapsed
 pub mod Ending
 pub mod Folders
+pub mod Informing
 pub mod Judging
 pub mod Listed
 pub mod Listing

@@ -6,7 +6,7 @@ ghost use Rattle.csa_commands.specs.Ending.{IsOutcome};
 use crate::windows::{DepartureRange, warn_of_window};
 use crate::{departures, info, journey, profile, status, stops, upgrade, verify};
 use command_requests::{
-    DeparturesRequest, JourneyRequest, ProfileRequest, StopsRequest, UpgradeRequest,
+    DeparturesRequest, InfoRequest, JourneyRequest, ProfileRequest, StopsRequest, UpgradeRequest,
 };
 use image_verifier::Verified;
 use std::io::Write;
@@ -18,7 +18,7 @@ pub enum ImageRequest<'a> {
     /// Print how many stops, trips, connections and footpaths it has.
     Verify(&'a str),
     /// Print what it has.
-    Info(&'a str),
+    Info(InfoRequest<'a>),
     /// Check a journey against it.
     Journey(JourneyRequest<'a>),
     /// Answer a question over it.
@@ -41,7 +41,7 @@ impl<'a> ImageRequest<'a> {
     {
         match self {
             ImageRequest::Verify(image) => image,
-            ImageRequest::Info(image) => image,
+            ImageRequest::Info(request) => request.image,
             ImageRequest::Journey(request) => request.image,
             ImageRequest::Profile(request) => request.image,
             ImageRequest::Departures(request) => request.image,
@@ -99,7 +99,7 @@ fn do_asked<H: Files + AllocGlobal, O: Write, E: Write>(
 {
     match asked {
         ImageRequest::Verify(_) => verify::run(rt.alloc(), image, output),
-        ImageRequest::Info(_) => info::run(rt.alloc(), image, output),
+        ImageRequest::Info(request) => info::run(rt.alloc(), image, request, output),
         ImageRequest::Journey(request) => journey::run(rt.alloc(), image, request, output, errors),
         ImageRequest::Profile(request) => profile::run(rt, image, request, output, errors),
         ImageRequest::Departures(request) => departures::run(rt, image, request, output, errors),

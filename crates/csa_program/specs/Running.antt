@@ -18,7 +18,7 @@ use Rattle.csa_commands.specs.Matrices.{EndsTable, IsTableCutShort, IsTablePrint
 use Rattle.csa_commands.specs.Opening.{IsRefusedImage, PrintsOver, SpellsImage}
 use Rattle.csa_commands.specs.Refusing.{PrintsOfFeed}
 use Rattle.csa_commands.specs.Stations.{IsStopsRefusal, IsTextOf}
-use Rattle.csa_commands.specs.Tabling.{IsCountsLine}
+use Rattle.csa_commands.specs.Tabling.{IsCounts}
 use Rattle.csa_commands.specs.declared.asked.ImageRequest.TheVariants as images
 
 -- a table over the image at its path ended so; `may_hold` says what a file at a path may hold, and the path `-` is the input
@@ -45,13 +45,14 @@ module _ {D : Type 0} (may_hold : List ℕ → Option (List ℕ) → Type 0) (gi
   -- a command ended so, over the image at its path, or over the files of its folder. Nothing is said of a server
   abbrev pub IsEnd : CommandRequest → ℕ → Option (List ℕ) → Option (List ℕ) → Type 0
   IsEnd (requests.Verify image) = IsOutcome (PrintsOver may_hold image.now input (λ i. PrintsAsked i (images.Verify image)))
-  IsEnd (requests.Info image) = IsOutcome (PrintsOver may_hold image.now input (λ i. PrintsAsked i (images.Info image)))
+  IsEnd (requests.Info request) = IsOutcome (PrintsOver may_hold request.image.now input (λ i. PrintsAsked i (images.Info request)))
   IsEnd (requests.Journey request) = IsOutcome (PrintsOver may_hold request.image.now input (λ i. PrintsAsked i (images.Journey request)))
   IsEnd (requests.Profile request) = IsOutcome (PrintsOver may_hold request.image.now input (λ i. PrintsProfile i request))
   IsEnd (requests.Departures request) = IsOutcome (PrintsOver may_hold request.image.now input (λ i. PrintsDepartures i request))
   IsEnd (requests.Matrix request) = IsTableEnd may_hold input request
-  IsEnd (requests.Tables request) = IsOutcome (PrintsOfFeed (IsCountsLine gives request.folder.now) (IsTablesRefusalOf gives request.folder.now))
-  IsEnd (requests.Days folder) = IsOutcome (PrintsOfFeed (AreDaysOf gives folder.now) (IsTablesRefusalOf gives folder.now))
+  IsEnd (requests.Tables request) = IsOutcome (PrintsOfFeed (IsCounts gives request) (IsTablesRefusalOf gives request.folder.now))
+  IsEnd (requests.Days request) =
+      IsOutcome (PrintsOfFeed (AreDaysOf gives request.folder.now request.json) (IsTablesRefusalOf gives request.folder.now))
   IsEnd (requests.Stations request) =
       IsOutcome (PrintsOfFeed (IsTextOf gives request.folder.now request) (IsStopsRefusal gives request.folder.now))
   IsEnd (requests.Build request) =

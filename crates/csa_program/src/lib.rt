@@ -164,8 +164,8 @@ fn run_request<
             let asked = ImageRequest::Verify(image);
             answer_over(rt, asked, input, output, errors, warnings)
         }
-        CommandRequest::Info(image) => {
-            let asked = ImageRequest::Info(image);
+        CommandRequest::Info(request) => {
+            let asked = ImageRequest::Info(request);
             answer_over(rt, asked, input, output, errors, warnings)
         }
         CommandRequest::Journey(request) => {
@@ -184,7 +184,7 @@ fn run_request<
             answer_over(rt, asked, input, output, errors, warnings)
         }
         CommandRequest::Tables(request) => tables::run(rt, request, output, errors),
-        CommandRequest::Days(folder) => days::run(rt, folder, output, errors),
+        CommandRequest::Days(request) => days::run(rt, request, output, errors),
         CommandRequest::Stations(request) => stations::run(rt, request, output, errors),
         CommandRequest::Build(request) => {
             build::run(rt, request, output, errors, notes.is_terminal, warnings)

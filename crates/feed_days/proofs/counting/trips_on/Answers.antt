@@ -1,4 +1,4 @@
-use Rattle.std.proofs.Common.{◌≡◌, ◌∙◌, List, ap, subst, sym}
+use Rattle.std.proofs.Common.{◌∙◌, List, ap, subst, sym}
 use Rattle.std.specs.List.{count_by}
 use Rattle.gtfs_tables.specs.declared.tables.Trip.{Trip}
 use Rattle.service_days.specs.Named.{names_of}

@@ -1,13 +1,7 @@
-use Rattle.std.proofs.Common.{◌∙◌, ◌++◌, ap, codes, decimal, string_bytes}
-use Rattle.feed_days.specs.Days.{trips_line}
-use Rattle.text_pieces.proofs.Joined.{four}
+use Rattle.std.proofs.Common.{◌∙◌, ◌++◌, ap, string_bytes}
+use Rattle.feed_days.specs.Days.{trips_text}
 use Rattle.feed_days.proofs.listing.append_day.Goals as goal
 
 pub returns : goal.returns
-unfolding trips_line
 returns c =
-    four (string_bytes c.args.lines.now) (string_bytes c.put_text.new.out) (string_bytes c.put_date.new.lines)
-    (string_bytes c.put_number.new.out) (string_bytes c.put_text-2.new.out) _ _ _ _
-    c.in_ok-put_text.ensures c.in_ok-put_date.ensures
-    (c.in_ok-put_number.ensures ∙ ap (λ n. string_bytes c.put_date.new.lines ++ (codes " " ++ decimal n)) c.in_ok-trips.ensures)
-    c.in_ok-put_text-2.ensures
+    c.in_ok-append_trips.ensures ∙ ap (λ n. string_bytes c.args.lines.now ++ trips_text c.args.form c.args.day n) c.in_ok-trips.ensures

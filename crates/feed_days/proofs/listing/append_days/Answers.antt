@@ -3,7 +3,7 @@ use Rattle.std.specs.Prelude.{Some}
 use Rattle.std.specs.List.{flat_map}
 use Rattle.std.proofs.lemmas.List.{append-nil}
 use Rattle.gtfs_rows.specs.declared.values.Day.{Day}
-use Rattle.feed_days.specs.Days.{trips_line}
+use Rattle.feed_days.specs.Days.{day_text}
 use Rattle.feed_days.specs.Service.{day_number}
 use Rattle.feed_days.proofs.Listed.{after_more, after_none, all_listed, line_more, more_listed, none_yet}
 use Rattle.feed_days.proofs.Order.{civil_before, next_number, other_by_parts, number_below, number_by_not_after, same_by_parts}
@@ -16,7 +16,7 @@ loop-listed-init c = record {
   index = omega arith;
   within = number_by_not_after c.args.span.first c.args.span.last c.requires.first c.requires.last c.requires.in_order;
   few = omega arith;
-  lines = sym (ap (λ (days : List Day). string_bytes c.args.lines.now ++ flat_map (trips_line c.args.feed.now) days) (none_yet c.args.span.first)
+  lines = sym (ap (λ (days : List Day). string_bytes c.args.lines.now ++ flat_map (day_text c.args.form c.args.feed.now) days) (none_yet c.args.span.first)
       ∙ append-nil (string_bytes c.args.lines.now));
 }
 
@@ -25,9 +25,9 @@ returns-then-eq-clause-lines c =
     let is = c.loop-listed.invariant in
     let same = ap day_number (same_by_parts c.loop-listed.day c.args.span.last c.if-eq.ensures) in
     let all = all_listed c.args.span c.loop-listed.listed (omega (arith, same, is.index)) c.loop-listed-test.true in
-    line_more (trips_line c.args.feed.now) c.args.span.first c.loop-listed.day c.loop-listed.listed (string_bytes c.args.lines.now)
+    line_more (day_text c.args.form c.args.feed.now) c.args.span.first c.loop-listed.day c.loop-listed.listed (string_bytes c.args.lines.now)
     (string_bytes c.loop-listed.lines) (string_bytes c.append_day.new.lines) is.day is.lines c.in_ok-append_day.ensures
-    ∙ ap (λ (days : List Day). string_bytes c.args.lines.now ++ flat_map (trips_line c.args.feed.now) days) (sym all.0)
+    ∙ ap (λ (days : List Day). string_bytes c.args.lines.now ++ flat_map (day_text c.args.form c.args.feed.now) days) (sym all.0)
 
 pub returns-then-eq-clause-unlisted : goal.returns-then-eq-clause-unlisted
 returns-then-eq-clause-unlisted c =
@@ -47,7 +47,7 @@ loop-listed-preserved c =
       index = omega (arith, next, is.index);
       within = omega (arith, next, below);
       few = omega (arith, c.loop-listed-test.true);
-      lines = line_more (trips_line c.args.feed.now) c.args.span.first c.loop-listed.day c.loop-listed.listed (string_bytes c.args.lines.now)
+      lines = line_more (day_text c.args.form c.args.feed.now) c.args.span.first c.loop-listed.day c.loop-listed.listed (string_bytes c.args.lines.now)
           (string_bytes c.loop-listed.lines) (string_bytes c.append_day.new.lines) is.day is.lines c.in_ok-append_day.ensures;
     })
 
@@ -57,7 +57,7 @@ returns-clause-lines c =
     let full : c.loop-listed.listed ≡ 366 = omega (arith, c.loop-listed-test.false, is.few) in
     let more = more_listed c.args.span (omega (arith, full, is.index, is.within)) in
     rw full at is.lines
-    ∙ ap (λ (days : List Day). string_bytes c.args.lines.now ++ flat_map (trips_line c.args.feed.now) days) (sym more.0)
+    ∙ ap (λ (days : List Day). string_bytes c.args.lines.now ++ flat_map (day_text c.args.form c.args.feed.now) days) (sym more.0)
 
 pub returns-clause-unlisted : goal.returns-clause-unlisted
 returns-clause-unlisted c =

@@ -1,5 +1,5 @@
 use Rattle.feed_days.proofs.Rows.{service_civil}
-use Rattle.feed_days.proofs.listing.days_text.Goals as goal
+use Rattle.feed_days.proofs.listing.text_of.Goals as goal
 
 pub append_span-requires-clause-first : goal.append_span-requires-clause-first
 append_span-requires-clause-first c = service_civil c.args.feed.now c.in-Some.span.first c.in-Some.ensures.first.holds

@@ -1,7 +1,7 @@
 use Rattle.std.proofs.Common.{string_bytes}
 use Rattle.image_facts.specs.Days.{day_line}
 use Rattle.text_pieces.proofs.Joined.{three}
-use Rattle.image_facts.proofs.days.append_day.Goals as goal
+use Rattle.image_facts.proofs.days.append_day_line.Goals as goal
 
 pub returns : goal.returns
 unfolding day_line
