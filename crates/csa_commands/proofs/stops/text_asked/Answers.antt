@@ -1,4 +1,3 @@
-use Rattle.std.proofs.Common.{string_bytes}
 use Rattle.csa_commands.proofs.stops.text_asked.Goals as goal
 
 pub returns : goal.returns
