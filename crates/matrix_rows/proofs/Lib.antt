@@ -6,4 +6,5 @@ mod SetLemmas
 mod Sought
 mod Sources
 mod Targets
+mod Turns
 mod Walks

@@ -1,2 +1,3 @@
 pub mod DayLemmas
 pub mod StartLemmas
+mod Weekdays

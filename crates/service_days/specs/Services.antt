@@ -1,5 +1,6 @@
 -- The days on which a service runs.
 use Rattle.std.specs.Prelude.{◌≡◌, ◌==◌, ◌&&◌, ◌||◌, not, if◌then◌else◌, ℕ, List, [], pos, map, filter, get_or, nat_le, nat_lt, Bool, true, false}
+use Rattle.std.specs.Prelude.{Option, None, Some}
 use Rattle.std.specs.List.{list_any}
 use Rattle.std.specs.Option.{option_map_or}
 use Rattle.std.specs.Str.{bytes_eq}
@@ -12,6 +13,8 @@ use Rattle.gtfs_rows.specs.declared.rows.CalendarRow.{CalendarRow}
 use Rattle.gtfs_rows.specs.declared.rows.CalendarDateRow.{CalendarDateRow}
 use Rattle.gtfs_rows.specs.declared.rows.Exception.{Exception}
 use Rattle.gtfs_rows.specs.declared.rows.Exception.TheVariants.{Added, Removed}
+use Rattle.service_days.specs.declared.day.DatedDay.{DatedDay}
+use Rattle.service_days.specs.declared.services.Service.{Service}
 use Rattle.service_days.specs.declared.services.Services.{Services}
 use Rattle.service_days.specs.declared.services.Week.{Week}
 use Rattle.service_days.specs.declared.services.DayException.{DayException}
@@ -19,6 +22,14 @@ use Rattle.service_days.specs.declared.services.DayException.{DayException}
 -- the weekday of a day, from 0 for Monday
 abbrev pub weekday_on : Day → ℕ
 weekday_on d = weekday_number (days_from_civil (pos d.year) d.month d.day)
+
+-- the weekday of a civil day
+abbrev pub civil_weekday : Day → Option ℕ
+civil_weekday d = if is_civil d then Some (weekday_on d) else None
+
+-- a day with its weekday
+abbrev pub dated : Day → DatedDay
+dated d = record { day = d; weekday = civil_weekday d }
 
 -- the first day is no later than the second
 abbrev pub is_not_after : Day → Day → Bool
@@ -64,6 +75,10 @@ exceptions_in rows service = map exception_of (filter (λ row. bytes_eq service 
 -- the day is a civil date, and the service runs on it
 abbrev pub is_active : List CalendarRow → List CalendarDateRow → List ℕ → Day → Bool
 is_active calendar dates service day = is_civil day && is_running (weeks_in calendar service) (exceptions_in dates service) day
+
+-- the day is a civil date, and by what the calendars say of a service it runs on it
+abbrev pub service_runs : Service → Day → Bool
+service_runs service day = is_civil day && is_running service.weeks.now service.exceptions.now day
 
 -- the weeks and the exceptions that are held for a service
 abbrev pub weeks_of : Services → List ℕ → List Week

@@ -3,12 +3,44 @@
 ghost use Rattle.std.specs.Prelude.{◌≡◌, IfSome, IfNone, IfOk, IfErr, false, true};
 ghost use Rattle.gtfs_rows.specs.Values.{is_civil};
 ghost use Rattle.service_days.specs.Days.{day_after as following};
+ghost use Rattle.service_days.specs.Services.{civil_weekday};
 ghost use Rattle.service_days.specs.Zones.{HasNoStart, IsDate, IsDayStart};
 
 use crate::fault::DayFault;
 use crate::zone::Zone;
 use gtfs_rows::Day;
 use jiff::civil::Date;
+
+/// A day, and its weekday, from 0 for Monday, if it is a civil date.
+#[derive(Clone, Copy)]
+pub struct DatedDay {
+    pub(crate) day: Day,
+    pub(crate) weekday: Option<usize>,
+}
+
+impl DatedDay {
+    ghost use Rattle.std.specs.Prelude.{◌≡◌};
+    ghost use Rattle.service_days.specs.Services.{dated};
+
+    /// Returns a day with its weekday, which is determined once for many services.
+    pub fn new(day: Day) -> DatedDay
+        ensures { result ≡ dated day }
+    {
+        DatedDay {
+            day,
+            weekday: weekday_of(day),
+        }
+    }
+}
+
+fn weekday_of(day: Day) -> Option<usize>
+    ensures { result ≡ civil_weekday day }
+{
+    match civil_date(day) {
+        Some(date) => Some(date.weekday().to_monday_zero_offset() as usize),
+        None => None,
+    }
+}
 
 /// Returns the instant at which a day starts in a zone, in seconds after 1970-01-01T00:00:00Z: 43,200 seconds
 /// before the day's noon. If the zone's clocks show noon twice or never on that day, noon is taken by the offset

@@ -11,8 +11,8 @@ mod named;
 mod services;
 mod zone;
 
-pub use day::{day_after, day_start};
+pub use day::{DatedDay, day_after, day_start};
 pub use fault::DayFault;
 pub use named::NamedServices;
-pub use services::{Services, active};
+pub use services::{Service, Services, active};
 pub use zone::Zone;

@@ -5,11 +5,12 @@ ghost use Rattle.gtfs_rows.specs.Ids.{seen_also};
 ghost use Rattle.gtfs_rows.specs.Rows.{StandsAt};
 ghost use Rattle.gtfs_rows.specs.declared.rows.CalendarDateRow.{CalendarDateRow};
 ghost use Rattle.gtfs_rows.specs.declared.rows.CalendarRow.{CalendarRow};
+ghost use Rattle.gtfs_rows.specs.declared.values.Day.{Day as CalendarDay};
 ghost use Rattle.service_days.specs.Named.{names_of};
-ghost use Rattle.service_days.specs.Services.{HoldsServices, is_active};
+ghost use Rattle.service_days.specs.Services.{HoldsServices, is_active, service_runs};
 ghost use Rattle.std.specs.String.{string_bytes};
 
-use crate::services::{Services, active};
+use crate::services::{Service, Services, active};
 use gtfs_rows::{Day, IdHash};
 use indexmap::IndexSet;
 use std::alloc::{AllocError, Global};
@@ -59,5 +60,23 @@ impl NamedServices {
             running.push(active(services, id, day))?;
         }
         Ok(running)
+    }
+
+    /// Returns for each service, in order, what the calendars say of it. Memory may run out.
+    pub fn look_up_each<'a>(
+        &self,
+        alloc: Global,
+        services: &'a Services,
+    ) -> Result<Vec<Service<'a>>, AllocError>
+        ensures { (calendar : List CalendarRow) (dates : List CalendarDateRow)
+            → HoldsServices calendar dates services.now
+            → IfOk result (λ each. (day : CalendarDay) → map (λ service. service_runs service day) each.items
+            ≡ map (λ name. is_active calendar dates name day) (names_of self.now)) }
+    {
+        let mut each = Vec::with_capacity(alloc, self.ids.len())?;
+        for id in self.ids.as_slice() {
+            each.push(services.look_up(id))?;
+        }
+        Ok(each)
     }
 }

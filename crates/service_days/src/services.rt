@@ -8,10 +8,11 @@ ghost use Rattle.std.specs.Str.{bytes_eq};
 ghost use Rattle.std.specs.String.{string_bytes};
 ghost use Rattle.gtfs_rows.specs.declared.rows.CalendarRow.{CalendarRow};
 ghost use Rattle.gtfs_rows.specs.declared.rows.CalendarDateRow.{CalendarDateRow};
+ghost use Rattle.gtfs_rows.specs.declared.values.Day.{Day as CalendarDay};
 ghost use Rattle.service_days.specs.Services.{HoldsServices, adds, exceptions_in, is_active, is_not_after};
-ghost use Rattle.service_days.specs.Services.{is_same_day, removes, runs_in, weeks_in};
+ghost use Rattle.service_days.specs.Services.{is_same_day, removes, runs_in, service_runs, weeks_in};
 
-use crate::day::civil_date;
+use crate::day::DatedDay;
 use gtfs_rows::{CalendarDateRow, CalendarRow, Day, Exception, IdHash};
 use indexmap::IndexMap;
 use std::alloc::{AllocError, Global};
@@ -53,6 +54,17 @@ impl Services {
             weeks: weeks_of(alloc, hash, calendar)?,
             exceptions: exceptions_of(alloc, hash, dates)?,
         })
+    }
+
+    /// Returns what the calendars say of a service, so that it is looked up once for many days.
+    pub fn look_up(&self, service: &str) -> Service<'_>
+        ensures { (calendar : List CalendarRow) (dates : List CalendarDateRow) → HoldsServices calendar dates self.now
+            → (day : CalendarDay) → service_runs result day ≡ is_active calendar dates service.now day }
+    {
+        Service {
+            weeks: held(&self.weeks, service),
+            exceptions: held(&self.exceptions, service),
+        }
     }
 
     // Returns the hash by which services are looked up.
@@ -115,6 +127,30 @@ fn exceptions_of(
     Ok(exceptions)
 }
 
+/// What the calendars say of one service: nothing, if they don't have it.
+#[derive(Clone, Copy)]
+pub struct Service<'a> {
+    weeks: &'a [Week],
+    exceptions: &'a [DayException],
+}
+
+impl Service<'_> {
+    ghost use Rattle.std.specs.Prelude.{◌≡◌};
+    ghost use Rattle.service_days.specs.Services.{dated, service_runs};
+
+    /// Returns whether the service runs on a day.
+    pub fn runs_on(&self, day: DatedDay) -> bool
+        requires { day ≡ dated day.day }
+        ensures { result ≡ service_runs self.now day.day }
+    {
+        let Some(weekday) = day.weekday else {
+            return false;
+        };
+        let regular = runs(self.weeks, weekday, day.day);
+        (regular || is_added(self.exceptions, day.day)) && !is_removed(self.exceptions, day.day)
+    }
+}
+
 /// Returns whether a service runs on a day: the day isn't removed, and either it is added, or it is in the range and
 /// on a weekday of a row of `calendar.txt` (GTFS Schedule Reference, `calendar.txt` and `calendar_dates.txt`). A
 /// service without rows never runs, and no service runs on a day that isn't a civil date.
@@ -122,17 +158,16 @@ pub fn active(services: &Services, service: &str, day: Day) -> bool
     ensures { (calendar : List CalendarRow) (dates : List CalendarDateRow) → HoldsServices calendar dates services.now
         → result ≡ is_active calendar dates service.now day }
 {
-    let Some(date) = civil_date(day) else {
-        return false;
-    };
-    let weekday = date.weekday().to_monday_zero_offset() as usize;
-    let regular = match services.weeks.get(service) {
-        Some(weeks) => runs(weeks, weekday, day),
-        None => false,
-    };
-    match services.exceptions.get(service) {
-        Some(exceptions) => (regular || is_added(exceptions, day)) && !is_removed(exceptions, day),
-        None => regular,
+    services.look_up(service).runs_on(DatedDay::new(day))
+}
+
+// Returns what is held for a service.
+fn held<'a, T>(all: &'a IndexMap<String, Vec<T>, IdHash>, service: &str) -> &'a [T]
+    ensures { result.now ≡ option_map_or (λ held. held.items) (get_by_text all.now service.now) [] }
+{
+    match all.get(service) {
+        Some(held) => held,
+        None => &[],
     }
 }
 

@@ -1,31 +1,43 @@
-use Rattle.std.proofs.Common.{◌≡◌, ◌++◌, ◌∙◌, List, ℕ, Contains, ap, get_or, sym, subst, take}
+use Rattle.std.proofs.Common.{ℕ, List, Contains, length, refl, subst, sym}
 use Rattle.std.specs.Global.{Vec}
 use Rattle.std.proofs.lemmas.List.Elements.{Contains-get_or}
-use Rattle.std.proofs.lemmas.List.{take_more}
-use Rattle.matrix_rows.specs.Tables.{AreRowsBy, AreRowsOf, CanBeMade}
-use Rattle.matrix_rows.proofs.Targets.{no_targets, target_added}
+use Rattle.std.proofs.lemmas.Option.{slice_get_read}
+use Rattle.matrix_rows.specs.Tables.{AreRowsBy, CanBeMade}
+use Rattle.matrix_rows.proofs.Turns.{every_done, every_more, every_none, next_placed, none_placed}
 use Rattle.matrix_rows.proofs.whole.rows_of.Goals as goal
 
-pub loop-target-init : goal.loop-target-init
-loop-target-init c = no_targets c.args.table.now c.new-text.result.items c.new-text.ensures.items
-
-pub loop-target-preserved : goal.loop-target-preserved
-loop-target-preserved c =
-    let table = c.args.table.now in
-    let targets = c.args.targets.now in
-    let index = c.loop-target.target-index in
-    let target = c.target-item.result in
-    let this : c.deref.result.now ≡ (get_or targets index target).items = c.deref.ensures.value ∙ ap (λ (v : Vec ℕ). v.items) c.target-item.is in
-    subst (λ (ts : List (Vec ℕ)). AreRowsOf table ts c.extend_from_slice.new.self.items) (sym (take_more targets index target c.loop-target-test.true))
-    (target_added table (take index targets) c.loop-target.text.items c.in_ok-rows.rows.items _ (get_or targets index target)
-    c.loop-target.invariant
-    (subst (λ (ss : List ℕ). AreRowsBy table.criterion table ss c.in_ok-rows.rows.items) this c.in_ok-rows.ensures)
-    (c.in_ok-extend_from_slice.ensures.items ∙ ap (λ (rows : List ℕ). c.loop-target.text.items ++ rows) c.deref-in-loop-target.ensures.value))
+pub loop-index-init : goal.loop-index-init
+loop-index-init c = record {
+  place = none_placed c.args.first c.args.step c.new-texts.result.items c.new-texts.ensures.items;
+  each = every_none c.args.table.now c.args.run.now c.args.step c.args.first c.new-texts.result.items c.new-texts.ensures.items;
+}
 
 pub rows_to-requires : goal.rows_to-requires
 rows_to-requires c =
-    let targets = c.args.targets.now in
-    let index = c.loop-target.target-index in
-    let target = c.target-item.result in
-    let this : c.deref.result.now ≡ (get_or targets index target).items = c.deref.ensures.value ∙ ap (λ (v : Vec ℕ). v.items) c.target-item.is in
-    subst (CanBeMade c.args.table.now) (sym this) (c.requires _ (Contains-get_or targets index target c.loop-target-test.true))
+    let run = c.args.run.now in
+    let target = c.index-run-index.result in
+    let there : Contains run target =
+    subst (λ (t : Vec ℕ). Contains run t) (sym c.index-run-index.is) (Contains-get_or run c.loop-index.index target c.loop-index-test.true) in
+    subst (CanBeMade c.args.table.now) (sym c.deref.ensures.value) (c.requires.can target there)
+
+pub loop-index-preserved : goal.loop-index-preserved
+loop-index-preserved c =
+    let table = c.args.table.now in
+    let run = c.args.run.now in
+    let texts = c.loop-index.texts.items in
+    let more = c.push.new.self.items in
+    let rows = c.in_ok-rows.rows in
+    let target = c.index-run-index.result in
+    let was = c.loop-index.invariant in
+    record {
+      place = next_placed c.args.first c.args.step c.loop-index.index texts more rows was.place c.in_ok-push.ensures.items;
+      each = every_more table run c.args.step c.args.first c.loop-index.index texts more rows target was.place
+          (slice_get_read run (length run) c.loop-index.index target refl c.loop-index-test.true c.index-run-index.is)
+          (subst (λ (ss : List ℕ). AreRowsBy table.criterion table ss rows.items) c.deref.ensures.value c.in_ok-rows.ensures)
+          c.in_ok-push.ensures.items was.each;
+    }
+
+pub returns : goal.returns
+returns c =
+    every_done c.args.table.now c.args.run.now c.args.step c.args.first c.loop-index.index c.loop-index.texts.items c.loop-index.invariant.place
+    c.loop-index-test.false c.loop-index.invariant.each
