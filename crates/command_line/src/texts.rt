@@ -49,7 +49,7 @@ pub(crate) const TABLES: &str =
 \x20 tables agencies 1 stops 3 trips 2 stop_times 5 calendar 1 calendar_dates 0 transfers 0\n\
 stops counts stations too, agencies is agency.txt. frequencies.txt is checked, and not counted.\n\
 A refusal names the first fault. With --all-faults the others are reported on standard error, file by\n\
-file. The times of trips are judged once nothing else is wrong.\n\
+file. The times of trips are judged once each record of stop_times.txt is fine by itself.\n\
 \n\
 Example: csa tables examples/base --all-faults\n\
 With --json: {\"agencies\":1,\"calendar\":1,\"calendar_dates\":0,\"stop_times\":5,\"stops\":3,\"transfers\":0,\

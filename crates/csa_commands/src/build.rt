@@ -69,7 +69,8 @@ pub fn run<H: Files + Disk + AllocGlobal + Clock, O: Write, E: Write>(
             print_counts(alloc, &built.report, output)
         }
         Err(Failure::Refused(fault)) => {
-            explain_faults(rt, folder, &fault, errors, request.all_faults);
+            let (all, strict) = (request.all_faults, request.plan.strict);
+            explain_faults(rt, folder, &fault, errors, all, strict);
             refuse_feed(alloc, output, fault)
         }
         Err(Failure::Unreadable(path)) => status::report_unread_zone(rt, errors, path),

@@ -58,7 +58,7 @@ pub fn run<H: Files + Disk + AllocGlobal, O: Write, E: Write>(
     match count_records(rt, folder) {
         Ok(counts) => print_counts(alloc, counts, request.json, output),
         Err(fault) => {
-            explain_faults(rt, folder, &fault, errors, request.all_faults);
+            explain_faults(rt, folder, &fault, errors, request.all_faults, false);
             refuse_feed(alloc, output, fault)
         }
     }
