@@ -23,4 +23,5 @@ pub returns-in-Ok : goal.returns-in-Ok
 returns-in-Ok g c =
     let may_hold = g.H.ImageDisk.may_hold c.args.rt.now in
     wanted_of_text may_hold c.args.path.now c.as_str.result.now c.args.image.now.names c.wanted_of-wanted.result
-    (subst (IsTextAt may_hold c.args.path.now) (sym c.as_str.ensures.value) c.in-Ok.ensures) c.wanted_of-wanted.ensures.wanted c.wanted_of-wanted.ensures.unknown
+    (subst (IsTextAt may_hold c.args.path.now) (sym c.as_str.ensures.value) c.in-Ok.ensures)
+    c.wanted_of-wanted.ensures.wanted c.wanted_of-wanted.ensures.unknown
