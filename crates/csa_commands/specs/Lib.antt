@@ -19,5 +19,4 @@ pub mod Refusing
 pub mod Stations
 pub mod StopLines
 pub mod Tabling
-pub mod Writing
 pub mod Zoning

@@ -8,9 +8,9 @@ use crate::{departures, info, journey, profile, status, stops, upgrade, verify};
 use command_requests::{
     DeparturesRequest, InfoRequest, JourneyRequest, ProfileRequest, StopsRequest, UpgradeRequest,
 };
+use image_files::{ImageDisk, OutDisk};
 use image_verifier::Verified;
 use std::io::Write;
-use std::rt::Files;
 
 /// A command over the image at a path, where `-` is the standard input.
 #[derive(Clone, Copy, Drop)]
@@ -70,7 +70,7 @@ impl<'a> ImageRequest<'a> {
 /// why there is none, which it explains in `errors`. Returns `ACCEPTED`, `REFUSED`, `INPUT_OUTPUT` if a file or a line
 /// can't be read or written, or `OUT_OF_MEMORY`, with nothing printed to `output`. If `warnings` is set, warns in
 /// `errors` of a window that goes beyond the image's connections.
-pub fn answer<H: Files + AllocGlobal, O: Write, E: Write>(
+pub fn answer<H: OutDisk + ImageDisk<Image = H::File> + AllocGlobal, O: Write, E: Write>(
     rt: &H,
     image: &Verified,
     asked: ImageRequest<'_>,
@@ -78,7 +78,8 @@ pub fn answer<H: Files + AllocGlobal, O: Write, E: Write>(
     errors: &mut E,
     warnings: bool,
 ) -> u8
-    ensures { IsOutcome (PrintsAsked image.now asked.entry) result (O.contents output.old) (O.contents output.new) }
+    ensures { IsOutcome (PrintsAsked (H.may_hold rt.now) (H.files rt.now) image.now asked.entry) result
+        (O.contents output.old) (O.contents output.new) }
 {
     let status = do_asked(rt, image, asked, output, errors);
     if warnings && status == status::ACCEPTED {
@@ -88,14 +89,15 @@ pub fn answer<H: Files + AllocGlobal, O: Write, E: Write>(
 }
 
 // Does what is asked, as `answer` does, but warns of nothing.
-fn do_asked<H: Files + AllocGlobal, O: Write, E: Write>(
+fn do_asked<H: OutDisk + ImageDisk<Image = H::File> + AllocGlobal, O: Write, E: Write>(
     rt: &H,
     image: &Verified,
     asked: ImageRequest<'_>,
     output: &mut O,
     errors: &mut E,
 ) -> u8
-    ensures { IsOutcome (PrintsAsked image.now asked.entry) result (O.contents output.old) (O.contents output.new) }
+    ensures { IsOutcome (PrintsAsked (H.may_hold rt.now) (H.files rt.now) image.now asked.entry) result
+        (O.contents output.old) (O.contents output.new) }
 {
     match asked {
         ImageRequest::Verify(_) => verify::run(rt.alloc(), image, output),

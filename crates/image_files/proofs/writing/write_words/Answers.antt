@@ -5,8 +5,8 @@ use Rattle.std.specs.Int.{w32, to_le_bytes}
 use Rattle.std.specs.Io.KnownBytes.{Appends}
 use Rattle.std.specs.Slice.Iter.{chunks_rest}
 use Rattle.image_layout.specs.Text.{bytes_of}
-use Rattle.csa_commands.proofs.Appended.{appended_and_kept, appended_in_turns, nothing_appended}
-use Rattle.csa_commands.proofs.writing.write_words.Goals as goal
+use Rattle.image_files.proofs.Appended.{appended_and_kept, appended_in_turns, nothing_appended}
+use Rattle.image_files.proofs.writing.write_words.Goals as goal
 
 -- what holds in any case holds at a value
 at_value : {T E P : Type 0} (r : Result T E) → P → OnOk r P

@@ -2,7 +2,7 @@ use Rattle.std.proofs.Common.{◌≡◌, ℕ, List, ◌++◌}
 use Rattle.std.specs.Io.KnownBytes.{Appends}
 use Rattle.std.specs.Slice.Iter.{chunks_rest}
 use Rattle.image_layout.specs.Text.{bytes_of}
-use Rattle.csa_commands.proofs.writing.write_words.Given as goal
+use Rattle.image_files.proofs.writing.write_words.Given as goal
 
 -- the words before the rest are written
 abbrev pub invariant-loop-piece : goal.invariant-loop-piece
