@@ -4,14 +4,12 @@ use Rattle.std.proofs.Common.{length, take, Option, Result, Ok, Err, refl, sym, 
 use Rattle.std.proofs.lemmas.List.{take-append-le, take_all, length_push}
 use Rattle.std.specs.Io.KnownBytes.{Appends, Consumes, IsAtEnd}
 use Rattle.std.proofs.KnownBytes.{Appends-nil, Appends-trans}
-use Rattle.epochs.specs.Seats.{SeatValue}
 use Rattle.lines.specs.Counting.{one_more}
 use Rattle.lines.specs.Cutting.{IsCut, IsOneLine, lines_of, rest_of, whole_lines}
 use Rattle.lines.specs.Reading.{GivesEnded, GivesRest, HasGiven, unread_of}
 use Rattle.lines.specs.declared.reader.LineReader.{LineReader}
 use Rattle.lines.proofs.CutLemmas.{IsCut-lines, IsCut-rest, IsCut-whole, lines_of-some}
 use Rattle.lines.proofs.GivenLemmas.{HasGiven-start, HasGiven-read, HasGiven-ended, HasGiven-rest, HasGiven-nothing}
-use Rattle.orders.specs.Ordering.{OrderValue}
 use Rattle.session.specs.declared.reply_form.ReplyForm.{ReplyForm}
 use Rattle.session.specs.declared.fault.Ended.{Ended}
 use Rattle.session.specs.declared.fault.SessionFault.{SessionFault}

@@ -1,5 +1,5 @@
 -- Orders that are carried out one after the other.
-use Rattle.std.proofs.Common.{◌≡◌, ◌∙◌, ◌++◌, ◌∷◌, List, [], length, map, refl, sym, subst, ap, true}
+use Rattle.std.proofs.Common.{◌≡◌, ◌∙◌, ◌++◌, ◌∷◌, List, [], length, map, refl, sym, subst, ap}
 use Rattle.std.proofs.lemmas.List.{append_assoc, append-nil, length-map, map-append}
 use Rattle.load_orders.specs.Keeping.{QueueId}
 use Rattle.load_orders.specs.Telling.{LoaderOrdersValue}
