@@ -7,9 +7,6 @@ use Rattle.load_orders.specs.declared.queue.Order.{Order}
 use Rattle.workers.specs.Carrying.{AreCarried, AreCarriedOut, Depot, Errand, IsCarriedOut, LoadsValue, depot_of, loads_value}
 use Rattle.workers.specs.Words.{LoadWords}
 
-orders_in : {D N : Type 0} → List (Errand D N) → List (Order N)
-orders_in errands = map (λ errand. errand.order) errands
-
 module _ {F D T L N : Type 0} (depot : Depot F D T L N) where
   -- one more behind the others
   carried_also : (earlier : List (Order N)) (errands : List (Errand D N)) (errand : Errand D N) (a m b : L)
