@@ -1,14 +1,11 @@
 -- Orders that are carried out one after the other.
-use Rattle.std.proofs.Common.{◌≡◌, ◌∙◌, ◌++◌, ◌∷◌, List, [], length, map, refl, sym, subst, ap, true}
+use Rattle.std.proofs.Common.{◌≡◌, ◌∙◌, ◌++◌, ◌∷◌, List, [], length, map, refl, sym, subst, ap}
 use Rattle.std.proofs.lemmas.List.{append_assoc, append-nil, length-map, map-append}
 use Rattle.load_orders.specs.Keeping.{QueueId}
 use Rattle.load_orders.specs.Telling.{LoaderOrdersValue}
 use Rattle.load_orders.specs.declared.queue.Order.{Order}
 use Rattle.workers.specs.Carrying.{AreCarried, AreCarriedOut, Depot, Errand, IsCarriedOut, LoadsValue, depot_of, loads_value}
 use Rattle.workers.specs.Words.{LoadWords}
-
-orders_in : {D N : Type 0} → List (Errand D N) → List (Order N)
-orders_in errands = map (λ errand. errand.order) errands
 
 module _ {F D T L N : Type 0} (depot : Depot F D T L N) where
   -- one more behind the others

@@ -1,11 +1,12 @@
 -- How a session and an order end.
-use Rattle.std.proofs.Common.{◌≡◌, ◌<◌, ◌∷◌, ◌++◌, ℕ, List, [], Option, Some, None, IfSome, Result, Ok, refl, sym, subst, inl}
+use Rattle.std.proofs.Common.{◌≡◌, ◌∷◌, ◌++◌, ℕ, List, [], Option, Some, None, IfSome, Result, Ok, refl, sym, subst, inl}
 use Rattle.epochs.specs.Seats.{SeatValue}
 use Rattle.epochs.specs.declared.seats.LoaderAnswer.{LoaderAnswer}
 use Rattle.lines.specs.Counting.{failures_of, inner_of}
 use Rattle.session.specs.declared.fault.Ended.{Ended}
 use Rattle.session.specs.declared.fault.SessionFault.{SessionFault}
-use Rattle.session.specs.Sessions.{LastRelease, Serves}
+use Rattle.session.specs.Sessions.{LastRelease, Serves, state_of}
+use Rattle.session.specs.Turns.{desk_state}
 use Rattle.workers.specs.Ends.{Session, end_of}
 use Rattle.workers.specs.Loading.{IsEarly, IsNotPublished}
 use Rattle.workers.specs.Sessions.{AreServed, IsServedAt, IsSession, MayClose, Standing}
@@ -21,16 +22,19 @@ module _ {C R W T S N : Type 0} (words : SessionWords C R W T S N) where
       → words.clients.opens client (Ok was) → inner_of new.reader ≡ was.0 → inner_of new.writer ≡ was.1
       → failures_of new.reader ≡ 0 → failures_of new.writer ≡ 0 → end ≡ end_of result
       → LastRelease (words.seats.number a.seat) last (words.seats.shown b.seat)
-      → Serves words.form (words.seats.number a.seat) result (words.unread (inner_of new.reader)) (words.unread (inner_of now.reader))
-      (words.written (inner_of new.writer)) (words.written (inner_of now.writer))
-      (failures_of new.reader < failures_of now.reader) (failures_of new.writer < failures_of now.writer)
-      (words.seats.shown a.seat) a.asked last b.asked
+      → Serves words.form (words.seats.number a.seat) result
+      (state_of words.unread words.written new.reader new.writer (desk_state (words.seats.shown a.seat) a.asked))
+      (state_of words.unread words.written now.reader now.writer (desk_state last b.asked))
       → IsSession words client (now, end) a b
   session_of client was new now end result last a b opens reader writer no_reads no_writes end_is released serves =
       let Shows = λ (read : R) (write : W) (n m : ℕ).
-      Serves words.form (words.seats.number a.seat) result (words.unread read) (words.unread (inner_of now.reader))
-      (words.written write) (words.written (inner_of now.writer)) (n < failures_of now.reader) (m < failures_of now.writer)
-      (words.seats.shown a.seat) a.asked last b.asked in
+      Serves words.form (words.seats.number a.seat) result (record {
+        unread = words.unread read;
+        written = words.written write;
+        failed_reads = n;
+        failed_writes = m;
+        desk = desk_state (words.seats.shown a.seat) a.asked;
+      }) (state_of words.unread words.written now.reader now.writer (desk_state last b.asked)) in
       let read = subst (λ (r : R). Shows r (inner_of new.writer) (failures_of new.reader) (failures_of new.writer)) reader serves in
       let written = subst (λ (w : W). Shows was.0 w (failures_of new.reader) (failures_of new.writer)) writer read in
       let from_no_read = subst (λ (n : ℕ). Shows was.0 was.1 n (failures_of new.writer)) no_reads written in

@@ -5,6 +5,7 @@ use Rattle.epochs.specs.SeatHistory.{Grows}
 use Rattle.epochs.specs.Seats.{SeatValue}
 use Rattle.shelf_steps.specs.declared.views.KnownHistory.{KnownHistory}
 use Rattle.session.specs.Learning.{IsPublishedIfHeld, Learns, TellPublished}
+use Rattle.session.specs.Turns.{desk_state}
 use Rattle.session.specs.declared.desk.Streams.{Streams}
 use Rattle.session.proofs.LearnLemmas.{learning_tells, learns_on, learns_same}
 use Rattle.workers.specs.Ends.{Session}
@@ -39,7 +40,7 @@ module _ {C R W T S N : Type 0} (words : SessionWords C R W T S N) where
   exact_one history client (Some now) end a m none served tells =
       let held = subst (λ (h : Option (ℕ × ImageValue)). IsPublishedIfHeld history h) (sym none) tt in (
         served,
-        tells words.form (words.seats.number a.seat) a.asked m.asked served.serves.turns served.last served.serves.does served.released held,
+        tells words.form (words.seats.number a.seat) a.asked served.serves.turns (desk_state served.last m.asked) served.serves.does served.released held,
       )
 
   -- each session told what was published in the history that the seat knew then, so also what was published in that which it knows in the end

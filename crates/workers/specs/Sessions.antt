@@ -1,15 +1,16 @@
 -- What clients' sessions do.
-use Rattle.std.specs.Prelude.{◌≡◌, ◌<◌, ◌++◌, ◌∷◌, ℕ, Some, None, List, [], Result, Ok, Err, IsPermutation, MatchOption, flat_map, map}
+use Rattle.std.specs.Prelude.{◌≡◌, ◌++◌, ◌∷◌, ℕ, Some, None, List, [], Result, Ok, Err, IsPermutation, MatchOption, flat_map, map}
 use Rattle.client_queue.specs.declared.queue.DealerView.{DealerView}
 use Rattle.epochs.specs.Seats.{SeatValue}
-use Rattle.lines.specs.Counting.{failures_of, inner_of}
+use Rattle.lines.specs.Counting.{inner_of}
 use Rattle.load_orders.specs.Asking.{OrderRoute, WorkerOrdersValue}
 use Rattle.orders.specs.Ordering.{OrderValue}
 use Rattle.shelf_steps.specs.declared.views.KnownHistory.{KnownHistory}
 use Rattle.session.specs.Learning.{AreFromPublished, Learns, TellPublished}
 use Rattle.session.specs.declared.fault.Ended.{Ended}
 use Rattle.session.specs.declared.fault.SessionFault.{SessionFault}
-use Rattle.session.specs.Sessions.{LastRelease, Serves}
+use Rattle.session.specs.Sessions.{LastRelease, Serves, SessionState, state_of}
+use Rattle.session.specs.Turns.{desk_state}
 use Rattle.workers.specs.Ends.{Session, end_of}
 use Rattle.workers.specs.Ordering.{IsAskedBy}
 use Rattle.workers.specs.Words.{SessionWords}
@@ -64,6 +65,16 @@ abbrev pub visit_of : {C R W : Type 0} → C → Session R W → Visit C R W
 visit_of client session = record { client = client; session = session }
 
 module _ {C R W T S N : Type 0} (words : SessionWords C R W T S N) where
+  -- a session as it begins, over what opening the client gave
+  abbrev pub opened : R × W → Standing S → SessionState
+  opened was a = record {
+    unread = words.unread was.0;
+    written = words.written was.1;
+    failed_reads = 0;
+    failed_writes = 0;
+    desk = desk_state (words.seats.shown a.seat) a.asked;
+  }
+
   -- the client's own reader and writer were opened and served at this seat, and are so now, with only this session's failures counted
   pub record IsSession (client : C) (visit : Streams R W × SessionEnd) (a b : Standing S) : Type 0 where
     pub was : R × W
@@ -72,9 +83,8 @@ module _ {C R W T S N : Type 0} (words : SessionWords C R W T S N) where
     pub last : SeatValue
     pub end_is : visit.1 ≡ end_of result
     pub released : LastRelease (words.seats.number a.seat) last (words.seats.shown b.seat)
-    pub serves : Serves words.form (words.seats.number a.seat) result (words.unread was.0) (words.unread (inner_of visit.0.reader))
-        (words.written was.1) (words.written (inner_of visit.0.writer)) (0 < failures_of visit.0.reader) (0 < failures_of visit.0.writer)
-        (words.seats.shown a.seat) a.asked last b.asked
+    pub serves : Serves words.form (words.seats.number a.seat) result (opened was a)
+        (state_of words.unread words.written visit.0.reader visit.0.writer (desk_state last b.asked))
 
   -- the client couldn't be opened, and nothing was changed
   pub record IsUnopened (client : C) (end : SessionEnd) (a b : Standing S) : Type 0 where

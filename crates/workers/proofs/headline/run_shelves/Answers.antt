@@ -1,4 +1,4 @@
-use Rattle.std.proofs.Common.{◌≡◌, ◌∙◌, All, subst, sym}
+use Rattle.std.proofs.Common.{◌≡◌, ◌∙◌, All, subst}
 use Rattle.workers.proofs.headline.run_shelves.Goals as goal
 
 -- the seats and the loader's are of the shelves of this name
