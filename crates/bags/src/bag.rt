@@ -59,6 +59,7 @@ impl<C: Criterion> Bag<C> {
     /// added: a point of the same departure and value that is there already stays, with its tag. If memory runs out,
     /// the bag stays as it was; a point that isn't added needs none. The value must be one that the criterion admits,
     /// as all values of journeys are.
+    #[inline(always)]
     pub fn insert(&mut self, departure: u32, value: C::V, tag: usize) -> Result<bool, AllocError>
         requires { Admits (C.rules (criterion_of self.old)) value }
         ensures criterion { criterion_of self.new ≡ criterion_of self.old }

@@ -16,8 +16,10 @@ enum Argument {
     Words(&'static str, &'static str, &'static str),
     /// An option with a value.
     Option(&'static str, &'static str, &'static str),
-    /// An option with a value, which may be given several times.
-    Options(&'static str, &'static str, &'static str),
+    /// An option whose value is a stop_id, which may begin with a hyphen.
+    Stop(&'static str, &'static str, &'static str),
+    /// The same; the option may be given several times.
+    Stops(&'static str, &'static str, &'static str),
     /// An option with a value; the option may be left out.
     MaybeOption(&'static str, &'static str, &'static str),
     /// An option whose value is the name of a criterion.
@@ -48,22 +50,22 @@ const IMAGE: [Argument; 1] = [Argument::Positional(
     "The image's file, or - for standard input",
 )];
 
-/// Where a query begins. A stop_id may begin with a hyphen.
-const SOURCE: [Argument; 1] = [Argument::Option(
+/// Where a query begins.
+const SOURCE: [Argument; 1] = [Argument::Stop(
     "from",
     "STOP_ID",
     "The stop_id of the stop where the journey begins",
 )];
 
 /// Where a query ends.
-const DESTINATION: [Argument; 1] = [Argument::Option(
+const DESTINATION: [Argument; 1] = [Argument::Stop(
     "to",
     "STOP_ID",
     "The stop_id of the stop where the journey ends",
 )];
 
 /// Where queries from all stops end.
-const DESTINATIONS: [Argument; 1] = [Argument::Options(
+const DESTINATIONS: [Argument; 1] = [Argument::Stops(
     "to",
     "STOP_ID",
     "The stop_id of the stop where journeys end; given several times, at any of these stops (at most 1000)",
@@ -71,12 +73,12 @@ const DESTINATIONS: [Argument; 1] = [Argument::Options(
 
 /// Where queries begin and end.
 const STATIONS: [Argument; 2] = [
-    Argument::Options(
+    Argument::Stops(
         "from",
         "STOP_ID",
         "The stop_id of the stop where the journey begins; given several times, of any of these stops (at most 1000)",
     ),
-    Argument::Options(
+    Argument::Stops(
         "to",
         "STOP_ID",
         "The stop_id of the stop where the journey ends; given several times, of any of these stops (at most 1000)",
@@ -187,11 +189,17 @@ const PROFILE: [Argument; 5] = [
     ),
 ];
 
-const STOPS: [Argument; 1] = [Argument::MaybeWord(
-    "text",
-    "TEXT",
-    "A part of a stop_id, as it is spelled; without it all stops are listed",
-)];
+/// Facts that are printed as JSON instead of lines.
+const JSON: [Argument; 1] = [Argument::Flag("json", "Print an object of JSON")];
+
+const STOPS: [Argument; 2] = [
+    Argument::MaybeWord(
+        "text",
+        "TEXT",
+        "A part of a stop_id, as it is spelled; without it all stops are listed",
+    ),
+    Argument::Flag("json", "Print an array of JSON"),
+];
 
 const FOLDER: [Argument; 1] = [Argument::Positional(
     "folder",
@@ -318,7 +326,7 @@ const IMAGE_TASKS: [Task; 4] = [
         name: "info",
         about: "Prints what an image has: its layout, size and base, its counts, and the trips of each service day",
         notes: texts::INFO,
-        arguments: &[&IMAGE],
+        arguments: &[&IMAGE, &JSON],
     },
     Task {
         name: "journey",
@@ -370,13 +378,13 @@ const OTHER_TASKS: [Task; 6] = [
         name: "tables",
         about: "Checks the files of a GTFS feed, and prints how many records each has",
         notes: texts::TABLES,
-        arguments: &[&FOLDER, &FAULTS],
+        arguments: &[&FOLDER, &FAULTS, &JSON],
     },
     Task {
         name: "days",
         about: "Prints the first and the last service day of a GTFS feed, and how many trips run on each day",
         notes: texts::DAYS,
-        arguments: &[&FOLDER],
+        arguments: &[&FOLDER, &JSON],
     },
     Task {
         name: "stations",
@@ -428,6 +436,10 @@ fn option<'a>(alloc: Global, id: &'a str, name: &'a str, help: &'a str) -> Arg<'
     value(alloc, id, name, help).required(true).long(id)
 }
 
+fn stop<'a>(alloc: Global, id: &'a str, name: &'a str, help: &'a str) -> Arg<'a> {
+    option(alloc, id, name, help).allow_hyphen_values(true)
+}
+
 fn flag<'a>(alloc: Global, id: &'a str, help: &'a str) -> Arg<'a> {
     Arg::new(alloc, id)
         .long(id)
@@ -445,8 +457,9 @@ fn arg_of<'a>(alloc: Global, argument: Argument) -> Result<Arg<'a>, AllocError> 
         Argument::MaybeWord(id, name, help) => Ok(value(alloc, id, name, help)),
         Argument::Words(id, name, help) => Ok(words(alloc, id, name, help)),
         Argument::Option(id, name, help) => Ok(option(alloc, id, name, help)),
-        Argument::Options(id, name, help) => {
-            Ok(option(alloc, id, name, help).action(ArgAction::Append))
+        Argument::Stop(id, name, help) => Ok(stop(alloc, id, name, help)),
+        Argument::Stops(id, name, help) => {
+            Ok(stop(alloc, id, name, help).action(ArgAction::Append))
         }
         Argument::MaybeOption(id, name, help) => Ok(value(alloc, id, name, help).long(id)),
         Argument::Criterion(id, name, help) => {

@@ -5,10 +5,10 @@ use crate::values::{clock, count, month_name, named_folder, number, port, spelle
 use clap::error::ErrorKind;
 use clap::{ArgMatches, Error};
 use command_requests::{
-    AnswerForm, BuildRequest, CommandRequest, DeparturesForm, DeparturesRequest, FirstDay,
-    JourneyRequest, MatrixRequest, NamedFolder, PictureRows, PlanText, ProfileRequest, Question,
-    Seconds, ServeRequest, StationsRequest, StopsRequest, TableWorkers, TablesRequest,
-    UpgradeRequest, Workers, days_of,
+    AnswerForm, BuildRequest, CommandRequest, DaysRequest, DeparturesForm, DeparturesRequest,
+    FirstDay, InfoRequest, JourneyRequest, MatrixRequest, NamedFolder, PictureRows, PlanText,
+    ProfileRequest, Question, Seconds, ServeRequest, StationsRequest, StopsRequest, TableWorkers,
+    TablesRequest, UpgradeRequest, Workers, days_of,
 };
 use criteria::CriterionName;
 use std::alloc::{AllocError, Global};
@@ -252,12 +252,12 @@ fn request_in<'a>(
 fn plain_request<'a>(name: &str, matches: &ArgMatches<'a>) -> Option<CommandRequest<'a>> {
     match name {
         "verify" => matches.get_str("image").map(CommandRequest::Verify),
-        "info" => matches.get_str("image").map(CommandRequest::Info),
+        "info" => info_request(matches).map(CommandRequest::Info),
         "journey" => journey_request(matches).map(CommandRequest::Journey),
         "matrix" => matrix_request(matches).map(CommandRequest::Matrix),
         "stops" => stops_request(matches).map(CommandRequest::Stops),
         "tables" => tables_request(matches).map(CommandRequest::Tables),
-        "days" => matches.get_str("folder").map(CommandRequest::Days),
+        "days" => days_request(matches).map(CommandRequest::Days),
         "stations" => stations_request(matches).map(CommandRequest::Stations),
         "upgrade" => upgrade_request(matches).map(CommandRequest::Upgrade),
         _ => None,
@@ -338,10 +338,18 @@ fn with_usage(alloc: Global, command: &str, text: &str) -> Result<String, AllocE
     format!(in alloc; "{text}\n{usage}\n\n{hint}")
 }
 
+fn info_request<'a>(matches: &ArgMatches<'a>) -> Option<InfoRequest<'a>> {
+    Some(InfoRequest {
+        image: matches.get_str("image")?,
+        json: matches.get_flag("json"),
+    })
+}
+
 fn stops_request<'a>(matches: &ArgMatches<'a>) -> Option<StopsRequest<'a>> {
     Some(StopsRequest {
         image: matches.get_str("image")?,
         text: matches.get_str("text").unwrap_or(""),
+        json: matches.get_flag("json"),
     })
 }
 
@@ -357,6 +365,14 @@ fn tables_request<'a>(matches: &ArgMatches<'a>) -> Option<TablesRequest<'a>> {
     Some(TablesRequest {
         folder: matches.get_str("folder")?,
         all_faults: matches.get_flag("all-faults"),
+        json: matches.get_flag("json"),
+    })
+}
+
+fn days_request<'a>(matches: &ArgMatches<'a>) -> Option<DaysRequest<'a>> {
+    Some(DaysRequest {
+        folder: matches.get_str("folder")?,
+        json: matches.get_flag("json"),
     })
 }
 

@@ -1,7 +1,7 @@
 //! What the help prints below the arguments of each command.
 
 /// The program's version, as `--version` prints it.
-pub(crate) const VERSION: &str = "1.5.0";
+pub(crate) const VERSION: &str = "1.6.0";
 
 pub(crate) const STATUSES: &str = "Exit status:\n\
 \x20 0   accepted\n\
@@ -31,12 +31,16 @@ pub(crate) const INFO: &str = "Each line is a word and a value, with a space bet
 \x20 name-bytes      bytes of all stop_ids and trip_ids together\n\
 \x20 trips-YYYYMMDD  trips of this service day, each repetition by itself; the earliest day first, days without\n\
 \x20                 trips left out\n\
+With --json the same words are the keys of an object, and utc is null for none.\n\
 An image that csa verify refuses is refused.\n\
 \n\
-Example: csa info examples/base.csa";
+Example: csa info examples/base.csa\n\
+With --json: {\"base\":1705276800,\"bytes\":188,\"connections\":3,\"footpaths\":3,\"layout\":1,\
+\"name-bytes\":7,\"stops\":3,\"trips\":2,\"trips-20240115\":2,\"utc\":\"2024-01-15T00:00:00Z\"}";
 
 pub(crate) const STOPS: &str =
     "Each line is the number of a stop in the image, from 0 on, and its stop_id: 0 A\n\
+With --json: [{\"id\":\"A\",\"number\":0},{\"id\":\"B\",\"number\":1},{\"id\":\"C\",\"number\":2}]\n\
 \n\
 Example: csa stops examples/base.csa";
 
@@ -45,9 +49,11 @@ pub(crate) const TABLES: &str =
 \x20 tables agencies 1 stops 3 trips 2 stop_times 5 calendar 1 calendar_dates 0 transfers 0\n\
 stops counts stations too, agencies is agency.txt. frequencies.txt is checked, and not counted.\n\
 A refusal names the first fault. With --all-faults the others are reported on standard error, file by\n\
-file. The times of trips are judged once nothing else is wrong.\n\
+file. The times of trips are judged once each record of stop_times.txt is fine by itself.\n\
 \n\
-Example: csa tables examples/base --all-faults";
+Example: csa tables examples/base --all-faults\n\
+With --json: {\"agencies\":1,\"calendar\":1,\"calendar_dates\":0,\"stop_times\":5,\"stops\":3,\"transfers\":0,\
+\"trips\":2}";
 
 pub(crate) const DAYS: &str = "Each line is a word and a value, with a space between:\n\
 \x20 first           the first day, YYYYMMDD, on which a row of calendar.txt or calendar_dates.txt\n\
@@ -56,9 +62,11 @@ pub(crate) const DAYS: &str = "Each line is a word and a value, with a space bet
 \x20 trips-YYYYMMDD  trips that run on this day, each counted once, also if frequencies.txt repeats it;\n\
 \x20                 a line for each day from the first on, 366 at most\n\
 \x20 unlisted        the first day that has no such line, YYYYMMDD, if there are more up to the last\n\
+With --json the same words are the keys of an object; days are texts, and null for none.\n\
 A feed that csa tables refuses is refused.\n\
 \n\
-Example: csa days examples/base";
+Example: csa days examples/base\n\
+With --json: {\"first\":\"20240115\",\"last\":\"20240115\",\"trips-20240115\":2}";
 
 pub(crate) const STATIONS: &str =
     "Each line is a station, or a stop without one, in the order of stops.txt, with tabs between its parts:\n\

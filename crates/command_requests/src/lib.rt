@@ -14,7 +14,7 @@ pub use plans::{
     PictureRows, PlanText, Seconds, TableWorkers, UtcOffset, Workers, ZoneText, days_of,
 };
 pub use requests::{
-    AnswerForm, BuildRequest, CommandRequest, DeparturesForm, DeparturesRequest, JourneyRequest,
-    MatrixRequest, NamedFolder, ProfileRequest, Question, ServeRequest, StationsRequest,
-    StopsRequest, TablesRequest, UpgradeRequest,
+    AnswerForm, BuildRequest, CommandRequest, DaysRequest, DeparturesForm, DeparturesRequest,
+    InfoRequest, JourneyRequest, MatrixRequest, NamedFolder, ProfileRequest, Question,
+    ServeRequest, StationsRequest, StopsRequest, TablesRequest, UpgradeRequest,
 };

@@ -8,8 +8,8 @@ use criteria::CriterionName;
 pub enum CommandRequest<'a> {
     /// To verify the image in a file, or in the standard input for `-`.
     Verify(&'a str),
-    /// To print what the image in a file has, or in the standard input for `-`.
-    Info(&'a str),
+    /// To print what an image has.
+    Info(InfoRequest<'a>),
     /// To check a journey against an image.
     Journey(JourneyRequest<'a>),
     /// To answer a question over an image.
@@ -21,7 +21,7 @@ pub enum CommandRequest<'a> {
     /// To read the tables of a feed's folder.
     Tables(TablesRequest<'a>),
     /// To print which service days the feed of a folder has.
-    Days(&'a str),
+    Days(DaysRequest<'a>),
     /// To list the stations of a feed's folder, with their stops.
     Stations(StationsRequest<'a>),
     /// To make the image of a feed's folder.
@@ -32,6 +32,13 @@ pub enum CommandRequest<'a> {
     Upgrade(UpgradeRequest<'a>),
     /// To serve sessions.
     Serve(ServeRequest<'a>),
+}
+
+/// The file of an image, or `-` for the standard input, and whether what it has is printed as JSON.
+#[derive(Clone, Copy, Drop)]
+pub struct InfoRequest<'a> {
+    pub image: &'a str,
+    pub json: bool,
 }
 
 /// Where from and where to, by the names of stops, and when: seconds after the image's base.
@@ -148,11 +155,12 @@ pub struct ProfileRequest<'a> {
     pub rows: PictureRows,
 }
 
-/// The image, and the text that the names of the listed stops contain.
+/// The image, the text that the names of the listed stops contain, and whether they are listed as JSON.
 #[derive(Clone, Copy, Drop)]
 pub struct StopsRequest<'a> {
     pub image: &'a str,
     pub text: &'a str,
+    pub json: bool,
 }
 
 /// A feed's folder, the text that the ids or the names of the listed stations contain, and whether they are listed as
@@ -171,11 +179,20 @@ pub struct UpgradeRequest<'a> {
     pub out: &'a str,
 }
 
-/// A feed's folder, and whether all its faults are reported, or the first alone.
+/// A feed's folder, whether all its faults are reported, or the first alone, and whether its counts are printed as
+/// JSON.
 #[derive(Clone, Copy, Drop)]
 pub struct TablesRequest<'a> {
     pub folder: &'a str,
     pub all_faults: bool,
+    pub json: bool,
+}
+
+/// A feed's folder, and whether its service days are printed as JSON.
+#[derive(Clone, Copy, Drop)]
+pub struct DaysRequest<'a> {
+    pub folder: &'a str,
+    pub json: bool,
 }
 
 /// Where a feed is, where its image goes, and what is made of it.

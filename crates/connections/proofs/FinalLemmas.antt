@@ -64,12 +64,6 @@ fault_of_hops feed zone base other runs n run fault e at (inr fact) =
       },
     )
 
-pub day_refused : (feed : Feed) (zone : Zone) (first : Day) (days : ℕ) (fault : DayFault) → (fault ≡ DayMemory)
-    ⊎ ((fault ≡ DayOutOfRange) × HasNoStartAmong zone (days_from first days))
-    → IsWantOfMemory (faults.Day fault) ⊎ IsFirstRefusal feed zone first days (faults.Day fault)
-day_refused feed zone first days fault (inl memory) = inl memory
-day_refused feed zone first days fault (inr fact) = inr (inl (record { is = ap (λ (f : DayFault). faults.Day f) fact.0; among = fact.1 }))
-
 pub have_starts : (zone : Zone) (days : List Day) (started : List ServiceDay) → AreStarted zone days started → HaveStarts zone days
 have_starts zone days started s =
     subst (λ (ds : List Day). HaveStarts zone ds) s.days_are

@@ -193,10 +193,6 @@ pub covers_here : (rows : List Frequency) (i : ℕ) (none : Frequency) → i < l
 covers_here rows i none lt s is =
     start_more rows i none lt s ∙ or_right (is_start (take i rows) s) (leaves_at s (get_or rows i none)) is
 
--- a row without a headway covers nothing
-pub covers_nothing : (row : Frequency) (test : ℕ → Bool) → row.headway ≡ 0 → (s : ℕ) → leaves_at s row ≡ true → test s ≡ true
-covers_nothing row test none s is = absurd (let some = (row_start s row is).0 in omega (arith, some, none))
-
 -- ---- the greatest end time
 
 end_push : (rows : List Frequency) (row : Frequency) → last_end (rows ++ row ∷ []) ≡ max row.end (last_end rows)

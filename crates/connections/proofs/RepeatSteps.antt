@@ -101,13 +101,6 @@ module _ (row : Frequency) (from past wait start : ℕ) (known : IsAwaited row f
         (and_right (nat_lt 0 row.headway && nat_le row.start s) (nat_lt s row.end) (le-ltb s row.end (omega (arith, over, late))))
   ]
 
--- a headway of 0 gives none
-pub row_without : (row : Frequency) (from : ℕ) → row.headway ≡ 0 → IsNever (λ s. leaves_at s row) from
-row_without row from none s low =
-    and_left (nat_lt 0 row.headway && nat_le row.start s && nat_lt s row.end) ((s - row.start) % row.headway == 0)
-    (and_left (nat_lt 0 row.headway && nat_le row.start s) (nat_lt s row.end)
-    (and_left (nat_lt 0 row.headway) (nat_le row.start s) (le-ltb 0 row.headway (omega (arith, none)))))
-
 -- ---- rows
 
 -- what is next under one name is so under the other

@@ -37,9 +37,6 @@ pub runs_here : (feed : Feed) (day : Day) (t : ℕ) (trip : Trip) (rows : List F
     → rows ≡ rows_for feed.frequencies.items t → runs_of_trip rows day t trip ≡ runs_at feed day t trip
 runs_here feed day t trip rows b ran is same = let on : runs_on feed day trip ≡ true = sym is ∙ ran in rw (on, same) refl
 
-pub runs_nowhere : (feed : Feed) (day : Day) (t : ℕ) (trip : Trip) (b : Bool) → b ≡ false → b ≡ runs_on feed day trip → runs_at feed day t trip ≡ []
-runs_nowhere feed day t trip b idle is = let off : runs_on feed day trip ≡ false = sym is ∙ idle in rw off refl
-
 -- the runs of one day more
 pub days_more : (feed : Feed) (days : List ServiceDay) (i : ℕ) (d : ServiceDay) → i < length days
     → runs_of_days feed (map (λ day. day.day) (take (i + 1) days)) ≡ runs_of_days feed (map (λ day. day.day) (take i days)) ++ runs_from feed

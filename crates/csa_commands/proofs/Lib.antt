@@ -1,5 +1,4 @@
 mod AnswerLemmas
-mod Appended
 mod MissingFile
 mod OfFolder
 pub mod Outcomes

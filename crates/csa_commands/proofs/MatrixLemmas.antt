@@ -119,15 +119,6 @@ ends_asked status (inr (inl is)) e = omega (arith, is, e)
 ends_asked status (inr (inr (inl is))) e = omega (arith, is, e)
 ends_asked status (inr (inr (inr is))) e = omega (arith, is, e)
 
--- why the targets aren't known, or the sources, is why the request can't be asked
-pub unasked_targets : (may_hold : List ℕ → Option (List ℕ) → Type 0) (request : MatrixRequest) (image : ImageValue) (status : ℕ)
-    → IsUnlisted may_hold request.to.now image status → IsUnasked may_hold request image status
-unasked_targets may_hold request image status why = record {
-  ends = why.ends;
-  unknown = λ is. inl (why.unknown is);
-  bad = λ is. inl (why.bad is);
-}
-
 pub unasked_sources : (may_hold : List ℕ → Option (List ℕ) → Type 0) (request : MatrixRequest) (image : ImageValue) (status : ℕ) (from : Option (Bor (List ℕ)))
     → request.from ≡ from → AreNoSources may_hold from image status → IsUnasked may_hold request image status
 unasked_sources may_hold request image status None same is = record {
@@ -164,26 +155,6 @@ unread_list may_hold path image status (inr is) = record {
   unknown = λ e. absurd (omega (arith, is, e));
   bad = λ e. absurd (omega (arith, is, e));
 }
-
--- what was printed of a table that standard output was to have
-pub cut_printed : {T E : Type 0} (outcome : Result T E) (status : ℕ) (table : Table) (out : List ℕ) (before after : Option (List ℕ)) → out ≡ codes "-"
-    → IfOk outcome (λ _. status ≡ ACCEPTED) → OnErr outcome (IsTableBegun table before after) → (status ≡ INPUT_OUTPUT) ⊎ (status ≡ OUT_OF_MEMORY)
-    → (after ≡ before) ⊎ IsShownInPart table out before after
-cut_printed (Ok x) status table out before after same done begun (inl is) = absurd (omega (arith, done, is))
-cut_printed (Ok x) status table out before after same done begun (inr is) = absurd (omega (arith, done, is))
-cut_printed (Err e) status table out before after same done begun ends =
-    inr (record { begun = λ _. begun; counted = λ differs. absurd (differs same) })
-
--- what was printed of its counts
-pub cut_counts : (status : ℕ) (table : Table) (out : List ℕ) (before between after : Option (List ℕ)) → out ≢ codes "-" → between ≡ before
-    → (status ≡ INPUT_OUTPUT → IsBegun between after (counts_of table)) → (status ≡ OUT_OF_MEMORY → after ≡ between)
-    → (status ≡ INPUT_OUTPUT) ⊎ (status ≡ OUT_OF_MEMORY) → (after ≡ before) ⊎ IsShownInPart table out before after
-cut_counts status table out before between after differs kept begun silent (inl is) =
-    inr (record {
-      begun = λ same. absurd (differs same);
-      counted = λ _. subst (λ (u : Option (List ℕ)). IsBegun u after (counts_of table)) kept (begun is);
-    })
-cut_counts status table out before between after differs kept begun silent (inr is) = inl (silent is ∙ kept)
 
 -- what was printed of a table that was begun, or of a line for its times
 pub cut_table : (table : Table) (out : List ℕ) (before after : Option (List ℕ)) → HasWindow table

@@ -7,7 +7,7 @@ use Rattle.command_requests.specs.declared.statuses.TheConstants.{ACCEPTED, INPU
 use Rattle.csa_commands.specs.Ending.{EndsUndone, IsBegun, IsOutcome, Prints, PrintsOnly, PrintsRefusal}
 use Rattle.csa_commands.specs.Refusing.{PrintsOfFeed, RefusesFeed, refusal_line, refusal_status}
 use Rattle.csa_commands.specs.declared.refusal.CommandRefusal.TheVariants.{Feed}
-use Rattle.csa_commands.proofs.Appended.{nothing_appended}
+use Rattle.image_files.proofs.Appended.{nothing_appended}
 
 -- what may be printed may be printed by others too
 pub outcome_of : (Is May : ℕ → List ℕ → Type 0) (status : ℕ) (before after : Option (List ℕ))

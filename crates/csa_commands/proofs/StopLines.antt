@@ -6,15 +6,15 @@ use Rattle.std.proofs.lemmas.List.FromFn.{map-range_with_len_more}
 use Rattle.std.proofs.lemmas.Slice.Zip.{all_zipped_more}
 use Rattle.timetable.specs.NamesValue.{NamesValue}
 use Rattle.answer_pictures.specs.Naming.{stop_bytes}
-use Rattle.csa_commands.specs.StopLines.{AreStopLines, IsFound, numbered}
+use Rattle.csa_commands.specs.StopLines.{AreFound, IsFound, numbered}
 
--- zero stops have no lines
-pub no_lines : (names : NamesValue) (text lines : List ℕ) → lines ≡ [] → AreStopLines names text 0 lines
-no_lines names text lines none = record { parts = []; each = tt; joined = none }
+-- none of zero stops is found
+pub none_found : (names : NamesValue) (text found : List ℕ) → found ≡ [] → AreFound names text 0 found
+none_found names text found none = record { parts = []; each = tt; joined = none }
 
--- the lines of one stop more
+-- one stop more
 pub one_stop_more : (names : NamesValue) (text : List ℕ) (n : ℕ) (old new part : List ℕ) → IsFound text (n, stop_bytes names n) part
-    → new ≡ old ++ part → AreStopLines names text n old → AreStopLines names text (n + 1) new
+    → new ≡ old ++ part → AreFound names text n old → AreFound names text (n + 1) new
 one_stop_more names text n old new part is added are =
     let numbering : ℕ → ℕ × List ℕ = λ stop. (stop, stop_bytes names stop) in
     record {

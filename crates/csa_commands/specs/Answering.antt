@@ -1,9 +1,13 @@
 -- What `csa profile` prints.
-use Rattle.std.specs.Prelude.{◌≡◌, ℕ, List, Option, Result, Ok, Err, Contains, length, map, string_bytes}
+use Rattle.std.specs.Prelude.{◌≡◌, ℕ, List, Option, None, Some, Result, Ok, Err, Contains, String, length, map, string_bytes}
+use Rattle.std.specs.Borrow.{Bor}
+use Rattle.std.specs.declared.alloc.Global.{Global}
 use Rattle.criteria.specs.Laws.{Rules}
 use Rattle.criteria.specs.declared.name.CriterionName.{CriterionName}
 use Rattle.criteria.specs.declared.figures.Figures.{Figures}
 use Rattle.timetable.specs.declared.query.QueryFault.{QueryFault}
+use Rattle.image_files.specs.Out.{OutFiles}
+use Rattle.image_files.specs.Writing.{IsPutInto}
 use Rattle.image_layout.specs.Image.{ImageValue}
 use Rattle.journeys.specs.Answer.{point_of}
 use Rattle.journeys.specs.Extracted.{AttainsBetween}
@@ -71,9 +75,16 @@ IsProfile image request (Ok profile) = AnswersRequest image request profile
 IsProfile image request (Err (Bad fault)) = HasFault image request fault
 IsProfile image request (Err OutOfMemory) = Unit {0}
 
--- the text is that of an answer. No clause says what is in the picture's file
-abbrev pub IsAnswered : ImageValue → ProfileRequest → List ℕ → Type 0
-IsAnswered image request text = (profile : Profile) × AnswersRequest image request profile × (text ≡ string_bytes profile.text)
+-- a picture that is asked for was put into the file at its path
+abbrev pub IsPicturePut : OutFiles → Option (Bor (List ℕ)) → Option (String Global) → Type 0
+IsPicturePut disk None picture = Unit {0}
+IsPicturePut disk (Some path) None = Unit {0}
+IsPicturePut disk (Some path) (Some picture) = IsPutInto disk path.now (string_bytes picture)
+
+-- the text is that of an answer, whose picture, if one is asked for, is in its file
+abbrev pub IsAnswered : OutFiles → ImageValue → ProfileRequest → List ℕ → Type 0
+IsAnswered disk image request text =
+    (profile : Profile) × AnswersRequest image request profile × IsPicturePut disk request.picture profile.picture × (text ≡ string_bytes profile.text)
 
 -- the request makes no question of the image: this is the line of its fault
 abbrev pub IsNoRequest : ImageValue → ProfileRequest → List ℕ → Type 0

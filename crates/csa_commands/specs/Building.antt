@@ -1,12 +1,14 @@
--- The line that `csa build` prints of an image that it made.
+-- The image that `csa build` makes, and the line that it prints of it.
 use Rattle.std.specs.Prelude.{◌≡◌, List, ℕ, ◌++◌, codes, decimal}
 use Rattle.connections.specs.declared.report.Report.{Report}
 use Rattle.feed_loader.specs.Refused.{IsWantOfMemory}
 use Rattle.feed_loader.specs.declared.fault.LoadFault.{LoadFault}
 use Rattle.csa_commands.specs.declared.build.Failure.{Failure}
 use Rattle.csa_commands.specs.declared.build.Failure.TheVariants.{Refused, Unreadable, Unwritten, OutOfMemory}
-use Rattle.command_requests.specs.declared.plans.PlanText.{PlanText}
+use Rattle.command_requests.specs.declared.requests.BuildRequest.{BuildRequest}
 use Rattle.feed_files.specs.Files.{MayGive}
+use Rattle.image_files.specs.Out.{OutFiles}
+use Rattle.image_files.specs.Writing.{IsImagePut}
 use Rattle.timetable.specs.NamesValue.{NamesValue}
 use Rattle.timetable.specs.TimetableValue.{TimetableValue}
 use Rattle.csa_commands.specs.Folders.{IsBuiltFrom}
@@ -33,8 +35,8 @@ changed_text report =
 unfoldable pub report_line : Report → List ℕ
 report_line report = made_text report ++ changed_text report ++ codes "\n"
 
--- the line has the counts of an image of the folder's files
-abbrev pub IsReportLine : {D : Type 0} → (D → List ℕ → MayGive) → List ℕ → PlanText → List ℕ → Type 0
-IsReportLine gives folder asked line =
-    (t : TimetableValue) × (names : NamesValue) × (report : Report) × IsBuiltFrom gives folder asked t names report
-    × (line ≡ report_line report)
+-- the image of the folder's files was put at the path that was asked for, and the line has its counts
+abbrev pub IsReportLine : {D : Type 0} → (D → List ℕ → MayGive) → OutFiles → BuildRequest → List ℕ → Type 0
+IsReportLine gives disk request line =
+    (t : TimetableValue) × (names : NamesValue) × (report : Report) × IsBuiltFrom gives request.folder.now request.plan t names report
+    × IsImagePut disk request.out.now t names × (line ≡ report_line report)

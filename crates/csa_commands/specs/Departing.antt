@@ -1,5 +1,6 @@
 -- What `csa departures` prints of an image.
-use Rattle.std.specs.Prelude.{◌≡◌, ◌≢◌, ◌⊎◌, ℕ, List, [], Option, None, map}
+use Rattle.std.specs.Prelude.{◌≡◌, ◌≢◌, ◌⊎◌, ℕ, List, [], Option, None, Some, map}
+use Rattle.std.specs.Borrow.{Bor}
 use Rattle.std.specs.Str.Lines.{lines}
 use Rattle.std.specs.declared.io.ErrorKind.{ErrorKind}
 use Rattle.std.specs.declared.io.ErrorKind.TheVariants as kinds
@@ -19,6 +20,7 @@ use Rattle.departure_lines.specs.Showing.{AreShown}
 use Rattle.departure_lines.specs.declared.form.LineForm.{LineForm}
 use Rattle.departure_lines.specs.declared.stop_lists.WantedStops.{WantedStops}
 use Rattle.departure_lines.specs.declared.stop_lists.WantedStops.TheVariants.{All}
+use Rattle.csa_commands.specs.Listed.{HoldsOfText}
 use Rattle.csa_commands.specs.Refusing.{refusal_line}
 use Rattle.csa_commands.specs.declared.refusal.CommandRefusal.TheVariants.{Query}
 use Rattle.csa_commands.specs.declared.wanted_stops.NoList.{NoList}
@@ -45,21 +47,40 @@ targets_asked request = map (λ name. name.now) request.to.items
 abbrev pub window_asked : DeparturesRequest → Window
 window_asked request = record { from = request.after; until = request.until; by = request.by }
 
--- the stops that are wanted are those that some list names
-abbrev pub IsListed : NamesValue → WantedStops → Type 0
-IsListed names wanted = (list : List ℕ) × AreWanted names (lines list) wanted
+-- if a line of a list is reported as unknown, it is the first one that is no stop_id
+abbrev pub IsUnknown : NamesValue → NoList → List ℕ → Type 0
+IsUnknown names (UnknownStop number) list = IsUnknownLine names (lines list) number
+IsUnknown names Unreadable list = Unit {0}
+IsUnknown names NotText list = Unit {0}
+IsUnknown names OutOfMemory list = Unit {0}
 
--- all stops are wanted, unless a file is given: then those that some list names. No clause says that the list is the file's text
-abbrev pub IsWantedFrom : {A : Type 0} → NamesValue → Option A → WantedStops → Type 0
-IsWantedFrom names None wanted = wanted ≡ All
-IsWantedFrom names _ wanted = IsListed names wanted
+-- `may_hold` says what a file at a path may hold
+module _ (may_hold : List ℕ → Option (List ℕ) → Type 0) where
+  -- the stops that are wanted are those that the file at the path names
+  abbrev pub IsListed : List ℕ → NamesValue → WantedStops → Type 0
+  IsListed path names wanted = HoldsOfText may_hold path (λ list. AreWanted names (lines list) wanted)
 
--- if a line is reported as unknown, it is the first line of some list that is no stop_id
-abbrev pub IsUnknown : NamesValue → NoList → Type 0
-IsUnknown names (UnknownStop number) = (list : List ℕ) × IsUnknownLine names (lines list) number
-IsUnknown names Unreadable = Unit
-IsUnknown names NotText = Unit
-IsUnknown names OutOfMemory = Unit
+  -- .. if a file is given; or else all stops are wanted
+  abbrev pub IsWantedFrom : Option (Bor (List ℕ)) → NamesValue → WantedStops → Type 0
+  IsWantedFrom None names wanted = wanted ≡ All
+  IsWantedFrom (Some path) names wanted = IsListed path.now names wanted
+
+  -- if a line is reported as unknown, it is the first line of the file at the path that is no stop_id
+  abbrev pub IsNoListAt : List ℕ → NamesValue → NoList → Type 0
+  IsNoListAt path names (UnknownStop number) = HoldsOfText may_hold path (IsUnknown names (UnknownStop number))
+  IsNoListAt path names Unreadable = Unit {0}
+  IsNoListAt path names NotText = Unit {0}
+  IsNoListAt path names OutOfMemory = Unit {0}
+
+  -- .. if a file is given; or else it is known which stops are wanted
+  abbrev pub IsNoListFrom : Option (Bor (List ℕ)) → NamesValue → NoList → Type 0
+  IsNoListFrom None names failure = ⊥
+  IsNoListFrom (Some path) names failure = IsNoListAt path.now names failure
+
+  -- a file is given, and has a line that is no stop_id
+  abbrev pub HasUnknownFrom : Option (Bor (List ℕ)) → NamesValue → Type 0
+  HasUnknownFrom None names = ⊥
+  HasUnknownFrom (Some path) names = HoldsOfText may_hold path.now (λ list. (number : ℕ) × IsUnknownLine names (lines list) number)
 
 -- why a list can't be read, by the kind of the error: memory ran out, it isn't UTF-8, or there is another reason
 abbrev pub IsUnlisted : ErrorKind → NoList → Type 0
@@ -76,10 +97,10 @@ list_status NotText = INPUT_OUTPUT
 list_status OutOfMemory = OUT_OF_MEMORY
 
 -- the text shows the departures to the stops that are asked for, and which can be asked, from the stops that are wanted
-abbrev pub AreAllShown : ImageValue → DeparturesRequest → List ℕ → Type 0
-AreAllShown image request printed =
+abbrev pub AreAllShown : (List ℕ → Option (List ℕ) → Type 0) → ImageValue → DeparturesRequest → List ℕ → Type 0
+AreAllShown may_hold image request printed =
     (b : BetweenValue) × (wanted : WantedStops) × IsAskableBetween image.timetable.stops b
-    × AsksBetween image.names [] (targets_asked request) (window_asked request) b × IsWantedFrom image.names request.from wanted
+    × AsksBetween image.names [] (targets_asked request) (window_asked request) b × IsWantedFrom may_hold request.from image.names wanted
     × AreShownBy request.criterion request.form image b wanted printed
 
 -- the request can't be asked of the image: it has a fault, and this is its line
@@ -87,8 +108,6 @@ abbrev pub IsBadQueryOfAll : ImageValue → DeparturesRequest → List ℕ → T
 IsBadQueryOfAll image request line =
     (fault : QueryFault) × IsFaultBetween image [] (targets_asked request) (window_asked request) fault × (line ≡ refusal_line (Query fault))
 
--- the request has such a fault; or a file is given, some list has a line that is no stop_id, and nothing is printed
-abbrev pub IsNoneAsked : ImageValue → DeparturesRequest → List ℕ → Type 0
-IsNoneAsked image request line =
-    IsBadQueryOfAll image request line
-    ⊎ ((request.from ≢ None) × (list : List ℕ) × (number : ℕ) × IsUnknownLine image.names (lines list) number × (line ≡ []))
+-- the request has such a fault; or a file is given that has a line that is no stop_id, and nothing is printed
+abbrev pub IsNoneAsked : (List ℕ → Option (List ℕ) → Type 0) → ImageValue → DeparturesRequest → List ℕ → Type 0
+IsNoneAsked may_hold image request line = IsBadQueryOfAll image request line ⊎ (HasUnknownFrom may_hold request.from image.names × (line ≡ []))

@@ -1,7 +1,7 @@
 -- What a command reads from a folder.
-use Rattle.std.specs.Prelude.{◌⊎◌, ℕ, List, [], All, false}
+use Rattle.std.specs.Prelude.{◌⊎◌, ℕ, List, [], All, Bool, false, true}
 use Rattle.connections.specs.declared.report.Report.{Report}
-use Rattle.feed_days.specs.Days.{AreDayLines}
+use Rattle.feed_days.specs.Days.{AreDayLines, IsDaysJson}
 use Rattle.feed_files.specs.Files.{FileRead, MayBeRead, MayGive}
 use Rattle.feed_files.specs.Reading.{Content, HoldsTables}
 use Rattle.feed_files.specs.Reads.{AreRead, MayHold, SomeWereRead, all_tables}
@@ -30,6 +30,11 @@ pub record HoldsOfRead {D : Type 0} (gives : D → List ℕ → MayGive) (folder
 abbrev pub IsTablesRefusal : LoadFault → Content → Type 0
 IsTablesRefusal fault content = AreFilesRefused content fault ⊎ AreTablesRefused content false fault
 
+-- the text is that of the service days of a feed, as JSON or as lines
+abbrev pub IsDays : Bool → Feed → List ℕ → Type 0
+IsDays true feed text = IsDaysJson feed text
+IsDays false feed text = AreDayLines feed text
+
 -- `gives` says what a disk of some kind may give for a folder and the name of a file
 module _ {D : Type 0} (gives : D → List ℕ → MayGive) (folder : List ℕ) where
   -- the files of the folder may hold this content: for each file, some disk may give what the content has of it
@@ -44,9 +49,9 @@ module _ {D : Type 0} (gives : D → List ℕ → MayGive) (folder : List ℕ) w
   abbrev pub IsFeedOf : Feed → Type 0
   IsFeedOf feed = (t : Tables) × AreTablesOf t × IsJoined false t feed
 
-  -- the lines are those of the days of the folder's feed
-  abbrev pub AreDaysOf : List ℕ → Type 0
-  AreDaysOf text = (feed : Feed) × IsFeedOf feed × AreDayLines feed text
+  -- the text is that of the days of the folder's feed
+  abbrev pub AreDaysOf : Bool → List ℕ → Type 0
+  AreDaysOf json text = (feed : Feed) × IsFeedOf feed × IsDays json feed text
 
   -- the timetable, its names and the counts are those of the folder's files, by a plan that was asked for
   abbrev pub IsBuiltFrom : PlanText → TimetableValue → NamesValue → Report → Type 0

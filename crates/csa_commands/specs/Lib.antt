@@ -7,6 +7,7 @@ pub mod Departing
 pub mod Elapsed
 pub mod Ending
 pub mod Folders
+pub mod Informing
 pub mod Judging
 pub mod Listed
 pub mod Listing
@@ -18,5 +19,4 @@ pub mod Refusing
 pub mod Stations
 pub mod StopLines
 pub mod Tabling
-pub mod Writing
 pub mod Zoning

@@ -5,6 +5,8 @@ use Rattle.std.specs.Global.{Vec}
 use Rattle.std.specs.Io.KnownBytes.{Appends}
 use Rattle.std.specs.List.{AllZip, range_with_len}
 use Rattle.std.specs.Str.Lines.{lines}
+use Rattle.image_files.specs.Out.{OutFiles}
+use Rattle.image_files.specs.Writing.{IsPut}
 use Rattle.image_layout.specs.Image.{ImageValue}
 use Rattle.timetable.specs.Queries.{HasBadWindow}
 use Rattle.timetable.specs.declared.query.Query.{Query}
@@ -117,9 +119,10 @@ counts_text targets sources = (codes "targets " ++ decimal targets) ++ (codes " 
 abbrev pub counts_of : Table → List ℕ
 counts_of table = counts_text (length table.targets.now) (length table.sources.now)
 
--- what is printed of a table whose file is `out`: the table itself if that is `-`, or else the line of counts. No clause says what the file has
-pub record IsTableShown (table : Table) (out : List ℕ) (before after : Option (List ℕ)) : Type 0 where
+-- a table was put at `out`, and its counts were printed; or it was printed itself, if that is `-`
+pub record IsTableShown (disk : OutFiles) (table : Table) (out : List ℕ) (before after : Option (List ℕ)) : Type 0 where
   pub shown : out ≡ codes "-" → (text : List ℕ) × IsTable table text × Appends before after text
+  pub put : out ≢ codes "-" → (text : List ℕ) × IsTable table text × IsPut disk out text
   pub counted : out ≢ codes "-" → Appends before after (counts_of table)
 
 -- a first part of that
@@ -127,10 +130,10 @@ pub record IsShownInPart (table : Table) (out : List ℕ) (before after : Option
   pub begun : out ≡ codes "-" → IsTableBegun table before after
   pub counted : out ≢ codes "-" → IsBegun before after (counts_of table)
 
--- the table that is asked for, whose times make a window, was printed
-abbrev pub IsTablePrinted : (List ℕ → Option (List ℕ) → Type 0) → ImageValue → MatrixRequest → Option (List ℕ) → Option (List ℕ) → Type 0
-IsTablePrinted may_hold image request before after =
-    (table : Table) × IsTableOf may_hold image request table × HasWindow table × IsTableShown table request.out.now before after
+-- the table that is asked for, whose times make a window, was printed, or put at its path
+abbrev pub IsTablePrinted : (List ℕ → Option (List ℕ) → Type 0) → OutFiles → ImageValue → MatrixRequest → Option (List ℕ) → Option (List ℕ) → Type 0
+IsTablePrinted may_hold disk image request before after =
+    (table : Table) × IsTableOf may_hold image request table × HasWindow table × IsTableShown disk table request.out.now before after
 
 -- a table is refused for its times, whose line was printed; or for a line of a list that has what is no stop_id, and then nothing was printed
 abbrev pub IsTableRefused : (List ℕ → Option (List ℕ) → Type 0) → ImageValue → MatrixRequest → Option (List ℕ) → Option (List ℕ) → Type 0

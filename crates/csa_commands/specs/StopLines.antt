@@ -1,24 +1,44 @@
--- The lines that `csa stops` prints.
-use Rattle.std.specs.Prelude.{◌≡◌, ◌⊎◌, ℕ, List, [], ◌++◌, codes, decimal, map}
+-- The stops that `csa stops` prints, as lines and as JSON.
+use Rattle.std.specs.Prelude.{◌≡◌, ◌⊎◌, Bool, true, false, ℕ, List, [], ◌∷◌, ◌++◌, codes, decimal, map}
 use Rattle.std.specs.List.{AllZip, flat_map, range_with_len}
+use Rattle.serde_json.specs.Data.{string}
+use Rattle.serde_json.specs.Written.{compact_text}
 use Rattle.timetable.specs.NamesValue.{NamesValue}
+use Rattle.image_layout.specs.Image.{ImageValue}
 use Rattle.answer_pictures.specs.Naming.{stop_bytes}
 use Rattle.feed_stations.specs.Finding.{IsIn}
+use Rattle.feed_stations.specs.Json.{with_commas}
+use Rattle.command_requests.specs.declared.requests.StopsRequest.{StopsRequest}
 
 -- each stop below `stops`, with its number and its name
 abbrev pub numbered : NamesValue → ℕ → List (ℕ × List ℕ)
 numbered names stops = map (λ stop. (stop, stop_bytes names stop)) (range_with_len 0 stops)
 
--- the line of a stop: its number and its name
-unfoldable pub stop_line : ℕ × List ℕ → List ℕ
-stop_line stop = decimal stop.0 ++ (codes " " ++ stop.1) ++ codes "\n"
-
--- a stop has its line if the text is in its name, and otherwise none
+-- a stop is found if the text is in its name
 abbrev pub IsFound : List ℕ → ℕ × List ℕ → List ℕ → Type 0
-IsFound text stop lines = (IsIn text stop.1 × (lines ≡ stop_line stop)) ⊎ ((¬ (IsIn text stop.1)) × (lines ≡ []))
+IsFound text stop found = (IsIn text stop.1 × (found ≡ stop.0 ∷ [])) ⊎ ((¬ (IsIn text stop.1)) × (found ≡ []))
 
--- the lines of the stops below `stops` whose names have the text in them, in order
-pub record AreStopLines (names : NamesValue) (text : List ℕ) (stops : ℕ) (lines : List ℕ) : Type 0 where
+-- the stops below `stops` whose names have the text in them, in order
+pub record AreFound (names : NamesValue) (text : List ℕ) (stops : ℕ) (found : List ℕ) : Type 0 where
   pub parts : List (List ℕ)
   pub each : AllZip (IsFound text) (numbered names stops) parts
-  pub joined : lines ≡ flat_map (λ part. part) parts
+  pub joined : found ≡ flat_map (λ part. part) parts
+
+-- the line of a stop: its number and its name
+unfoldable pub stop_line : NamesValue → ℕ → List ℕ
+stop_line names stop = decimal stop ++ (codes " " ++ stop_bytes names stop) ++ codes "\n"
+
+-- the same as an object of JSON
+unfoldable pub stop_json : NamesValue → ℕ → List ℕ
+stop_json names stop =
+    codes "{\"id\":" ++ compact_text (string (stop_bytes names stop)) ++ (codes ",\"number\":" ++ decimal stop) ++ codes "}"
+
+-- the text of some stops, as an array of JSON on one line, or as lines
+abbrev pub stops_text : Bool → NamesValue → List ℕ → List ℕ
+stops_text true names found = codes "[" ++ with_commas (map (stop_json names) found) ++ codes "]\n"
+stops_text false names found = flat_map (stop_line names) found
+
+-- the text is that of the stops that are asked for
+abbrev pub AreStopsAsked : ImageValue → StopsRequest → List ℕ → Type 0
+AreStopsAsked image request text =
+    (found : List ℕ) × AreFound image.names request.text.now image.timetable.stops found × (text ≡ stops_text request.json image.names found)

@@ -6,11 +6,11 @@ ghost use Rattle.csa_commands.specs.Ending.{IsOutcome};
 use crate::windows::{DepartureRange, warn_of_window};
 use crate::{departures, info, journey, profile, status, stops, upgrade, verify};
 use command_requests::{
-    DeparturesRequest, JourneyRequest, ProfileRequest, StopsRequest, UpgradeRequest,
+    DeparturesRequest, InfoRequest, JourneyRequest, ProfileRequest, StopsRequest, UpgradeRequest,
 };
+use image_files::{ImageDisk, OutDisk};
 use image_verifier::Verified;
 use std::io::Write;
-use std::rt::Files;
 
 /// A command over the image at a path, where `-` is the standard input.
 #[derive(Clone, Copy, Drop)]
@@ -18,7 +18,7 @@ pub enum ImageRequest<'a> {
     /// Print how many stops, trips, connections and footpaths it has.
     Verify(&'a str),
     /// Print what it has.
-    Info(&'a str),
+    Info(InfoRequest<'a>),
     /// Check a journey against it.
     Journey(JourneyRequest<'a>),
     /// Answer a question over it.
@@ -41,7 +41,7 @@ impl<'a> ImageRequest<'a> {
     {
         match self {
             ImageRequest::Verify(image) => image,
-            ImageRequest::Info(image) => image,
+            ImageRequest::Info(request) => request.image,
             ImageRequest::Journey(request) => request.image,
             ImageRequest::Profile(request) => request.image,
             ImageRequest::Departures(request) => request.image,
@@ -70,7 +70,7 @@ impl<'a> ImageRequest<'a> {
 /// why there is none, which it explains in `errors`. Returns `ACCEPTED`, `REFUSED`, `INPUT_OUTPUT` if a file or a line
 /// can't be read or written, or `OUT_OF_MEMORY`, with nothing printed to `output`. If `warnings` is set, warns in
 /// `errors` of a window that goes beyond the image's connections.
-pub fn answer<H: Files + AllocGlobal, O: Write, E: Write>(
+pub fn answer<H: OutDisk + ImageDisk<Image = H::File> + AllocGlobal, O: Write, E: Write>(
     rt: &H,
     image: &Verified,
     asked: ImageRequest<'_>,
@@ -78,7 +78,8 @@ pub fn answer<H: Files + AllocGlobal, O: Write, E: Write>(
     errors: &mut E,
     warnings: bool,
 ) -> u8
-    ensures { IsOutcome (PrintsAsked image.now asked.entry) result (O.contents output.old) (O.contents output.new) }
+    ensures { IsOutcome (PrintsAsked (H.may_hold rt.now) (H.files rt.now) image.now asked.entry) result
+        (O.contents output.old) (O.contents output.new) }
 {
     let status = do_asked(rt, image, asked, output, errors);
     if warnings && status == status::ACCEPTED {
@@ -88,18 +89,19 @@ pub fn answer<H: Files + AllocGlobal, O: Write, E: Write>(
 }
 
 // Does what is asked, as `answer` does, but warns of nothing.
-fn do_asked<H: Files + AllocGlobal, O: Write, E: Write>(
+fn do_asked<H: OutDisk + ImageDisk<Image = H::File> + AllocGlobal, O: Write, E: Write>(
     rt: &H,
     image: &Verified,
     asked: ImageRequest<'_>,
     output: &mut O,
     errors: &mut E,
 ) -> u8
-    ensures { IsOutcome (PrintsAsked image.now asked.entry) result (O.contents output.old) (O.contents output.new) }
+    ensures { IsOutcome (PrintsAsked (H.may_hold rt.now) (H.files rt.now) image.now asked.entry) result
+        (O.contents output.old) (O.contents output.new) }
 {
     match asked {
         ImageRequest::Verify(_) => verify::run(rt.alloc(), image, output),
-        ImageRequest::Info(_) => info::run(rt.alloc(), image, output),
+        ImageRequest::Info(request) => info::run(rt.alloc(), image, request, output),
         ImageRequest::Journey(request) => journey::run(rt.alloc(), image, request, output, errors),
         ImageRequest::Profile(request) => profile::run(rt, image, request, output, errors),
         ImageRequest::Departures(request) => departures::run(rt, image, request, output, errors),

@@ -6,6 +6,7 @@ ghost use Rattle.feed_files.specs.Reading.{Content};
 ghost use Rattle.feed_files.specs.Reads.{AreRead, SomeWereRead, all_tables};
 ghost use Rattle.feed_loader.specs.Refused.{IsLoadRefusal, IsLoaded};
 ghost use Rattle.gtfs_rows.specs.declared.fault.Table.{Table};
+ghost use Rattle.image_files.specs.Writing.{IsImagePut};
 ghost use Rattle.csa_commands.specs.Building.{IfRefused, IsReportLine, changed_text, made_text, report_line};
 ghost use Rattle.csa_commands.specs.Ending.{IsOutcome, PrintsOnly};
 ghost use Rattle.csa_commands.specs.Folders.{IsBuildRefusal, IsBuiltFrom};
@@ -17,13 +18,12 @@ use crate::progress::{Progress, ReportedFiles, Reports, load_reported};
 use crate::refusal::refuse_feed;
 use crate::status;
 use crate::warnings::{BuiltImage, warn};
-use crate::writing::put_image;
 use command_requests::BuildRequest;
 use feed_files::{Disk, FeedFiles, FolderFiles};
 use feed_loader::{LoadFault, Plan, Report};
+use image_files::{OutDisk, put_image};
 use std::alloc::{AllocError, Global};
 use std::io::{ErrorKind, Write};
-use std::rt::Files;
 use std::time::Clock;
 use text_pieces::{put_number, put_text};
 
@@ -42,7 +42,7 @@ enum Failure<'a> {
 /// plain file at the path is replaced once the image is whole. Explanations go to `errors`; so do warnings, if
 /// `warnings` is set, and progress, if the request asks for it or `is_terminal` is set. Returns `ACCEPTED`, `REFUSED`,
 /// `INPUT_OUTPUT` if a file or a line can't be read or written, or `OUT_OF_MEMORY`, with nothing printed to `output`.
-pub fn run<H: Files + Disk + AllocGlobal + Clock, O: Write, E: Write>(
+pub fn run<H: OutDisk + Disk + AllocGlobal + Clock, O: Write, E: Write>(
     rt: &H,
     request: BuildRequest<'_>,
     output: &mut O,
@@ -50,7 +50,7 @@ pub fn run<H: Files + Disk + AllocGlobal + Clock, O: Write, E: Write>(
     is_terminal: bool,
     warnings: bool,
 ) -> u8
-    ensures { IsOutcome (PrintsOfFeed (IsReportLine H.gives request.entry.folder.now request.entry.plan)
+    ensures { IsOutcome (PrintsOfFeed (IsReportLine H.gives (H.files rt.now) request.entry)
         (IsBuildRefusal H.gives request.entry.folder.now request.entry.plan)) result
         (O.contents output.old) (O.contents output.new) }
 {
@@ -69,7 +69,8 @@ pub fn run<H: Files + Disk + AllocGlobal + Clock, O: Write, E: Write>(
             print_counts(alloc, &built.report, output)
         }
         Err(Failure::Refused(fault)) => {
-            explain_faults(rt, folder, &fault, errors, request.all_faults);
+            let (all, strict) = (request.all_faults, request.plan.strict);
+            explain_faults(rt, folder, &fault, errors, all, strict);
             refuse_feed(alloc, output, fault)
         }
         Err(Failure::Unreadable(path)) => status::report_unread_zone(rt, errors, path),
@@ -79,7 +80,7 @@ pub fn run<H: Files + Disk + AllocGlobal + Clock, O: Write, E: Write>(
 }
 
 // Builds the image and writes it, and reports progress to `log`, if there is one.
-fn build<'a, 'c, H: Files + Disk + AllocGlobal + Clock, E: Write>(
+fn build<'a, 'c, H: OutDisk + Disk + AllocGlobal + Clock, E: Write>(
     rt: &'c H,
     request: &BuildRequest<'a>,
     log: Option<&'c mut E>,
@@ -87,6 +88,8 @@ fn build<'a, 'c, H: Files + Disk + AllocGlobal + Clock, E: Write>(
 ) -> Result<BuiltImage, Failure<'a>>
     ensures built { IfOk result (λ built. IsBuiltFrom H.gives request.now.folder.now request.now.plan
         built.image.timetable built.image.names built.report) }
+    ensures put { IfOk result (λ built. IsImagePut (H.files rt.now) request.now.out.now built.image.timetable
+        built.image.names) }
     ensures refused { IfErr result (λ failure. IfRefused failure
         (IsBuildRefusal H.gives request.now.folder.now request.now.plan)) }
 {
@@ -104,7 +107,7 @@ fn build<'a, 'c, H: Files + Disk + AllocGlobal + Clock, E: Write>(
 }
 
 // Builds the image of the files, and writes it to the path `out`.
-fn build_reported<'a, H: Files + AllocGlobal, F: FeedFiles, R: Reports>(
+fn build_reported<'a, H: OutDisk + AllocGlobal, F: FeedFiles, R: Reports>(
     rt: &H,
     out: &'a str,
     files: &mut ReportedFiles<F, R>,
@@ -116,6 +119,7 @@ fn build_reported<'a, H: Files + AllocGlobal, F: FeedFiles, R: Reports>(
     ensures built { IfOk result (λ built. (content : Content)
         × AreRead content all_tables (F.reads files.old.files) (F.reads files.new.files)
         × IsLoaded content plan built.image.timetable built.image.names built.report) }
+    ensures put { IfOk result (λ built. IsImagePut (H.files rt.now) out.now built.image.timetable built.image.names) }
     ensures refused { IfErr result (λ failure. IfRefused failure (λ fault.
         SomeWereRead (F.reads files.old.files) (F.reads files.new.files)
         × ((content : Content) (ts : List Table)

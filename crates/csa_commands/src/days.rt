@@ -1,21 +1,22 @@
-//! `csa days FOLDER`.
+//! `csa days FOLDER [--json]`.
 
-ghost use Rattle.std.specs.Prelude.{IfErr, IfOk};
-ghost use Rattle.feed_days.specs.Days.{AreDayLines};
+ghost use Rattle.std.specs.Prelude.{IfErr, IfOk, string_bytes};
 ghost use Rattle.feed_loader.specs.Refused.{IsWantOfMemory};
 ghost use Rattle.csa_commands.specs.Ending.{IsOutcome, PrintsOnly};
-ghost use Rattle.csa_commands.specs.Folders.{AreDaysOf, HoldsOfRead, IsFeedOf, IsTablesRefusal, IsTablesRefusalOf};
+ghost use Rattle.csa_commands.specs.Folders.{AreDaysOf, HoldsOfRead, IsDays, IsFeedOf, IsTablesRefusal};
+ghost use Rattle.csa_commands.specs.Folders.{IsTablesRefusalOf};
 ghost use Rattle.csa_commands.specs.Refusing.{PrintsOfFeed};
 
 use crate::explaining::explain_refused;
 use crate::reading::tables_in;
 use crate::refusal::refuse_feed;
 use crate::status;
-use feed_days::days_text;
+use command_requests::DaysRequest;
+use feed_days::{days_json, days_text};
 use feed_files::Disk;
 use feed_loader::LoadFault;
 use gtfs_tables::{Feed, join};
-use std::alloc::Global;
+use std::alloc::{AllocError, Global};
 use std::io::Write;
 use std::rt::Files;
 
@@ -24,16 +25,18 @@ use std::rt::Files;
 /// be read or written, or `OUT_OF_MEMORY`, with nothing printed to `output`.
 pub fn run<H: Files + Disk + AllocGlobal, O: Write, E: Write>(
     rt: &H,
-    folder: &str,
+    request: DaysRequest<'_>,
     output: &mut O,
     errors: &mut E,
 ) -> u8
-    ensures { IsOutcome (PrintsOfFeed (AreDaysOf H.gives folder.now) (IsTablesRefusalOf H.gives folder.now)) result
+    ensures { IsOutcome (PrintsOfFeed (AreDaysOf H.gives request.entry.folder.now request.entry.json)
+        (IsTablesRefusalOf H.gives request.entry.folder.now)) result
         (O.contents output.old) (O.contents output.new) }
 {
     let alloc = rt.alloc();
+    let folder = request.folder;
     match read_feed(rt, folder) {
-        Ok(feed) => print_days(alloc, &feed, output),
+        Ok(feed) => print_days(alloc, &feed, request.json, output),
         Err(fault) => {
             explain_refused(rt, folder, &fault, errors);
             refuse_feed(alloc, output, fault)
@@ -53,11 +56,20 @@ fn read_feed<H: Disk + AllocGlobal>(rt: &H, folder: &str) -> Result<Feed, LoadFa
 }
 
 // Prints which service days a feed has. Never returns `REFUSED`.
-fn print_days<O: Write>(alloc: Global, feed: &Feed, output: &mut O) -> u8
-    ensures { IsOutcome (PrintsOnly (AreDayLines feed.now)) result (O.contents output.old) (O.contents output.new) }
+fn print_days<O: Write>(alloc: Global, feed: &Feed, json: bool, output: &mut O) -> u8
+    ensures { IsOutcome (PrintsOnly (IsDays json feed.now)) result (O.contents output.old) (O.contents output.new) }
 {
-    match days_text(alloc, feed) {
-        Ok(lines) => status::write_text(output, lines.as_str(), status::ACCEPTED),
+    match text_of(alloc, feed, json) {
+        Ok(text) => status::write_text(output, text.as_str(), status::ACCEPTED),
         Err(_) => status::OUT_OF_MEMORY,
+    }
+}
+
+fn text_of(alloc: Global, feed: &Feed, json: bool) -> Result<String, AllocError>
+    ensures { IfOk result (λ text. IsDays json feed.now (string_bytes text)) }
+{
+    match json {
+        true => days_json(alloc, feed),
+        false => days_text(alloc, feed),
     }
 }

@@ -8,8 +8,9 @@ ghost use Rattle.station_answers.specs.Naming.{AsksBetween, IsNoQuestion};
 ghost use Rattle.command_requests.specs.declared.statuses.TheConstants.{REFUSED};
 ghost use Rattle.departure_lines.specs.declared.form.LineForm.{LineForm};
 ghost use Rattle.csa_commands.specs.declared.wanted_stops.NoList.TheVariants.{UnknownStop};
-ghost use Rattle.csa_commands.specs.Ending.{EndsUndone, IsOutcome, Prints, PrintsOnly};
-ghost use Rattle.csa_commands.specs.Departing.{AreAllShown, AreShownBy, IsNoneAsked};
+ghost use Rattle.csa_commands.specs.Commands.{PrintsDepartures};
+ghost use Rattle.csa_commands.specs.Ending.{EndsUndone, IsOutcome, PrintsOnly};
+ghost use Rattle.csa_commands.specs.Departing.{AreShownBy};
 ghost use Rattle.csa_commands.specs.Departing.{form_of, list_status, targets_asked, window_asked};
 
 use crate::question::{explain_ends, window_reason};
@@ -20,6 +21,7 @@ use command_requests::{DeparturesForm, DeparturesRequest};
 use criteria::{Arrival, ArrivalTrips, ArrivalTripsWalk, CriterionName};
 use departure_lines::{LineForm, WantedStops, departures_text};
 use feed_messages::{explain, is_file};
+use image_files::ImageDisk;
 use image_verifier::Verified;
 use journeys::Window;
 use profile_scan::{Between, Destinations};
@@ -32,14 +34,14 @@ use timetable::QueryFault;
 /// Prints the best departures from every stop, or from those that are wanted, in the form that is asked for, and then
 /// how many stops and departures there are and how many connections were read. A line of the file of `--from` that
 /// names no stop is reported in `errors` alone.
-pub fn run<H: Files + AllocGlobal, O: Write, E: Write>(
+pub fn run<H: Files + ImageDisk<Image = H::File> + AllocGlobal, O: Write, E: Write>(
     rt: &H,
     image: &Verified,
     request: &DeparturesRequest<'_>,
     output: &mut O,
     errors: &mut E,
 ) -> u8
-    ensures { IsOutcome (Prints (AreAllShown image.now request.now) (IsNoneAsked image.now request.now)) result
+    ensures { IsOutcome (PrintsDepartures (H.may_hold rt.now) image.now request.now) result
         (O.contents output.old) (O.contents output.new) }
 {
     let destinations = match destinations_asked(rt.alloc(), image, request) {

@@ -36,18 +36,27 @@ pub fn explain_refused<H: Files + AllocGlobal, E: Write>(
     }
 }
 
-/// Explains the refusal of a feed, and then, if `all` is set, what else is wrong with the files of its folder.
+/// Explains the refusal of a feed, and then, if `all` is set, what else is wrong with the files of its folder; if
+/// `strict`, also where a trip arrives no later than it departed before.
 pub fn explain_faults<H: Files + Disk + AllocGlobal, E: Write>(
     rt: &H,
     folder: &str,
     fault: &LoadFault,
     errors: &mut E,
     all: bool,
+    strict: bool,
 ) {
     explain_refused(rt, folder, fault, errors);
     if all && !fault.is_want_of_memory() && is_folder(rt, folder) {
         let mut files = FolderFiles::new(rt, folder);
-        explain_further(rt, folder, &mut files, fault_of_files(fault), errors);
+        explain_further(
+            rt,
+            folder,
+            &mut files,
+            fault_of_files(fault),
+            strict,
+            errors,
+        );
     }
 }
 

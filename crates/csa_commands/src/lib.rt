@@ -35,7 +35,6 @@ mod verify;
 mod wanted_stops;
 mod warnings;
 mod windows;
-mod writing;
 
 pub use asked::{ImageRequest, answer};
 pub use elapsed::{StartInstant, put_seconds};

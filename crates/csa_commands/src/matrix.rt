@@ -7,6 +7,7 @@ ghost use Rattle.std.specs.Global.{Vec};
 ghost use Rattle.std.specs.Io.KnownBytes.{Appends};
 ghost use Rattle.command_requests.specs.declared.statuses.TheConstants.{ACCEPTED, COMMAND_LINE, INPUT_OUTPUT};
 ghost use Rattle.command_requests.specs.declared.statuses.TheConstants.{OUT_OF_MEMORY, REFUSED};
+ghost use Rattle.image_files.specs.Writing.{IsPut};
 ghost use Rattle.matrix_rows.specs.Tables.{AreWithin, CanBeMade, HasWindow, IsTable, IsTableBegun};
 ghost use Rattle.csa_commands.specs.Ending.{Ends, EndsUndone, IsBegun};
 ghost use Rattle.csa_commands.specs.Matrices.{AreNoSources, AreOfList, AreSources, EndsTable, EndsWritten, IsBadWindow};
@@ -24,10 +25,9 @@ use crate::question::window_reason;
 use crate::refusal::CommandRefusal;
 use crate::status;
 use crate::windows::{DepartureRange, warn_of_window};
-use crate::writing::{new_file, settle};
 use command_requests::{MatrixRequest, TableWorkers};
 use feed_messages::explain;
-use image_files::ImageDisk;
+use image_files::{ImageDisk, OutDisk, new_file, settle};
 use image_verifier::Verified;
 use matrix_rows::{Reports, Table, write_table};
 use std::alloc::{AllocError, Global};
@@ -54,7 +54,7 @@ pub struct Notes {
 /// `ACCEPTED`; `REFUSED` if a line has what is no stop_id, or if the window is bad, which `output` says; `COMMAND_LINE`
 /// if a list can't be asked for; `INPUT_OUTPUT`; or `OUT_OF_MEMORY`, with nothing printed unless the table itself is.
 pub fn run<
-    H: Files + ImageDisk<Image = H::File> + AllocGlobal + Clock + Threads + Sync,
+    H: OutDisk + ImageDisk<Image = H::File> + AllocGlobal + Clock + Threads + Sync,
     O: Write,
     E: Write,
 >(
@@ -66,8 +66,8 @@ pub fn run<
     notes: Notes,
 ) -> u8
     ensures status { EndsTable result }
-    ensures printed { result ≡ ACCEPTED → IsTablePrinted (H.may_hold rt.now) image.now request.entry
-        (O.contents output.old) (O.contents output.new) }
+    ensures printed { result ≡ ACCEPTED → IsTablePrinted (H.may_hold rt.now) (H.files rt.now) image.now
+        request.entry (O.contents output.old) (O.contents output.new) }
     ensures refused { result ≡ REFUSED → IsTableRefused (H.may_hold rt.now) image.now request.entry
         (O.contents output.old) (O.contents output.new) }
     ensures unlisted { result ≡ COMMAND_LINE → IsTableUnlisted (H.may_hold rt.now) request.entry
@@ -112,7 +112,7 @@ fn stops_asked<H: Files + ImageDisk<Image = H::File> + AllocGlobal, E: Write>(
 }
 
 // Writes the table that is asked for, if its window is good.
-fn make_table<H: Files + AllocGlobal + Clock + Threads + Sync, O: Write, E: Write>(
+fn make_table<H: OutDisk + AllocGlobal + Clock + Threads + Sync, O: Write, E: Write>(
     rt: &H,
     table: &Table<'_>,
     request: MatrixRequest<'_>,
@@ -124,7 +124,8 @@ fn make_table<H: Files + AllocGlobal + Clock + Threads + Sync, O: Write, E: Writ
     requires sources { AreWithin table.now.image.now table.now.sources.now }
     ensures status { Ends result }
     ensures shown { result ≡ ACCEPTED → HasWindow table.now
-        × IsTableShown table.now request.entry.out.now (O.contents output.old) (O.contents output.new) }
+        × IsTableShown (H.files rt.now) table.now request.entry.out.now (O.contents output.old)
+        (O.contents output.new) }
     ensures refused { result ≡ REFUSED → IsBadWindow table.now.after table.now.until table.now.by
         (O.contents output.old) (O.contents output.new) }
     ensures cut { (result ≡ INPUT_OUTPUT) ⊎ (result ≡ OUT_OF_MEMORY) → IsCutShort table.now request.entry.out.now
@@ -240,7 +241,7 @@ fn refuse_window<O: Write, E: Write>(
 }
 
 // Writes the table to where it is asked for, and says how that ended.
-fn write_asked<H: Files + AllocGlobal + Clock + Threads + Sync, O: Write, E: Write>(
+fn write_asked<H: OutDisk + AllocGlobal + Clock + Threads + Sync, O: Write, E: Write>(
     rt: &H,
     table: &Table<'_>,
     request: MatrixRequest<'_>,
@@ -252,7 +253,8 @@ fn write_asked<H: Files + AllocGlobal + Clock + Threads + Sync, O: Write, E: Wri
         → CanBeMade table.now targets.items }
     ensures status { EndsWritten result }
     ensures shown { result ≡ ACCEPTED
-        → IsTableShown table.now request.entry.out.now (O.contents output.old) (O.contents output.new) }
+        → IsTableShown (H.files rt.now) table.now request.entry.out.now (O.contents output.old)
+        (O.contents output.new) }
     ensures cut { (result ≡ INPUT_OUTPUT) ⊎ (result ≡ OUT_OF_MEMORY)
         → (O.contents output.new ≡ O.contents output.old)
         ⊎ IsShownInPart table.now request.entry.out.now (O.contents output.old) (O.contents output.new) }
@@ -275,7 +277,7 @@ fn write_asked<H: Files + AllocGlobal + Clock + Threads + Sync, O: Write, E: Wri
 }
 
 // Writes the table to where it is asked for, and reports progress to `log`, if there is one.
-fn put_reported<'c, H: Files + AllocGlobal + Clock + Threads + Sync, O: Write, E: Write>(
+fn put_reported<'c, H: OutDisk + AllocGlobal + Clock + Threads + Sync, O: Write, E: Write>(
     rt: &'c H,
     table: &Table<'_>,
     request: MatrixRequest<'_>,
@@ -287,6 +289,8 @@ fn put_reported<'c, H: Files + AllocGlobal + Clock + Threads + Sync, O: Write, E
         → CanBeMade table.now targets.items }
     ensures shown { request.entry.out.now ≡ codes "-" → OnOk result ((text : List ℕ) × IsTable table.now text
         × Appends (O.contents output.old) (O.contents output.new) text) }
+    ensures put { request.entry.out.now ≢ codes "-" → OnOk result ((text : List ℕ) × IsTable table.now text
+        × IsPut (H.files rt.now) request.entry.out.now text) }
     ensures begun { request.entry.out.now ≡ codes "-"
         → OnErr result (IsTableBegun table.now (O.contents output.old) (O.contents output.new)) }
     ensures kept { request.entry.out.now ≢ codes "-" → O.contents output.new ≡ O.contents output.old }
@@ -299,7 +303,7 @@ fn put_reported<'c, H: Files + AllocGlobal + Clock + Threads + Sync, O: Write, E
 }
 
 // Writes the table to a path, or to `output` if that is `-`.
-fn put_table<H: Files + AllocGlobal + Threads + Sync, O: Write, P: Reports>(
+fn put_table<H: OutDisk + AllocGlobal + Threads + Sync, O: Write, P: Reports>(
     rt: &H,
     table: &Table<'_>,
     workers: TableWorkers,
@@ -311,6 +315,8 @@ fn put_table<H: Files + AllocGlobal + Threads + Sync, O: Write, P: Reports>(
         → CanBeMade table.now targets.items }
     ensures shown { path.now ≡ codes "-" → OnOk result ((text : List ℕ) × IsTable table.now text
         × Appends (O.contents output.old) (O.contents output.new) text) }
+    ensures put { path.now ≢ codes "-" → OnOk result ((text : List ℕ) × IsTable table.now text
+        × IsPut (H.files rt.now) path.now text) }
     ensures begun { path.now ≡ codes "-"
         → OnErr result (IsTableBegun table.now (O.contents output.old) (O.contents output.new)) }
     ensures kept { path.now ≢ codes "-" → O.contents output.new ≡ O.contents output.old }

@@ -1,7 +1,6 @@
 //! The picture of an answer, as an SVG file.
 
 ghost use Rattle.std.specs.Prelude.{◌≡◌, ◌-◌, ◌++◌, IfOk, OnOk, length, take, string_bytes};
-ghost use Rattle.std.specs.Io.KnownBytes.{Appends};
 ghost use Rattle.std.specs.List.{AllZip};
 ghost use Rattle.profile_scan.specs.Between.{question};
 ghost use Rattle.csa_commands.specs.Picturing.{IsDrawn, IsDrawnAs, IsHeadingBetween, IsPictureOf, first_stop, others_text};
@@ -13,10 +12,6 @@ use image_verifier::Verified;
 use journeys::{Answer, Departure};
 use profile_scan::Between;
 use std::alloc::{AllocError, Global};
-use std::fs::File;
-use std::io;
-use std::io::Write;
-use std::rt::Files;
 use text_pieces::{put_number, put_text};
 use timetable::Query;
 
@@ -152,18 +147,4 @@ fn line_of<C: ShowsFigures>(
 {
     let figures = criterion.figures_of(&departure.value);
     journey_line(alloc, image, departure.time, figures, &departure.journey)
-}
-
-/// Writes a picture into the file at the path.
-pub fn write_picture<H: Files>(rt: &H, path: &str, text: &str) -> io::Result<()> {
-    let mut file = File::create(rt, path)?;
-    write_whole(&mut file, text)
-}
-
-// Writes the text, and nothing else.
-fn write_whole<W: Write>(file: &mut W, text: &str) -> io::Result<()>
-    ensures { OnOk result (Appends (W.contents file.old) (W.contents file.new) text.now) }
-{
-    file.write_all(text.as_bytes())?;
-    file.flush()
 }

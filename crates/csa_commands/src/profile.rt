@@ -1,18 +1,19 @@
 //! `csa profile IMAGE --from STOP_ID.. --to STOP_ID.. --after .. --until .. --by .. --criterion NAME
 //! [--names | --json [--legs]] [--picture FILE [--rows N]]`.
 
-ghost use Rattle.std.specs.Prelude.{◌≡◌, IfOk, string_bytes};
+ghost use Rattle.std.specs.Prelude.{◌≡◌, IfOk, OnOk, string_bytes};
 ghost use Rattle.std.specs.Io.KnownBytes.{Appends};
 ghost use Rattle.profile_scan.specs.Between.{IsAskableBetween, question};
 ghost use Rattle.command_requests.specs.declared.statuses.TheConstants.{INPUT_OUTPUT, OUT_OF_MEMORY, REFUSED};
-ghost use Rattle.csa_commands.specs.Answering.{IsAnswered, IsNoRequest, IsProfile, IsShown, IsShownBy};
-ghost use Rattle.csa_commands.specs.Ending.{EndsUndone, IsBegun, IsOutcome, Prints, PrintsOnly};
+ghost use Rattle.csa_commands.specs.Answering.{IsPicturePut, IsProfile, IsShown, IsShownBy};
+ghost use Rattle.csa_commands.specs.Commands.{PrintsProfile};
+ghost use Rattle.csa_commands.specs.Ending.{EndsUndone, IsBegun, IsOutcome, PrintsOnly};
 ghost use Rattle.csa_commands.specs.Listing.{form_text};
 ghost use Rattle.csa_commands.specs.Refusing.{refusal_line};
 ghost use Rattle.csa_commands.specs.declared.refusal.CommandRefusal.TheVariants.{Query as OfQuery};
 
 use crate::listing::{named_lines, numbered_lines};
-use crate::pictured::{picture_asked, write_picture};
+use crate::pictured::picture_asked;
 use crate::question::{SAME_STOP, explain_ends, window_reason};
 use crate::refusal::CommandRefusal;
 use crate::replying::reply_line;
@@ -21,13 +22,14 @@ use answer_replies::PointForm;
 use command_requests::{AnswerForm, ProfileRequest};
 use criteria::{Arrival, ArrivalTrips, ArrivalTripsWalk, CriterionName, ShowsFigures};
 use feed_messages::explain;
+use image_files::{OutDisk, put_text_into};
 use image_verifier::Verified;
 use journeys::{Answer, Window};
 use profile_scan::{Between, InPlace};
 use station_answers::{NoQuestion, answer_between, question_between};
 use std::alloc::{AllocError, Global};
+use std::io;
 use std::io::Write;
-use std::rt::Files;
 use timetable::QueryFault;
 
 /// The answer to a question: a text, and a picture if one is asked for.
@@ -40,14 +42,14 @@ pub struct Profile {
 /// Prints the answer in the form that is asked for: a line for each best departure of any pair of stops with a journey,
 /// then how many there are, how many connections were read, and the shortest direct footpath; or what a session would
 /// reply. A picture that is asked for is written first.
-pub fn run<H: Files + AllocGlobal, O: Write, E: Write>(
+pub fn run<H: OutDisk + AllocGlobal, O: Write, E: Write>(
     rt: &H,
     image: &Verified,
     request: &ProfileRequest<'_>,
     output: &mut O,
     errors: &mut E,
 ) -> u8
-    ensures { IsOutcome (Prints (IsAnswered image.now request.now) (IsNoRequest image.now request.now)) result
+    ensures { IsOutcome (PrintsProfile (H.files rt.now) image.now request.now) result
         (O.contents output.old) (O.contents output.new) }
 {
     match profile_asked(rt.alloc(), image, request) {
@@ -58,22 +60,37 @@ pub fn run<H: Files + AllocGlobal, O: Write, E: Write>(
 }
 
 /// Writes the picture, if there is one, and then prints the text.
-fn print_profile<H: Files + AllocGlobal, O: Write, E: Write>(
+fn print_profile<H: OutDisk + AllocGlobal, O: Write, E: Write>(
     rt: &H,
     profile: &Profile,
     request: &ProfileRequest<'_>,
     output: &mut O,
     errors: &mut E,
 ) -> u8
-    ensures { IsOutcome (PrintsOnly (λ text. text ≡ string_bytes profile.now.text)) result
+    ensures { IsOutcome (PrintsOnly (λ text. IsPicturePut (H.files rt.now) request.now.picture profile.now.picture
+        × (text ≡ string_bytes profile.now.text))) result
         (O.contents output.old) (O.contents output.new) }
 {
-    if let (Some(path), Some(picture)) = (request.picture, &profile.picture)
-        && let Err(error) = write_picture(rt, path, picture.as_str())
-    {
-        return status::report_unwritten(errors, path, error.kind());
+    match put_picture(rt, request.picture, &profile.picture) {
+        Ok(()) => status::write_text(output, profile.text.as_str(), status::ACCEPTED),
+        Err(error) => {
+            let path = request.picture.unwrap_or("");
+            status::report_unwritten(errors, path, error.kind())
+        }
     }
-    status::write_text(output, profile.text.as_str(), status::ACCEPTED)
+}
+
+/// Writes a picture into the file at its path, if there are both.
+fn put_picture<H: OutDisk>(rt: &H, path: Option<&str>, picture: &Option<String>) -> io::Result<()>
+    ensures { OnOk result (IsPicturePut (H.files rt.now) path.entry picture.now) }
+{
+    match path {
+        None => Ok(()),
+        Some(path) => match picture {
+            None => Ok(()),
+            Some(picture) => put_text_into(rt, path, picture.as_str()),
+        },
+    }
 }
 
 /// Answers the question, or returns why it can't be answered.

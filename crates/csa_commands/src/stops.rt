@@ -1,15 +1,21 @@
-//! `csa stops IMAGE [TEXT]`.
+//! `csa stops IMAGE [TEXT] [--json]`.
 
-ghost use Rattle.std.specs.Prelude.{◌≡◌, ◌+◌, ◌++◌, ℕ, List, decimal, IfOk, OnOk, string_bytes};
-ghost use Rattle.csa_commands.specs.StopLines.{AreStopLines, IsFound, stop_line};
+ghost use Rattle.std.specs.Prelude.{◌≡◌, ◌+◌, ◌++◌, ℕ, List, true, false, decimal, map, IfOk, OnOk, string_bytes};
+ghost use Rattle.std.specs.List.{flat_map};
+ghost use Rattle.serde_json.specs.Data.{string};
+ghost use Rattle.serde_json.specs.Written.{compact_text};
+ghost use Rattle.answer_pictures.specs.Naming.{stop_bytes};
+ghost use Rattle.feed_stations.specs.Json.{with_commas};
+ghost use Rattle.csa_commands.specs.StopLines.{AreFound, AreStopsAsked, IsFound, stop_json, stop_line, stops_text};
 ghost use Rattle.csa_commands.specs.Ending.{IsOutcome, PrintsOnly};
 
 use crate::status;
 use answer_pictures::stop_name;
 use command_requests::StopsRequest;
 use feed_messages::{explain, quoted};
-use feed_stations::is_in;
+use feed_stations::{is_in, put_comma};
 use image_verifier::Verified;
+use serde_json::Value;
 use std::alloc::{AllocError, Global};
 use std::io::Write;
 use text_pieces::{put_number, put_text, put_word};
@@ -23,22 +29,21 @@ pub fn run<O: Write, E: Write>(
     output: &mut O,
     errors: &mut E,
 ) -> u8
-    ensures { IsOutcome
-        (PrintsOnly (AreStopLines image.now.names request.entry.text.now image.now.timetable.stops))
-        result (O.contents output.old) (O.contents output.new) }
+    ensures { IsOutcome (PrintsOnly (AreStopsAsked image.now request.entry)) result
+        (O.contents output.old) (O.contents output.new) }
 {
-    match lines_of(alloc, image, request.text) {
-        Ok(lines) => {
-            explain_none(alloc, lines.as_str(), request.text, errors);
-            status::write_text(output, lines.as_str(), status::ACCEPTED)
+    match text_asked(alloc, image, request) {
+        Ok(text) => {
+            explain_none(alloc, text.as_str(), request.text, errors);
+            status::write_text(output, text.as_str(), status::ACCEPTED)
         }
         Err(_) => status::OUT_OF_MEMORY,
     }
 }
 
-// Says that no stop_id contains the text, if there are no lines.
-fn explain_none<E: Write>(alloc: Global, lines: &str, text: &str, errors: &mut E) {
-    if !lines.is_empty() {
+// Says that no stop_id contains the text, if nothing is listed.
+fn explain_none<E: Write>(alloc: Global, listed: &str, text: &str, errors: &mut E) {
+    if !listed.is_empty() && listed != "[]\n" {
         return;
     }
     if let Ok(shown) = quoted(alloc, text.as_bytes()) {
@@ -48,50 +53,100 @@ fn explain_none<E: Write>(alloc: Global, lines: &str, text: &str, errors: &mut E
     }
 }
 
-fn lines_of(alloc: Global, image: &Verified, text: &str) -> Result<String, AllocError>
-    ensures { IfOk result (λ lines. AreStopLines image.now.names text.now image.now.timetable.stops
-        (string_bytes lines)) }
+fn text_asked(
+    alloc: Global,
+    image: &Verified,
+    request: StopsRequest<'_>,
+) -> Result<String, AllocError>
+    ensures { IfOk result (λ text. AreStopsAsked image.now request.entry (string_bytes text)) }
 {
-    let mut lines = String::new(alloc);
-    for stop in 0..image.stops() {
-        append_next(&mut lines, alloc, image, stop, text)?;
-    }
-    Ok(lines)
+    let found = found_stops(alloc, image, request.text)?;
+    let text = text_of(alloc, image, &found, request.json)?;
+    Ok(text)
 }
 
-// Adds the line of the next stop, if its name contains the text.
-fn append_next(
-    lines: &mut String,
+// The stops whose names contain the text.
+fn found_stops(alloc: Global, image: &Verified, text: &str) -> Result<Vec<u32>, AllocError>
+    ensures { IfOk result (λ found. AreFound image.now.names text.now image.now.timetable.stops found.items) }
+{
+    let mut found = Vec::new(alloc);
+    for stop in 0..image.stops() {
+        add_next(&mut found, alloc, image, stop, text)?;
+    }
+    Ok(found)
+}
+
+// Adds the next stop, if its name contains the text.
+fn add_next(
+    found: &mut Vec<u32>,
     alloc: Global,
     image: &Verified,
     stop: u32,
     text: &str,
 ) -> Result<(), AllocError>
-    ensures { OnOk result (AreStopLines image.now.names text.now stop (string_bytes lines.old)
-        → AreStopLines image.now.names text.now (stop + 1) (string_bytes lines.new)) }
+    ensures { OnOk result (AreFound image.now.names text.now stop found.old.items
+        → AreFound image.now.names text.now (stop + 1) found.new.items) }
 {
     let name = stop_name(alloc, image, stop)?;
-    append_if_found(lines, stop, name.as_str(), text)?;
+    add_if_found(found, stop, name.as_str(), text)?;
     Ok(())
 }
 
-// Adds the line of a stop, if its name contains the text.
-fn append_if_found(lines: &mut String, stop: u32, name: &str, text: &str) -> Result<(), AllocError>
+// Adds a stop, if its name contains the text.
+fn add_if_found(found: &mut Vec<u32>, stop: u32, name: &str, text: &str) -> Result<(), AllocError>
     ensures { OnOk result ((part : List ℕ) × IsFound text.now (stop, name.now) part
-        × (string_bytes lines.new ≡ string_bytes lines.old ++ part)) }
+        × (found.new.items ≡ found.old.items ++ part)) }
 {
     if !is_in(text, name) {
         return Ok(());
     }
-    append_stop(lines, stop, name)?;
+    found.push(stop)?;
     Ok(())
 }
 
-fn append_stop(lines: &mut String, stop: u32, name: &str) -> Result<(), AllocError>
-    ensures { OnOk result (string_bytes lines.new ≡ string_bytes lines.old ++ stop_line (stop, name.now)) }
+fn text_of(alloc: Global, image: &Verified, found: &[u32], json: bool) -> Result<String, AllocError>
+    ensures { IfOk result (λ text. string_bytes text ≡ stops_text json image.now.names found.now) }
 {
+    match json {
+        true => json_of(alloc, image, found),
+        false => lines_of(alloc, image, found),
+    }
+}
+
+fn lines_of(alloc: Global, image: &Verified, found: &[u32]) -> Result<String, AllocError>
+    ensures { IfOk result (λ lines. string_bytes lines ≡ stops_text false image.now.names found.now) }
+{
+    let mut lines = String::new(alloc);
+    append_lines(&mut lines, alloc, image, found)?;
+    Ok(lines)
+}
+
+fn append_lines(
+    lines: &mut String,
+    alloc: Global,
+    image: &Verified,
+    found: &[u32],
+) -> Result<(), AllocError>
+    ensures { OnOk result (string_bytes lines.new
+        ≡ string_bytes lines.old ++ flat_map (stop_line image.now.names) found.now) }
+{
+    for stop in found {
+        append_line(lines, alloc, image, *stop)?;
+    }
+    Ok(())
+}
+
+fn append_line(
+    lines: &mut String,
+    alloc: Global,
+    image: &Verified,
+    stop: u32,
+) -> Result<(), AllocError>
+    ensures { OnOk result (string_bytes lines.new ≡ string_bytes lines.old ++ stop_line image.now.names stop) }
+{
+    let name = stop_name(alloc, image, stop)?;
     append_number(lines, stop)?;
-    put_word(lines, name)?;
+    put_word(lines, name.as_str())?;
     put_text(lines, "\n")?;
     Ok(())
 }
@@ -100,4 +155,55 @@ fn append_number(lines: &mut String, stop: u32) -> Result<(), AllocError>
     ensures { OnOk result (string_bytes lines.new ≡ string_bytes lines.old ++ decimal stop) }
 {
     put_number(lines, "", u64::from(stop))
+}
+
+// The stops as an array of JSON, on one line.
+fn json_of(alloc: Global, image: &Verified, found: &[u32]) -> Result<String, AllocError>
+    ensures { IfOk result (λ json. string_bytes json ≡ stops_text true image.now.names found.now) }
+{
+    let mut json = String::new(alloc);
+    put_text(&mut json, "[")?;
+    append_objects(&mut json, alloc, image, found)?;
+    put_text(&mut json, "]\n")?;
+    Ok(json)
+}
+
+fn append_objects(
+    json: &mut String,
+    alloc: Global,
+    image: &Verified,
+    found: &[u32],
+) -> Result<(), AllocError>
+    ensures { OnOk result (string_bytes json.new
+        ≡ string_bytes json.old ++ with_commas (map (stop_json image.now.names) found.now)) }
+{
+    for at in 0..found.len() {
+        put_comma(json, at)?;
+        append_object(json, alloc, image, found[at])?;
+    }
+    Ok(())
+}
+
+fn append_object(
+    json: &mut String,
+    alloc: Global,
+    image: &Verified,
+    stop: u32,
+) -> Result<(), AllocError>
+    ensures { OnOk result (string_bytes json.new ≡ string_bytes json.old ++ stop_json image.now.names stop) }
+{
+    let quoted = quoted_name(alloc, image, stop)?;
+    put_text(json, "{\"id\":")?;
+    put_text(json, quoted.as_str())?;
+    put_number(json, ",\"number\":", stop as u64)?;
+    put_text(json, "}")?;
+    Ok(())
+}
+
+// The name of a stop as JSON.
+fn quoted_name(alloc: Global, image: &Verified, stop: u32) -> Result<String, AllocError>
+    ensures { IfOk result (λ quoted. string_bytes quoted ≡ compact_text (string (stop_bytes image.now.names stop))) }
+{
+    let value = Value::String(stop_name(alloc, image, stop)?);
+    value.to_string(alloc)
 }

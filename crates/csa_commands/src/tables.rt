@@ -1,4 +1,4 @@
-//! `csa tables FOLDER [--all-faults]`.
+//! `csa tables FOLDER [--all-faults] [--json]`.
 
 ghost use Rattle.std.specs.Prelude.{◌≡◌, ◌≢◌, ◌++◌, false, IfErr, IfOk, OnOk, string_bytes};
 ghost use Rattle.command_requests.specs.declared.statuses.TheConstants.{ACCEPTED};
@@ -7,9 +7,10 @@ ghost use Rattle.gtfs_rows.specs.declared.fault.FaultKind.{FaultKind};
 ghost use Rattle.gtfs_tables.specs.Feeds.{IsFirstFault};
 ghost use Rattle.csa_commands.specs.Ending.{IsOutcome, PrintsOnly};
 ghost use Rattle.csa_commands.specs.Folders.{HoldsOfRead, IsTablesRefusal, IsTablesRefusalOf};
-ghost use Rattle.csa_commands.specs.Tabling.{AreCountsOf, AreCountsOfJoined, IsCountsLine, counts_of, counts_text};
+ghost use Rattle.csa_commands.specs.Tabling.{AreCountsOf, AreCountsOfJoined, IsCounts, counts_asked, counts_json};
 ghost use Rattle.csa_commands.specs.Refusing.{PrintsOfFeed};
-ghost use Rattle.csa_commands.specs.Tabling.{services_text, trips_text};
+ghost use Rattle.csa_commands.specs.Tabling.{counts_of, counts_text, services_json, services_text, trips_json};
+ghost use Rattle.csa_commands.specs.Tabling.{trips_text};
 
 use crate::explaining::explain_faults;
 use crate::reading::tables_in;
@@ -47,7 +48,7 @@ pub fn run<H: Files + Disk + AllocGlobal, O: Write, E: Write>(
     output: &mut O,
     errors: &mut E,
 ) -> u8
-    ensures printed { IsOutcome (PrintsOfFeed (IsCountsLine H.gives request.entry.folder.now)
+    ensures printed { IsOutcome (PrintsOfFeed (IsCounts H.gives request.entry)
         (IsTablesRefusalOf H.gives request.entry.folder.now)) result
         (O.contents output.old) (O.contents output.new) }
     ensures unexplained { result ≡ ACCEPTED → E.contents errors.new ≡ E.contents errors.old }
@@ -55,9 +56,9 @@ pub fn run<H: Files + Disk + AllocGlobal, O: Write, E: Write>(
     let alloc = rt.alloc();
     let folder = request.folder;
     match count_records(rt, folder) {
-        Ok(counts) => print_counts(alloc, counts, output),
+        Ok(counts) => print_counts(alloc, counts, request.json, output),
         Err(fault) => {
-            explain_faults(rt, folder, &fault, errors, request.all_faults);
+            explain_faults(rt, folder, &fault, errors, request.all_faults, false);
             refuse_feed(alloc, output, fault)
         }
     }
@@ -98,14 +99,23 @@ fn counts_of(tables: &Tables) -> TableCounts
     }
 }
 
-// Prints the line of counts. Never returns `REFUSED`.
-fn print_counts<O: Write>(alloc: Global, counts: TableCounts, output: &mut O) -> u8
-    ensures { IsOutcome (PrintsOnly (λ text. text ≡ counts_text counts)) result
+// Prints the counts. Never returns `REFUSED`.
+fn print_counts<O: Write>(alloc: Global, counts: TableCounts, json: bool, output: &mut O) -> u8
+    ensures { IsOutcome (PrintsOnly (λ text. text ≡ counts_asked json counts)) result
         (O.contents output.old) (O.contents output.new) }
 {
-    match line_of(alloc, counts) {
-        Ok(line) => status::write_text(output, line.as_str(), status::ACCEPTED),
+    match text_of(alloc, counts, json) {
+        Ok(text) => status::write_text(output, text.as_str(), status::ACCEPTED),
         Err(_) => status::OUT_OF_MEMORY,
+    }
+}
+
+fn text_of(alloc: Global, counts: TableCounts, json: bool) -> Result<String, AllocError>
+    ensures { IfOk result (λ text. string_bytes text ≡ counts_asked json counts) }
+{
+    match json {
+        true => json_of(alloc, counts),
+        false => line_of(alloc, counts),
     }
 }
 
@@ -135,5 +145,34 @@ fn append_services(line: &mut String, counts: TableCounts) -> Result<(), AllocEr
     put_number(line, " calendar ", counts.calendar as u64)?;
     put_number(line, " calendar_dates ", counts.calendar_dates as u64)?;
     put_number(line, " transfers ", counts.transfers as u64)?;
+    Ok(())
+}
+
+fn json_of(alloc: Global, counts: TableCounts) -> Result<String, AllocError>
+    ensures { IfOk result (λ json. string_bytes json ≡ counts_json counts) }
+{
+    let mut json = String::new(alloc);
+    append_services_json(&mut json, counts)?;
+    append_trips_json(&mut json, counts)?;
+    put_text(&mut json, "}\n")?;
+    Ok(json)
+}
+
+fn append_services_json(json: &mut String, counts: TableCounts) -> Result<(), AllocError>
+    ensures { OnOk result (string_bytes json.new ≡ string_bytes json.old ++ services_json counts) }
+{
+    put_number(json, "{\"agencies\":", counts.agencies as u64)?;
+    put_number(json, ",\"calendar\":", counts.calendar as u64)?;
+    put_number(json, ",\"calendar_dates\":", counts.calendar_dates as u64)?;
+    Ok(())
+}
+
+fn append_trips_json(json: &mut String, counts: TableCounts) -> Result<(), AllocError>
+    ensures { OnOk result (string_bytes json.new ≡ string_bytes json.old ++ trips_json counts) }
+{
+    put_number(json, ",\"stop_times\":", counts.stop_times as u64)?;
+    put_number(json, ",\"stops\":", counts.stops as u64)?;
+    put_number(json, ",\"transfers\":", counts.transfers as u64)?;
+    put_number(json, ",\"trips\":", counts.trips as u64)?;
     Ok(())
 }

@@ -1,30 +1,29 @@
 //! `csa upgrade IMAGE OUT`.
 
 ghost use Rattle.std.specs.Prelude.{◌≡◌, IfOk};
-ghost use Rattle.csa_commands.specs.Counting.{counts_line};
+ghost use Rattle.csa_commands.specs.Commands.{IsUpgraded};
 ghost use Rattle.csa_commands.specs.Ending.{IsOutcome, PrintsOnly};
 ghost use Rattle.image_layout.specs.declared.layout.TheConstants.{LAYOUT};
 ghost use Rattle.image_layout.specs.Fields.{layout_of};
 ghost use Rattle.image_layout.specs.Image.{IsImage};
 
-use crate::writing::put_image;
 use crate::{status, verify};
 use command_requests::UpgradeRequest;
+use image_files::{OutDisk, put_image};
 use image_verifier::Verified;
 use image_writer::write;
 use std::alloc::{AllocError, Global};
 use std::io::Write;
-use std::rt::Files;
 
 /// Writes the image in the current layout, and prints its counts as `verify` does. Never returns `REFUSED`.
-pub fn run<H: Files + AllocGlobal, O: Write, E: Write>(
+pub fn run<H: OutDisk + AllocGlobal, O: Write, E: Write>(
     rt: &H,
     image: &Verified,
     request: UpgradeRequest<'_>,
     output: &mut O,
     errors: &mut E,
 ) -> u8
-    ensures { IsOutcome (PrintsOnly (λ text. text ≡ counts_line image.now)) result
+    ensures { IsOutcome (PrintsOnly (IsUpgraded (H.files rt.now) image.now request.entry.out.now)) result
         (O.contents output.old) (O.contents output.new) }
 {
     let Ok(words) = upgraded(rt.alloc(), image) else {

@@ -1,17 +1,17 @@
 //! The stops from which departures are wanted: all, or those that a file names.
 
-ghost use Rattle.std.specs.Prelude.{◌≢◌, None, IfErr, IfOk, MatchResult};
+ghost use Rattle.std.specs.Prelude.{IfErr, IfOk, MatchResult};
 ghost use Rattle.std.specs.Str.Lines.{lines};
 ghost use Rattle.departure_lines.specs.Naming.{AreWanted};
-ghost use Rattle.csa_commands.specs.Departing.{IsListed, IsUnknown, IsUnlisted, IsWantedFrom};
+ghost use Rattle.csa_commands.specs.Departing.{IsListed, IsNoListAt, IsNoListFrom, IsUnknown, IsUnlisted, IsWantedFrom};
 
+use crate::listed_text::text_at;
 use crate::question::explain_line;
 use departure_lines::{ListFault, WantedStops};
+use image_files::ImageDisk;
 use image_verifier::Verified;
 use std::alloc::Global;
-use std::fs;
 use std::io::{ErrorKind, Write};
-use std::rt::Files;
 
 /// Why it isn't known from which stops departures are wanted.
 #[derive(Drop)]
@@ -26,32 +26,32 @@ pub enum NoList {
 
 /// All stops, or those that the file at the path names. If a line of the file is no stop_id, the first such line is
 /// shown in `errors`, and the error has its number.
-pub fn wanted_from<H: Files + AllocGlobal, E: Write>(
+pub fn wanted_from<H: ImageDisk + AllocGlobal, E: Write>(
     rt: &H,
     image: &Verified,
     path: Option<&str>,
     errors: &mut E,
 ) -> Result<WantedStops, NoList>
-    ensures wanted { IfOk result (IsWantedFrom image.now.names path.entry) }
-    ensures named { IfErr result (λ _. path.entry ≢ None) }
-    ensures unknown { IfErr result (IsUnknown image.now.names) }
+    ensures { MatchResult result (IsWantedFrom (H.may_hold rt.now) path.entry image.now.names)
+        (IsNoListFrom (H.may_hold rt.now) path.entry image.now.names) }
 {
     match path {
         None => Ok(WantedStops::All),
-        Some(path) => read_list(rt, image, path, errors),
+        Some(path) => wanted_at(rt, image, path, errors),
     }
 }
 
 // The stops that the file at a path names.
-fn read_list<H: Files + AllocGlobal, E: Write>(
+fn wanted_at<H: ImageDisk + AllocGlobal, E: Write>(
     rt: &H,
     image: &Verified,
     path: &str,
     errors: &mut E,
 ) -> Result<WantedStops, NoList>
-    ensures { MatchResult result (IsListed image.now.names) (IsUnknown image.now.names) }
+    ensures { MatchResult result (IsListed (H.may_hold rt.now) path.now image.now.names)
+        (IsNoListAt (H.may_hold rt.now) path.now image.now.names) }
 {
-    match fs::read_to_string(rt, path) {
+    match text_at(rt, path) {
         Ok(text) => {
             let wanted = wanted_of(rt.alloc(), image, text.as_str());
             explain_unknown(rt.alloc(), path, text.as_str(), &wanted, errors);
@@ -89,7 +89,7 @@ fn unlisted(kind: ErrorKind) -> NoList
 // The stops that a list names.
 fn wanted_of(alloc: Global, image: &Verified, list: &str) -> Result<WantedStops, NoList>
     ensures wanted { IfOk result (AreWanted image.now.names (lines list.now)) }
-    ensures unknown { IfErr result (IsUnknown image.now.names) }
+    ensures unknown { IfErr result (λ failure. IsUnknown image.now.names failure list.now) }
 {
     match WantedStops::listed(alloc, image, list) {
         Ok(wanted) => Ok(wanted),

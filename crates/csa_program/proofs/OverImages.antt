@@ -1,6 +1,7 @@
 -- What a command prints over the image that was opened.
 use Rattle.std.proofs.Common.{◌≡◌, ◌≢◌, ◌⊎◌, ℕ, List, Option, arith, codes, inl, inr, subst}
 use Rattle.image_files.specs.Held.{HoldsOfBytes}
+use Rattle.image_files.specs.Out.{OutFiles}
 use Rattle.image_layout.specs.Image.{ImageValue}
 use Rattle.command_requests.specs.declared.requests.MatrixRequest.{MatrixRequest}
 use Rattle.command_requests.specs.declared.statuses.TheConstants.{ACCEPTED, COMMAND_LINE, INPUT_OUTPUT, OUT_OF_MEMORY, REFUSED}
@@ -24,15 +25,16 @@ module _ (may_hold : List ℕ → Option (List ℕ) → Type 0) (path : List ℕ
   over_none after ended =
       outcome_of (PrintsRefusal (IsRefusedImage may_hold path input)) (PrintsOver may_hold path input Is) status before after (λ s text is. inr is) ended
 
-module _ (may_hold : List ℕ → Option (List ℕ) → Type 0) (input : Option (List ℕ)) (request : MatrixRequest) (status : ℕ) (before : Option (List ℕ)) where
+module _ (may_hold : List ℕ → Option (List ℕ) → Type 0) (disk : OutFiles) (input : Option (List ℕ)) (request : MatrixRequest) (status : ℕ)
+    (before : Option (List ℕ)) where
   pub table_over : (image : ImageValue) (opened after : Option (List ℕ)) → HoldsOfBytes may_hold request.image.now input (SpellsImage image)
-      → opened ≡ before → EndsTable status → (status ≡ ACCEPTED → IsTablePrinted may_hold image request opened after)
+      → opened ≡ before → EndsTable status → (status ≡ ACCEPTED → IsTablePrinted may_hold disk image request opened after)
       → (status ≡ REFUSED → IsTableRefused may_hold image request opened after)
       → (status ≡ COMMAND_LINE → IsTableUnlisted may_hold request opened after)
       → ((status ≡ INPUT_OUTPUT) ⊎ (status ≡ OUT_OF_MEMORY) → IsTableCutShort may_hold image request opened after)
-      → (request.out.now ≢ codes "-" → status ≡ OUT_OF_MEMORY → after ≡ opened) → IsTableEnd may_hold input request status before after
+      → (request.out.now ≢ codes "-" → status ≡ OUT_OF_MEMORY → after ≡ opened) → IsTableEnd may_hold disk input request status before after
   table_over image opened after held kept ends printed refused unlisted cut silent =
-      subst (λ (was : Option (List ℕ)). IsTableEnd may_hold input request status was after) kept (record {
+      subst (λ (was : Option (List ℕ)). IsTableEnd may_hold disk input request status was after) kept (record {
         ends = ends;
         printed = λ is. (image, held, printed is);
         refused = λ is. inr (image, held, refused is);
@@ -46,7 +48,7 @@ module _ (may_hold : List ℕ → Option (List ℕ) → Type 0) (input : Option 
   not_both is (inr none) = omega (arith, is, none)
 
   pub no_table : (after : Option (List ℕ)) → IsOutcome (PrintsRefusal (IsRefusedImage may_hold request.image.now input)) status before after
-      → IsTableEnd may_hold input request status before after
+      → IsTableEnd may_hold disk input request status before after
   no_table after (inl (line, is, whole)) = record {
     ends = inl (inr (inl is.0));
     printed = λ e. absurd (omega (arith, e, is.0));

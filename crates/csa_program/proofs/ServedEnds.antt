@@ -1,61 +1,49 @@
 -- As many sessions are served as clients came.
-use Rattle.std.proofs.Common.{◌≡◌, ◌≢◌, ◌+◌, ◌∙◌, ◌⊎◌, ◌++◌, ◌∷◌, ℕ, suc, Bool, true, false, List, [], Option, Result, Ok, Err, IfOk}
+use Rattle.std.proofs.Common.{◌≡◌, ◌≢◌, ◌+◌, ◌∙◌, ◌⊎◌, ◌++◌, ◌∷◌, ℕ, suc, Bool, true, false, List, [], Result, Ok, Err, IfOk}
 use Rattle.std.proofs.Common.{arith, ap, inl, inr, length, refl, sym, true≢false}
 use Rattle.std.proofs.lemmas.List.{length-append}
 use Rattle.std.proofs.lemmas.List.Sorted.{length_permutation}
 use Rattle.std.specs.Prelude.{flat_map}
-use Rattle.epochs.specs.Seats.{SeatValue}
-use Rattle.load_orders.specs.Asking.{OrderRoute, WorkerOrdersValue}
-use Rattle.orders.specs.Ordering.{OrderValue}
-use Rattle.shelf_steps.specs.declared.views.KnownHistory.{KnownHistory}
-use Rattle.session.specs.declared.reply_form.ReplyForm.{ReplyForm}
 use Rattle.workers.specs.Ends.{Session}
-use Rattle.workers.specs.Sessions.{AreServed, AreServedSince, AreShares}
-use Rattle.workers.specs.declared.clients.ConnFault.{ConnFault}
+use Rattle.workers.specs.Sessions.{AreServed, AreServedSince, AreShares, Post, ShareValue, Standing, WorkValue, standing}
+use Rattle.workers.specs.Words.{SessionWords}
 use Rattle.csa_program.specs.Door.{AreAsMany, AreCountedOff}
 
-module _ {C R W S N : Type 0} (form : ReplyForm) (opens : C → Result (R × W) ConnFault → Type 0)
-    (remaining : R → Option (List ℕ)) (contents : W → Option (List ℕ))
-    (number : S → ℕ) (value : S → SeatValue) (known : S → KnownHistory) (noted : N → ℕ) (route : OrderRoute N) where
+module _ {C R W T S N : Type 0} (words : SessionWords C R W T S N) where
   -- one session for each client of a hand
-  hand_many : (clients : List C) (sessions : List (Session R W)) (a b : S) (asked asked_then : List OrderValue)
-      → AreServed form opens remaining contents number value known clients sessions a asked b asked_then → length sessions ≡ length clients
-  hand_many [] [] a b asked asked_then served = refl
-  hand_many [] (session ∷ sessions) a b asked asked_then served = absurd served
-  hand_many (client ∷ clients) [] a b asked asked_then served = absurd served
-  hand_many (client ∷ clients) (session ∷ sessions) a b asked asked_then served =
-      ap suc (hand_many clients sessions served.0 b served.1 asked_then served.3)
+  hand_many : (clients : List C) (sessions : List (Session R W)) (a b : Standing S) → AreServed words clients sessions a b
+      → length sessions ≡ length clients
+  hand_many [] [] a b served = refl
+  hand_many [] (session ∷ sessions) a b served = absurd served
+  hand_many (client ∷ clients) [] a b served = absurd served
+  hand_many (client ∷ clients) (session ∷ sessions) a b served = ap suc (hand_many clients sessions served.0 b served.2)
 
   -- and of all hands
-  hands_many : (seats : List S) (hands : List (List C)) (orders : List (WorkerOrdersValue N)) (sessions : List (Session R W)) (lasts : List S)
-      → AreShares form opens remaining contents number value known noted route seats hands orders sessions lasts
-      → length sessions ≡ length (flat_map (λ hand. hand) hands)
-  hands_many [] [] [] sessions [] none = ap length none
-  hands_many [] [] [] sessions (last ∷ lasts) none = absurd none
-  hands_many [] [] (used ∷ orders) sessions lasts none = absurd none
-  hands_many [] (hand ∷ hands) orders sessions lasts none = absurd none
-  hands_many (seat ∷ seats) [] orders sessions lasts none = absurd none
-  hands_many (seat ∷ seats) (hand ∷ hands) [] sessions lasts none = absurd none
-  hands_many (seat ∷ seats) (hand ∷ hands) (used ∷ orders) sessions [] none = absurd none
-  hands_many (seat ∷ seats) (hand ∷ hands) (used ∷ orders) sessions (last ∷ lasts) shares =
-      let one = hand_many hand shares.0 seat last [] used.asked shares.3.0 in
-      let rest = hands_many seats hands orders shares.1 lasts shares.4 in
-      let many = length-append shares.0 shares.1 in
+  hands_many : (posts : List (Post S N)) (hands : List (List C)) (shares : List (ShareValue R W S N)) → AreShares words posts hands shares
+      → length (flat_map (λ share. share.sessions) shares) ≡ length (flat_map (λ hand. hand) hands)
+  hands_many [] [] [] none = refl
+  hands_many [] [] (share ∷ shares) none = absurd none
+  hands_many [] (hand ∷ hands) shares none = absurd none
+  hands_many (post ∷ posts) [] shares none = absurd none
+  hands_many (post ∷ posts) (hand ∷ hands) [] none = absurd none
+  hands_many (post ∷ posts) (hand ∷ hands) (share ∷ shares) each =
+      let one = hand_many hand share.sessions (standing post.seat []) (standing share.seat share.orders.asked) each.0.served in
+      let rest = hands_many posts hands shares each.1 in
+      let many = length-append share.sessions (flat_map (λ (s : ShareValue R W S N). s.sessions) shares) in
       let all = length-append hand (flat_map (λ (h : List C). h) hands) in
-      let parts = ap length shares.2 in
-      omega (arith, one, rest, many, all, parts)
+      omega (arith, one, rest, many, all)
 
   -- so of all who came since nobody had
-  pub sessions_many : (before after : List C) (seats : List S) (orders : List (WorkerOrdersValue N)) (sessions : List (Session R W)) (lasts : List S)
-      → AreServedSince form opens remaining contents number value known noted route before after seats orders sessions lasts → before ≡ []
-      → length sessions ≡ length after
-  sessions_many before after seats orders sessions lasts served none =
-      let came : after ≡ served.0 = served.1 ∙ ap (λ first. first ++ served.0) none in
-      let hands = served.2.0 in
-      let many = hands_many seats hands orders sessions lasts served.2.2 in
-      let dealt = length_permutation served.0 (flat_map (λ (h : List C). h) hands) served.2.1 in
+  pub sessions_many : (before after : List C) (posts : List (Post S N)) (work : WorkValue R W S N)
+      → AreServedSince words before after posts work → before ≡ [] → length work.sessions ≡ length after
+  sessions_many before after posts work served none =
+      let came : after ≡ served.clients = served.came ∙ ap (λ first. first ++ served.clients) none in
+      let work_is = served.all in
+      let many = hands_many posts work_is.hands work_is.shares work_is.each in
+      let dealt = length_permutation served.clients (flat_map (λ (h : List C). h) work_is.hands) work_is.dealt in
+      let sessions = ap length work_is.sessions_are in
       let all = ap length came in
-      omega (arith, many, dealt, all)
+      omega (arith, many, dealt, sessions, all)
 
 -- what follows from what a call that went well is known to give
 pub ok_then : {A E : Type 0} (result : Result A E) (P Q : A → Type 0) → ((a : A) → P a → Q a) → IfOk result P → IfOk result Q

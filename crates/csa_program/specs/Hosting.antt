@@ -1,22 +1,18 @@
 -- The sessions of a server, at the seats of its workers.
-use Rattle.std.specs.Prelude.{ℕ, List, [], Option, Result}
-use Rattle.session.specs.declared.reply_form.ReplyForm.{ReplyForm}
+use Rattle.std.specs.Prelude.{ℕ, List}
 use Rattle.atomic_table.specs.Seated.{TableId}
 use Rattle.epochs.specs.ShelfSeats.{NoticeValue, SeatsHanded, ShelfSeatValue}
 use Rattle.load_orders.specs.Asking.{OrderRoute, WorkerOrdersValue}
-use Rattle.shelf_steps.specs.Events.{known_of}
 use Rattle.workers.specs.Ends.{Session}
-use Rattle.workers.specs.Sessions.{AreServedSince}
-use Rattle.workers.specs.declared.clients.ConnFault.{ConnFault}
+use Rattle.workers.specs.Sessions.{AreAllServed, posts_at, work_of}
+use Rattle.workers.specs.Words.{SessionWords}
 
-module _ {C R W : Type 0} (form : ReplyForm) (opens : C → Result (R × W) ConnFault → Type 0)
-    (remaining : R → Option (List ℕ)) (contents : W → Option (List ℕ)) where
-  -- these are the sessions of all clients who came, one for each, served at these seats and replied in this form
+module _ {C R W : Type 0} (words : SessionWords C R W TableId ShelfSeatValue NoticeValue) where
+  -- these are the sessions of all clients who came, one for each, served at these seats
   abbrev pub AreSessionsOf : List ShelfSeatValue → List C → List (Session R W) → Type 0
   AreSessionsOf seats came sessions =
       (route : OrderRoute NoticeValue) × (orders : List (WorkerOrdersValue NoticeValue)) × (lasts : List ShelfSeatValue)
-      × AreServedSince form opens remaining contents (λ (seat : ShelfSeatValue). seat.number) (λ seat. seat.shown) (λ seat. known_of seat.view)
-      (λ (notice : NoticeValue). notice.version) route [] came seats orders sessions lasts
+      × AreAllServed words came (posts_at seats route) (work_of sessions lasts orders)
 
   -- as `AreSessionsOf`, at the seats of so many workers who had done nothing yet
   abbrev pub AreHosted : ℕ → List C → List (Session R W) → Type 0

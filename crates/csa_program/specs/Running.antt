@@ -1,8 +1,9 @@
--- What `csa` prints, and with which status it ends.
+-- What `csa` prints and writes, and with which status it ends.
 use Rattle.std.specs.Prelude.{◌≡◌, ◌≢◌, ◌⊎◌, ℕ, List, Option, Result, Ok, Err, codes, string_bytes}
 use Rattle.std.specs.Io.KnownBytes.{Appends}
 use Rattle.feed_files.specs.Files.{MayGive}
 use Rattle.image_files.specs.Held.{HoldsOfBytes}
+use Rattle.image_files.specs.Out.{OutFiles}
 use Rattle.image_layout.specs.Image.{ImageValue}
 use Rattle.command_line.specs.declared.reading.NoCommand.{NoCommand}
 use Rattle.command_line.specs.declared.reading.NoCommand.TheVariants.{Help, Mistake, OutOfMemory}
@@ -18,15 +19,15 @@ use Rattle.csa_commands.specs.Matrices.{EndsTable, IsTableCutShort, IsTablePrint
 use Rattle.csa_commands.specs.Opening.{IsRefusedImage, PrintsOver, SpellsImage}
 use Rattle.csa_commands.specs.Refusing.{PrintsOfFeed}
 use Rattle.csa_commands.specs.Stations.{IsStopsRefusal, IsTextOf}
-use Rattle.csa_commands.specs.Tabling.{IsCountsLine}
+use Rattle.csa_commands.specs.Tabling.{IsCounts}
 use Rattle.csa_commands.specs.declared.asked.ImageRequest.TheVariants as images
 
 -- a table over the image at its path ended so; `may_hold` says what a file at a path may hold, and the path `-` is the input
-pub record IsTableEnd (may_hold : List ℕ → Option (List ℕ) → Type 0) (input : Option (List ℕ)) (request : MatrixRequest) (status : ℕ)
-    (before after : Option (List ℕ)) : Type 0 where
+pub record IsTableEnd (may_hold : List ℕ → Option (List ℕ) → Type 0) (disk : OutFiles) (input : Option (List ℕ)) (request : MatrixRequest)
+    (status : ℕ) (before after : Option (List ℕ)) : Type 0 where
   pub ends : EndsTable status
   pub printed : status ≡ ACCEPTED → (image : ImageValue) × HoldsOfBytes may_hold request.image.now input (SpellsImage image)
-      × IsTablePrinted may_hold image request before after
+      × IsTablePrinted may_hold disk image request before after
   pub refused : status ≡ REFUSED
       → ((line : List ℕ) × IsRefusedImage may_hold request.image.now input line × Appends before after line)
       ⊎ ((image : ImageValue) × HoldsOfBytes may_hold request.image.now input (SpellsImage image)
@@ -40,24 +41,25 @@ pub record IsTableEnd (may_hold : List ℕ → Option (List ℕ) → Type 0) (in
       × IsTableCutShort may_hold image request before after)
   pub silent : request.out.now ≢ codes "-" → status ≡ OUT_OF_MEMORY → after ≡ before
 
--- `gives` says what a disk of some kind may give for a folder and the name of a file
-module _ {D : Type 0} (may_hold : List ℕ → Option (List ℕ) → Type 0) (gives : D → List ℕ → MayGive) (input : Option (List ℕ)) where
+-- `gives` says what a disk of some kind may give for a folder and the name of a file, and `disk` what is known of files that are written
+module _ {D : Type 0} (may_hold : List ℕ → Option (List ℕ) → Type 0) (gives : D → List ℕ → MayGive) (disk : OutFiles) (input : Option (List ℕ)) where
   -- a command ended so, over the image at its path, or over the files of its folder. Nothing is said of a server
   abbrev pub IsEnd : CommandRequest → ℕ → Option (List ℕ) → Option (List ℕ) → Type 0
-  IsEnd (requests.Verify image) = IsOutcome (PrintsOver may_hold image.now input (λ i. PrintsAsked i (images.Verify image)))
-  IsEnd (requests.Info image) = IsOutcome (PrintsOver may_hold image.now input (λ i. PrintsAsked i (images.Info image)))
-  IsEnd (requests.Journey request) = IsOutcome (PrintsOver may_hold request.image.now input (λ i. PrintsAsked i (images.Journey request)))
-  IsEnd (requests.Profile request) = IsOutcome (PrintsOver may_hold request.image.now input (λ i. PrintsProfile i request))
-  IsEnd (requests.Departures request) = IsOutcome (PrintsOver may_hold request.image.now input (λ i. PrintsDepartures i request))
-  IsEnd (requests.Matrix request) = IsTableEnd may_hold input request
-  IsEnd (requests.Tables request) = IsOutcome (PrintsOfFeed (IsCountsLine gives request.folder.now) (IsTablesRefusalOf gives request.folder.now))
-  IsEnd (requests.Days folder) = IsOutcome (PrintsOfFeed (AreDaysOf gives folder.now) (IsTablesRefusalOf gives folder.now))
+  IsEnd (requests.Verify image) = IsOutcome (PrintsOver may_hold image.now input (λ i. PrintsAsked may_hold disk i (images.Verify image)))
+  IsEnd (requests.Info request) = IsOutcome (PrintsOver may_hold request.image.now input (λ i. PrintsAsked may_hold disk i (images.Info request)))
+  IsEnd (requests.Journey request) = IsOutcome (PrintsOver may_hold request.image.now input (λ i. PrintsAsked may_hold disk i (images.Journey request)))
+  IsEnd (requests.Profile request) = IsOutcome (PrintsOver may_hold request.image.now input (λ i. PrintsProfile disk i request))
+  IsEnd (requests.Departures request) = IsOutcome (PrintsOver may_hold request.image.now input (λ i. PrintsDepartures may_hold i request))
+  IsEnd (requests.Matrix request) = IsTableEnd may_hold disk input request
+  IsEnd (requests.Tables request) = IsOutcome (PrintsOfFeed (IsCounts gives request) (IsTablesRefusalOf gives request.folder.now))
+  IsEnd (requests.Days request) =
+      IsOutcome (PrintsOfFeed (AreDaysOf gives request.folder.now request.json) (IsTablesRefusalOf gives request.folder.now))
   IsEnd (requests.Stations request) =
       IsOutcome (PrintsOfFeed (IsTextOf gives request.folder.now request) (IsStopsRefusal gives request.folder.now))
   IsEnd (requests.Build request) =
-      IsOutcome (PrintsOfFeed (IsReportLine gives request.folder.now request.plan) (IsBuildRefusal gives request.folder.now request.plan))
-  IsEnd (requests.Stops request) = IsOutcome (PrintsOver may_hold request.image.now input (λ i. PrintsAsked i (images.Stops request)))
-  IsEnd (requests.Upgrade request) = IsOutcome (PrintsOver may_hold request.image.now input (λ i. PrintsAsked i (images.Upgrade request)))
+      IsOutcome (PrintsOfFeed (IsReportLine gives disk request) (IsBuildRefusal gives request.folder.now request.plan))
+  IsEnd (requests.Stops request) = IsOutcome (PrintsOver may_hold request.image.now input (λ i. PrintsAsked may_hold disk i (images.Stops request)))
+  IsEnd (requests.Upgrade request) = IsOutcome (PrintsOver may_hold request.image.now input (λ i. PrintsAsked may_hold disk i (images.Upgrade request)))
   IsEnd (requests.Serve request) = λ status before after. Unit {0}
 
   -- a command line ended so: the request that it makes, or the help; or it makes none, or memory ran out, and nothing was printed

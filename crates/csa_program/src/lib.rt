@@ -1,7 +1,7 @@
 //! The body of the program `csa`: words, a reader and two writers in, an exit status out.
 #![tactic(auto)]
 
-ghost use Rattle.std.specs.Prelude.{Result};
+ghost use Rattle.std.specs.Prelude.{Result, map};
 ghost use Rattle.command_line.specs.declared.reading.NoCommand.{NoCommand};
 ghost use Rattle.command_requests.specs.declared.requests.CommandRequest.{CommandRequest};
 ghost use Rattle.csa_commands.specs.Commands.{PrintsAsked, PrintsDepartures, PrintsProfile, path_of};
@@ -10,6 +10,7 @@ ghost use Rattle.csa_commands.specs.Opening.{PrintsOver};
 ghost use Rattle.csa_program.specs.Running.{IsEnd, IsEndOf, IsTableEnd};
 
 mod accepting;
+mod asking;
 mod bases;
 mod draining;
 mod explaining;
@@ -23,10 +24,11 @@ mod sockets;
 mod visits;
 mod watching;
 
+pub use crate::asking::Asks;
 pub use crate::explaining::Explains;
 pub use crate::machine::Machine;
 pub use crate::watching::{Watched, WatchedWriter};
-use command_line::{NoCommand, read, wants_warnings};
+use command_line::{NoCommand, wants_warnings};
 use command_requests::{CommandRequest, DeparturesRequest, MatrixRequest, ProfileRequest};
 use csa_commands::matrix::Notes;
 use csa_commands::{
@@ -34,11 +36,10 @@ use csa_commands::{
     stations, status, tables,
 };
 pub use feed_files::Disk;
-use image_files::ImageDisk;
+use image_files::{ImageDisk, OutDisk};
 use std::convert::AsStr;
 use std::io::{ErrorKind, Read, Write};
 use std::net::{Net, TcpListener, TcpStream};
-use std::rt::Files;
 use std::thread::Threads;
 use std::time::Clock;
 
@@ -58,14 +59,15 @@ pub fn run<
     E: Write + Send,
 >(rt: &H, words: &[S], input: &mut I, output: &mut O, errors: &mut E, is_terminal: bool) -> u8
     ensures { (asked : Result CommandRequest NoCommand)
-        × IsEndOf (H.ImageDisk.may_hold rt.now) H.Disk.gives (I.remaining input.old) asked result
-        (O.Write.contents output.old) (O.Write.contents output.new) }
+        × H.Asks.may_ask rt.now (map S.text words.now) asked
+        × IsEndOf (H.ImageDisk.may_hold rt.now) H.Disk.gives (H.OutDisk.files rt.now) (I.remaining input.old) asked
+        result (O.Write.contents output.old) (O.Write.contents output.new) }
 {
     let notes = Notes {
         is_terminal,
         warnings: wants_warnings(words),
     };
-    let asked = read(rt.alloc(), words);
+    let asked = rt.asked(words);
     let status = run_read(rt, words, asked, input, output, errors, notes);
     if status == status::OUT_OF_MEMORY {
         explain(errors, &[NO_MEMORY]);
@@ -126,8 +128,8 @@ fn run_read<
     errors: &mut E,
     notes: Notes,
 ) -> u8
-    ensures { IsEndOf (H.ImageDisk.may_hold rt.now) H.Disk.gives (I.remaining input.old) asked.entry result
-        (O.contents output.old) (O.contents output.new) }
+    ensures { IsEndOf (H.ImageDisk.may_hold rt.now) H.Disk.gives (H.OutDisk.files rt.now) (I.remaining input.old)
+        asked.entry result (O.contents output.old) (O.contents output.new) }
 {
     match asked {
         Ok(request) => run_request(rt, request, input, output, errors, notes),
@@ -155,8 +157,8 @@ fn run_request<
     errors: &mut E,
     notes: Notes,
 ) -> u8
-    ensures { IsEnd (H.ImageDisk.may_hold rt.now) H.Disk.gives (I.remaining input.old) request.entry result
-        (O.contents output.old) (O.contents output.new) }
+    ensures { IsEnd (H.ImageDisk.may_hold rt.now) H.Disk.gives (H.OutDisk.files rt.now) (I.remaining input.old)
+        request.entry result (O.contents output.old) (O.contents output.new) }
 {
     let warnings = notes.warnings;
     match request {
@@ -164,8 +166,8 @@ fn run_request<
             let asked = ImageRequest::Verify(image);
             answer_over(rt, asked, input, output, errors, warnings)
         }
-        CommandRequest::Info(image) => {
-            let asked = ImageRequest::Info(image);
+        CommandRequest::Info(request) => {
+            let asked = ImageRequest::Info(request);
             answer_over(rt, asked, input, output, errors, warnings)
         }
         CommandRequest::Journey(request) => {
@@ -184,7 +186,7 @@ fn run_request<
             answer_over(rt, asked, input, output, errors, warnings)
         }
         CommandRequest::Tables(request) => tables::run(rt, request, output, errors),
-        CommandRequest::Days(folder) => days::run(rt, folder, output, errors),
+        CommandRequest::Days(request) => days::run(rt, request, output, errors),
         CommandRequest::Stations(request) => stations::run(rt, request, output, errors),
         CommandRequest::Build(request) => {
             build::run(rt, request, output, errors, notes.is_terminal, warnings)
@@ -198,7 +200,12 @@ fn run_request<
 }
 
 // Answers a question.
-fn answer_profile<H: Files + ImageDisk<Image = H::File> + AllocGlobal, I: Read, O: Write, E: Write>(
+fn answer_profile<
+    H: OutDisk + ImageDisk<Image = H::File> + AllocGlobal,
+    I: Read,
+    O: Write,
+    E: Write,
+>(
     rt: &H,
     request: ProfileRequest<'_>,
     input: &mut I,
@@ -207,7 +214,7 @@ fn answer_profile<H: Files + ImageDisk<Image = H::File> + AllocGlobal, I: Read, 
     warnings: bool,
 ) -> u8
     ensures { IsOutcome (PrintsOver (H.ImageDisk.may_hold rt.now) request.entry.image.now (I.remaining input.old)
-        (λ image. PrintsProfile image request.entry)) result
+        (λ image. PrintsProfile (H.OutDisk.files rt.now) image request.entry)) result
         (O.contents output.old) (O.contents output.new) }
 {
     let asked = ImageRequest::Profile(&request);
@@ -216,7 +223,7 @@ fn answer_profile<H: Files + ImageDisk<Image = H::File> + AllocGlobal, I: Read, 
 
 // Answers the queries from every stop.
 fn answer_departures<
-    H: Files + ImageDisk<Image = H::File> + AllocGlobal,
+    H: OutDisk + ImageDisk<Image = H::File> + AllocGlobal,
     I: Read,
     O: Write,
     E: Write,
@@ -229,7 +236,7 @@ fn answer_departures<
     warnings: bool,
 ) -> u8
     ensures { IsOutcome (PrintsOver (H.ImageDisk.may_hold rt.now) request.entry.image.now (I.remaining input.old)
-        (λ image. PrintsDepartures image request.entry)) result
+        (λ image. PrintsDepartures (H.ImageDisk.may_hold rt.now) image request.entry)) result
         (O.contents output.old) (O.contents output.new) }
 {
     let asked = ImageRequest::Departures(&request);
@@ -239,7 +246,7 @@ fn answer_departures<
 // Opens the image and writes the table of travel times that is asked for. If the image can't be opened, returns the
 // status that says why.
 fn matrix_over<
-    H: Files + ImageDisk<Image = H::File> + AllocGlobal + Clock + Threads + Sync,
+    H: OutDisk + ImageDisk<Image = H::File> + AllocGlobal + Clock + Threads + Sync,
     I: Read,
     O: Write,
     E: Write,
@@ -251,8 +258,8 @@ fn matrix_over<
     errors: &mut E,
     notes: Notes,
 ) -> u8
-    ensures { IsTableEnd (H.ImageDisk.may_hold rt.now) (I.remaining input.old) request.entry result
-        (O.contents output.old) (O.contents output.new) }
+    ensures { IsTableEnd (H.ImageDisk.may_hold rt.now) (H.OutDisk.files rt.now) (I.remaining input.old) request.entry
+        result (O.contents output.old) (O.contents output.new) }
 {
     match open_image(rt, request.image, input, output, errors) {
         Ok(image) => matrix::run(rt, &image, request, output, errors, notes),
@@ -261,7 +268,7 @@ fn matrix_over<
 }
 
 // Opens the image and answers what is asked of it. If it can't be opened, returns the status that says why.
-fn answer_over<H: Files + ImageDisk<Image = H::File> + AllocGlobal, I: Read, O: Write, E: Write>(
+fn answer_over<H: OutDisk + ImageDisk<Image = H::File> + AllocGlobal, I: Read, O: Write, E: Write>(
     rt: &H,
     asked: ImageRequest<'_>,
     input: &mut I,
@@ -270,7 +277,7 @@ fn answer_over<H: Files + ImageDisk<Image = H::File> + AllocGlobal, I: Read, O: 
     warnings: bool,
 ) -> u8
     ensures { IsOutcome (PrintsOver (H.ImageDisk.may_hold rt.now) (path_of asked.entry) (I.remaining input.old)
-        (λ image. PrintsAsked image asked.entry)) result
+        (λ image. PrintsAsked (H.ImageDisk.may_hold rt.now) (H.OutDisk.files rt.now) image asked.entry)) result
         (O.contents output.old) (O.contents output.new) }
 {
     match open_image(rt, asked.path(), input, output, errors) {

@@ -1,7 +1,9 @@
 //! What the program runs on.
 
+use crate::asking::Asks;
 use crate::explaining::Explains;
 use feed_files::Disk;
+use image_files::OutDisk;
 use std::random::RandomSource;
 use std::rt::Files;
 use std::sync::Wait;
@@ -12,6 +14,8 @@ use std::time::Clock;
 /// `Net<Listener = .., Stream = ..>`, which each function states itself: callers wouldn't learn the types from a bundle
 /// of bounds like this one.
 pub trait Machine: Files
+    + OutDisk
+    + Asks
     + RandomSource
     + Disk
     + Explains

@@ -6,14 +6,13 @@ ghost use Rattle.std.specs.Prelude.{slice_get, Some, string_bytes, IfOk, IfSome,
 ghost use Rattle.std.specs.Io.KnownBytes.{Appends};
 ghost use Rattle.command_requests.specs.Ending.{status_of};
 ghost use Rattle.command_requests.specs.declared.statuses.TheConstants.{ACCEPTED, INPUT_OUTPUT, OUT_OF_MEMORY};
-ghost use Rattle.shelf_steps.specs.Events.{known_of};
 ghost use Rattle.shelf_steps.specs.Handed.{handed};
 ghost use Rattle.shelf_steps.specs.declared.views.View.{View};
-ghost use Rattle.epochs.specs.ShelfSeats.{NoticeValue, SeatsHanded, ShelfSeatValue};
-ghost use Rattle.workers.specs.Carrying.{AllCarriedOut};
-ghost use Rattle.workers.specs.Learned.{LoaderLearns};
-ghost use Rattle.workers.specs.Ordering.{AreAllTaken, route_to};
-ghost use Rattle.workers.specs.Sessions.{AreServedSince, MayClose};
+ghost use Rattle.epochs.specs.ShelfSeats.{SeatsHanded};
+ghost use Rattle.workers.specs.Headline.{AllLoaded, AllServed, AreReadyAt, IsLeft, house_of};
+ghost use Rattle.workers.specs.Sessions.{MayClose};
+ghost use Rattle.workers.specs.Shelves.{shelf_loader, shelf_seats};
+ghost use Rattle.workers.specs.Words.{files_of, loads_of, outcomes_of, sessions_of};
 ghost use Rattle.csa_program.specs.Door.{AreAsMany, AreCountedOff};
 ghost use Rattle.csa_program.specs.Hosting.{AreHosted, AreSessionsOf};
 ghost use Rattle.std.specs.Option.{option_map};
@@ -76,14 +75,14 @@ struct Folders<'a, H> {
 impl<'a, H: Disk + Explains + Clock + Sync> Feeds for Folders<'a, H> {
     type Files = FolderFiles<'a, H>;
 
-    ghost named = { λ folders. folders.names.items };
-
-    // Those of the folder that goes with the feed's name, of which nothing was read yet.
-    ghost are_files = { λ folders index files.
-        (slice_get (map (λ feed. feed.folder.now) folders.request.now.feeds.items) index ≡ Some files.folder.now)
-        × (files.reads ≡ []) };
-
-    ghost is_plan = { λ folders plan. IsPlanNow folders.request.now.plan folders.zone_bytes.items plan };
+    // The files are those of the folder that goes with the feed's name, of which nothing was read yet.
+    ghost words = { record {
+      named = λ folders. folders.names.items;
+      are_files = λ folders index files.
+          (slice_get (map (λ feed. feed.folder.now) folders.request.now.feeds.items) index ≡ Some files.folder.now)
+          × (files.reads ≡ []);
+      is_plan = λ folders plan. IsPlanNow folders.request.now.plan folders.zone_bytes.items plan;
+    } };
 
     fn names(&self) -> &[String] {
         &self.names
@@ -244,12 +243,12 @@ fn listen<'d, 'f, 'e, H: Disk + Explains + Clock + Threads + Wait + Sync, O: Wri
         hosted.served hosted.door.failed result.0) }
     ensures many { IfSome result.1 (λ hosted.
         AreAsMany folders.now.request.now.sessions (length hosted.served) hosted.door.failed) }
-    ensures hosted { IfSome result.1 (λ hosted. AreHosted
+    ensures hosted { IfSome result.1 (λ hosted. AreHosted (sessions_of
         (form_with folders.now.request.now.legs folders.now.request.now.longest
         folders.now.request.now.sets)
-        ⟦<Visitor<'d, SharedErrors<'e, H>> as Client>⟧.opens
+        ⟦<Visitor<'d, SharedErrors<'e, H>> as Client>⟧.words
         ⟦<Requests<TcpStream, Visit<'d, SharedErrors<'e, H>>> as Read>⟧.remaining
-        ⟦<TcpStream as Write>⟧.contents
+        ⟦<TcpStream as Write>⟧.contents shelf_seats)
         folders.now.request.now.workers.number hosted.door.came hosted.served) }
 {
     let request = folders.request;
@@ -303,11 +302,11 @@ fn serve_door<
     ensures many { (wanted : ℕ) → AreCountedOff wanted door.entry.left door.entry.accepted
         door.entry.is_endless door.entry.failed []
         → IfOk result (λ hosted. AreAsMany wanted (length hosted.served) hosted.door.failed) }
-    ensures sessions { IfOk result (λ hosted. AreSessionsOf
+    ensures sessions { IfOk result (λ hosted. AreSessionsOf (sessions_of
         (form_with folders.now.request.now.legs folders.now.request.now.longest
         folders.now.request.now.sets)
-        ⟦<Visitor<'d, L> as Client>⟧.opens ⟦<Requests<TcpStream, Visit<'d, L>> as Read>⟧.remaining
-        ⟦<TcpStream as Write>⟧.contents made.2.items hosted.door.came hosted.served) }
+        ⟦<Visitor<'d, L> as Client>⟧.words ⟦<Requests<TcpStream, Visit<'d, L>> as Read>⟧.remaining
+        ⟦<TcpStream as Write>⟧.contents shelf_seats) made.2.items hosted.door.came hosted.served) }
 {
     let form = form_of(folders.request);
     let ran = serve_all::<B, _, _, _, _>(door, made, folders, form, errors)?;
@@ -341,36 +340,30 @@ fn serve_all<
     form: ReplyForm,
     errors: E,
 ) -> Result<
-    ServingOutcome<C, K, ShelfSeat, ShelfLoader, NamedNotice<B>, FolderFiles<'f, H>>,
+    ServingOutcome<
+        C::Reader,
+        C::Writer,
+        K,
+        ShelfSeat,
+        ShelfLoader,
+        NamedNotice<B>,
+        FolderFiles<'f, H>,
+    >,
     WorkersFault,
 >
-    requires named { made.0 ≡ B.table }
-    requires loader { made.1.table ≡ made.0 }
-    requires seats { All (λ seat. seat.table ≡ made.0) made.2.items }
+    requires ready { AreReadyAt B.table (house_of clients made.0 made.2.items made.1 folders.now) }
     requires new { SeatsHanded made.0 (length made.2.items) made.2.items }
-    requires some { 1 ≤ length made.2.items }
-    requires few { length made.2.items ≤ 16 }
-    requires closes { MayClose form C.opens C.Reader.remaining C.Writer.contents
-        (λ (seat : ShelfSeatValue). seat.number) (λ seat. seat.shown) (λ seat. known_of seat.view)
-        (λ seat. seat.table ≡ made.0) C.closes }
-    ensures none_left { IfOk result (λ ran. K.none_left ran.clients) }
-    ensures holds { IfOk result (λ ran. (fact : K.Fact) → K.holds clients fact → K.holds ran.clients fact) }
-    ensures many { IfOk result (λ ran. K.came clients ≡ [] → length ran.served ≡ length (K.came ran.clients)) }
-    ensures seats { IfOk result (λ ran. All (λ seat. seat.table ≡ made.0) ran.seats.items) }
-    ensures loader { IfOk result (λ ran. ran.loader.table ≡ made.0) }
-    ensures shares { IfOk result (λ ran. AreServedSince form C.opens C.Reader.remaining C.Writer.contents
-        (λ seat. seat.number) (λ seat. seat.shown) (λ seat. known_of seat.view)
-        (λ (notice : NoticeValue). notice.version) (route_to folders.now.names.items ran.orders.queue)
-        (K.came clients) (K.came ran.clients) made.2.items ran.asked ran.served ran.seats.items) }
-    ensures taken { IfOk result (λ ran. AreAllTaken ran.asked ran.orders) }
-    ensures loads { IfOk result (λ ran. AllCarriedOut (λ (notice : NoticeValue). notice.version)
-        (⟦<Folders<'f, H> as Feeds>⟧.are_files folders.now) ⟦<FolderFiles<'f, H> as FeedFiles>⟧.holds
-        ⟦<FolderFiles<'f, H> as FeedFiles>⟧.reads ⟦<FolderFiles<'f, H> as FeedFiles>⟧.failures
-        ⟦<FolderFiles<'f, H> as FeedFiles>⟧.failed
-        (IsPlanNow folders.now.request.now.plan folders.now.zone_bytes.items) (length folders.now.names.items)
-        ran.orders ran.used made.1.answers ran.loader.answers) }
-    ensures learns { IfOk result (λ ran. LoaderLearns (known_of made.1.view) made.1.answers
-        (known_of ran.loader.view) ran.loader.answers) }
+    requires closes { MayClose (sessions_of form C.words C.Reader.remaining C.Writer.contents shelf_seats) made.0 }
+    ensures many { IfOk result (λ ran. K.words.came clients ≡ [] → length ran.served ≡ length
+        (K.words.came ran.clients)) }
+    ensures left { IfOk result (IsLeft shelf_seats shelf_loader K.words
+        (house_of clients made.0 made.2.items made.1 folders.now)) }
+    ensures served { IfOk result (AllServed (sessions_of form C.words C.Reader.remaining C.Writer.contents shelf_seats)
+        K.words ⟦<Folders<'f, H> as Feeds>⟧.words (house_of clients made.0 made.2.items made.1 folders.now)) }
+    ensures loaded { IfOk result (AllLoaded (loads_of ⟦<Folders<'f, H> as Feeds>⟧.words
+        (outcomes_of (files_of ⟦<FolderFiles<'f, H> as FeedFiles>⟧.holds ⟦<FolderFiles<'f, H> as FeedFiles>⟧.reads
+        ⟦<FolderFiles<'f, H> as FeedFiles>⟧.failures ⟦<FolderFiles<'f, H> as FeedFiles>⟧.failed)
+        shelf_loader shelf_seats.version)) (house_of clients made.0 made.2.items made.1 folders.now)) }
 {
     let (shelves, loader, seats) = made;
     run_shelves::<B, _, _, _, _, _, _>(

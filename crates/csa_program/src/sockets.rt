@@ -42,7 +42,10 @@ impl<'a, L: Host + Sync> Client for Visitor<'a, L> {
     type Writer = TcpStream;
 
     // What is written goes to the client's own socket.
-    ghost opens = { λ visitor result. IfOk result (λ opened. opened.1 ≡ visitor.stream) };
+    ghost words = { record {
+      opens = λ visitor result. IfOk result (λ opened. opened.1 ≡ visitor.stream);
+      closes = λ reader writer end. Unit {0};
+    } };
 
     /// Each reply is sent at once.
     fn open(self) -> Result<(Requests<TcpStream, Visit<'a, L>>, TcpStream), ConnFault> {
@@ -197,17 +200,16 @@ fn accepted_at<L: Host>(listener: &TcpListener, host: &L) -> Option<TcpStream> {
 }
 
 impl<'a, L: Host> Clients<Visitor<'a, L>> for Door<'a, L> {
-    ghost came = { λ door. door.came };
-
-    // Accepting failed, or as many as are wanted were accepted.
-    ghost none_left = { λ door. (door.failed ≡ true) ⊎ ((door.is_endless ≡ false) × (door.left ≡ 0)) };
-
-    // How many clients are wanted, or 0 if there is no end to them. The fact: of those who came each has the next
-    // number, and they are counted off.
-    ghost Fact = { ℕ };
-
-    ghost holds = { λ door wanted. AreCountedOff wanted door.left door.accepted door.is_endless door.failed
-        (map (λ visitor. visitor.number) door.came) };
+    // No client comes any more: accepting failed, or as many as are wanted were accepted. A fact is how many clients
+    // are wanted, or 0 if there is no end to them: of those who came each has the next number, and they are counted
+    // off.
+    ghost words = { record {
+      came = λ door. door.came;
+      none_left = λ door. (door.failed ≡ true) ⊎ ((door.is_endless ≡ false) × (door.left ≡ 0));
+      Fact = ℕ;
+      holds = λ door wanted. AreCountedOff wanted door.left door.accepted door.is_endless door.failed
+          (map (λ visitor. visitor.number) door.came);
+    } };
 
     /// The next connection. If there is an end to them, one is counted off what is left, even if accepting then fails.
     fn next(&mut self) -> Option<Visitor<'a, L>>

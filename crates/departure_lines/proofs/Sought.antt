@@ -148,22 +148,6 @@ some_is {a} {b} e = ap value e
     value None = a
     value (Some b) = b
 
--- the next name wasn't found
-pub first_missing_at : (listed : List (List ℕ)) (index : ℕ) (name : List ℕ) (found : BTreeMap (Bor (List ℕ)) Bool)
-    → slice_get listed index ≡ Some name → ((other : List ℕ) → Contains (take index listed) other → found_at found other ≡ Some true)
-    → is_set (found_at found name) ≡ false → IsFirstMissing found listed (index + 1)
-first_missing_at listed index name found at before is = record {
-  index = index;
-  name = name;
-  numbered = more index;
-  at = at;
-  missing = λ e. absurd (true≢false (sym (ap is_set e) ∙ is));
-  before = before;
-}
-  where
-    more : (n : ℕ) → n + 1 ≡ suc n
-    more n = omega arith
-
 pub set_is : (had : Option Bool) → is_set had ≡ true → had ≡ Some true
 set_is None e = absurd (true≢false (sym e))
 set_is (Some found) e = ap Some e

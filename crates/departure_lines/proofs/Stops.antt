@@ -109,15 +109,6 @@ module _ {V : Type 0} (figures : V → Figures) (rules : Rules V) (form : LineFo
       regroup : (a b c : List ℕ) → (a ++ b) ++ c ≡ a ++ (b ++ c)
       regroup a b c = append_assoc a b c
 
--- a target isn't shown, and another stop is if it is wanted
-pub target_not_shown : (wanted : WantedStops) (targets : List ℕ) (stop : ℕ) (any : Bool) → any ≡ list_any (λ target. nat_eq target stop) targets
-    → any ≡ true → false ≡ is_shown wanted targets stop
-target_not_shown wanted targets stop any is yes_any = ap (λ b. not b && is_wanted wanted stop) (sym yes_any ∙ is)
-
-pub other_shown : (wanted : WantedStops) (targets : List ℕ) (stop : ℕ) (any has : Bool) → any ≡ list_any (λ target. nat_eq target stop) targets
-    → any ≡ false → has ≡ is_wanted wanted stop → has ≡ is_shown wanted targets stop
-other_shown wanted targets stop any has is none wants = wants ∙ ap (λ b. not b && is_wanted wanted stop) (sym none ∙ is)
-
 -- the text of a stop's points, without journeys
 pub points_shown : {K V : Type 0} {c : _} (rules_of : K → Rules V) (figures : V → Figures) (form : LineForm) (image : ImageValue)
     (profiles : ProfilesToAny K V c) (criterion : K) (stop : ℕ) (points : List (Point V)) (text old new : List ℕ)

@@ -241,13 +241,6 @@ only_first : (i edition : ℕ) → slice_get (0 ∷ []) i ≡ Some edition → e
 only_first zero edition e = cc
 only_first (suc i) edition e = absurd (cc)
 
-pub led_first : (image : ImageValue) → LeadsToShelves (handed 16 image).known (handed 16 image).shelves
-led_first image = record {
-  state = start;
-  history = record { run = refl; workers = tt; as_many = refl; numbered = only_first };
-  each = λ s run. ap (λ (x : State). x.shelves) run;
-}
-
 -- a try at a closing shelf is reported
 one_reported : (k v : ℕ) (s : Option Shelf) (u : View) (f : Bool) (b : ℕ) (u' : View) → s ≡ Some (Shelf.Closing v) → TriedShelf k s u f b u'
     → (f ≡ true) ⊎ (0 < b)

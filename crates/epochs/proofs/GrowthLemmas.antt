@@ -84,9 +84,6 @@ join_knows (View.Loading l) n = refl
 join_knows (View.Noting v) n = refl
 join_knows View.Spent n = refl
 
-pub joins_know : (u u' : View) (n : ℕ) → u' ≡ joins_notice u (View.Noting n) → known_of u' ≡ known_of u
-joins_know u u' n is = ap (λ (x : View). known_of x) is ∙ join_knows u n
-
 image_stays : (images more : List ImageValue) (version : ℕ) (image : ImageValue) → IsPrefix images more
     → image_of images version ≡ Some image → image_of more version ≡ Some image
 image_stays images more zero image p is = is

@@ -31,11 +31,6 @@ holding_settled number shelf e (View.Loading l) h = absurd h
 holding_settled number shelf e (View.Noting n) h = absurd h
 holding_settled number shelf e View.Spent h = absurd h
 
--- a seat between two calls may take in a notice
-pub seat_settled : (number : ℕ) (held : Option (ℕ × Edition)) (m : Mine) → FitsSeat number held m → IsSettled m.0
-seat_settled number None m h = idle_settled number m.0 h.0
-seat_settled number (Some x) m h = holding_settled number x.0 x.1 m.0 h.1.0
-
 idle_joined : (number n : ℕ) (u : View) → OfWorker u (λ a. (a.now ≡ Worker.Idle) × (a.number ≡ number))
     → OfWorker (joins_notice u (View.Noting n)) (λ a. (a.now ≡ Worker.Idle) × (a.number ≡ number))
 idle_joined number n (View.Working a) h = h
@@ -50,66 +45,6 @@ holding_joined number shelf n e (View.Working a) h = h
 holding_joined number shelf n e (View.Loading l) h = absurd h
 holding_joined number shelf n e (View.Noting x) h = absurd h
 holding_joined number shelf n e View.Spent h = absurd h
-
-joined_so : (number n : ℕ) (held : Option (ℕ × Edition)) (m : Mine) → FitsSeat number held m → FitsSeat number held (joins_notice m.0 (View.Noting n), m.1)
-joined_so number n None m h = (idle_joined number n m.0 h.0, h.1)
-joined_so number n (Some x) m h = (
-  h.0,
-  (holding_joined number x.0 n x.1 m.0 h.1.0, h.1.1),
-  subst (λ (k : KnownHistory). HoldsIn k number x.1.version (arc_value x.1.image)) (sym (join_knows m.0 n)) h.2,
-)
-
--- and is then what it was, but for what it has seen
-pub seat_joined : (number n : ℕ) (held : Option (ℕ × Edition)) (m notice m' : Mine) → FitsSeat number held m → notice ≡ (View.Noting n, [])
-    → m' ≡ (joins_notice m.0 notice.0, m.1) → FitsSeat number held m'
-seat_joined number n held m notice m' h is e =
-    subst (λ (x : Mine). FitsSeat number held x) (sym (e ∙ ap (λ (x : Mine). (joins_notice m.0 x.0, m.1)) is)) (joined_so number n held m h)
-
-seen_so : (u : View) (n : ℕ) → IsSettled u → seen_of (joins_notice u (View.Noting n)) ≡ max (seen_of u) n
-seen_so (View.Working a) n h = refl
-seen_so (View.Loading l) n h = absurd h
-seen_so (View.Noting x) n h = absurd h
-seen_so View.Spent n h = absurd h
-
-pub seat_has_seen : (n : ℕ) (m notice m' : Mine) → IsSettled m.0 → notice ≡ (View.Noting n, []) → m' ≡ (joins_notice m.0 notice.0, m.1)
-    → seen_of m'.0 ≡ max (seen_of m.0) n
-seat_has_seen n m notice m' settled is e =
-    ap (λ (x : Mine). seen_of x.0) (e ∙ ap (λ (x : Mine). (joins_notice m.0 x.0, m.1)) is) ∙ seen_so m.0 n settled
-
-still_rests : (current current_shelf : ℕ) (shelves : List Shelf) (l : LoaderView) → Rests current current_shelf shelves l
-    → Rests current current_shelf shelves (with_note l)
-still_rests current current_shelf shelves l r = record {
-  empty = r.empty;
-  newest = r.newest;
-  current_is = r.current_is;
-  current_shelf_is = r.current_shelf_is;
-  shelves_are = r.shelves_are;
-  few = r.few;
-  small = r.small;
-  stands = r.stands;
-  one_open = r.one_open;
-  closing = r.closing;
-}
-
-loading_so : (current current_shelf : ℕ) (shelves : List Shelf) (u : View) → RestsHere current current_shelf shelves (u, []) → IsLoading u
-    × (new_notice u ≡ View.Noting current) × RestsHere current current_shelf shelves (gives_notice u, [])
-loading_so current current_shelf shelves (View.Loading l) h =
-    (tt, ap (λ n. View.Noting n) h.0.current_is, (still_rests current current_shelf shelves l h.0, refl, h.2))
-loading_so current current_shelf shelves (View.Working v) h = absurd h.0
-loading_so current current_shelf shelves (View.Noting n) h = absurd h.0
-loading_so current current_shelf shelves View.Spent h = absurd h.0
-
--- what a loader gives out between two calls is a notice of its current version
-pub loader_notes : (current current_shelf : ℕ) (shelves : List Shelf) (m : Mine) → RestsHere current current_shelf shelves m → IsLoading m.0
-    × (new_notice m.0 ≡ View.Noting current)
-loader_notes current current_shelf shelves m h = let l = loading_so current current_shelf shelves m.0 (h.0, refl, h.2) in (l.0, l.1)
-
--- and the loader rests as it did
-pub loader_rests : (current current_shelf : ℕ) (shelves : List Shelf) (m m' : Mine) → RestsHere current current_shelf shelves m
-    → m' ≡ (gives_notice m.0, m.1) → RestsHere current current_shelf shelves m'
-loader_rests current current_shelf shelves m m' h is =
-    let l = loading_so current current_shelf shelves m.0 (h.0, refl, h.2) in
-    subst (λ (x : Mine). RestsHere current current_shelf shelves x) (sym is) (l.2.0, h.1, l.2.2)
 
 pin_rises : (a b : SeatValue) (r : Result (Unit {0}) PinFault) → PinStep a r b → a.seen ≤ b.seen
 pin_rises a b (Ok u) h = let is = ap (λ (s : SeatValue). s.seen) h.1.3 in let up = h.1.2 in omega arith

@@ -404,10 +404,3 @@ pub refuses_grow : (u u' : View) (fault : PublishFault) → RefusesBySteps u fau
 refuses_grow u u' PublishFault.VersionsSpent h = same_grows u u' h.1
 refuses_grow u u' PublishFault.OutOfMemory h = room_grows u u' h.1
 refuses_grow u u' (PublishFault.ShelvesFull counts) h = collects_grow u u' h.2.0 h.2.1
-
--- a notice that goes out tells the loader nothing of the past
-pub notice_knows : (u : View) → known_of (gives_notice u) ≡ known_of u
-notice_knows (View.Loading l) = refl
-notice_knows (View.Working v) = refl
-notice_knows (View.Noting v) = refl
-notice_knows View.Spent = refl

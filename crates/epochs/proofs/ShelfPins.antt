@@ -40,20 +40,6 @@ pins_seen u u' n shelf e h =
     let a = lates_seen h.0 u h.2 h.3 in let b = well_seen h.2 u' n shelf e h.4 in
     ((let c = b.0 in omega arith), b.1)
 
--- the fourth of four looks that rise
-pub moves_seen : (u u' : View) (n : ℕ) → Moves u n u' → (seen_of u + 3 ≤ n) × (seen_of u' ≡ n)
-moves_seen u u' n h =
-    let i = h.0 in let j = h.1 in let k = h.2 in let t = h.3 in
-    let first = late_seen u t.0 i t.1 in let last = late_seen t.2.2.0 t.2.2.2.0 n t.2.2.2.1 in (
-      (let a = first.0 in let b = h.4 in let c = h.5 in let d = h.6 in omega arith),
-      ap (λ (v : View). seen_of v) t.2.2.2.2 ∙ last.1,
-    )
-
-pub releases_seen : (u u' : View) → Releases u u' → seen_of u' ≡ seen_of u
-releases_seen (View.Working a) (View.Working b) h = h.seen
-releases_seen (View.Working a) _ h = absurd h
-releases_seen _ u' h = absurd h
-
 well_holds : (u : View) (m : Mine) (number n shelf : ℕ) (e : Edition) → Well u n shelf e m.0
     → IsHoldingAs number shelf e m → e.version ≡ n → HoldsIn (known_of m.0) number e.version (arc_value e.image)
 well_holds u m number n shelf e h is same = of_view u m.0 h is.0

@@ -109,19 +109,6 @@ append_nothing : {X : Type 0} (xs : List X) → xs ≡ xs ++ []
 append_nothing [] = refl
 append_nothing (x ∷ xs) = ap (λ l. x ∷ l) (append_nothing xs)
 
-pub nothing_tried : (a : TableValue) → CollectsBelow 0 a (replicate 8 false) (replicate 8 0) a
-nothing_tried a = record {
-  most = omega arith;
-  run = record { replies = []; run = refl };
-  events = append_nothing a.events;
-  images = refl;
-  state = refl;
-  eight_freed = refl;
-  eight_busy = refl;
-  later = λ k more. refl;
-  each = λ k shelf here less. absurd (omega arith);
-}
-
 join_runs : (s t u : State) (first second : List Event) → RunsJoin → IsRun s first t → IsRun t second u → IsRun s (first ++ second) u
 join_runs s t u first second law a b = record { replies = a.replies ++ b.replies; run = law s t u first second a.replies b.replies a.run b.run }
 

@@ -1,14 +1,17 @@
 -- Consecutive days, and their lines.
 use Rattle.std.proofs.Common.{◌≡◌, ◌≤◌, ◌<◌, ◌+◌, ◌++◌, ◌∷◌, [], ℕ, zero, suc, List, Bool, true, false, refl, sym, ap, ◌∙◌, arith, min}
+use Rattle.std.proofs.Common.{get_or, length, map, take}
 use Rattle.std.specs.Prelude.{Some, None, nat_lt, if◌then◌else◌}
 use Rattle.std.specs.List.{flat_map}
 use Rattle.std.proofs.lemmas.Bool.Decides.{nat_tests}
-use Rattle.std.proofs.lemmas.List.{flat_map_more}
+use Rattle.std.proofs.lemmas.List.{flat_map_more, get_or-map, length-map, take_more}
 use Rattle.gtfs_rows.specs.declared.values.Day.{Day}
+use Rattle.gtfs_tables.specs.declared.tables.Feed.{Feed}
 use Rattle.service_days.specs.Days.{day_after}
 use Rattle.connections.specs.Days.{days_from}
-use Rattle.feed_days.specs.Days.{days_after, days_of, first_unlisted, listed_days}
-use Rattle.feed_days.specs.Service.{day_number}
+use Rattle.feed_days.specs.Days.{day_text, days_after, days_of, first_unlisted, listed_days, trips_text}
+use Rattle.feed_days.specs.Service.{day_number, trips_on}
+use Rattle.feed_days.specs.declared.form.Form.{Form}
 use Rattle.feed_days.specs.declared.span.Span.{Span}
 
 after_first : (day : Day) (n : ℕ) → days_after (day_after day) n ≡ day_after (days_after day n)
@@ -65,3 +68,18 @@ more_listed span many =
       ap (days_from span.first) all,
       ap (λ (b : Bool). if b then Some (days_after span.first 366) else None) over,
     )
+
+-- a day more with its trips
+pub text_more : (form : Form) (feed : Feed) (days : List Day) (counts : List ℕ) (i : ℕ) (d : Day) (e : ℕ) (first before new : List ℕ)
+    → counts ≡ map (trips_on feed) days → i < length counts → before ≡ first ++ flat_map (day_text form feed) (take i days)
+    → new ≡ before ++ trips_text form (get_or days i d) (get_or counts i e)
+    → new ≡ first ++ flat_map (day_text form feed) (take (i + 1) days)
+text_more form feed days counts i d e first before new are lt was now =
+    let within : i < length days = (let long = ap length are ∙ length-map days (trips_on feed) in omega (arith, lt, long)) in
+    let count : get_or counts i e ≡ trips_on feed (get_or days i d) =
+    ap (λ (xs : List ℕ). get_or xs i e) are ∙ get_or-map (trips_on feed) days i d e within in
+    now
+    ∙ ap (λ (n : ℕ). before ++ trips_text form (get_or days i d) n) count
+    ∙ ap (λ (xs : List ℕ). xs ++ day_text form feed (get_or days i d)) was
+    ∙ flat_map_more (day_text form feed) first (take i days) (get_or days i d)
+    ∙ ap (λ (ds : List Day). first ++ flat_map (day_text form feed) ds) (sym (take_more days i d within))

@@ -2,10 +2,9 @@
 use Rattle.std.proofs.Common.{◌≡◌, ◌<◌, ◌&&◌, ◌||◌, ◌+◌, ℕ, List, [], ◌∷◌, length, get_or, take, Bool, true, false, refl, sym, ap, ◌∙◌, inl, inr, arith}
 use Rattle.std.specs.List.{list_any}
 use Rattle.std.specs.Prelude.{Option}
-use Rattle.std.proofs.lemmas.Bool.{and_parts, cases_Bool, cases_lt, false≢true}
+use Rattle.std.proofs.lemmas.Bool.{and_parts, cases_Bool, false≢true}
 use Rattle.std.proofs.lemmas.Bool.Decides.{nat_tests}
-use Rattle.std.proofs.lemmas.List.{get_or_past}
-use Rattle.std.proofs.lemmas.List.Folds.{list_any_at, list_any_more}
+use Rattle.std.proofs.lemmas.List.Folds.{list_any_more}
 use Rattle.gtfs_rows.specs.Values.{is_civil}
 use Rattle.gtfs_rows.specs.declared.rows.CalendarDateRow.{CalendarDateRow}
 use Rattle.gtfs_rows.specs.declared.rows.CalendarRow.{CalendarRow}
@@ -73,14 +72,6 @@ weekly_from row d is = (of_row row d is).from
 
 pub weekly_to : (row : CalendarRow) (d : Day) → gives_weekly row d ≡ true → is_not_after d row.end ≡ true
 weekly_to row d is = (of_row row d is).to
-
--- a row without a weekday gives none
-pub no_weekday : (row : CalendarRow) → list_any (λ flag. flag) row.weekdays ≡ false → HoldsOfNone (gives_weekly row)
-no_weekday row none =
-    none_if (gives_weekly row) (λ d is. elim (cases_lt (weekday_on d) (length row.weekdays)) [
-      | inl within ↦ false≢true (sym none ∙ list_any_at (λ flag. flag) row.weekdays (weekday_on d) false within (of_row row d is).weekday)
-      | inr past ↦ false≢true (sym (get_or_past row.weekdays (weekday_on d) false past) ∙ (of_row row d is).weekday)
-    ])
 
 -- where the days are gone through from
 pub starts : (row : CalendarRow) (day : Day) → (is_civil row.start ≡ true → day ≡ row.start) → (is_civil row.start ≡ false → day ≡ first_day)

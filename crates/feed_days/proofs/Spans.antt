@@ -39,20 +39,6 @@ pub either : (a b : Bool) → (a || b) ≡ true → (a ≡ true) ⊎ (b ≡ true
 either true b is = inl refl
 either false b is = inr is
 
-without_left : (a b : Bool) → a ≡ false → b ≡ (a || b)
-without_left true b none = absurd (false≢true (sym none))
-without_left false b none = refl
-
-without_right : (a b : Bool) → b ≡ false → a ≡ (a || b)
-without_right true b none = refl
-without_right false b none = sym none
-
-pub none_and_span : (p q : Day → Bool) (found : Option Span) → HoldsOfNone p → SpansDays q found → SpansDays (λ d. p d || q d) found
-none_and_span p q found none is = span_same q (λ d. p d || q d) (λ d. without_left (p d) (q d) (none d)) found is
-
-pub span_and_none : (p q : Day → Bool) (found : Option Span) → SpansDays p found → HoldsOfNone q → SpansDays (λ d. p d || q d) found
-span_and_none p q found is none = span_same p (λ d. p d || q d) (λ d. without_right (p d) (q d) (none d)) found is
-
 first_of_two : (p q : Day → Bool) (f g h : Day) → IsFirst p f → IsFirst q g → (is_not_after f g ≡ true → h ≡ f) → (is_not_after f g ≡ false → h ≡ g)
     → IsFirst (λ d. p d || q d) h
 first_of_two p q f g h one other first second =

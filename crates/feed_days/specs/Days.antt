@@ -1,12 +1,12 @@
--- The lines about the service days of a feed.
+-- The service days of a feed, as lines and as an object of JSON.
 use Rattle.std.specs.Prelude.{◌≡◌, ◌⊎◌, ◌++◌, ◌+◌, ◌-◌, ◌/◌, ◌%◌, min, nat_lt, if◌then◌else◌, ℕ, zero, suc, List, [], Option, Some, None, codes, decimal}
 use Rattle.std.specs.List.{flat_map}
-use Rattle.std.specs.Option.{option_map_or}
 use Rattle.gtfs_rows.specs.declared.values.Day.{Day}
 use Rattle.gtfs_tables.specs.declared.tables.Feed.{Feed}
 use Rattle.timetable.specs.Clocks.{two_digits}
 use Rattle.service_days.specs.Days.{day_after}
 use Rattle.connections.specs.Days.{days_from}
+use Rattle.feed_days.specs.declared.form.Form.{Form}
 use Rattle.feed_days.specs.declared.span.Span.{Span}
 use Rattle.feed_days.specs.Service.{HoldsOfNone, IsSpan, day_number, has_service, trips_on}
 
@@ -14,13 +14,32 @@ use Rattle.feed_days.specs.Service.{HoldsOfNone, IsSpan, day_number, has_service
 unfoldable pub date_text : Day → List ℕ
 date_text d = ((two_digits (d.year / 100) ++ two_digits (d.year % 100)) ++ two_digits d.month) ++ two_digits d.day
 
--- the line with a word, which ends in a space, and a day
-unfoldable pub date_line : List ℕ → Day → List ℕ
-date_line word day = (word ++ date_text day) ++ codes "\n"
+-- a day between two texts
+unfoldable pub dated_text : List ℕ → Day → List ℕ → List ℕ
+dated_text before day after = (before ++ date_text day) ++ after
 
--- the line with a day and how many trips run on it
-unfoldable pub trips_line : Feed → Day → List ℕ
-trips_line feed day = ((codes "trips-" ++ date_text day) ++ (codes " " ++ decimal (trips_on feed day))) ++ codes "\n"
+-- the first and the last day, each as a line, and as a member of an object of JSON
+abbrev pub first_text : Form → Day → List ℕ
+first_text Form.Lines day = dated_text (codes "first ") day (codes "\n")
+first_text Form.Json day = dated_text (codes "{\"first\":\"") day (codes "\"")
+
+abbrev pub last_text : Form → Day → List ℕ
+last_text Form.Lines day = dated_text (codes "last ") day (codes "\n")
+last_text Form.Json day = dated_text (codes ",\"last\":\"") day (codes "\"")
+
+-- a day, and how many trips run on it
+unfoldable pub trips_line : Day → ℕ → List ℕ
+trips_line day trips = ((codes "trips-" ++ date_text day) ++ (codes " " ++ decimal trips)) ++ codes "\n"
+
+unfoldable pub trips_member : Day → ℕ → List ℕ
+trips_member day trips = (codes ",\"trips-" ++ date_text day) ++ (codes "\":" ++ decimal trips)
+
+abbrev pub trips_text : Form → Day → ℕ → List ℕ
+trips_text Form.Lines day trips = trips_line day trips
+trips_text Form.Json day trips = trips_member day trips
+
+abbrev pub day_text : Form → Feed → Day → List ℕ
+day_text form feed day = trips_text form day (trips_on feed day)
 
 -- the day that is n days after another
 unfoldable pub days_after : Day → ℕ → Day
@@ -31,25 +50,40 @@ days_after day (suc n) = day_after (days_after day n)
 abbrev pub days_of : Span → ℕ
 days_of span = day_number span.last + 1 - day_number span.first
 
--- the days that have a line: the first 366, or all if there are fewer
+-- the days that are listed: the first 366, or all if there are fewer
 unfoldable pub listed_days : Span → List Day
 listed_days span = days_from span.first (min 366 (days_of span))
 
--- the first day that has no line, if there are more days
+-- the first day that isn't, if there are more days
 unfoldable pub first_unlisted : Span → Option Day
 first_unlisted span = if nat_lt 366 (days_of span) then Some (days_after span.first 366) else None
 
-abbrev pub unlisted_line : Option Day → List ℕ
-unlisted_line day = option_map_or (date_line (codes "unlisted ")) day []
+abbrev pub unlisted_text : Form → Option Day → List ℕ
+unlisted_text form None = []
+unlisted_text Form.Lines (Some day) = dated_text (codes "unlisted ") day (codes "\n")
+unlisted_text Form.Json (Some day) = dated_text (codes ",\"unlisted\":\"") day (codes "\"")
 
--- the lines of a span: the first and the last day, each day with its trips, and the first day that has no line
-unfoldable pub span_text : Feed → Span → List ℕ
-span_text feed span =
-    ((date_line (codes "first ") span.first ++ date_line (codes "last ") span.last) ++ flat_map (trips_line feed) (listed_days span))
-    ++ unlisted_line (first_unlisted span)
+-- the text of a span: the first and the last day, each day with its trips, and the first day that isn't listed
+unfoldable pub span_text : Form → Feed → Span → List ℕ
+span_text form feed span =
+    ((first_text form span.first ++ last_text form span.last) ++ flat_map (day_text form feed) (listed_days span))
+    ++ unlisted_text form (first_unlisted span)
 
--- these are the lines of a feed: for the span of its service days, or for none if it has no service
+-- the text of a feed without service
+abbrev pub none_text : Form → List ℕ
+none_text Form.Lines = codes "first none\nlast none\n"
+none_text Form.Json = codes "{\"first\":null,\"last\":null"
+
+-- this is the text of a feed: for the span of its service days, or for none if it has no service
+abbrev pub IsDaysText : Form → Feed → List ℕ → Type 0
+IsDaysText form feed text =
+    ((span : Span) × IsSpan (has_service feed) span × (text ≡ span_text form feed span))
+    ⊎ (HoldsOfNone (has_service feed) × (text ≡ none_text form))
+
+-- these are the lines of a feed
 abbrev pub AreDayLines : Feed → List ℕ → Type 0
-AreDayLines feed lines =
-    ((span : Span) × IsSpan (has_service feed) span × (lines ≡ span_text feed span))
-    ⊎ (HoldsOfNone (has_service feed) × (lines ≡ codes "first none\nlast none\n"))
+AreDayLines feed lines = IsDaysText Form.Lines feed lines
+
+-- the same as an object of JSON on one line
+abbrev pub IsDaysJson : Feed → List ℕ → Type 0
+IsDaysJson feed json = (members : List ℕ) × IsDaysText Form.Json feed members × (json ≡ members ++ codes "}\n")

@@ -1,14 +1,15 @@
-//! The service days of a feed, and how many of its trips run on each of them, as text.
+//! The service days of a feed, and how many of its trips run on each of them, as lines and as JSON.
 //!
-//! A feed may have service on every day of 9999 years, so at most [`MOST_DAYS`] days have a line.
+//! A feed may have service on every day of 9999 years, so at most [`MOST_DAYS`] days are listed.
 #![tactic(auto)]
 
 mod counting;
 mod dates;
+mod form;
 mod listing;
 mod putting;
 mod span;
 
 pub use counting::trips_on_days;
-pub use listing::{MOST_DAYS, days_text};
+pub use listing::{MOST_DAYS, days_json, days_text};
 pub use span::{Span, span_of};

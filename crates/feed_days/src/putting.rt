@@ -1,7 +1,7 @@
-//! Adds days to lines.
+//! Adds days to texts.
 
 ghost use Rattle.std.specs.Prelude.{◌≡◌, ◌++◌, OnOk, string_bytes};
-ghost use Rattle.feed_days.specs.Days.{date_line, date_text};
+ghost use Rattle.feed_days.specs.Days.{date_text, dated_text};
 
 use gtfs_tables::Day;
 use std::alloc::AllocError;
@@ -18,12 +18,12 @@ pub fn put_date(lines: &mut String, day: Day) -> Result<(), AllocError>
     Ok(())
 }
 
-// Adds a line with a word, which ends in a space, and a day.
-pub fn put_date_line(lines: &mut String, word: &str, day: Day) -> Result<(), AllocError>
-    ensures { OnOk result (string_bytes lines.new ≡ string_bytes lines.old ++ date_line word.now day) }
+// Adds a day between two texts.
+pub fn put_dated(lines: &mut String, before: &str, day: Day, after: &str) -> Result<(), AllocError>
+    ensures { OnOk result (string_bytes lines.new ≡ string_bytes lines.old ++ dated_text before.now day after.now) }
 {
-    put_text(lines, word)?;
+    put_text(lines, before)?;
     put_date(lines, day)?;
-    put_text(lines, "\n")?;
+    put_text(lines, after)?;
     Ok(())
 }

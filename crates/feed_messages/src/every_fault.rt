@@ -1,7 +1,7 @@
 //! All faults of a feed that is refused, file by file.
 //!
 //! Each file is read once more. First its records are judged by themselves and by their keys, then the ids that they
-//! name are looked up. The times of trips aren't judged.
+//! name are looked up. The times of trips are judged if no record of `stop_times.txt` is at fault by itself.
 
 ghost use Rattle.feed_files.specs.Reads.{all_tables};
 ghost use Rattle.feed_messages.specs.Asking.{AreAskedFor, IsAskedFor};
@@ -13,9 +13,10 @@ use crate::table_fault::message;
 use crate::words::explain;
 use feed_files::{FeedFiles, FileFault, ReadFault};
 use gtfs_rows::{
-    FaultKind, IdHash, Key, Location, MAX_STOPS, MAX_TRIPS, Table, TableFault, TableRecords,
-    TransferKind, location, transfer_kind,
+    FaultKind, IdHash, Key, Location, MAX_STOPS, MAX_TRIPS, StopTimes, Table, TableFault,
+    TableFile, TableRecords, TransferKind, location, transfer_kind,
 };
+use gtfs_tables::time_faults;
 use indexmap::{IndexMap, IndexSet};
 use std::alloc::{AllocError, Global};
 use std::io::Write;
@@ -34,18 +35,19 @@ const TABLES: [Table; 8] = [
 ];
 
 /// Says what else is wrong with a feed that is refused, besides the first fault, for which it is refused. The files are
-/// those of the folder; each is read once.
+/// those of the folder; each is read once. If `strict`, each arrival must be later than the departure before it.
 pub fn explain_further<H: Files + AllocGlobal, F: FeedFiles, E: Write>(
     rt: &H,
     folder: &str,
     files: &mut F,
     first: Option<ReadFault>,
+    strict: bool,
     errors: &mut E,
 )
     ensures once { AreAskedFor all_tables (F.reads files.old, F.failed files.old)
         (F.reads files.new, F.failed files.new) }
 {
-    let mut found = FoundFaults::none(rt.alloc(), files.id_hash(), first);
+    let mut found = FoundFaults::none(rt.alloc(), files.id_hash(), first, strict);
     found.explain_files(rt, folder, files, errors);
 }
 
@@ -58,6 +60,7 @@ struct FoundFaults {
     alloc: Global,
     hash: IdHash,
     first: Option<ReadFault>,
+    strict: bool,
     places: Keys,
     trips: Keys,
     /// The trip_ids of which a record of `stop_times.txt` has a blank stop_id: the stops of these trips aren't judged.
@@ -66,11 +69,12 @@ struct FoundFaults {
 }
 
 impl FoundFaults {
-    fn none(alloc: Global, hash: IdHash, first: Option<ReadFault>) -> FoundFaults {
+    fn none(alloc: Global, hash: IdHash, first: Option<ReadFault>, strict: bool) -> FoundFaults {
         FoundFaults {
             alloc,
             hash,
             first,
+            strict,
             places: Keys::none(alloc, hash, false),
             trips: Keys::none(alloc, hash, false),
             flex: IndexSet::with_hasher(alloc, hash),
@@ -212,9 +216,51 @@ impl FoundFaults {
         if ids_of(table).is_empty() {
             return Some(None);
         }
+        let late = self.judge_times(table, bytes)?;
         let mut records = TableRecords::open(self.alloc, table, bytes).ok()?;
-        self.judge_ids(&mut records, faults)?;
+        self.judge_ids(&mut records, faults, &late)?;
         Some(None)
+    }
+
+    /// Judges the times of each trip_id of `stop_times.txt`, and returns the faults by rising record. There are none if
+    /// a record is at fault by itself, nor in another table. `None` if memory runs out.
+    fn judge_times(&self, table: Table, bytes: &[u8]) -> Option<Vec<TableFault>> {
+        if table != Table::StopTimes {
+            return Some(Vec::new(self.alloc));
+        }
+        let times: Result<StopTimes, TableFault> = TableFile::read(self.alloc, self.hash, bytes);
+        match times {
+            Ok(times) => self.late_rows(&times),
+            Err(fault) if fault.kind == FaultKind::OutOfMemory => None,
+            Err(_) => Some(Vec::new(self.alloc)),
+        }
+    }
+
+    /// The faults in the times of trips, by rising record.
+    fn late_rows(&self, times: &StopTimes) -> Option<Vec<TableFault>> {
+        let numbers = self.trip_numbers(times)?;
+        let count = self.trips.len().checked_add(numbers.len())?;
+        let mut late = time_faults(self.alloc, &times.rows, &numbers, count, self.strict).ok()?;
+        late.sort_by_key(|fault| fault.row).ok()?;
+        Some(late)
+    }
+
+    /// The number of the trip of each trip_id of `stop_times.txt`. Those that `trips.txt` lacks come behind its trips.
+    fn trip_numbers(&self, times: &StopTimes) -> Option<Vec<Option<u32>>> {
+        let mut numbers = Vec::with_capacity(self.alloc, times.trips.len()).ok()?;
+        let mut unknown = self.trips.len();
+        for id in &times.trips {
+            let number = match self.trips.number(id.as_str()) {
+                Some(number) => number,
+                None => {
+                    let behind = unknown;
+                    unknown = unknown.checked_add(1)?;
+                    behind
+                }
+            };
+            numbers.push(Some(u32::try_from(number).ok()?)).ok()?;
+        }
+        Some(numbers)
     }
 
     /// Judges each record by itself, and its key, and returns the keys.
@@ -266,8 +312,15 @@ impl FoundFaults {
         Some(())
     }
 
-    /// Judges the ids that records name.
-    fn judge_ids(&self, records: &mut TableRecords<'_>, faults: &mut FileFaults) -> Option<()> {
+    /// Judges the ids that records name, and notes the faults in the times of trips, which are in the order of the
+    /// records.
+    fn judge_ids(
+        &self,
+        records: &mut TableRecords<'_>,
+        faults: &mut FileFaults,
+        late: &[TableFault],
+    ) -> Option<()> {
+        let mut left = late;
         let mut places: UnknownIds = IndexMap::with_hasher(self.alloc, self.hash);
         let mut trips: UnknownIds = IndexMap::with_hasher(self.alloc, self.hash);
         for _ in 0..u64::MAX {
@@ -281,6 +334,7 @@ impl FoundFaults {
                     self.judge_id(records, faults, &mut places, *column, *wanted)?;
                 }
             }
+            left = note_times(records, faults, left);
         }
         None
     }
@@ -347,6 +401,21 @@ fn ids_of(table: Table) -> &'static [(usize, Wanted)] {
         Table::Transfers => &[(0, Wanted::End), (1, Wanted::End)],
         Table::Frequencies => &[(0, Wanted::Trip)],
         _ => &[],
+    }
+}
+
+/// Notes what is wrong with the times of a trip in the record that was read last, and returns the faults behind it.
+fn note_times<'a>(
+    records: &mut TableRecords<'_>,
+    faults: &mut FileFaults,
+    late: &'a [TableFault],
+) -> &'a [TableFault] {
+    match late {
+        [fault, behind @ ..] if fault.row == records.number() => {
+            let _ = faults.note(records, fault.kind, None, None);
+            behind
+        }
+        _ => late,
     }
 }
 

@@ -12,7 +12,7 @@ use std::io::Write;
 const MOST_LINES: u64 = 100;
 
 /// The kinds of which a file may have more faults.
-const KINDS: [FaultKind; 9] = [
+const KINDS: [FaultKind; 13] = [
     FaultKind::RowLength,
     FaultKind::BadTime,
     FaultKind::BadDate,
@@ -20,6 +20,10 @@ const KINDS: [FaultKind; 9] = [
     FaultKind::IdTwice,
     FaultKind::UnknownId,
     FaultKind::ZonesDiffer,
+    FaultKind::SequenceTwice,
+    FaultKind::EndWithoutTime,
+    FaultKind::TimeGoesBack,
+    FaultKind::HopWithoutDuration,
     FaultKind::NotAStop,
     FaultKind::BadHeadway,
 ];

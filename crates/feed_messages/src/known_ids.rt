@@ -58,6 +58,12 @@ impl Keys {
         self.seen.get(key).copied()
     }
 
+    /// The number of the key, in the order in which they were added, if it is there.
+    pub fn number(&self, key: &str) -> Option<usize> {
+        let (number, _, _) = self.seen.get_full(key)?;
+        Some(number)
+    }
+
     /// Adds a key that isn't there yet. `None` if memory runs out.
     pub fn add(&mut self, key: String, here: Seen) -> Option<()> {
         self.seen.insert(key, here).ok()?;

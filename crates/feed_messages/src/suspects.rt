@@ -144,6 +144,7 @@ pub fn reason_of(fault: &TableFault, column: &str) -> &'static str {
             "isn't a stop or platform: its location_type in stops.txt is 1 to 4"
         }
         FaultKind::ZonesDiffer => "isn't that of the first agency",
+        FaultKind::SequenceTwice => "is in an earlier row of this trip too",
         FaultKind::EndWithoutTime => "begins or ends with this row, which has no time",
         FaultKind::TimeGoesBack => "has a time in this row that is earlier than the one before it",
         FaultKind::HopWithoutDuration => {

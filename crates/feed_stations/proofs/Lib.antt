@@ -1,4 +1,4 @@
-mod Commas
+pub mod Commas
 mod Counted
 mod Found
 mod Groups

@@ -61,7 +61,7 @@ fn append_each(
 }
 
 /// Adds a comma, unless this is the first place.
-pub(crate) fn put_comma(out: &mut String, place: usize) -> Result<(), AllocError>
+pub fn put_comma(out: &mut String, place: usize) -> Result<(), AllocError>
     ensures { OnOk result (string_bytes out.new ≡ string_bytes out.old ++ comma_before place) }
 {
     if place == 0 {

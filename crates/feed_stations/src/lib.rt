@@ -13,6 +13,7 @@ mod texts;
 
 pub use finding::is_in;
 pub use homes::homes_in;
+pub use json::put_comma;
 pub use labels::{Label, labels_in};
 pub use places::Places;
 pub use texts::{json_text, lines_text};

@@ -50,18 +50,6 @@ module _ {V : Type 0} (rules : Rules V) (points : List (Item V)) where
       ∙ append_assoc old (left_by rules points (take (k - rest) (drop rest old))) (left_by rules points (x ∷ []))
       ∙ ap (λ xs. old ++ xs) (sym (left_append (take (k - rest) (drop rest old)) (x ∷ [])) ∙ ap (left_by rules points) (sym parts))
 
-  pub leave_none : (old : List (Item V)) (rest k : ℕ) → k ≤ rest → old ≡ old ++ left_by rules points (take (k - rest) (drop rest old))
-  leave_none old rest k le =
-      let e : k - rest ≡ 0 = omega arith in
-      sym (append-nil old) ∙ ap (λ n. old ++ left_by rules points (take n (drop rest old))) (sym e)
-
-  pub leave_all : (old now : List (Item V)) (rest count k : ℕ)
-      → now ≡ old ++ left_by rules points (take (k - rest) (drop rest old)) → k ≡ rest + count
-      → now ≡ old ++ left_by rules points (take count (drop rest old))
-  leave_all old now rest count k was end =
-      let e : k - rest ≡ count = omega arith in
-      was ∙ ap (λ n. old ++ left_by rules points (take n (drop rest old))) e
-
   -- the own point, and then the items
   pub leave_both : (entries : List (FrontEntry V)) (old mid new : List (Item V)) (m : ℕ) (e : FrontEntry V) → 0 < m
       → m < length entries → e ≡ get_or entries m e → e.rest + e.count ≤ length old
@@ -84,9 +72,6 @@ module _ {V : Type 0} (rules : Rules V) (points : List (Item V)) where
       let left = left_by rules points (front entries old m) in
       then_front ∙ ap₂ (λ xs ys. xs ++ left_by rules points ys) first_is (front_more rules entries old mid are (first, first_is) m)
       ∙ append_assoc old first left
-
-  pub leave_nothing : (entries : List (FrontEntry V)) (old : List (Item V)) (m : ℕ) → m ≡ 0 → old ≡ old ++ left_by rules points (front entries old m)
-  leave_nothing entries old m e = sym (append-nil old) ∙ ap (λ n. old ++ left_by rules points (front entries old n)) (sym e)
 
 -- the same into an empty list
 pub keep_both : {V : Type 0} (rules : Rules V) (points : List (Item V)) (entries : List (FrontEntry V))

@@ -97,12 +97,6 @@ module _ {V : Type 0} where
   pub put_none : (old new : List (Label V)) → ArePartlyPut old new old
   put_none old new = record { extends = extends_none old; only = λ l h. inl h }
 
-  pub put_once : (old new mid : List (Label V)) → mid ≡ old ++ new → ArePartlyPut old new mid
-  put_once old new mid e = record {
-    extends = (new, e);
-    only = λ l h. Contains-append_cases old new l (subst (λ (xs : List (Label V)). Contains xs l) e h);
-  }
-
   pub put_twice : (old new mid now : List (Label V)) → mid ≡ old ++ new → now ≡ mid ++ drop 1 new → ArePartlyPut old new now
   put_twice old new mid now e_mid e_now =
       let rest = drop 1 new in

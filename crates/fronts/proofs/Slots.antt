@@ -102,9 +102,6 @@ module _ {V : Type 0} (slots : List (Label V)) (trip : ℕ) (slot : Label V) (at
 
 -- whether a slot's label is no worse than a value
 module _ {V : Type 0} (rules : Rules V) (slot : Label V) (v : V) where
-  pub none_beats : slot.tag ≡ no_tag → false ≡ is_beaten rules (label_in slot) v
-  none_beats e = sym (ap (λ (b : Bool). is_beaten rules (cond b [] (slot ∷ [])) v) (eq-eqb slot.tag no_tag e))
-
   pub one_beats : (slot.tag ≡ no_tag → ⊥) → rules.no_worse slot.value v ≡ is_beaten rules (label_in slot) v
   one_beats some =
       sym (or-false (rules.no_worse slot.value v))

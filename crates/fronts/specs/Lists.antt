@@ -49,7 +49,7 @@ abbrev pub IsBettered : {V : Type 0} → Rules V → List (Point V) → V → Ty
 IsBettered {V} rules points v = (p : Point V) × Contains points p × NoWorse rules p.value v
 
 -- a list takes the ridden values in: each of its points was there before, or is one of these values after the footpath, and its tag names a step that says so;
--- what was covered stays covered, and each of these values is
+-- the new list covers what the old one covered, and each of these values after the footpath
 pub record TakesRidden {V : Type 0} (rules : Rules V) (steps : List Step) (departure first walk secs : ℕ)
     (ridden : List (RiddenLabel V)) (old new : List (Point V)) : Type 0 where
   pub only : (p : Point V) → Contains new p

@@ -11,7 +11,7 @@ use Rattle.fronts.specs.Front.{next_of, departure_of, points_from, Covers}
 abbrev pub betters : {V : Type 0} → Rules V → List (Item V) → V → Bool
 betters rules points v = list_any (λ p. rules.no_worse p.value v) points
 
--- whether a list has no point, or only one, than which v is no worse
+-- whether a list is empty, or has a single point and v is no worse than that point's value
 abbrev pub outdoes_alone : {V : Type 0} → Rules V → V → List (Item V) → Bool
 outdoes_alone rules v [] = true
 outdoes_alone rules v (p ∷ []) = rules.no_worse v p.value

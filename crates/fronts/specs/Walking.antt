@@ -33,7 +33,8 @@ AllWalked {V} rules points secs ridden n kept =
     (k : ℕ) (d : RiddenLabel V) → k < n → Betters rules kept (rules.walk secs (slice_index_or ridden k d).value)
     ⊎ Betters rules points (rules.walk secs (slice_index_or ridden k d).value)
 
--- a list takes the ridden values in: each of its points was there before or is one of them, what was covered stays covered, and each of them is
+-- a list takes the ridden values in: each of its points was there before or is one of these values after the footpath, and the new list covers what the
+-- old one covered, and each of these values after the footpath, at the departure
 pub record TakesBoardings {V : Type 0} (rules : Rules V) (steps : List Step) (departure first walk secs : ℕ)
     (ridden : List (RiddenLabel V)) (old new : List (Item V)) : Type 0 where
   pub only : (p : Item V) → Contains new p → Contains old p ⊎ IsBoarding rules steps departure first walk secs ridden p

@@ -45,8 +45,8 @@ pub struct RiddenLabel<V> {
     pub label: u32,
 }
 
-/// How a footpath leads to a connection: the latest departure, the index of the connection, and the index of the
-/// footpath with its seconds.
+/// How a footpath leads to a connection: when one has to set out on it, the index of the connection, and the index of
+/// the footpath with its seconds.
 #[derive(Clone, Copy, Drop)]
 pub struct Boarding {
     pub departure: u32,

@@ -237,20 +237,31 @@ impl<C: Criterion> FrontLists<C> {
         if front_betters(&self.criterion, arena, index, &value) {
             return Ok(head);
         }
-        self.insert_behind(head, boarding, ride)
+        self.insert_behind(
+            head,
+            boarding.departure,
+            boarding.first,
+            boarding.walk,
+            boarding.secs,
+            ride,
+        )
     }
 
-    // The general insertion, for one value. It is rare, so it is a call and never inlined.
+    // The general insertion, for one value. It is rare, so it is a call and never inlined. A `Boarding` as its argument
+    // would be written to memory also where it isn't called.
     #[inline(never)]
     fn insert_behind(
         &mut self,
         head: u32,
-        boarding: Boarding,
+        departure: u32,
+        first: u32,
+        walk: u32,
+        secs: u32,
         ride: RiddenLabel<C::V>,
     ) -> Result<u32, AllocError>
         requires sound { IsSound C.rules self.old }
         requires head { head < length (entries_of self.old) }
-        requires secs { IsSecs boarding.secs }
+        requires secs { IsSecs secs }
         requires ride { Admits (C.rules (lists_criterion self.old)) ride.value }
         ensures sound { IsSound C.rules self.new }
         ensures criterion { lists_criterion self.new ≡ lists_criterion self.old }
@@ -259,10 +270,16 @@ impl<C: Criterion> FrontLists<C> {
         ensures more_steps { Extends (steps_of self.old) (steps_of self.new) }
         ensures within { IfOk result (λ new. new < length (entries_of self.new)) }
         ensures takes { IfOk result (λ new. TakesBoardings (C.rules (lists_criterion self.old)) (steps_of self.new)
-            boarding.departure boarding.first boarding.walk boarding.secs (ride ∷ [])
+            departure first walk secs (ride ∷ [])
             (points_from (entries_of self.old) (items_of self.old) head)
             (points_from (entries_of self.new) (items_of self.new) new)) }
     {
+        let boarding = Boarding {
+            departure,
+            first,
+            walk,
+            secs,
+        };
         self.alone.clear();
         self.alone.push(ride)?;
         insert(

@@ -14,8 +14,9 @@ use crate::search::pass;
 use criteria::Criterion;
 use std::alloc::AllocError;
 
-// Puts before the list from `index` on those points of the front of `from` that the list's first front doesn't
-// better, if there are any. The list covers what comes after `from`. Returns the head of the list that has both.
+// Before the list that begins at `index`, puts those points of entry `from`'s front that the list's first front doesn't
+// better; if there are none, the list stays. It has to cover what follows `from` on its own list. Returns the head of
+// the list that has both.
 fn join_one<C: Criterion>(
     criterion: &C,
     entries: &mut Vec<FrontEntry<C::V>>,
@@ -50,8 +51,8 @@ fn join_one<C: Criterion>(
     Ok(new)
 }
 
-// Puts before the list from `index` on what remains of the passed entries, from the last to the first, as `join_one`
-// does. Returns the head of the list that has all of it.
+// Before the list that begins at `index`, puts what remains of the passed entries, from the last to the first, as
+// `join_one` does. Returns the head of the list that has all of it.
 #[inline(always)]
 fn join<C: Criterion>(
     criterion: &C,

@@ -85,7 +85,7 @@ fn keep_each<C: Criterion>(
     Ok(())
 }
 
-// Adds a value: its step to the steps, and to the points kept one whose tag is the index of that step.
+// Adds a value: its step to `steps`, and to `kept` a point of this departure and value whose tag is that step's index.
 fn keep_value<V: Copy>(
     steps: &mut Vec<Step>,
     kept: &mut Vec<Item<V>>,

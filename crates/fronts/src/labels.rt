@@ -21,7 +21,8 @@ pub struct Label<V> {
     pub tag: u32,
 }
 
-/// The labels of a number of trips. Of two labels of a trip neither is no worse than the other.
+/// The labels of a number of trips. Of two labels of a trip each is worse than the other in something, as `offer_label`
+/// keeps it; no clause needs it.
 #[derive(Drop)]
 pub struct Labels<V> {
     // each trip's one label, under a total criterion
@@ -83,8 +84,8 @@ pub fn labels_of<'a, C: Criterion>(
 }
 
 /// Adds a value with its tag to the labels of a trip, unless one of them is no worse, and drops those that it is no
-/// worse than. Returns whether it was added. If memory runs out, the labels of each trip stay as they were; a value
-/// that isn't added needs none.
+/// worse than. Returns whether it was added. If memory runs out, or numbers of 32 bits, the labels of each trip stay as
+/// they were; a value that isn't added needs none.
 #[inline(always)]
 pub fn offer_label<C: Criterion>(
     criterion: &C,

@@ -161,8 +161,8 @@ pub fn put<C: Criterion>(
     Ok(new)
 }
 
-/// Puts a front of only one point before a list whose front has no point, or only one, than which the new one is no
-/// worse. Returns the index of the new entry.
+/// Puts a front of only one point before a list whose front is empty, or has a single point that the new one is no
+/// worse than. Returns the index of the new entry.
 #[inline(always)]
 pub fn put_alone<C: Criterion>(
     criterion: &C,

@@ -1,8 +1,8 @@
 //! Labels of many trips in one vector: those of a trip are side by side, in its run.
 //!
 //! A run is written over while it has room. When it has none, its labels go to the vector's end, with room for nearly
-//! as many again. So a trip has left behind no more elements than its run has, and both together are fewer than four
-//! times the most labels that it had at once.
+//! as many again. So the elements that a trip has left behind are no more than the room of its run, and both together
+//! are fewer than four times the most labels that the trip had at once.
 
 ghost use Rattle.std.specs.Prelude.{◌≡◌, ◌+◌, ◌++◌, ◌∷◌, [], ℕ, ◌<◌, ◌≤◌, cond, not, take, drop, length, replicate};
 ghost use Rattle.std.specs.Prelude.{Contains, IfOk, OnOk, OnErr, false};
@@ -27,7 +27,7 @@ pub struct LabelRun {
     pub room: u32,
 }
 
-/// The labels of a number of trips. None of a trip's labels is no worse than another.
+/// The labels of a number of trips, as in `Labels`.
 #[derive(Drop)]
 pub struct RunLabels<V> {
     runs: Vec<LabelRun>,

@@ -34,7 +34,7 @@ pub fn front_betters<C: Criterion>(
     some_no_worse(criterion, part(arena.items, entry.rest, entry.count), value)
 }
 
-/// Whether the front of entry `index` has no point, or only one, than which the value is no worse.
+/// Whether the front of entry `index` is empty, or has a single point and the value is no worse than that point's.
 #[inline(always)]
 pub fn outdoes<C: Criterion>(
     criterion: &C,

@@ -78,10 +78,7 @@ pub cell_text : (index : Option ℕ) (r : Record) → AllText r → IsUtf8 (cell
 cell_text None r h = IsUtf8-nil
 cell_text (Some i) r h = trim_text (unwrap_or (field_at r i) []) (field_text r i h)
 
--- of records that are text, the first and those after it are
-pub text_first : (all rest : List Record) (r : Record) → all ≡ r ∷ rest → AllRecordsText all → AllText r
-text_first all rest r e h = let t : AllRecordsText (r ∷ rest) = rw e at h in t.0
-
+-- of records that are text, those after the first are
 pub text_rest : (all rest : List Record) (r : Record) → all ≡ r ∷ rest → AllRecordsText all → AllRecordsText rest
 text_rest all rest r e h = let t : AllRecordsText (r ∷ rest) = rw e at h in t.1
 

@@ -1,11 +1,8 @@
 -- Records taken one at a time.
-use Rattle.std.proofs.Common.{◌≡◌, ◌+◌, ◌<◌, ◌≤◌, ◌∷◌, ◌++◌, ℕ, zero, suc, List, [], length, take, drop, get_or, Some, None, true, refl, ap, arith}
-use Rattle.std.specs.Str.{IsUtf8}
+use Rattle.std.proofs.Common.{◌≡◌, ◌+◌, ◌<◌, ◌≤◌, ◌∷◌, ◌++◌, ℕ, zero, suc, List, [], length, take, drop, get_or, Some, None, refl, ap, arith}
 use borrow.Author.Count.{below_more}
-use Rattle.gtfs_rows.specs.Source.{Record, table_records}
-use Rattle.gtfs_rows.specs.Cells.{ColumnIndices, has_required, indices_of}
-use Rattle.gtfs_rows.specs.Faults.{HoldsFile, HoldsRecords, HoldsUnder, IsFaultOf, IsFaultUnder, IsFaultless}
-use Rattle.gtfs_rows.specs.Faults.{IsFirstFault, Judge, Shape, fault_at, length_first}
+use Rattle.gtfs_rows.specs.Source.{Record}
+use Rattle.gtfs_rows.specs.Faults.{IsFirstFault, Judge, fault_at}
 use Rattle.gtfs_rows.specs.declared.fault.FaultKind.{FaultKind}
 
 -- what is left begins with the element at the place
@@ -39,43 +36,3 @@ pub first_fault : (judge : Judge) (all rest : List Record) (n : ℕ) (r : Record
 first_fault judge all rest n r kind e bad earlier =
     let here : get_or all n [] ≡ r = (opened [] n all rest r e).1 in
     record { within = (opened [] n all rest r e).0; here = rw here bad; first = earlier }
-
--- the first fault among the records is that of the table under its header
-pub fault_under : (s : Shape) (header : Record) (records : List Record) (indices : ColumnIndices) (width : ℕ)
-    → indices ≡ indices_of s.names header → width ≡ length header → has_required s.required indices ≡ true
-    → (n : ℕ) (kind : FaultKind) → ((k : ℕ) × (n ≡ k + 1)
-    × IsFirstFault (length_first width (s.judge indices)) records k kind) → IsFaultUnder s header records n kind
-fault_under s header records indices width is wide there n kind f =
-    let all = rw is at there in
-    let found = rw (is, wide) at f in
-    rw all found
-
--- and what the records hold is held under it
-pub held_under : {T : Type 0} (s : Shape) (header : Record) (records : List Record) (indices : ColumnIndices) (width : ℕ)
-    (holds : ColumnIndices → List Record → T → Type 0) (t : T)
-    → indices ≡ indices_of s.names header → width ≡ length header → has_required s.required indices ≡ true
-    → IsFaultless (length_first width (s.judge indices)) records × holds indices records t → HoldsUnder s holds header records t
-held_under s header records indices width holds t is wide there held =
-    let kept = rw (is, wide) at held in
-    (rw is at there, kept.0, kept.1)
-
--- what is found under a file's header is found of the file
-pub fault_of_file : (s : Shape) (bytes : List ℕ) (header : Record) (records : List Record) → IsUtf8 bytes → table_records bytes ≡ header ∷ records
-    → (n : ℕ) (kind : FaultKind) → IsFaultUnder s header records n kind → IsFaultOf s bytes n kind
-fault_of_file s bytes header records text e n kind found = (λ _. rw e found, λ none. absurd (none text))
-
-pub held_of_file : {T : Type 0} (s : Shape) (bytes : List ℕ) (header : Record) (records : List Record) (holds : ColumnIndices
-    → List Record → T → Type 0) (t : T) → IsUtf8 bytes → table_records bytes ≡ header ∷ records
-    → HoldsUnder s holds header records t → HoldsFile s holds bytes t
-held_of_file s bytes header records holds t text e held = (text, rw e held)
-
--- what holds of a file's records
-pub holds_weaker : {T U : Type 0} (s : Shape) (bytes : List ℕ) (holds : ColumnIndices → List Record → T
-    → Type 0) (other : ColumnIndices → List Record → U → Type 0) (t : T) (u : U)
-    → ((indices : ColumnIndices) (records : List Record) → holds indices records t → other indices records u) → HoldsFile s holds bytes t
-    → HoldsFile s other bytes u
-holds_weaker s bytes holds other t u go h = (h.0, by (table_records bytes) h.1)
-  where
-    by : (records : List Record) → HoldsRecords s holds records t → HoldsRecords s other records u
-    by [] h = h
-    by (header ∷ records) h = (h.0, h.1, go (indices_of s.names header) records h.2)

@@ -1,6 +1,6 @@
 -- How keys change with one more record.
-use Rattle.std.proofs.Common.{◌≡◌, ◌∷◌, ◌++◌, ◌∙◌, ℕ, List, [], map, not, Option, Some, None, Bool, Result, Ok, Err}
-use Rattle.std.proofs.Common.{OnOk, true, false, refl, sym, ap, append_assoc, String, Global, string_bytes, option_map}
+use Rattle.std.proofs.Common.{◌≡◌, ◌∷◌, ◌++◌, ◌∙◌, ℕ, List, [], map, not, Option, Some, None, Bool, true, false}
+use Rattle.std.proofs.Common.{refl, sym, ap, append_assoc, String, Global, string_bytes, option_map}
 use Rattle.std.specs.List.{find, list_any, slice_get}
 use Rattle.std.proofs.lemmas.Option.{slice_get-map}
 use Rattle.std.proofs.lemmas.Slice.Eq.{bytes_eq-Decides}
@@ -58,11 +58,6 @@ shared_with k indices (first ∷ rest) r (x ∷ xs) s held there =
     let is : x ≡ s = cc in
     let same : string_bytes x ≡ value indices k first = cc in
     (ap (λ (text : List ℕ). fault_if (not (bytes_eq text (value indices k r))) kinds.ZonesDiffer) (sym same ∙ ap string_bytes is), held)
-
--- two facts on one result
-pub on_ok_both : {T E P Q S : Type 0} (r : Result T E) → (P → Q → S) → OnOk r P → OnOk r Q → OnOk r S
-on_ok_both (Ok v) f p q = f p q
-on_ok_both (Err e) f p q = tt
 
 -- an id of a set at its place
 pub stands : (keys : List (String Global)) (i : ℕ) (k : String Global) (id : List ℕ) → slice_get keys i ≡ Some k

@@ -1,32 +1,23 @@
 -- Tables whose file is fine as a whole.
 use Rattle.std.proofs.Common.{◌≡◌, ◌+◌, ℕ, List}
-use Rattle.gtfs_rows.specs.Cells.{ColumnIndices}
-use Rattle.gtfs_rows.specs.Faults.{HoldsFile, IsFaultOf, IsFaultless, IsFirstFault, length_first}
+use Rattle.gtfs_rows.specs.Faults.{IsFaultOf, IsFirstFault, length_first}
 use Rattle.gtfs_rows.specs.Judging.{IsOpened}
-use Rattle.gtfs_rows.specs.Source.{AllRecordsText, Record, last_of, left_of, table_records}
+use Rattle.gtfs_rows.specs.Source.{AllRecordsText, last_of, left_of, table_records}
 use Rattle.gtfs_rows.specs.Tables.{judge_of, shape_of}
 use Rattle.gtfs_rows.specs.declared.fault.FaultKind.{FaultKind}
 use Rattle.gtfs_rows.specs.declared.fault.Table.{Table}
 use Rattle.gtfs_rows.specs.declared.table_records.TableRecords.{TableRecords}
 use Rattle.gtfs_rows.proofs.CellLemmas.{text_rest}
-use Rattle.gtfs_rows.proofs.FaultLemmas.{fault_of_file, fault_under, held_of_file, held_under}
 use Rattle.gtfs_rows.proofs.TextLemmas.{records_text}
 
--- what the records of an opened file hold is held by the file
-pub opened_held : {T : Type 0} (file : Table) (bytes : List ℕ) (t : TableRecords) (holds : ColumnIndices → List Record → T → Type 0) (held : T)
-    → IsOpened file bytes t → IsFaultless (length_first t.width (judge_of file t.indices.items)) (left_of t.records)
-    × holds t.indices.items (left_of t.records) held → HoldsFile (shape_of file) holds bytes held
-opened_held file bytes t holds held o h =
-    held_of_file (shape_of file) bytes (last_of t.records) (left_of t.records) holds held o.text o.records
-    (held_under (shape_of file) (last_of t.records) (left_of t.records) t.indices.items t.width holds held o.indices o.width o.there h)
-
--- and the first fault of the records is that of the file
+-- the first fault of an opened file's records is that of the file
 pub opened_fault : (file : Table) (bytes : List ℕ) (t : TableRecords) (n : ℕ) (kind : FaultKind) → IsOpened file bytes t
     → ((k : ℕ) × (n ≡ k + 1) × IsFirstFault (length_first t.width (judge_of file t.indices.items)) (left_of t.records) k kind)
     → IsFaultOf (shape_of file) bytes n kind
 opened_fault file bytes t n kind o found =
-    fault_of_file (shape_of file) bytes (last_of t.records) (left_of t.records) o.text o.records n kind
-    (fault_under (shape_of file) (last_of t.records) (left_of t.records) t.indices.items t.width o.indices o.width o.there n kind found)
+    let there = rw o.indices at o.there in
+    let first = rw (o.indices, o.width) at found in
+    (λ _. rw (o.records, there) first, λ none. absurd (none o.text))
 
 -- the records of an opened file are text
 pub opened_text : (file : Table) (bytes : List ℕ) (t : TableRecords) → IsOpened file bytes t → AllRecordsText (left_of t.records)

@@ -108,9 +108,3 @@ pub taken_of : (s s2 : State) (before after : Option (List ℕ)) (found : Bool) 
 taken_of s s2 None after found fields known read = cc
 taken_of s s2 (Some xs) None found fields known read = absurd read
 taken_of s s2 (Some xs) (Some ys) found fields known read = taken s s2 xs ys found fields _ refl read
-
-pub known_after : (s s2 : State) (before after : Option (List ℕ)) (found : Bool) (fields : Record) → IsSome before
-    → ReadsNext default_config s before after found fields s2 → IsSome after
-known_after s s2 None after found fields known read = cc
-known_after s s2 (Some xs) None found fields known read = absurd read
-known_after s s2 (Some xs) (Some ys) found fields known read = refl

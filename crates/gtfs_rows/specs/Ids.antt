@@ -1,23 +1,21 @@
 -- Ids in the order in which they were first seen.
-use Rattle.std.specs.Prelude.{◌∷◌, ◌++◌, [], if◌then◌else◌, List, Bool, true, false, not, ℕ, filter}
+use Rattle.std.specs.Prelude.{◌∷◌, ◌++◌, [], if◌then◌else◌, List, ℕ, fold}
 use Rattle.std.specs.List.{list_any}
 use Rattle.std.specs.Str.{bytes_eq}
-
--- the distinct texts, in the order in which they are first seen
-abbrev pub first_seen : List (List ℕ) → List (List ℕ)
-first_seen [] = []
-first_seen (text ∷ rest) = text ∷ filter (λ other. not (bytes_eq text other)) (first_seen rest)
 
 -- the texts, with one more at the end unless it is already among them
 abbrev pub seen_also : List (List ℕ) → List ℕ → List (List ℕ)
 seen_also texts text = if list_any (bytes_eq text) texts then texts else texts ++ text ∷ []
 
--- the text isn't blank
-abbrev pub is_given : List ℕ → Bool
-is_given [] = false
-is_given (b ∷ rest) = true
-
 -- the same unless the text is blank, which isn't added
 abbrev pub given_also : List (List ℕ) → List ℕ → List (List ℕ)
 given_also texts [] = texts
 given_also texts (b ∷ rest) = seen_also texts (b ∷ rest)
+
+-- the distinct texts, in the order in which they are first seen
+abbrev pub first_seen : List (List ℕ) → List (List ℕ)
+first_seen texts = fold seen_also [] texts
+
+-- the distinct texts that aren't blank, in the same order
+abbrev pub first_given : List (List ℕ) → List (List ℕ)
+first_given texts = fold given_also [] texts

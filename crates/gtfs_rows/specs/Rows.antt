@@ -1,19 +1,21 @@
 -- The values that the records of each file spell, and what can be wrong with them.
-use Rattle.std.specs.Prelude.{◌≡◌, ◌≢◌, ◌==◌, ◌&&◌, not, if◌then◌else◌, ℕ, List, [], ◌∷◌, ◌++◌, filter, length, map}
+use Rattle.std.specs.Prelude.{◌≡◌, ◌≢◌, ◌==◌, ◌&&◌, not, if◌then◌else◌, ℕ, List, [], ◌∷◌, ◌++◌, length, map}
 use Rattle.std.specs.Prelude.{slice_index_or, option_map, Option, Some, None, Bool, String, true, false}
 use Rattle.std.specs.List.{AllZip, slice_get}
 use Rattle.std.specs.Str.{bytes_eq}
 use Rattle.std.specs.String.{string_bytes}
 use Rattle.std.specs.declared.alloc.Global.{Global}
+use Rattle.csv.specs.Records.{fields_of}
 use Rattle.gtfs_rows.specs.Source.{Record}
 use Rattle.gtfs_rows.specs.Cells.{ColumnIndices, cell}
 use Rattle.gtfs_rows.specs.Faults.{Judge, fault_if, fault_unless, is_among, keys_of, or_fault}
-use Rattle.gtfs_rows.specs.Ids.{first_seen, is_given}
+use Rattle.gtfs_rows.specs.Ids.{first_given, first_seen}
 use Rattle.gtfs_rows.specs.Values.{day_of, number_of, time_of}
 use Rattle.gtfs_rows.specs.declared.fault.FaultKind.{FaultKind}
 use Rattle.gtfs_rows.specs.declared.fault.FaultKind.TheVariants as kinds
 use Rattle.gtfs_rows.specs.declared.fault.Table.{Table}
 use Rattle.gtfs_rows.specs.declared.fault.Table.TheVariants as tables
+use Rattle.gtfs_rows.specs.declared.cells.Cells.{Cells}
 use Rattle.gtfs_rows.specs.declared.columns.Key.{Key}
 use Rattle.gtfs_rows.specs.declared.columns.Key.TheVariants as keys
 use Rattle.gtfs_rows.specs.declared.rows.AgencyRow.{AgencyRow}
@@ -35,6 +37,14 @@ use Rattle.gtfs_rows.specs.declared.stop_times.StopTimes.{StopTimes}
 -- a record's value in the k-th of a table's columns, counted from 0
 abbrev pub value : ColumnIndices → ℕ → Record → List ℕ
 value indices k r = cell (slice_index_or indices k None) r
+
+-- the fields of the record
+abbrev pub row_of : Cells → Record
+row_of cells = fields_of cells.fields.now
+
+-- the record's value in the k-th of its table's columns
+abbrev pub shown : Cells → ℕ → List ℕ
+shown cells k = value cells.indices.now k (row_of cells)
 
 -- nothing is wrong with any values
 abbrev pub no_fault : ColumnIndices → Record → Option FaultKind
@@ -131,18 +141,11 @@ pub record SpellsStopTime (trips stops : List (List ℕ)) (indices : ColumnIndic
   pub board : row.board ≡ is_available (number_of (value indices 5 r))
   pub alight : row.alight ≡ is_available (number_of (value indices 6 r))
 
--- the trip_ids of records, and those of their stop_ids that aren't blank
-abbrev pub trip_ids : ColumnIndices → List Record → List (List ℕ)
-trip_ids indices records = map (value indices 0) records
-
-abbrev pub stop_ids : ColumnIndices → List Record → List (List ℕ)
-stop_ids indices records = filter is_given (map (value indices 3) records)
-
--- the records spell the rows, and the ids are those that the records name: each once, in the order in which they are
--- first seen
+-- the records spell the rows, and the ids are the trip_ids of the records, and their stop_ids that aren't blank: each
+-- once, in the order in which they are first seen
 pub record AreStopTimes (indices : ColumnIndices) (records : List Record) (t : StopTimes) : Type 0 where
-  pub trips : map string_bytes t.trips.keys ≡ first_seen (trip_ids indices records)
-  pub stops : map string_bytes t.stops.keys ≡ first_seen (stop_ids indices records)
+  pub trips : map string_bytes t.trips.keys ≡ first_seen (map (value indices 0) records)
+  pub stops : map string_bytes t.stops.keys ≡ first_given (map (value indices 3) records)
   pub rows : AllZip (SpellsStopTime (map string_bytes t.trips.keys) (map string_bytes t.stops.keys) indices) records t.rows.items
 
 -- ---- calendar.txt: service_id, monday to sunday, start_date, end_date

@@ -64,69 +64,37 @@ judge_of table indices before r = or_fault (values_of table indices r) (key_faul
 abbrev pub shape_of : Table → Shape
 shape_of table = record { names = columns_of table; required = required_of table; judge = judge_of table }
 
--- agency.txt
-abbrev pub agency_shape : Shape
-agency_shape = shape_of tables.Agency
-
 -- the bytes of agency.txt have no fault, and their records spell these rows, in order
 abbrev pub HoldsAgencies : List ℕ → List AgencyRow → Type 0
-HoldsAgencies = HoldsRows agency_shape SpellsAgency
-
--- stops.txt
-abbrev pub stops_shape : Shape
-stops_shape = shape_of tables.Stops
+HoldsAgencies = HoldsRows (shape_of tables.Agency) SpellsAgency
 
 -- the bytes of stops.txt have no fault, and their records spell these rows, in order
 abbrev pub HoldsStops : List ℕ → List StopRow → Type 0
-HoldsStops = HoldsRows stops_shape SpellsStop
-
--- trips.txt
-abbrev pub trips_shape : Shape
-trips_shape = shape_of tables.Trips
+HoldsStops = HoldsRows (shape_of tables.Stops) SpellsStop
 
 -- the bytes of trips.txt have no fault, and their records spell these rows, in order
 abbrev pub HoldsTrips : List ℕ → List TripRow → Type 0
-HoldsTrips = HoldsRows trips_shape SpellsTrip
-
--- stop_times.txt
-abbrev pub stop_times_shape : Shape
-stop_times_shape = shape_of tables.StopTimes
+HoldsTrips = HoldsRows (shape_of tables.Trips) SpellsTrip
 
 -- the bytes of stop_times.txt have no fault, and their records spell these rows, in order, with the ids that they name
 abbrev pub HoldsStopTimes : List ℕ → StopTimes → Type 0
-HoldsStopTimes = HoldsFile stop_times_shape AreStopTimes
-
--- calendar.txt
-abbrev pub calendar_shape : Shape
-calendar_shape = shape_of tables.Calendar
+HoldsStopTimes = HoldsFile (shape_of tables.StopTimes) AreStopTimes
 
 -- the bytes of calendar.txt have no fault, and their records spell these rows, in order
 abbrev pub HoldsCalendar : List ℕ → List CalendarRow → Type 0
-HoldsCalendar = HoldsRows calendar_shape SpellsCalendar
-
--- calendar_dates.txt
-abbrev pub calendar_dates_shape : Shape
-calendar_dates_shape = shape_of tables.CalendarDates
+HoldsCalendar = HoldsRows (shape_of tables.Calendar) SpellsCalendar
 
 -- the bytes of calendar_dates.txt have no fault, and their records spell these rows, in order
 abbrev pub HoldsCalendarDates : List ℕ → List CalendarDateRow → Type 0
-HoldsCalendarDates = HoldsRows calendar_dates_shape SpellsCalendarDate
-
--- transfers.txt
-abbrev pub transfers_shape : Shape
-transfers_shape = shape_of tables.Transfers
+HoldsCalendarDates = HoldsRows (shape_of tables.CalendarDates) SpellsCalendarDate
 
 -- the bytes of transfers.txt have no fault, and their records spell these rows, in order
 abbrev pub HoldsTransfers : List ℕ → List TransferRow → Type 0
-HoldsTransfers = HoldsRows transfers_shape SpellsTransfer
-
--- frequencies.txt
-abbrev pub frequencies_shape : Shape
-frequencies_shape = shape_of tables.Frequencies
+HoldsTransfers = HoldsRows (shape_of tables.Transfers) SpellsTransfer
 
 -- the bytes of frequencies.txt have no fault, and their records spell these rows, in order
 abbrev pub HoldsFrequencies : List ℕ → List FrequencyRow → Type 0
-HoldsFrequencies = HoldsRows frequencies_shape SpellsFrequency
+HoldsFrequencies = HoldsRows (shape_of tables.Frequencies) SpellsFrequency
 
 -- the kind of place is a stop
 abbrev pub is_stop_at : Location → Bool
@@ -157,8 +125,8 @@ HoldsTripsWithin = HoldsWithin HoldsTrips length
 
 -- the first fault of stops.txt, or TooMany if there are more stops than the limit
 abbrev pub IsStopsFault : ℕ → List ℕ → ℕ → FaultKind → Type 0
-IsStopsFault = IsFaultWithin stops_shape HoldsStops (count_by is_stop)
+IsStopsFault = IsFaultWithin (shape_of tables.Stops) HoldsStops (count_by is_stop)
 
 -- the first fault of trips.txt, or TooMany if there are more trips than the limit
 abbrev pub IsTripsFault : ℕ → List ℕ → ℕ → FaultKind → Type 0
-IsTripsFault = IsFaultWithin trips_shape HoldsTrips length
+IsTripsFault = IsFaultWithin (shape_of tables.Trips) HoldsTrips length

@@ -6,7 +6,7 @@ ghost use Rattle.csv.specs.Records.{AllText, fields_of};
 ghost use Rattle.gtfs_rows.specs.Cells.{cell as cell_of, column as column_of, has_required as are_there, indices_of};
 ghost use Rattle.gtfs_rows.specs.Cells.{trim_front, trim_spaces};
 ghost use Rattle.gtfs_rows.specs.Faults.{fault_unless};
-ghost use Rattle.gtfs_rows.specs.Rows.{value};
+ghost use Rattle.gtfs_rows.specs.Rows.{row_of, shown};
 ghost use Rattle.gtfs_rows.specs.Values.{time_of};
 
 use crate::fault::FaultKind;
@@ -119,7 +119,7 @@ pub struct Cells<'a> {
 impl<'a> Cells<'a> {
     /// Returns the record's value in the table's column of this index; blank if the column is absent.
     pub fn get(&self, column: usize) -> &'a [u8]
-        ensures { result.now ≡ value self.entry.now.indices.now column (fields_of self.entry.now.fields.now) }
+        ensures { result.now ≡ shown self.entry.now column }
     {
         let index = if column < self.indices.len() {
             self.indices[column]
@@ -131,9 +131,8 @@ impl<'a> Cells<'a> {
 
     // Returns the same value as a string.
     pub(crate) fn text(&self, alloc: Global, column: usize) -> Result<String, FaultKind>
-        requires { AllText (fields_of self.now.fields.now) }
-        ensures ok { IfOk result (λ s. string_bytes s
-            ≡ value self.now.indices.now column (fields_of self.now.fields.now)) }
+        requires { AllText (row_of self.now) }
+        ensures ok { IfOk result (λ s. string_bytes s ≡ shown self.now column) }
         ensures err { IfErr result (λ kind. kind ≡ FaultKind.OutOfMemory) }
     {
         text_of(alloc, self.get(column)).map_err(|_| FaultKind::OutOfMemory)
@@ -141,10 +140,8 @@ impl<'a> Cells<'a> {
 
     // Returns the time in a column, in seconds after the start of the service day. Blank is `BadTime` too.
     pub(crate) fn time(&self, column: usize) -> Result<u32, FaultKind>
-        ensures ok { IfOk result (λ t. time_of (value self.now.indices.now column (fields_of self.now.fields.now))
-            ≡ Some t) }
-        ensures err { IfErr result (λ kind. fault_unless
-            (time_of (value self.now.indices.now column (fields_of self.now.fields.now))) FaultKind.BadTime
+        ensures ok { IfOk result (λ t. time_of (shown self.now column) ≡ Some t) }
+        ensures err { IfErr result (λ kind. fault_unless (time_of (shown self.now column)) FaultKind.BadTime
             ≡ Some kind) }
     {
         Time::parse(self.get(column)).map_err(|_| FaultKind::BadTime)

@@ -1,9 +1,8 @@
 //! transfers.txt and frequencies.txt: where passengers change, and when trips repeat.
 
 ghost use Rattle.std.specs.Prelude.{◌≡◌, None, Some, IfOk, IfErr};
-ghost use Rattle.csv.specs.Records.{fields_of};
 ghost use Rattle.gtfs_rows.specs.Rows.{SpellsFrequency, SpellsTransfer, frequency_row_fault, headway_fault};
-ghost use Rattle.gtfs_rows.specs.Rows.{transfer_of, typed_transfer, value};
+ghost use Rattle.gtfs_rows.specs.Rows.{row_of, shown, transfer_of, typed_transfer};
 ghost use Rattle.gtfs_rows.specs.Values.{number_of, time_of};
 ghost use Rattle.gtfs_rows.specs.declared.fault.Table.TheVariants as files;
 
@@ -32,7 +31,7 @@ fn typed(text: &[u8]) -> TransferKind
 
 /// Returns the kind of transfer of a record of `transfers.txt`: `Skipped` if it names a route or a trip.
 pub fn transfer_kind(cells: &Cells) -> TransferKind
-    ensures { result ≡ transfer_of cells.now.indices.now (fields_of cells.now.fields.now) }
+    ensures { result ≡ transfer_of cells.now.indices.now (row_of cells.now) }
 {
     let of_stops = cells.get(4).is_empty()
         && cells.get(5).is_empty()
@@ -81,16 +80,11 @@ fn headway(text: &[u8]) -> Result<u32, FaultKind>
 
 // Returns the start, the end and the headway of a record, or what is wrong with them.
 pub(crate) fn repeated(cells: &Cells) -> Result<(u32, u32, u32), FaultKind>
-    ensures fine { IfOk result (λ v. frequency_row_fault cells.now.indices.now (fields_of cells.now.fields.now)
-        ≡ None) }
-    ensures start { IfOk result (λ v. time_of (value cells.now.indices.now 1 (fields_of cells.now.fields.now))
-        ≡ Some v.0) }
-    ensures end { IfOk result (λ v. time_of (value cells.now.indices.now 2 (fields_of cells.now.fields.now))
-        ≡ Some v.1) }
-    ensures headway { IfOk result (λ v. number_of (value cells.now.indices.now 3 (fields_of cells.now.fields.now))
-        ≡ Some v.2) }
-    ensures err { IfErr result (λ kind. frequency_row_fault cells.now.indices.now (fields_of cells.now.fields.now)
-        ≡ Some kind) }
+    ensures fine { IfOk result (λ v. frequency_row_fault cells.now.indices.now (row_of cells.now) ≡ None) }
+    ensures start { IfOk result (λ v. time_of (shown cells.now 1) ≡ Some v.0) }
+    ensures end { IfOk result (λ v. time_of (shown cells.now 2) ≡ Some v.1) }
+    ensures headway { IfOk result (λ v. number_of (shown cells.now 3) ≡ Some v.2) }
+    ensures err { IfErr result (λ kind. frequency_row_fault cells.now.indices.now (row_of cells.now) ≡ Some kind) }
 {
     let start = cells.time(1)?;
     let end = cells.time(2)?;

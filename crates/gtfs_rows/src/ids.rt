@@ -38,6 +38,7 @@ pub(crate) fn add_key(keys: &mut Ids, key: String) -> Result<(), FaultKind>
 
 // Returns the index of an id, which is added at the end if it isn't there yet. The likely index is tried first.
 // Memory may run out.
+#[tactic(auto, using(crate::proofs::SeenLemmas::stands_among))]
 pub(crate) fn index_of(
     alloc: Global,
     ids: &mut Ids,
@@ -66,6 +67,7 @@ pub(crate) fn index_of(
 }
 
 // Returns the given index if the id is there.
+#[tactic(auto, using(crate::proofs::KeyLemmas::stands))]
 fn id_at(ids: &Ids, index: Option<u32>, id: &[u8]) -> Option<u32>
     ensures { IfSome result (λ index. StandsAt (map string_bytes ids.now.keys) index id.now) }
 {
@@ -79,6 +81,7 @@ fn id_at(ids: &Ids, index: Option<u32>, id: &[u8]) -> Option<u32>
 }
 
 // Returns the index of an id, if the set has it.
+#[tactic(auto, using(crate::proofs::KeyLemmas::stands, crate::proofs::KeyLemmas::find_passes))]
 fn find_id(ids: &Ids, id: &str) -> Option<usize>
     ensures { IfSome result (λ index. StandsAt (map string_bytes ids.now.keys) index id.now) }
 {
@@ -87,6 +90,7 @@ fn find_id(ids: &Ids, id: &str) -> Option<usize>
 }
 
 // Returns the index of an id, which is added at the end if it isn't there yet. Memory may run out.
+#[tactic(auto, using(crate::proofs::KeyLemmas::stands, crate::proofs::SeenLemmas::seen_insert))]
 fn add_id(ids: &mut Ids, id: String) -> Result<usize, FaultKind>
     ensures more { OnOk result (map string_bytes ids.new.keys
         ≡ seen_also (map string_bytes ids.old.keys) (string_bytes id)) }

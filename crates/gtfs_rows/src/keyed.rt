@@ -2,12 +2,12 @@
 
 ghost use Rattle.std.specs.Prelude.{◌≡◌, ◌≢◌, ◌++◌, ◌∷◌, ℕ, List, [], None, Some, IfOk, IfErr, OnOk, ⊤};
 ghost use Rattle.std.specs.List.{AllZip};
-ghost use Rattle.csv.specs.Records.{AllText, fields_of};
+ghost use Rattle.csv.specs.Records.{AllText};
 ghost use Rattle.indexmap.specs.IndexSet.{hasher_of};
 ghost use Rattle.gtfs_rows.specs.Source.{Record};
 ghost use Rattle.gtfs_rows.specs.Cells.{ColumnIndices};
 ghost use Rattle.gtfs_rows.specs.Faults.{HoldsRows, IsFaultOf};
-ghost use Rattle.gtfs_rows.specs.Rows.{AreKept, key_fault, values_of};
+ghost use Rattle.gtfs_rows.specs.Rows.{AreKept, key_fault, row_of, values_of};
 ghost use Rattle.gtfs_rows.specs.Tables.{key_of, shape_of};
 ghost use Rattle.gtfs_rows.specs.declared.fault.Table.{Table as File};
 ghost use Rattle.gtfs_rows.specs.declared.columns.Key.TheVariants as keys;
@@ -34,23 +34,23 @@ pub trait Row: Sized + Drop {
 
     // Returns the row of a record, or what is wrong with the record's values.
     fn read(alloc: Global, cells: &Cells) -> Result<Self, FaultKind>
-        requires { AllText (fields_of cells.now.fields.now) }
-        ensures ok { IfOk result (λ row. (values_of TABLE cells.now.indices.now (fields_of cells.now.fields.now)
-            ≡ None) × spells cells.now.indices.now (fields_of cells.now.fields.now) row) }
+        requires { AllText (row_of cells.now) }
+        ensures ok { IfOk result (λ row. (values_of TABLE cells.now.indices.now (row_of cells.now)
+            ≡ None) × spells cells.now.indices.now (row_of cells.now) row) }
         ensures err { IfErr result (λ kind. kind ≢ FaultKind.OutOfMemory
-            → values_of TABLE cells.now.indices.now (fields_of cells.now.fields.now) ≡ Some kind) };
+            → values_of TABLE cells.now.indices.now (row_of cells.now) ≡ Some kind) };
 }
 
 // Keeps a record's key, or the text that all records share. Fails if an earlier record has the key, or if the
 // shared text isn't the same as the first record's.
 fn keep(alloc: Global, kept: &mut Ids, key: Key, cells: &Cells) -> Result<(), FaultKind>
-    requires { AllText (fields_of cells.now.fields.now) }
+    requires { AllText (row_of cells.now) }
     ensures ok { (before : List Record) → AreKept key cells.now.indices.now before kept.old.keys → OnOk result
-        ((key_fault key cells.now.indices.now before (fields_of cells.now.fields.now) ≡ None)
-        × AreKept key cells.now.indices.now (before ++ fields_of cells.now.fields.now ∷ []) kept.new.keys) }
+        ((key_fault key cells.now.indices.now before (row_of cells.now) ≡ None)
+        × AreKept key cells.now.indices.now (before ++ row_of cells.now ∷ []) kept.new.keys) }
     ensures err { (before : List Record) → AreKept key cells.now.indices.now before kept.old.keys
         → IfErr result (λ kind. kind ≢ FaultKind.OutOfMemory
-        → key_fault key cells.now.indices.now before (fields_of cells.now.fields.now) ≡ Some kind) }
+        → key_fault key cells.now.indices.now before (row_of cells.now) ≡ Some kind) }
     ensures hash { OnOk result (hasher_of kept.new ≡ hasher_of kept.old) }
 {
     match key {
@@ -73,15 +73,13 @@ fn keep(alloc: Global, kept: &mut Ids, key: Key, cells: &Cells) -> Result<(), Fa
 
 // Keeps the first record's text in a column: `ZonesDiffer` if a later record has another text there.
 fn share(alloc: Global, kept: &mut Ids, column: usize, cells: &Cells) -> Result<(), FaultKind>
-    requires { AllText (fields_of cells.now.fields.now) }
+    requires { AllText (row_of cells.now) }
     ensures ok { (before : List Record) → AreKept (keys.Shared column) cells.now.indices.now before kept.old.keys
-        → OnOk result
-        ((key_fault (keys.Shared column) cells.now.indices.now before (fields_of cells.now.fields.now) ≡ None)
-        × AreKept (keys.Shared column) cells.now.indices.now (before ++ fields_of cells.now.fields.now
-        ∷ []) kept.new.keys) }
+        → OnOk result ((key_fault (keys.Shared column) cells.now.indices.now before (row_of cells.now) ≡ None)
+        × AreKept (keys.Shared column) cells.now.indices.now (before ++ row_of cells.now ∷ []) kept.new.keys) }
     ensures err { (before : List Record) → AreKept (keys.Shared column) cells.now.indices.now before kept.old.keys
         → IfErr result (λ kind. kind ≢ FaultKind.OutOfMemory
-        → key_fault (keys.Shared column) cells.now.indices.now before (fields_of cells.now.fields.now) ≡ Some kind) }
+        → key_fault (keys.Shared column) cells.now.indices.now before (row_of cells.now) ≡ Some kind) }
     ensures hash { OnOk result (hasher_of kept.new ≡ hasher_of kept.old) }
 {
     let Some(shared) = kept.get_index(0) else {

@@ -5,9 +5,7 @@ ghost use Rattle.gtfs_rows.specs.Cells.{ColumnIndices};
 ghost use Rattle.gtfs_rows.specs.Source.{Record};
 ghost use Rattle.gtfs_rows.specs.Faults.{IsFaultOf, Shape};
 ghost use Rattle.gtfs_rows.specs.Tables.{HoldsAgencies, HoldsCalendar, HoldsCalendarDates, HoldsFrequencies};
-ghost use Rattle.gtfs_rows.specs.Tables.{HoldsStopTimes, HoldsStops, HoldsTransfers, HoldsTrips, agency_shape};
-ghost use Rattle.gtfs_rows.specs.Tables.{calendar_dates_shape, calendar_shape, frequencies_shape, key_of};
-ghost use Rattle.gtfs_rows.specs.Tables.{stop_times_shape, stops_shape, transfers_shape, trips_shape};
+ghost use Rattle.gtfs_rows.specs.Tables.{HoldsStopTimes, HoldsStops, HoldsTransfers, HoldsTrips, key_of, shape_of};
 ghost use Rattle.gtfs_rows.specs.Rows.{key_by, value};
 ghost use Rattle.gtfs_rows.specs.Values.{day_of};
 ghost use Rattle.gtfs_rows.specs.declared.fault.FaultKind.{FaultKind as Kind};
@@ -30,6 +28,7 @@ pub fn limits()
 {}
 
 /// A file has at most one fault.
+#[tactic(auto, using(crate::proofs::OneFault::one_fault))]
 pub fn one_fault()
     ensures { (s : Shape) (bytes : List ℕ) (n m : ℕ) (a b : Kind) → IsFaultOf s bytes n a → IsFaultOf s bytes m b
         → (n ≡ m) × (a ≡ b) }
@@ -39,21 +38,21 @@ pub fn one_fault()
 #[tactic(auto, using(crate::proofs::OneFault::no_fault))]
 pub fn held_without_fault()
     ensures agency { (bytes : List ℕ) (held : List AgencyRow) (n : ℕ) (kind : Kind) → HoldsAgencies bytes held
-        → ¬ (IsFaultOf agency_shape bytes n kind) }
+        → ¬ (IsFaultOf (shape_of files.Agency) bytes n kind) }
     ensures stops { (bytes : List ℕ) (held : List StopRow) (n : ℕ) (kind : Kind) → HoldsStops bytes held
-        → ¬ (IsFaultOf stops_shape bytes n kind) }
+        → ¬ (IsFaultOf (shape_of files.Stops) bytes n kind) }
     ensures trips { (bytes : List ℕ) (held : List TripRow) (n : ℕ) (kind : Kind) → HoldsTrips bytes held
-        → ¬ (IsFaultOf trips_shape bytes n kind) }
+        → ¬ (IsFaultOf (shape_of files.Trips) bytes n kind) }
     ensures stop_times { (bytes : List ℕ) (held : StopTimes) (n : ℕ) (kind : Kind) → HoldsStopTimes bytes held
-        → ¬ (IsFaultOf stop_times_shape bytes n kind) }
+        → ¬ (IsFaultOf (shape_of files.StopTimes) bytes n kind) }
     ensures calendar { (bytes : List ℕ) (held : List CalendarRow) (n : ℕ) (kind : Kind) → HoldsCalendar bytes held
-        → ¬ (IsFaultOf calendar_shape bytes n kind) }
+        → ¬ (IsFaultOf (shape_of files.Calendar) bytes n kind) }
     ensures calendar_dates { (bytes : List ℕ) (held : List CalendarDateRow) (n : ℕ) (kind : Kind)
-        → HoldsCalendarDates bytes held → ¬ (IsFaultOf calendar_dates_shape bytes n kind) }
+        → HoldsCalendarDates bytes held → ¬ (IsFaultOf (shape_of files.CalendarDates) bytes n kind) }
     ensures transfers { (bytes : List ℕ) (held : List TransferRow) (n : ℕ) (kind : Kind) → HoldsTransfers bytes held
-        → ¬ (IsFaultOf transfers_shape bytes n kind) }
+        → ¬ (IsFaultOf (shape_of files.Transfers) bytes n kind) }
     ensures frequencies { (bytes : List ℕ) (held : List FrequencyRow) (n : ℕ) (kind : Kind)
-        → HoldsFrequencies bytes held → ¬ (IsFaultOf frequencies_shape bytes n kind) }
+        → HoldsFrequencies bytes held → ¬ (IsFaultOf (shape_of files.Frequencies) bytes n kind) }
 {}
 
 /// Two records of calendar_dates.txt with the same key have the same service_id and the same date.

@@ -44,5 +44,5 @@ pub use rows::{
 pub use stop_times::StopTimes;
 pub use stops::location;
 pub use table_file::TableFile;
-pub use table_records::{TableRecords, record_fault};
+pub use table_records::TableRecords;
 pub use values::{DateFault, Day, Time, TimeFault};

@@ -4,8 +4,7 @@ ghost use Rattle.std.specs.Prelude.{◌≡◌, ◌≢◌, ◌≤◌, IfOk, IfErr
 ghost use Rattle.gtfs_rows.specs.Faults.{IsFaultOf};
 ghost use Rattle.gtfs_rows.specs.Tables.{HoldsAgencies, HoldsCalendar, HoldsCalendarDates, HoldsFrequencies};
 ghost use Rattle.gtfs_rows.specs.Tables.{HoldsStopTimes, HoldsStops, HoldsTransfers, HoldsTrips, IsStopsFault};
-ghost use Rattle.gtfs_rows.specs.Tables.{IsTripsFault, agency_shape, calendar_dates_shape, calendar_shape};
-ghost use Rattle.gtfs_rows.specs.Tables.{frequencies_shape, is_stop, stop_times_shape, transfers_shape};
+ghost use Rattle.gtfs_rows.specs.Tables.{IsTripsFault, is_stop, shape_of};
 
 use crate::fault::{FaultKind, Table, TableFault};
 use crate::id_hash::IdHash;
@@ -33,7 +32,7 @@ pub fn read_agency(alloc: Global, bytes: &[u8]) -> Result<Vec<AgencyRow>, TableF
     ensures ok { IfOk result (λ rows. HoldsAgencies bytes.now rows.items) }
     ensures file { IfErr result (λ fault. fault.file ≡ Table.Agency) }
     ensures err { IfErr result (λ fault. fault.kind ≢ FaultKind.OutOfMemory
-        → IsFaultOf agency_shape bytes.now fault.row fault.kind) }
+        → IsFaultOf (shape_of Table.Agency) bytes.now fault.row fault.kind) }
 {
     TableFile::read(alloc, known_key(), bytes)
 }
@@ -43,7 +42,7 @@ pub fn read_stop_times(alloc: Global, bytes: &[u8]) -> Result<StopTimes, TableFa
     ensures ok { IfOk result (λ t. HoldsStopTimes bytes.now t) }
     ensures file { IfErr result (λ fault. fault.file ≡ Table.StopTimes) }
     ensures err { IfErr result (λ fault. fault.kind ≢ FaultKind.OutOfMemory
-        → IsFaultOf stop_times_shape bytes.now fault.row fault.kind) }
+        → IsFaultOf (shape_of Table.StopTimes) bytes.now fault.row fault.kind) }
 {
     TableFile::read(alloc, known_key(), bytes)
 }
@@ -53,7 +52,7 @@ pub fn read_calendar(alloc: Global, bytes: &[u8]) -> Result<Vec<CalendarRow>, Ta
     ensures ok { IfOk result (λ rows. HoldsCalendar bytes.now rows.items) }
     ensures file { IfErr result (λ fault. fault.file ≡ Table.Calendar) }
     ensures err { IfErr result (λ fault. fault.kind ≢ FaultKind.OutOfMemory
-        → IsFaultOf calendar_shape bytes.now fault.row fault.kind) }
+        → IsFaultOf (shape_of Table.Calendar) bytes.now fault.row fault.kind) }
 {
     TableFile::read(alloc, known_key(), bytes)
 }
@@ -63,7 +62,7 @@ pub fn read_calendar_dates(alloc: Global, bytes: &[u8]) -> Result<Vec<CalendarDa
     ensures ok { IfOk result (λ rows. HoldsCalendarDates bytes.now rows.items) }
     ensures file { IfErr result (λ fault. fault.file ≡ Table.CalendarDates) }
     ensures err { IfErr result (λ fault. fault.kind ≢ FaultKind.OutOfMemory
-        → IsFaultOf calendar_dates_shape bytes.now fault.row fault.kind) }
+        → IsFaultOf (shape_of Table.CalendarDates) bytes.now fault.row fault.kind) }
 {
     TableFile::read(alloc, known_key(), bytes)
 }
@@ -73,7 +72,7 @@ pub fn read_transfers(alloc: Global, bytes: &[u8]) -> Result<Vec<TransferRow>, T
     ensures ok { IfOk result (λ rows. HoldsTransfers bytes.now rows.items) }
     ensures file { IfErr result (λ fault. fault.file ≡ Table.Transfers) }
     ensures err { IfErr result (λ fault. fault.kind ≢ FaultKind.OutOfMemory
-        → IsFaultOf transfers_shape bytes.now fault.row fault.kind) }
+        → IsFaultOf (shape_of Table.Transfers) bytes.now fault.row fault.kind) }
 {
     TableFile::read(alloc, known_key(), bytes)
 }
@@ -83,7 +82,7 @@ pub fn read_frequencies(alloc: Global, bytes: &[u8]) -> Result<Vec<FrequencyRow>
     ensures ok { IfOk result (λ rows. HoldsFrequencies bytes.now rows.items) }
     ensures file { IfErr result (λ fault. fault.file ≡ Table.Frequencies) }
     ensures err { IfErr result (λ fault. fault.kind ≢ FaultKind.OutOfMemory
-        → IsFaultOf frequencies_shape bytes.now fault.row fault.kind) }
+        → IsFaultOf (shape_of Table.Frequencies) bytes.now fault.row fault.kind) }
 {
     TableFile::read(alloc, known_key(), bytes)
 }

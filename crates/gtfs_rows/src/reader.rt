@@ -1,10 +1,11 @@
 //! Reads any table: its header, then record by record until the first fault.
 
 ghost use Rattle.std.specs.Prelude.{◌≡◌, ◌≢◌, ◌+◌, ◌++◌, ◌∷◌, [], ℕ, List, Some, None, IfOk, IfErr, OnOk};
-ghost use Rattle.csv.specs.Records.{AllText, fields_of};
+ghost use Rattle.csv.specs.Records.{AllText};
 ghost use Rattle.gtfs_rows.specs.Source.{AllRecordsText, IsReading, Record, left_of};
 ghost use Rattle.gtfs_rows.specs.Cells.{ColumnIndices};
 ghost use Rattle.gtfs_rows.specs.Faults.{HoldsFile, IsFaultOf, IsFaultless, IsFirstFault, length_first};
+ghost use Rattle.gtfs_rows.specs.Rows.{row_of};
 ghost use Rattle.gtfs_rows.specs.Tables.{judge_of, shape_of};
 ghost use Rattle.gtfs_rows.specs.declared.fault.Table.{Table as File};
 ghost use Rattle.gtfs_rows.specs.declared.id_hash.IdHash.{IdHash as Hash};
@@ -29,13 +30,13 @@ pub(crate) trait TableRows: Sized + Drop {
 
     // Adds one record, or returns what is wrong with it.
     fn add(&mut self, alloc: Global, cells: &Cells) -> Result<(), FaultKind>
-        requires { AllText (fields_of cells.now.fields.now) }
+        requires { AllText (row_of cells.now) }
         ensures ok { (before : List Record) → holds cells.now.indices.now before self.old → OnOk result
-            ((judge_of TABLE cells.now.indices.now before (fields_of cells.now.fields.now) ≡ None)
-            × holds cells.now.indices.now (before ++ fields_of cells.now.fields.now ∷ []) self.new) }
+            ((judge_of TABLE cells.now.indices.now before (row_of cells.now) ≡ None)
+            × holds cells.now.indices.now (before ++ row_of cells.now ∷ []) self.new) }
         ensures err { (before : List Record) → holds cells.now.indices.now before self.old
             → IfErr result (λ kind. kind ≢ FaultKind.OutOfMemory
-            → judge_of TABLE cells.now.indices.now before (fields_of cells.now.fields.now) ≡ Some kind) }
+            → judge_of TABLE cells.now.indices.now before (row_of cells.now) ≡ Some kind) }
         ensures hashes { OnOk result (hashes self.new ≡ hashes self.old) };
 }
 
@@ -57,14 +58,13 @@ fn add_record<T: TableRows>(
     cells: &Cells,
     width: usize,
 ) -> Result<(), FaultKind>
-    requires { AllText (fields_of cells.now.fields.now) }
+    requires { AllText (row_of cells.now) }
     ensures ok { (before : List Record) → T.holds cells.now.indices.now before rows.old → OnOk result
-        ((length_first width (judge_of T.TABLE cells.now.indices.now) before (fields_of cells.now.fields.now) ≡ None)
-        × T.holds cells.now.indices.now (before ++ fields_of cells.now.fields.now ∷ []) rows.new) }
+        ((length_first width (judge_of T.TABLE cells.now.indices.now) before (row_of cells.now) ≡ None)
+        × T.holds cells.now.indices.now (before ++ row_of cells.now ∷ []) rows.new) }
     ensures err { (before : List Record) → T.holds cells.now.indices.now before rows.old
         → IfErr result (λ kind. kind ≢ FaultKind.OutOfMemory
-        → length_first width (judge_of T.TABLE cells.now.indices.now) before (fields_of cells.now.fields.now)
-        ≡ Some kind) }
+        → length_first width (judge_of T.TABLE cells.now.indices.now) before (row_of cells.now) ≡ Some kind) }
     ensures hashes { OnOk result (T.hashes rows.new ≡ T.hashes rows.old) }
 {
     if cells.fields.len() != width {

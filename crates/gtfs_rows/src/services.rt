@@ -1,11 +1,10 @@
 //! calendar.txt and calendar_dates.txt: the days on which services run.
 
 ghost use Rattle.std.specs.Prelude.{◌≡◌, ◌+◌, None, Some, IfOk, IfErr};
-ghost use Rattle.csv.specs.Records.{fields_of};
 ghost use Rattle.gtfs_rows.specs.Faults.{fault_unless};
 ghost use Rattle.gtfs_rows.specs.Rows.{SpellsCalendar, SpellsCalendarDate, calendar_date_fault, calendar_fault};
 ghost use Rattle.gtfs_rows.specs.Rows.{exception_of, flag_of, value};
-ghost use Rattle.gtfs_rows.specs.Rows.{weekday as weekday_of, weekdays_of};
+ghost use Rattle.gtfs_rows.specs.Rows.{row_of, shown, weekday as weekday_of, weekdays_of};
 ghost use Rattle.gtfs_rows.specs.Values.{day_of, number_of};
 ghost use Rattle.gtfs_rows.specs.declared.fault.Table.TheVariants as files;
 
@@ -18,18 +17,15 @@ use std::alloc::Global;
 
 // Returns the date in a column: `BadDate` if it isn't one.
 fn day_in(cells: &Cells, column: usize) -> Result<Day, FaultKind>
-    ensures ok { IfOk result (λ d. day_of (value cells.now.indices.now column (fields_of cells.now.fields.now))
-        ≡ Some d) }
-    ensures err { IfErr result (λ kind. fault_unless
-        (day_of (value cells.now.indices.now column (fields_of cells.now.fields.now))) FaultKind.BadDate
-        ≡ Some kind) }
+    ensures ok { IfOk result (λ d. day_of (shown cells.now column) ≡ Some d) }
+    ensures err { IfErr result (λ kind. fault_unless (day_of (shown cells.now column)) FaultKind.BadDate ≡ Some kind) }
 {
     Day::parse(cells.get(column)).map_err(|_| FaultKind::BadDate)
 }
 
 // Returns whether a service runs on the weekday of a column; none if the value is neither 0 nor 1.
 fn weekday(cells: &Cells, column: usize) -> Option<bool>
-    ensures { result ≡ weekday_of cells.now.indices.now (fields_of cells.now.fields.now) column }
+    ensures { result ≡ weekday_of cells.now.indices.now (row_of cells.now) column }
 {
     match number(cells.get(column))? {
         0 => Some(false),
@@ -40,7 +36,7 @@ fn weekday(cells: &Cells, column: usize) -> Option<bool>
 
 // Returns on which weekdays a service runs, Monday first; none if a value is neither 0 nor 1.
 fn weekdays(cells: &Cells) -> Option<[bool; 7]>
-    ensures { result ≡ weekdays_of cells.now.indices.now (fields_of cells.now.fields.now) }
+    ensures { result ≡ weekdays_of cells.now.indices.now (row_of cells.now) }
 {
     Some([
         weekday(cells, 1)?,
@@ -66,15 +62,11 @@ fn exception(text: &[u8]) -> Option<Exception>
 
 // Returns the weekdays, the first and the last day of a record, or what is wrong with them.
 pub(crate) fn weekly(cells: &Cells) -> Result<([bool; 7], Day, Day), FaultKind>
-    ensures fine { IfOk result (λ v. calendar_fault cells.now.indices.now (fields_of cells.now.fields.now) ≡ None) }
-    ensures weekdays { IfOk result (λ v. weekdays_of cells.now.indices.now (fields_of cells.now.fields.now)
-        ≡ Some v.0) }
-    ensures start { IfOk result (λ v. day_of (value cells.now.indices.now 8 (fields_of cells.now.fields.now))
-        ≡ Some v.1) }
-    ensures end { IfOk result (λ v. day_of (value cells.now.indices.now 9 (fields_of cells.now.fields.now))
-        ≡ Some v.2) }
-    ensures err { IfErr result (λ kind. calendar_fault cells.now.indices.now (fields_of cells.now.fields.now)
-        ≡ Some kind) }
+    ensures fine { IfOk result (λ v. calendar_fault cells.now.indices.now (row_of cells.now) ≡ None) }
+    ensures weekdays { IfOk result (λ v. weekdays_of cells.now.indices.now (row_of cells.now) ≡ Some v.0) }
+    ensures start { IfOk result (λ v. day_of (shown cells.now 8) ≡ Some v.1) }
+    ensures end { IfOk result (λ v. day_of (shown cells.now 9) ≡ Some v.2) }
+    ensures err { IfErr result (λ kind. calendar_fault cells.now.indices.now (row_of cells.now) ≡ Some kind) }
 {
     let Some(weekdays) = weekdays(cells) else {
         return Err(FaultKind::BadNumber);
@@ -86,14 +78,10 @@ pub(crate) fn weekly(cells: &Cells) -> Result<([bool; 7], Day, Day), FaultKind>
 
 // Returns the day of a record and what happens on it, or what is wrong with them.
 pub(crate) fn dated(cells: &Cells) -> Result<(Day, Exception), FaultKind>
-    ensures fine { IfOk result (λ v. calendar_date_fault cells.now.indices.now (fields_of cells.now.fields.now)
-        ≡ None) }
-    ensures day { IfOk result (λ v. day_of (value cells.now.indices.now 1 (fields_of cells.now.fields.now))
-        ≡ Some v.0) }
-    ensures exception { IfOk result (λ v. exception_of
-        (number_of (value cells.now.indices.now 2 (fields_of cells.now.fields.now))) ≡ Some v.1) }
-    ensures err { IfErr result (λ kind. calendar_date_fault cells.now.indices.now (fields_of cells.now.fields.now)
-        ≡ Some kind) }
+    ensures fine { IfOk result (λ v. calendar_date_fault cells.now.indices.now (row_of cells.now) ≡ None) }
+    ensures day { IfOk result (λ v. day_of (shown cells.now 1) ≡ Some v.0) }
+    ensures exception { IfOk result (λ v. exception_of (number_of (shown cells.now 2)) ≡ Some v.1) }
+    ensures err { IfErr result (λ kind. calendar_date_fault cells.now.indices.now (row_of cells.now) ≡ Some kind) }
 {
     let day = day_in(cells, 1)?;
     let Some(exception) = exception(cells.get(2)) else {

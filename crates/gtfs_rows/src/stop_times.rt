@@ -3,14 +3,14 @@
 ghost use Rattle.std.specs.Prelude.{◌≡◌, ◌≢◌, ◌<◌, ◌++◌, ◌∷◌, [], List, length, map, IfOk, IfErr, OnOk, IsUtf8};
 ghost use Rattle.std.specs.Prelude.{None, Some};
 ghost use Rattle.std.specs.String.{string_bytes};
-ghost use Rattle.csv.specs.Records.{AllText, fields_of};
+ghost use Rattle.csv.specs.Records.{AllText};
 ghost use Rattle.gtfs_rows.specs.Faults.{IsFaultOf, fault_unless};
 ghost use Rattle.gtfs_rows.specs.Ids.{given_also};
 ghost use Rattle.indexmap.specs.IndexSet.{hasher_of};
 ghost use Rattle.gtfs_rows.specs.Source.{Record};
 ghost use Rattle.gtfs_rows.specs.Rows.{AreStopTimes, IsStopId, given_time, is_available, stop_time_fault};
-ghost use Rattle.gtfs_rows.specs.Rows.{time_fault, value};
-ghost use Rattle.gtfs_rows.specs.Tables.{HoldsStopTimes, stop_times_shape};
+ghost use Rattle.gtfs_rows.specs.Rows.{row_of, shown, time_fault};
+ghost use Rattle.gtfs_rows.specs.Tables.{HoldsStopTimes, shape_of};
 ghost use Rattle.gtfs_rows.specs.Values.{number_of};
 ghost use Rattle.gtfs_rows.specs.declared.fault.Table.TheVariants as files;
 
@@ -36,12 +36,9 @@ pub struct StopTimes {
 
 // Returns the time in a column, in seconds after the start of the service day; none if it is blank.
 fn time_in(cells: &Cells, column: usize) -> Result<Option<u32>, FaultKind>
-    ensures fine { IfOk result (λ t. time_fault (value cells.now.indices.now column (fields_of cells.now.fields.now))
-        ≡ None) }
-    ensures ok { IfOk result (λ t. t ≡ given_time
-        (value cells.now.indices.now column (fields_of cells.now.fields.now))) }
-    ensures err { IfErr result (λ kind. time_fault
-        (value cells.now.indices.now column (fields_of cells.now.fields.now)) ≡ Some kind) }
+    ensures fine { IfOk result (λ t. time_fault (shown cells.now column) ≡ None) }
+    ensures ok { IfOk result (λ t. t ≡ given_time (shown cells.now column)) }
+    ensures err { IfErr result (λ kind. time_fault (shown cells.now column) ≡ Some kind) }
 {
     let text = cells.get(column);
     if text.is_empty() {
@@ -55,10 +52,8 @@ fn time_in(cells: &Cells, column: usize) -> Result<Option<u32>, FaultKind>
 
 // Returns the number in a column: `BadNumber` if it isn't one.
 fn number_in(cells: &Cells, column: usize) -> Result<u32, FaultKind>
-    ensures ok { IfOk result (λ n. number_of (value cells.now.indices.now column (fields_of cells.now.fields.now))
-        ≡ Some n) }
-    ensures err { IfErr result (λ kind. fault_unless
-        (number_of (value cells.now.indices.now column (fields_of cells.now.fields.now))) FaultKind.BadNumber
+    ensures ok { IfOk result (λ n. number_of (shown cells.now column) ≡ Some n) }
+    ensures err { IfErr result (λ kind. fault_unless (number_of (shown cells.now column)) FaultKind.BadNumber
         ≡ Some kind) }
 {
     number(cells.get(column)).ok_or(FaultKind::BadNumber)
@@ -97,15 +92,11 @@ fn stop_index(
 
 // Returns the arrival, the departure and the stop_sequence of a record, or what is wrong with them.
 pub(crate) fn stop_time(cells: &Cells) -> Result<(Option<u32>, Option<u32>, u32), FaultKind>
-    ensures fine { IfOk result (λ v. stop_time_fault cells.now.indices.now (fields_of cells.now.fields.now) ≡ None) }
-    ensures arrival { IfOk result (λ v. v.0
-        ≡ given_time (value cells.now.indices.now 1 (fields_of cells.now.fields.now))) }
-    ensures departure { IfOk result (λ v. v.1
-        ≡ given_time (value cells.now.indices.now 2 (fields_of cells.now.fields.now))) }
-    ensures sequence { IfOk result (λ v. number_of (value cells.now.indices.now 4 (fields_of cells.now.fields.now))
-        ≡ Some v.2) }
-    ensures err { IfErr result (λ kind. stop_time_fault cells.now.indices.now (fields_of cells.now.fields.now)
-        ≡ Some kind) }
+    ensures fine { IfOk result (λ v. stop_time_fault cells.now.indices.now (row_of cells.now) ≡ None) }
+    ensures arrival { IfOk result (λ v. v.0 ≡ given_time (shown cells.now 1)) }
+    ensures departure { IfOk result (λ v. v.1 ≡ given_time (shown cells.now 2)) }
+    ensures sequence { IfOk result (λ v. number_of (shown cells.now 4) ≡ Some v.2) }
+    ensures err { IfErr result (λ kind. stop_time_fault cells.now.indices.now (row_of cells.now) ≡ Some kind) }
 {
     let arrival = time_in(cells, 1)?;
     let departure = time_in(cells, 2)?;
@@ -121,12 +112,12 @@ fn add_stop_time(
     likely: Option<u32>,
     cells: &Cells,
 ) -> Result<Option<u32>, FaultKind>
-    requires { AllText (fields_of cells.now.fields.now) }
+    requires { AllText (row_of cells.now) }
     ensures ok { (before : List Record) → AreStopTimes cells.now.indices.now before times.old → OnOk result
-        ((stop_time_fault cells.now.indices.now (fields_of cells.now.fields.now) ≡ None)
-        × AreStopTimes cells.now.indices.now (before ++ fields_of cells.now.fields.now ∷ []) times.new) }
+        ((stop_time_fault cells.now.indices.now (row_of cells.now) ≡ None)
+        × AreStopTimes cells.now.indices.now (before ++ row_of cells.now ∷ []) times.new) }
     ensures err { IfErr result (λ kind. kind ≢ FaultKind.OutOfMemory
-        → stop_time_fault cells.now.indices.now (fields_of cells.now.fields.now) ≡ Some kind) }
+        → stop_time_fault cells.now.indices.now (row_of cells.now) ≡ Some kind) }
     ensures trips { OnOk result (hasher_of times.new.trips ≡ hasher_of times.old.trips) }
     ensures stops { OnOk result (hasher_of times.new.stops ≡ hasher_of times.old.stops) }
 {
@@ -201,7 +192,7 @@ impl TableFile for StopTimes {
 
     ghost holds = { HoldsStopTimes };
 
-    ghost tells = { IsFaultOf stop_times_shape };
+    ghost tells = { IsFaultOf (shape_of files.StopTimes) };
 
     ghost is_hashed = { λ hash times. (hasher_of times.trips ≡ hash) × (hasher_of times.stops ≡ hash) };
 

@@ -6,7 +6,7 @@ ghost use Rattle.csv.specs.Records.{fields_of};
 ghost use Rattle.gtfs_rows.specs.Faults.{IsFaultOf};
 ghost use Rattle.gtfs_rows.specs.Judging.{IsOpened, IsSameTable};
 ghost use Rattle.gtfs_rows.specs.Positions.{line_at};
-ghost use Rattle.gtfs_rows.specs.Rows.{values_of};
+ghost use Rattle.gtfs_rows.specs.Rows.{row_of, values_of};
 ghost use Rattle.gtfs_rows.specs.Source.{IsReading, last_of, left_of};
 ghost use Rattle.gtfs_rows.specs.Tables.{shape_of};
 
@@ -118,7 +118,8 @@ impl<'a> TableRecords<'a> {
         self.width
     }
 
-    /// Returns what is wrong with the record that was read last by itself, if anything is.
+    /// Returns what is wrong with the record that was read last by itself, if anything is: `RowLength` if it hasn't as
+    /// many fields as the header; otherwise what is wrong with its values. Its key and its ids aren't looked up.
     pub fn fault(&self) -> Option<FaultKind>
         ensures { result ≡ (if length (last_of self.now.records) == self.now.width
             then values_of self.now.table self.now.indices.items (last_of self.now.records)
@@ -146,11 +147,11 @@ impl<'a> TableRecords<'a> {
     }
 }
 
-/// Returns what is wrong with a record of a table by itself, if anything is: `RowLength` if it doesn't have `width`
-/// fields, as many as the header; otherwise what is wrong with its values. Its key and its ids aren't looked up.
-pub fn record_fault(table: Table, width: usize, cells: &Cells) -> Option<FaultKind>
-    ensures { result ≡ (if length (fields_of cells.now.fields.now) == width
-        then values_of table cells.now.indices.now (fields_of cells.now.fields.now) else Some FaultKind.RowLength) }
+// Returns what is wrong with a record of a table by itself, if anything is. `width` is the number of the header's
+// fields.
+fn record_fault(table: Table, width: usize, cells: &Cells) -> Option<FaultKind>
+    ensures { result ≡ (if length (row_of cells.now) == width
+        then values_of table cells.now.indices.now (row_of cells.now) else Some FaultKind.RowLength) }
 {
     if cells.fields.len() != width {
         return Some(FaultKind::RowLength);

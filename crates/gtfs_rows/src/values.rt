@@ -137,6 +137,7 @@ fn civil(day: Day) -> Option<Day>
 }
 
 /// Returns the number of a text: one to nine decimal digits, after which a point and one or more zeros may follow.
+#[tactic(auto, using(crate::proofs::ValueLemmas::take_passes))]
 pub fn number(text: &[u8]) -> Option<u32>
     ensures { result ≡ number_of text.now }
 {

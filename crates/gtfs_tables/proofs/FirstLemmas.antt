@@ -1,13 +1,14 @@
 -- The first index that passes, one step at a time and at the end.
-use Rattle.std.proofs.Common.{◌≡◌, ℕ, ◌+◌, ◌<◌, Option, Some, None, List, length, get_or, refl, ap, ◌∙◌}
+use Rattle.std.proofs.Common.{◌≡◌, ℕ, zero, suc, ◌+◌, ◌<◌, Option, Some, None, List, [], ◌∷◌, ◌++◌, length, get_or, refl, ap, ◌∙◌, add-one}
 use Rattle.std.specs.Prelude.{option_map}
 use Rattle.std.specs.List.{slice_get}
+use Rattle.std.specs.Option.{option_or, option_to_list}
 use Rattle.std.proofs.lemmas.List.{get_or_default}
 use Rattle.std.proofs.lemmas.Option.{slice_get_read}
 use Rattle.reasoning.proofs.FirstLemmas.{first_below-more, first_below-found, first_below-start}
 use Rattle.gtfs_rows.specs.declared.fault.FaultKind.{FaultKind}
 use Rattle.gtfs_rows.specs.declared.fault.Table.{Table}
-use Rattle.gtfs_tables.specs.First.{fault_at, first_below, row_fault}
+use Rattle.gtfs_tables.specs.First.{all_below, fault_at, first_below, row_fault}
 
 pub ruleset searches = (first_below-start, first_below-more, first_below-found)
 
@@ -42,3 +43,24 @@ pub copy_wrong : {R : Type 0} (table : Table) (judge : R → Option FaultKind) (
     → first_below (row_fault table judge rows) (length rows) ≡ Some (fault_at table i kind)
 copy_wrong table judge rows i d kind lt wrong before =
     row_wrong table judge rows i (get_or rows i d) kind lt (get_or_default rows i d (get_or rows i d) lt) wrong before
+
+-- all values, one index at a time
+pub all_below-start : {X : Type 0} (f : ℕ → Option X) → all_below f 0 ≡ []
+unfolding all_below
+all_below-start f = refl
+
+pub all_below-more : {X : Type 0} (f : ℕ → Option X) (n : ℕ) (found : List X) (value : Option X) → found ≡ all_below f n → f n ≡ value
+    → found ++ option_to_list value ≡ all_below f (n + 1)
+unfolding all_below
+all_below-more f n found value held here = rw (held, ← here, add-one) refl
+
+-- the first of all values is the value at the first index that has one
+pub first_of_all : {X : Type 0} (f : ℕ → Option X) (n : ℕ) → slice_get (all_below f n) 0 ≡ first_below f n
+unfolding all_below first_below
+first_of_all f zero = refl
+first_of_all {X = X} f (suc n) = by (all_below f n) (f n) ∙ ap (λ first. option_or first (f n)) (first_of_all f n)
+  where
+    by : (xs : List X) (o : Option X) → slice_get (xs ++ option_to_list o) 0 ≡ option_or (slice_get xs 0) o
+    by [] None = refl
+    by [] (Some x) = refl
+    by (x ∷ xs) o = refl

@@ -7,10 +7,6 @@ use Rattle.reasoning.proofs.OptionLemmas.{is_some-none}
 use Rattle.gtfs_tables.specs.Spread.{IsGap, IsSpreadBefore, arrival_at, departure_at, either, part_of}
 use Rattle.gtfs_rows.specs.declared.rows.StopTimeRow.{StopTimeRow}
 
--- no part ends after the last
-pub part_within : (span parts j : ℕ) → j ≤ parts → (j * span) / parts ≤ span
-part_within span parts j h = div-le_of_le-mul parts (mul-le-mul_right span h)
-
 -- a row that arrives departs, and the reverse
 either_some : (x y : Option ℕ) (t : ℕ) → either x y ≡ Some t → IsSome (either y x)
 either_some None None t e = cc

@@ -14,9 +14,6 @@ use Rattle.gtfs_tables.specs.Times.{arrives_spread, departed_before, departs_spr
 use Rattle.gtfs_tables.specs.Times.{given_from, goes_back, has_no_duration, is_short, is_twice, wrong_at, wrong_given}
 use Rattle.gtfs_tables.proofs.SpreadLemmas.{departs, never_departs}
 
-pub departed-next : (rows : List StopTimeRow) (k : ℕ) → departed_before rows (k + 1) ≡ unwrap_or (departure_at rows k) (departed_before rows k)
-departed-next rows k = let e : k + 1 ≡ suc k = omega arith in rw e refl
-
 -- a place that passes, with none before it, or none below n
 pub record IsFirstIndex (p : ℕ → Bool) (n q : ℕ) : Type 0 where
   pub found : first_index p n ≡ Some q

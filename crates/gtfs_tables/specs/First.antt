@@ -1,6 +1,7 @@
 -- The first fault of a table's rows.
-use Rattle.std.specs.Prelude.{ℕ, ◌+◌, List, length, option_map, option_and_then, Option, Some, None, Bool, if◌then◌else◌}
+use Rattle.std.specs.Prelude.{ℕ, zero, suc, ◌+◌, List, [], ◌++◌, length, option_map, option_and_then, Option, Some, None, Bool, if◌then◌else◌}
 use Rattle.std.specs.List.{slice_get}
+use Rattle.std.specs.Option.{option_to_list}
 unfoldable pub use Rattle.reasoning.specs.First.{first_below}
 use Rattle.gtfs_rows.specs.declared.fault.FaultKind.{FaultKind}
 use Rattle.gtfs_rows.specs.declared.fault.Table.{Table}
@@ -24,3 +25,8 @@ row_fault table judge rows k = option_map (fault_at table k) (option_and_then ju
 -- the fault of the first row that has one
 abbrev pub first_fault_of : {R : Type 0} → Table → (R → Option FaultKind) → List R → Option TableFault
 first_fault_of table judge rows = first_below (row_fault table judge rows) (length rows)
+
+-- all values of `f` below n, in order
+unfoldable pub all_below : {X : Type 0} → (ℕ → Option X) → ℕ → List X
+all_below f zero = []
+all_below f (suc n) = all_below f n ++ option_to_list (f n)

@@ -8,3 +8,4 @@ pub mod Outcome
 pub mod Rows
 pub mod Spread
 pub mod Times
+pub mod TimeFaults

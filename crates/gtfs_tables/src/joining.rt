@@ -23,7 +23,8 @@ use crate::links::{
 use crate::names::{StopIdTarget, named_each, stops_by_id, trips_by_id};
 use crate::order::{RowOrder, number_at, order_of_rows, trip_at};
 use crate::tables::{Feed, Frequency, Stop, Tables, Transfer, Trip};
-use crate::times::{first_wrong, is_flex};
+use crate::times::is_flex;
+use crate::trip_faults::fault_of_trip;
 use gtfs_rows::{
     FaultKind, IdHash, Location, StopRow, StopTimeRow, StopTimes, Table, TableFault, TripRow,
 };
@@ -356,7 +357,12 @@ fn timed_trips(
 }
 
 // Returns the index after the last row of a trip.
-fn end_of_trip(rows: &[StopTimeRow], order: &RowOrder, first: usize, trip: usize) -> usize
+pub(crate) fn end_of_trip(
+    rows: &[StopTimeRow],
+    order: &RowOrder,
+    first: usize,
+    trip: usize,
+) -> usize
     requires len { length rows.now ≡ length (turns_by order.now rows.now) }
     requires rising { IsSortedBy comes_before (turns_by order.now rows.now) }
     requires within { first ≤ length rows.now }
@@ -391,15 +397,15 @@ fn judge_trip(
         → option_map (fault_of_row (slice_range (turns_by order.now rows.now) first end))
         (wrong_first strict (slice_range rows.now first end)) ≡ Some fault) }
 {
-    match first_wrong(alloc, &rows[first..end], strict) {
+    match fault_of_trip(alloc, rows, order, first, end, strict) {
         Ok(None) => Ok(()),
-        Ok(Some((at, kind))) => Err(fault_at_row(order, first, end, at, kind)),
+        Ok(Some(fault)) => Err(fault),
         Err(_) => Err(out_of_memory()),
     }
 }
 
 // Returns the fault of one of a trip's rows, with the number of its record.
-fn fault_at_row(
+pub(crate) fn fault_at_row(
     order: &RowOrder,
     first: usize,
     end: usize,

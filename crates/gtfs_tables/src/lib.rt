@@ -13,6 +13,7 @@ pub mod outcome;
 mod spreading;
 mod tables;
 mod times;
+mod trip_faults;
 
 pub use gtfs_rows::{
     AgencyRow, CalendarDateRow, CalendarRow, DateFault, Day, Exception, FaultKind, FrequencyRow,
@@ -24,3 +25,4 @@ pub use gtfs_rows::{
 pub use joining::join;
 pub use spreading::spread;
 pub use tables::{Feed, Frequency, Stop, Tables, Transfer, TransferEnd, Trip};
+pub use trip_faults::time_faults;

@@ -280,7 +280,7 @@ fn linked_by_turns(
 }
 
 // Returns the row of the record of this number, or a row without stop and times if there is none.
-fn row_numbered(rows: &[StopTimeRow], number: u64) -> StopTimeRow
+pub(crate) fn row_numbered(rows: &[StopTimeRow], number: u64) -> StopTimeRow
     ensures { result ≡ row_of rows.now number }
 {
     let index = number.saturating_sub(1) as usize;

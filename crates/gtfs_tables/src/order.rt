@@ -34,9 +34,21 @@ pub(crate) fn order_of_rows(
     if are_in_order(rows, trips) {
         return Ok(RowOrder::Filed);
     }
+    let turns = sorted_turns(alloc, rows, trips)?;
+    Ok(RowOrder::ByTurns(turns))
+}
+
+// Returns the turns of the rows, in order.
+pub(crate) fn sorted_turns(
+    alloc: Global,
+    rows: &[StopTimeRow],
+    trips: &[Option<u32>],
+) -> Result<Vec<SortKey>, AllocError>
+    ensures { IfOk result (λ turns. IsInOrder trips.now rows.now turns.items) }
+{
     let mut turns = sort_keys_of(alloc, rows, trips)?;
     turns.sort()?;
-    Ok(RowOrder::ByTurns(turns))
+    Ok(turns)
 }
 
 // Returns the turns of the rows, in the order of the file.

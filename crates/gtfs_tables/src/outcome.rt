@@ -3,7 +3,9 @@
 ghost use Rattle.std.specs.Prelude.{◌≡◌, ℕ, List, Option, Bool};
 ghost use Rattle.gtfs_rows.specs.declared.fault.TableFault.{TableFault as Fault};
 ghost use Rattle.gtfs_rows.specs.declared.rows.StopTimeRow.{StopTimeRow};
-ghost use Rattle.gtfs_tables.specs.Feeds.{IsFirstFault, IsJoined};
+ghost use Rattle.std.specs.List.{slice_get};
+ghost use Rattle.gtfs_tables.specs.Feeds.{IsFirstFault, IsJoined, trip_fault};
+ghost use Rattle.gtfs_tables.specs.First.{all_below, first_below};
 ghost use Rattle.gtfs_tables.specs.Order.{IsInOrder};
 ghost use Rattle.gtfs_tables.specs.Outcome.{IsSameFeed};
 ghost use Rattle.gtfs_tables.specs.declared.order.SortKey.{SortKey};
@@ -19,6 +21,14 @@ pub fn one_order()
 /// Tables have at most one first fault.
 pub fn one_fault()
     ensures { (strict : Bool) (t : Tables) (a b : Fault) → IsFirstFault strict t a → IsFirstFault strict t b → a ≡ b }
+{}
+
+/// The first of all faults in the times of trips is that of the first trip that has one.
+#[tactic(auto, using(crate::proofs::FirstLemmas::first_of_all))]
+pub fn first_of_time_faults()
+    ensures { (strict : Bool) (turns : List SortKey) (rows : List StopTimeRow) (count : ℕ)
+        → slice_get (all_below (trip_fault strict turns rows) count) 0
+        ≡ first_below (trip_fault strict turns rows) count }
 {}
 
 /// Tables that can be joined have no fault.

@@ -1,5 +1,5 @@
 -- Days in order, each once, with how many entries it has.
-use Rattle.std.proofs.Common.{◌≡◌, ◌≢◌, ◌++◌, ◌+◌, ◌∙◌, ◌∷◌, ◌<◌, ◌≤◌, ◌==◌, ◌↔◌, ◌⊎◌, ℕ, zero, suc, List, [], Bool, true, false}
+use Rattle.std.proofs.Common.{◌≡◌, ◌++◌, ◌+◌, ◌∙◌, ◌∷◌, ◌<◌, ◌≤◌, ◌==◌, ◌↔◌, ◌⊎◌, ℕ, zero, suc, List, [], Bool, true, false}
 use Rattle.std.proofs.Common.{ap, arith, get_or, if◌then◌else◌, inl, inr, length, refl, subst, sym}
 use Rattle.std.specs.Prelude.{Contains, not, slice_index, ⊤}
 use Rattle.std.specs.List.{flat_map}
@@ -7,7 +7,8 @@ use Rattle.std.specs.List.Sorted.{IsNonDecreasing, IsPermutation, IsStrictlyIncr
 use Rattle.std.proofs.lemmas.Bool.{cases_Bool, cases_eq, eq-eqb, eqb-true, true≢false}
 use Rattle.std.proofs.lemmas.List.Sorted.{sum_by-IsPermutation}
 use Rattle.std.proofs.lemmas.List.Sums.{sum_by-cons}
-use Rattle.image_facts.specs.Days.{HasDays, day_line, trips_on}
+use Rattle.image_facts.specs.Days.{HasDays, day_text, trips_on}
+use Rattle.image_facts.specs.declared.form.Form.{Form}
 use Rattle.image_facts.specs.Entries.{is_last_of, rest_text}
 
 -- each of them once, where equal ones are side by side
@@ -217,26 +218,27 @@ with_one_more counted day any (next ∷ rest) more =
       | inr other ↦ absurd (true≢false (sym (ap not other) ∙ more))
     ]
 
-grouped : (counted low : ℕ) (xs : List ℕ) → Climbs low xs
-    → rest_text counted xs ≡ flat_map (λ day. day_line (with_counted counted xs day) day) (distinct xs)
+grouped : (form : Form) (counted low : ℕ) (xs : List ℕ) → Climbs low xs
+    → rest_text form counted xs ≡ flat_map (λ day. day_text form (with_counted counted xs day) day) (distinct xs)
 unfolding rest_text
-grouped counted low [] up = refl
-grouped counted low (day ∷ rest) up =
+grouped form counted low [] up = refl
+grouped form counted low (day ∷ rest) up =
     elim (cases_Bool (is_last_of day rest)) [
       | inl last ↦ (let after = later day rest last up.1 in
-          let others = same_lines (λ d. day_line (with_counted 0 rest d) d) (λ d. day_line (with_counted counted (day ∷ rest) d) d) (suc day) (distinct rest)
-          (distinct_rises (suc day) rest after) (λ d high. ap (λ n. day_line n d) (with_others counted day d rest high)) in
+          let others = same_lines (λ d. day_text form (with_counted 0 rest d) d) (λ d. day_text form (with_counted counted (day ∷ rest) d) d)
+          (suc day) (distinct rest) (distinct_rises (suc day) rest after) (λ d high. ap (λ n. day_text form n d) (with_others counted day d rest high)) in
           let own = sym (with_all counted day rest after) in
-          rw last (ap (λ n. day_line n day ++ rest_text 0 rest) own
-          ∙ ap (λ text. day_line (with_counted counted (day ∷ rest) day) day ++ text) (grouped 0 (suc day) rest after ∙ others)))
-      | inr more ↦ (let same = same_lines (λ d. day_line (with_counted (counted + 1) rest d) d) (λ d. day_line (with_counted counted (day ∷ rest) d) d) day
-          (distinct rest) (distinct_rises day rest up.1) (λ d high. ap (λ n. day_line n d) (with_one_more counted day d rest more)) in
-          rw more (grouped (counted + 1) day rest up.1 ∙ same))
+          rw last (ap (λ n. day_text form n day ++ rest_text form 0 rest) own
+          ∙ ap (λ text. day_text form (with_counted counted (day ∷ rest) day) day ++ text) (grouped form 0 (suc day) rest after ∙ others)))
+      | inr more ↦ (let same = same_lines (λ d. day_text form (with_counted (counted + 1) rest d) d)
+          (λ d. day_text form (with_counted counted (day ∷ rest) d) d) day (distinct rest) (distinct_rises day rest up.1)
+          (λ d high. ap (λ n. day_text form n d) (with_one_more counted day d rest more)) in
+          rw more (grouped form (counted + 1) day rest up.1 ∙ same))
     ]
 
 -- of days in order each has its line
-pub has_days : (xs text : List ℕ) → IsNonDecreasing xs → text ≡ rest_text 0 xs → HasDays xs text
-has_days xs text sorted is =
+pub has_days : (form : Form) (xs text : List ℕ) → IsNonDecreasing xs → text ≡ rest_text form 0 xs → HasDays form xs text
+has_days form xs text sorted is =
     let up : Climbs 0 xs = climbs_from 0 xs (λ d some. omega arith) sorted in
     let rising = distinct_rises 0 xs up in (
       distinct xs,
@@ -244,19 +246,19 @@ has_days xs text sorted is =
         rising = rises_strictly 0 (distinct xs) rising;
         exact = λ day. (has_trips day xs, listed day xs);
       },
-      is ∙ grouped 0 0 xs up ∙ same_lines (λ d. day_line (with_counted 0 xs d) d) (λ d. day_line (trips_on xs d) d) 0 (distinct xs) rising
-          (λ d high. ap (λ n. day_line n d) (with_none xs d)),
+      is ∙ grouped form 0 0 xs up ∙ same_lines (λ d. day_text form (with_counted 0 xs d) d) (λ d. day_text form (trips_on xs d) d) 0 (distinct xs) rising
+          (λ d high. ap (λ n. day_text form n d) (with_none xs d)),
     )
 
 -- and so of days in any order
-pub in_any_order : (xs sorted text : List ℕ) → IsPermutation xs sorted → HasDays sorted text → HasDays xs text
-in_any_order xs sorted text same has =
+pub in_any_order : (form : Form) (xs sorted text : List ℕ) → IsPermutation xs sorted → HasDays form sorted text → HasDays form xs text
+in_any_order form xs sorted text same has =
     let alike : (day : ℕ) → trips_on sorted day ≡ trips_on xs day = λ day. sum_by-IsPermutation _ xs sorted same in (
       has.0,
       record {
         rising = has.1.rising;
         exact = λ day. subst (λ n. Contains has.0 day ↔ (1 ≤ n)) (alike day) (has.1.exact day);
       },
-      has.2 ∙ every_line (λ day. day_line (trips_on sorted day) day) (λ day. day_line (trips_on xs day) day) has.0
-          (λ day. ap (λ n. day_line n day) (alike day)),
+      has.2 ∙ every_line (λ day. day_text form (trips_on sorted day) day) (λ day. day_text form (trips_on xs day) day) has.0
+          (λ day. ap (λ n. day_text form n day) (alike day)),
     )

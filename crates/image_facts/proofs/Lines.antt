@@ -6,27 +6,28 @@ use Rattle.std.proofs.lemmas.List.{take_more}
 use Rattle.std.proofs.lemmas.Option.{get_or_from_slice_get, slice_get-map, slice_get_within}
 use mathlib.Core.List.{append-nil}
 use Rattle.timetable.specs.NamesValue.{TripNameValue}
-use Rattle.image_facts.specs.Days.{day_line}
+use Rattle.image_facts.specs.Days.{day_text}
 use Rattle.image_facts.specs.Entries.{is_last_of, rest_text}
+use Rattle.image_facts.specs.declared.form.Form.{Form}
 
 -- its day ends
-pub last_entry : (counted day : ℕ) (rest old new : List ℕ) → is_last_of day rest ≡ true
-    → new ≡ old ++ day_line (counted + 1) day → new ++ rest_text 0 rest ≡ old ++ rest_text counted (day ∷ rest)
+pub last_entry : (form : Form) (counted day : ℕ) (rest old new : List ℕ) → is_last_of day rest ≡ true
+    → new ≡ old ++ day_text form (counted + 1) day → new ++ rest_text form 0 rest ≡ old ++ rest_text form counted (day ∷ rest)
 unfolding rest_text
-last_entry counted day rest old new last is =
-    rw last (ap (λ x. x ++ rest_text 0 rest) is ∙ append_assoc old (day_line (counted + 1) day) (rest_text 0 rest))
+last_entry form counted day rest old new last is =
+    rw last (ap (λ x. x ++ rest_text form 0 rest) is ∙ append_assoc old (day_text form (counted + 1) day) (rest_text form 0 rest))
 
 -- its day goes on
-pub next_entry : (counted day : ℕ) (rest old : List ℕ) → is_last_of day rest ≡ false
-    → old ++ rest_text (counted + 1) rest ≡ old ++ rest_text counted (day ∷ rest)
+pub next_entry : (form : Form) (counted day : ℕ) (rest old : List ℕ) → is_last_of day rest ≡ false
+    → old ++ rest_text form (counted + 1) rest ≡ old ++ rest_text form counted (day ∷ rest)
 unfolding rest_text
-next_entry counted day rest old on = rw on refl
+next_entry form counted day rest old on = rw on refl
 
 -- none is to come
-pub at_end : (counted : ℕ) (rest lines whole : List ℕ) → length rest ≡ 0 → lines ++ rest_text counted rest ≡ whole → lines ≡ whole
+pub at_end : (form : Form) (counted : ℕ) (rest lines whole : List ℕ) → length rest ≡ 0 → lines ++ rest_text form counted rest ≡ whole → lines ≡ whole
 unfolding rest_text
-at_end counted [] lines whole none is = sym (append-nil lines) ∙ is
-at_end counted (day ∷ rest) lines whole none is = absurd (omega (arith, none))
+at_end form counted [] lines whole none is = sym (append-nil lines) ∙ is
+at_end form counted (day ∷ rest) lines whole none is = absurd (omega (arith, none))
 
 pub none_left : {X : Type 0} (P : X → Type 0) (r : Option X) (len : ℕ) → MatchOption r (len ≡ 0) P → ((x : X) → r ≡ Some x → ⊥) → len ≡ 0
 none_left P None len empty none = empty

@@ -6,6 +6,7 @@ use Rattle.jiff_core.specs.Calendar.{IsEpochDay}
 use Rattle.jiff_core.specs.Date.{epoch_day}
 use Rattle.jiff_core.specs.declared.civil.date.Date.{Date}
 use Rattle.timetable.specs.Clocks.{clock_bytes, two_digits}
+use Rattle.image_facts.specs.declared.form.Form.{Form}
 
 -- the day of UTC that has an instant, which is 0 for 1970-01-01, and the second of that day
 abbrev pub utc_day : ℤ → ℤ
@@ -29,16 +30,26 @@ date_text date = (((year_text date.year ++ codes "-") ++ two_digits date.month) 
 unfoldable pub base_line : ℤ → List ℕ
 base_line base = (codes "base " ++ signed_decimal base) ++ codes "\n"
 
--- the line of a date and a time
-unfoldable pub utc_line : Date → ℕ → List ℕ
-utc_line date second = (((codes "utc " ++ date_text date) ++ codes "T") ++ clock_bytes second) ++ codes "Z\n"
+-- a date and a time, between two texts
+unfoldable pub moment_text : List ℕ → Date → ℕ → List ℕ → List ℕ
+moment_text before date second after = (((before ++ date_text date) ++ codes "T") ++ clock_bytes second) ++ after
 
--- the line of an instant, if its day is a day of the calendar, whose years are -9999 to 9999; else the line that says that there is none
-abbrev pub IsUtcLine : ℤ → List ℕ → Type 0
-IsUtcLine instant line =
-    ((date : Date) × (epoch_day date ≡ utc_day instant) × (line ≡ utc_line date (utc_second instant)))
-    ⊎ ((¬ IsEpochDay (utc_day instant)) × (line ≡ codes "utc none\n"))
+-- a date and a time as a line, and as a member of an object of JSON that isn't its first
+abbrev pub utc_text : Form → Date → ℕ → List ℕ
+utc_text Form.Lines date second = moment_text (codes "utc ") date second (codes "Z\n")
+utc_text Form.Json date second = moment_text (codes ",\"utc\":\"") date second (codes "Z\"")
+
+-- the same where there is no date
+abbrev pub no_utc_text : Form → List ℕ
+no_utc_text Form.Lines = codes "utc none\n"
+no_utc_text Form.Json = codes ",\"utc\":null"
+
+-- the text of an instant, if its day is a day of the calendar, whose years are -9999 to 9999; else the text that says that there is none
+abbrev pub IsUtc : Form → ℤ → List ℕ → Type 0
+IsUtc form instant text =
+    ((date : Date) × (epoch_day date ≡ utc_day instant) × (text ≡ utc_text form date (utc_second instant)))
+    ⊎ ((¬ IsEpochDay (utc_day instant)) × (text ≡ no_utc_text form))
 
 -- the base as a number, and as a date and a time
 abbrev pub HasBase : ℤ → List ℕ → Type 0
-HasBase base lines = (utc : List ℕ) × IsUtcLine base utc × (lines ≡ base_line base ++ utc)
+HasBase base lines = (utc : List ℕ) × IsUtc Form.Lines base utc × (lines ≡ base_line base ++ utc)

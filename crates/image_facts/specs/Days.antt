@@ -3,6 +3,7 @@ use Rattle.std.specs.Prelude.{◌≡◌, ◌≤◌, ◌↔◌, ◌==◌, ◌++�
 use Rattle.std.specs.List.{count_by, flat_map}
 use Rattle.std.specs.List.Sorted.{IsStrictlyIncreasing}
 use Rattle.timetable.specs.NamesValue.{NamesValue, TripNameValue}
+use Rattle.image_facts.specs.declared.form.Form.{Form}
 
 -- the service day of each trip
 abbrev pub trip_days : NamesValue → List ℕ
@@ -17,14 +18,22 @@ pub record AreServiceDays (of_trips days : List ℕ) : Type 0 where
   pub rising : IsStrictlyIncreasing days
   pub exact : (day : ℕ) → Contains days day ↔ (1 ≤ trips_on of_trips day)
 
--- a day, and how many trips it has
+-- the line of a day, with how many trips it has
 unfoldable pub day_line : ℕ → ℕ → List ℕ
 day_line count day = ((codes "trips-" ++ decimal day) ++ (codes " " ++ decimal count)) ++ codes "\n"
 
--- a line for each of the days
-abbrev pub days_text : List ℕ → List ℕ → List ℕ
-days_text of_trips days = flat_map (λ day. day_line (trips_on of_trips day) day) days
+-- the same as a member of an object of JSON that isn't its first
+unfoldable pub day_member : ℕ → ℕ → List ℕ
+day_member count day = (codes ",\"trips-" ++ decimal day) ++ (codes "\":" ++ decimal count)
 
--- the text has a line for each day that has a trip
-abbrev pub HasDays : List ℕ → List ℕ → Type 0
-HasDays of_trips text = (days : List ℕ) × AreServiceDays of_trips days × (text ≡ days_text of_trips days)
+abbrev pub day_text : Form → ℕ → ℕ → List ℕ
+day_text Form.Lines count day = day_line count day
+day_text Form.Json count day = day_member count day
+
+-- a line or a member for each of the days
+abbrev pub days_text : Form → List ℕ → List ℕ → List ℕ
+days_text form of_trips days = flat_map (λ day. day_text form (trips_on of_trips day) day) days
+
+-- the text has one for each day that has a trip
+abbrev pub HasDays : Form → List ℕ → List ℕ → Type 0
+HasDays form of_trips text = (days : List ℕ) × AreServiceDays of_trips days × (text ≡ days_text form of_trips days)

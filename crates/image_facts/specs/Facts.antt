@@ -4,16 +4,20 @@ use Rattle.image_layout.specs.Image.{ImageValue}
 use Rattle.image_layout.specs.Spelling.{image_in, text}
 use Rattle.image_facts.specs.Base.{HasBase}
 use Rattle.image_facts.specs.Days.{HasDays, trip_days}
+use Rattle.image_facts.specs.declared.form.Form.{Form}
 
 -- a word, which ends in a space, and a number
 unfoldable pub number_line : List ℕ → ℕ → List ℕ
 number_line word number = (word ++ decimal number) ++ codes "\n"
 
--- the layout, and how many bytes the image has: four for each word
+-- how many bytes the image has: four for each word
+abbrev pub file_bytes : ImageValue → ℕ
+file_bytes image = 4 * length (image_in image.layout image.timetable image.names)
+
+-- the layout, and how many bytes the image has
 unfoldable pub file_text : ImageValue → List ℕ
 file_text image =
-    number_line (codes "layout ") image.layout
-    ++ number_line (codes "bytes ") (4 * length (image_in image.layout image.timetable image.names))
+    number_line (codes "layout ") image.layout ++ number_line (codes "bytes ") (file_bytes image)
 
 -- the counts of the image, and how many bytes its names have together
 unfoldable pub counts_text : ImageValue → List ℕ
@@ -28,5 +32,5 @@ pub record AreFacts (image : ImageValue) (lines : List ℕ) : Type 0 where
   pub base : List ℕ
   pub days : List ℕ
   pub has_base : HasBase image.names.base base
-  pub has_days : HasDays (trip_days image.names) days
+  pub has_days : HasDays Form.Lines (trip_days image.names) days
   pub parts : lines ≡ ((file_text image ++ base) ++ counts_text image) ++ days

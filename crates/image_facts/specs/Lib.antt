@@ -2,3 +2,4 @@ pub mod Base
 pub mod Days
 pub mod Entries
 pub mod Facts
+pub mod Json

@@ -2,9 +2,10 @@
 
 ghost use Rattle.std.specs.Prelude.{◌≡◌, ◌++◌, List, ℕ, OnOk, string_bytes};
 ghost use Rattle.timetable.specs.Clocks.{clock_bytes};
-ghost use Rattle.image_facts.specs.Base.{HasBase, IsUtcLine, base_line, date_text, sign_text, utc_day, utc_line};
-ghost use Rattle.image_facts.specs.Base.{utc_second, year_text};
+ghost use Rattle.image_facts.specs.Base.{HasBase, IsUtc, base_line, date_text, moment_text, no_utc_text, sign_text};
+ghost use Rattle.image_facts.specs.Base.{utc_day, utc_second, utc_text, year_text};
 
+use crate::form::Form;
 use crate::putting::put_signed;
 use jiff_core::civil::Date;
 use std::alloc::AllocError;
@@ -22,7 +23,7 @@ pub fn append_base(lines: &mut String, base: i64) -> Result<(), AllocError>
         × (string_bytes lines.new ≡ string_bytes lines.old ++ text)) }
 {
     append_seconds(lines, base)?;
-    append_utc(lines, base)?;
+    append_utc(lines, Form::Lines, base)?;
     Ok(())
 }
 
@@ -35,15 +36,24 @@ fn append_seconds(lines: &mut String, base: i64) -> Result<(), AllocError>
     Ok(())
 }
 
-// Adds an instant as a date and a time.
-fn append_utc(lines: &mut String, instant: i64) -> Result<(), AllocError>
-    ensures { OnOk result ((line : List ℕ) × IsUtcLine instant line
-        × (string_bytes lines.new ≡ string_bytes lines.old ++ line)) }
+/// Adds an instant as a date and a time of UTC, or that there is none.
+pub fn append_utc(lines: &mut String, form: Form, instant: i64) -> Result<(), AllocError>
+    ensures { OnOk result ((text : List ℕ) × IsUtc form instant text
+        × (string_bytes lines.new ≡ string_bytes lines.old ++ text)) }
 {
     let second = second_of(instant);
     match Date::from_unix_epoch_day(day_of(instant)) {
-        Ok(date) => append_moment(lines, date, second),
-        Err(_range) => put_text(lines, "utc none\n"),
+        Ok(date) => append_date_and_time(lines, form, date, second),
+        Err(_range) => append_no_utc(lines, form),
+    }
+}
+
+fn append_no_utc(lines: &mut String, form: Form) -> Result<(), AllocError>
+    ensures { OnOk result (string_bytes lines.new ≡ string_bytes lines.old ++ no_utc_text form) }
+{
+    match form {
+        Form::Lines => put_text(lines, "utc none\n"),
+        Form::Json => put_text(lines, ",\"utc\":null"),
     }
 }
 
@@ -61,15 +71,37 @@ fn second_of(instant: i64) -> u32
     instant.rem_euclid(DAY) as u32
 }
 
-// Adds the line of a date and a time.
-fn append_moment(lines: &mut String, date: Date, second: u32) -> Result<(), AllocError>
-    ensures { OnOk result (string_bytes lines.new ≡ string_bytes lines.old ++ utc_line date second) }
+// Adds a date and a time.
+fn append_date_and_time(
+    lines: &mut String,
+    form: Form,
+    date: Date,
+    second: u32,
+) -> Result<(), AllocError>
+    ensures { OnOk result (string_bytes lines.new ≡ string_bytes lines.old ++ utc_text form date second) }
 {
-    put_text(lines, "utc ")?;
+    match form {
+        Form::Lines => append_moment(lines, "utc ", date, second, "Z\n"),
+        Form::Json => append_moment(lines, ",\"utc\":\"", date, second, "Z\""),
+    }
+}
+
+// Adds a date and a time between two texts.
+fn append_moment(
+    lines: &mut String,
+    before: &str,
+    date: Date,
+    second: u32,
+    after: &str,
+) -> Result<(), AllocError>
+    ensures { OnOk result (string_bytes lines.new
+        ≡ string_bytes lines.old ++ moment_text before.now date second after.now) }
+{
+    put_text(lines, before)?;
     append_date(lines, date)?;
     put_text(lines, "T")?;
     append_clock(lines, second)?;
-    put_text(lines, "Z\n")?;
+    put_text(lines, after)?;
     Ok(())
 }
 

@@ -1,13 +1,14 @@
 //! What an image has.
 
-ghost use Rattle.std.specs.Prelude.{◌≡◌, ◌++◌, ◌*◌, IfOk, OnOk, length, string_bytes};
+ghost use Rattle.std.specs.Prelude.{◌≡◌, ◌++◌, IfOk, OnOk, length, string_bytes};
 ghost use Rattle.std.specs.List.Sorted.{IsNonDecreasing, IsPermutation};
-ghost use Rattle.image_layout.specs.Spelling.{image_in, text};
+ghost use Rattle.image_layout.specs.Spelling.{text};
 ghost use Rattle.image_facts.specs.Days.{trip_days};
-ghost use Rattle.image_facts.specs.Facts.{AreFacts, counts_text, file_text};
+ghost use Rattle.image_facts.specs.Facts.{AreFacts, counts_text, file_bytes, file_text};
 
 use crate::base::append_base;
 use crate::days::append_days;
+use crate::form::Form;
 use crate::putting::put_line;
 use image_layout::Header;
 use image_verifier::Verified;
@@ -24,7 +25,7 @@ pub fn facts_of(alloc: Global, image: &Verified) -> Result<String, AllocError>
     append_base(&mut lines, image.base())?;
     append_counts(&mut lines, image)?;
     let days = days_of(alloc, image)?;
-    append_days(&mut lines, &days)?;
+    append_days(&mut lines, Form::Lines, &days)?;
     Ok(lines)
 }
 
@@ -49,23 +50,23 @@ fn append_counts(lines: &mut String, image: &Verified) -> Result<(), AllocError>
     Ok(())
 }
 
-// The header, which has the layout and the bytes of all names.
-fn header_of(image: &Verified) -> Header
+/// The header, which has the layout and the bytes of all names.
+pub fn header_of(image: &Verified) -> Header
     ensures layout { result.layout ≡ image.now.layout }
     ensures names { result.name_bytes ≡ length (text image.now.names) }
 {
     Header::of(image.words())
 }
 
-// The size of the image's file in bytes.
-fn byte_count(image: &Verified) -> u64
-    ensures { result ≡ 4 * length (image_in image.now.layout image.now.timetable image.now.names) }
+/// The size of the image's file in bytes.
+pub fn byte_count(image: &Verified) -> u64
+    ensures { result ≡ file_bytes image.now }
 {
     4 * image.words().len() as u64
 }
 
-// The service day of each trip, the earliest first.
-fn days_of(alloc: Global, image: &Verified) -> Result<Vec<u32>, AllocError>
+/// The service day of each trip, the earliest first.
+pub fn days_of(alloc: Global, image: &Verified) -> Result<Vec<u32>, AllocError>
     ensures same { IfOk result (λ days. IsPermutation (trip_days image.now.names) days.items) }
     ensures rising { IfOk result (λ days. IsNonDecreasing days.items) }
 {

@@ -1,10 +1,14 @@
-//! The words of an image, from a file or a reader.
+//! The files of images: their words, from a file or a reader, and how they are written.
 #![tactic(auto)]
 
 mod disk;
 mod fault;
+mod out;
 mod reading;
+mod writing;
 
 pub use disk::ImageDisk;
 pub use fault::ImageFileFault;
-pub use reading::{PIECE_WORDS, image_words};
+pub use out::OutDisk;
+pub use reading::image_words;
+pub use writing::{NewFile, new_file, put_image, put_text_into, settle};

@@ -13,7 +13,7 @@ use std::io;
 use std::io::Read;
 
 /// How many words are read or written at once. So memory holds an image once, and not also as bytes.
-pub const PIECE_WORDS: usize = 16_384;
+pub(crate) const PIECE_WORDS: usize = 16_384;
 
 /// Reads all words of the file at the path, or of the input if the path is `-`.
 pub fn image_words<H: ImageDisk + AllocGlobal, I: Read>(

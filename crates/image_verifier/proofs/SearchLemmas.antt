@@ -20,15 +20,6 @@ pub record IsHalving (number low high : ℕ) (before now : List ℕ) : Type 0 wh
   pub has_high : high < number → Contains read high
   pub has_low : 0 < low → Contains read (low - 1)
 
-pub halving_starts : (number : ℕ) (before : List ℕ) → IsHalving number 0 number before before
-halving_starts number before = record {
-  read = [];
-  noted = sym (append-nil before);
-  spare = λ digits has. (digits, omega (arith, has), omega arith);
-  has_high = λ lt. absurd (omega (arith, lt));
-  has_low = λ lt. absurd (omega (arith, lt));
-}
-
 -- what is left has a digit more than its half
 half_of : (left next rest : ℕ) → 0 < left → next ≤ left / 2 → HasDigits left rest → (fewer : ℕ) × HasDigits next fewer × (fewer + 1 ≤ rest)
 half_of left next zero some half has = absurd (omega (arith, some, has))
@@ -70,17 +61,6 @@ goes_on_below number low high position before now h some half = record {
   spare = spare_less number low high low position position before now h some half;
   has_high = λ lt. Contains-push h.read position;
   has_low = λ lt. Contains-append_left h.read (position ∷ []) (low - 1) (h.has_low lt);
-}
-
--- where nothing is left, the search is over
-pub found_by_few : (t : TimetableValue) (first high : ℕ) (before now : List ℕ)
-    → IsHalving (length t.connections) first high before now → first ≡ high → FindsByFew t first before now
-found_by_few t first high before now h over = record {
-  read = h.read;
-  noted = h.noted;
-  few = λ digits has. let s = h.spare digits has in omega (arith, s.2);
-  has_first = λ lt. subst (λ (x : ℕ). Contains h.read x) (sym over) (h.has_high (omega (arith, over, lt)));
-  has_last_before = h.has_low;
 }
 
 -- what stands before a connection departs no later, what stands behind it no earlier

@@ -146,42 +146,8 @@ abbrev pub put_before : List RideValue → Option (List RideValue) → Option (L
 put_before rides None = None
 put_before rides (Some more) = Some (rides ++ more)
 
-pub nothing_before : (o : Option (List RideValue)) → o ≡ put_before [] o
-nothing_before None = refl
-nothing_before (Some more) = refl
-
-put_both : (a b : List RideValue) (o : Option (List RideValue)) → put_before a (put_before b o) ≡ put_before (a ++ b) o
-put_both a b None = refl
-put_both a b (Some more) = ap Some (sym (append_assoc a b more))
-
 abbrev pub ride_of : ℕ → ℕ → List Footpath → RideValue
 ride_of first last walk = record { leg = record { first = first; last = last }; walk = walk }
-
-change_rides : (first last board : ℕ) (walk : Footpath) (o : Option Aboard)
-    → rides_on first (changed_at last (boarded_after walk board o)) ≡ put_before (ride_of first last (walk ∷ []) ∷ []) (rides_on board o)
-change_rides first last board walk None = refl
-change_rides first last board walk (Some x) = refl
-
--- one ride more, to change
-pub ride_more : (whole : Option (List RideValue)) (rides : List RideValue) (first last board : ℕ) (walk : Footpath) (here next : Option Aboard)
-    → whole ≡ put_before rides (rides_on first here) → here ≡ changed_at last (boarded_after walk board next)
-    → whole ≡ put_before (rides ++ ride_of first last (walk ∷ []) ∷ []) (rides_on board next)
-ride_more whole rides first last board walk here next before is =
-    before
-    ∙ ap (λ (o : Option Aboard). put_before rides (rides_on first o)) is
-    ∙ ap (put_before rides) (change_rides first last board walk next)
-    ∙ put_both rides (ride_of first last (walk ∷ []) ∷ []) (rides_on board next)
-
--- the last ride
-pub ride_last : (whole : Option (List RideValue)) (rides : List RideValue) (first last : ℕ) (walk : List Footpath) (here : Option Aboard)
-    → whole ≡ put_before rides (rides_on first here) → here ≡ Some (record { last = last; walk = walk; rides = [] })
-    → whole ≡ Some (rides ++ ride_of first last walk ∷ [])
-ride_last whole rides first last walk here before is = before ∙ ap (λ (o : Option Aboard). put_before rides (rides_on first o)) is
-
--- no ride follows
-pub ride_none : (whole : Option (List RideValue)) (rides : List RideValue) (first : ℕ) (here : Option Aboard) → whole ≡ put_before rides (rides_on first here)
-    → here ≡ None → whole ≡ None
-ride_none whole rides first here before is = before ∙ ap (λ (o : Option Aboard). put_before rides (rides_on first o)) is
 
 -- a start before rides
 start_rides : (start : Option Footpath) (first : ℕ) (o : Option Aboard) (rides : List RideValue) → rides_on first o ≡ Some rides
@@ -312,29 +278,3 @@ one_less last first walk (Some z) y e = (
   ap (λ (x : Aboard). length x.rides)
       (sym (same_Some (let x : Aboard = record { last = last; walk = walk ∷ []; rides = boarded first z } in x) y e)),
 )
-
-pub one_between : (nodes : List Node) (from number rides last first next : ℕ) (walk : Footpath) → next < number
-    → (spelled nodes number).aboard ≡ changed_at last (boarded_after walk first (spelled nodes next).aboard) → AreBetween nodes from number rides
-    → AreBetween nodes from next (rides + 1)
-one_between nodes from number rides last first next walk lt is between = record {
-  room = let room = between.room in omega arith;
-  same = λ x e.
-      let y = between.same x e in
-      let z = one_less last first walk (spelled nodes next).aboard y.0 (sym is ∙ y.1) in
-      (z.0, z.1, omega (arith, y.2, z.2));
-}
-
-pub last_between : (nodes : List Node) (from number rides : ℕ) (y x : Aboard) → y.rides ≡ [] → (spelled nodes number).aboard ≡ Some y
-    → AreBetween nodes from number rides → (spelled nodes from).aboard ≡ Some x → rides ≡ length x.rides
-last_between nodes from number rides y x none is between e =
-    let z = between.same x e in
-    let same : z.0 ≡ y = same_Some z.0 y (sym z.1 ∙ is) in
-    let empty : length z.0.rides ≡ 0 = ap (λ (a : Aboard). length a.rides) same ∙ ap (λ (rs : List RideValue). length rs) none in
-    omega (arith, z.2, empty)
-
-pub nothing_between : (nodes : List Node) (from number rides : ℕ) (x : Aboard) → (spelled nodes number).aboard ≡ None → AreBetween nodes from number rides
-    → (spelled nodes from).aboard ≡ Some x → ⊥
-nothing_between nodes from number rides x none between e =
-    let z = between.same x e in
-    let some = z.1 in
-    cc

@@ -302,10 +302,3 @@ all_within names listed sets zipped set h stop within =
     let line = zipped_right (λ l s. AllZip (IsNamed names) (ids_in l) s.items) listed sets zipped set h in
     let name = zipped_right (IsNamed names) (ids_in line.0) set.items line.1 stop within in
     slice_get_within names.stops stop name.0 name.1.0
-
-pub fault_of_names : (names : NamesValue) (listed : List (List ℕ)) (fault : ListFault) → IsUnnamed names listed fault → IsListFault names listed fault
-fault_of_names names listed (UnknownStop number) is = is
-fault_of_names names listed (StopTwice number) is = absurd is
-fault_of_names names listed (LineTwice first second) is = absurd is
-fault_of_names names listed Empty is = absurd is
-fault_of_names names listed OutOfMemory is = is

@@ -111,11 +111,6 @@ module _ {V : Type 0} (rules : Rules V) (laws : Laws rules) where
   not_both_before p q a b (inr (e, less)) (inl gt) = omega arith
   not_both_before p q a b (inr (e, less)) (inr (f, more)) = let turned = laws.order_turns p.value q.value a b in cc
 
-  -- a point like another is before the same ones
-  before_like : (p like q : Point V) → like.departure ≡ p.departure → like.value ≡ p.value → Before rules like q → Before rules p q
-  before_like p like q departs worth (inl lt) = inl (omega arith)
-  before_like p like q departs worth (inr (e, less)) = inr (sym departs ∙ e, ap (λ (v : V). rules.list_order v q.value) (sym worth) ∙ less)
-
   like_before : (q p like : Point V) → like.departure ≡ p.departure → like.value ≡ p.value → Before rules q like → Before rules q p
   like_before q p like departs worth (inl lt) = inl (omega arith)
   like_before q p like departs worth (inr (e, less)) = inr (e ∙ departs, ap (λ (v : V). rules.list_order q.value v) (sym worth) ∙ less)

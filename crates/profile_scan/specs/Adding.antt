@@ -57,8 +57,8 @@ pub record IsRelabelled {V : Type 0} (rules : Rules V) (trip : ℕ) (old new : L
   pub long : trips_of new ≡ trips_of old
   pub same : (k : ℕ) → (k ≡ trip → ⊥) → labels_at new k ≡ labels_at old k
 
--- a list takes an offer in while records grow from `was` to `now`: `tags.earlier` is spelled by any `before` that `was` continues, `tags.later` by any `all`
--- that continues `now`
+-- a list takes an offer in while records grow from `was` to `now`, for every story `before` that grew into `was` and every story `all` that `now` grows
+-- into: `tags.earlier` are read in `before`, `tags.later` in `all`
 abbrev pub Takes : {A V : Type 0} → Rules V → List Footpath → Story → Story → (Spellings → Offer A V) → List (Point V)
     → List (Point V) → Type 0
 Takes rules walks was now offer old new =
@@ -68,10 +68,6 @@ Takes rules walks was now offer old new =
 -- the element is among the first n
 abbrev pub StandsBefore : {X : Type 0} → List X → ℕ → X → Type 0
 StandsBefore points n x = (k : ℕ) × (k < n) × (slice_get points k ≡ Some x)
-
--- the element is at one of these indices
-abbrev pub StandsAtOne : {X : Type 0} → List X → List ℕ → X → Type 0
-StandsAtOne points places x = (k : ℕ) × Contains places k × (slice_get points k ≡ Some x)
 
 -- offered to the points of a stop: for each label of a trip, boarding connection i with it after a footpath
 abbrev pub boardings_after : {V : Type 0} → Rules V → Spellings → ℕ → ℕ → Footpath → List (Point V) → Offer (Point V) V

@@ -1,4 +1,4 @@
--- The fact that an answer keeps, stated about its parts, since a struct can't name itself.
+-- What the ghost field `answered` of an answer says. It is stated about the other fields, since a struct can't name itself.
 use Rattle.std.specs.Prelude.{ℕ, List, Option, Contains}
 use Rattle.criteria.specs.Laws.{Rules}
 use Rattle.bags.specs.declared.point.Point.{Point}

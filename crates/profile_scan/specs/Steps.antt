@@ -112,7 +112,7 @@ pub record SettingOut (V : Type 0) : Type 0 where
   pub start : Option Footpath
   pub label : Point V
 
--- one may set out from a source by a start of some kind; of a step, only this needs `from` and `until`
+-- one may set out from a source by a start of some kind; this is the only part of a step that reads the query's `from` and `until`
 pub record MaySetOutBy {V : Type 0} (IsOfKind : ℕ → Option Footpath → Type 0) (t : TimetableValue) (q : BetweenValue) (i : ℕ)
     (labels : List (Point V))
     (way : SettingOut V) : Type 0 where

@@ -63,9 +63,9 @@ impl<C: Criterion> Bound<C> {
     }
 
     /// Adds the values of points found that depart at `time` or later and weren't read yet. `count` is how many points
-    /// were ever found: if it hasn't changed since the last call, there are no new ones. Points that depart exactly at
-    /// `time` are read again at the next reading, since more of them may be found. What the bound excluded stays
-    /// excluded. Nothing is added unless the criterion says `riding_worsens`.
+    /// were ever found: if it hasn't changed since the last call, there are no new ones. The next reading begins at the
+    /// first point that departs at `time` or earlier, since one found later may be put among those that depart at
+    /// `time`. What the bound excluded stays excluded. Nothing is added unless the criterion says `riding_worsens`.
     pub fn renew(
         &mut self,
         criterion: &C,
@@ -102,7 +102,26 @@ pub fn is_bettered<C: Criterion>(criterion: &C, values: &[C::V], value: &C::V) -
     requires value { Admits (C.rules criterion.now) value.now }
     ensures { result ≡ is_bettered (C.rules criterion.now) values.now value.now }
 {
+    if criterion.is_total() {
+        return first_betters(criterion, values, value);
+    }
     some_no_worse(criterion, values, value)
+}
+
+// The same, but the first value is asked before the others. Under a total criterion there are hardly ever others.
+#[inline(always)]
+fn first_betters<C: Criterion>(criterion: &C, values: &[C::V], value: &C::V) -> bool
+    requires values { (b : _) → Contains values.now b → Admits (C.rules criterion.now) b }
+    requires value { Admits (C.rules criterion.now) value.now }
+    ensures { result ≡ is_bettered (C.rules criterion.now) values.now value.now }
+{
+    let Some((first, others)) = values.split_first() else {
+        return false;
+    };
+    if criterion.no_worse(first, value) {
+        return true;
+    }
+    some_no_worse(criterion, others, value)
 }
 
 // Whether `other` stays when `value` is added.

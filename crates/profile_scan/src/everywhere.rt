@@ -168,9 +168,9 @@ pub fn scan_for_all<S: ConnSource, C: Criterion>(
     let mut state = StateOfAll::new(alloc, &asked.criterion, source.stops(), source.trips())?;
     let none = Vec::new(alloc);
     let mut place = window.end;
-    // Invariant: for every stop as the source, what is kept matches every way to go on over the connections from index
-    // `place` on, but for what the points found from there outdo at stops and in trips (`MatchesFrom`, `matched` in
-    // proofs/everywhere/scan_for_all/Invariants.antt).
+    // Invariant: `MatchesFrom` holds for every stop as the source, at index `place` (`matched` in
+    // proofs/everywhere/scan_for_all/Invariants.antt). It allows gaps where a point found outdoes a value; without a
+    // bound, the steps of this scan make none.
     while window.start < place {
         place -= 1;
         let connection = source.connection(place);

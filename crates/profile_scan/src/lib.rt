@@ -6,24 +6,25 @@
 //! Wagner, ACM Journal of Experimental Algorithmics, 2018). `profile` is that scan, reading from any `ConnSource`,
 //! under any criterion. The window is the connections that depart at `from` or later and before `by`, since a later leg
 //! may depart after `until`. The loop is `scan::scan_window`, which calls `Scan::step` for each index from the window's
-//! end down; by `log`, no step reads another connection. A step returns at once if the connection can add nothing; else
-//! it renews the bound for the connection's departure, makes a `Hop` and calls `State::take`:
+//! end down; by `log`, no step reads another connection. A step returns at once if it sees that the connection can add
+//! nothing; else it renews the bound for the connection's departure, makes a `Hop` and calls `State::take`:
 //!
 //! 1. Leave the trip: `Trips::alight` changes only the labels of the connection's trip, by `fronts::offer_label`, and
 //!    appends to `exits`; it reads the stops as they were before this connection, and `hop.bound`. The journey may end
 //!    there, or one footpath on (`hop.way`): `Trips::end` offers the value that `value_at_end` makes. Or the passenger
-//!    may change: `Trips::change` offers the stop's points that depart at the arrival or later. Such a point departs
-//!    when the walk to the next connection begins. That walk is one footpath, within the stop its loop, whose seconds
-//!    are the change time: so change times count in 3. `Leads` (timetable's specs/Journeys.antt) defines when one may
-//!    change, and `journeys::check` tests it of one journey.
+//!    may change: `Trips::change` offers the stop's points that depart at the arrival or later. Staying on needs no
+//!    code: the labels that the trip has remain. A stop's point departs when the walk to the next connection begins.
+//!    That walk is one footpath; to board at the same stop it is the stop's loop, whose seconds are the change time. So
+//!    1 adds no change time: 3 subtracts it from the departure. `Leads` (timetable's specs/Journeys.antt) defines when
+//!    one may change, and `journeys::check` tests it of one journey.
 //! 2. Set out: `Origin::set_out` changes only the points found and appends to `set_outs`; it reads the labels that
 //!    `alight` left, and not the bound. It sets out without a footpath if the connection begins at a source, and after
 //!    each footpath, loops excepted, from a source to there; `Starts` only marks the sources and the stops that such
 //!    footpaths lead to.
 //! 3. Board: for each footpath into the stop where the connection begins, its loop included, `Stops::board` offers, to
-//!    the stop where that footpath begins, points that depart its seconds earlier (`board_walk`, and `board_walk_one`
-//!    for a single value). It appends to the lists and changes `heads`, `offers` and the scratch vector `ridden`; it
-//!    reads the same labels and `hop.bound`, and never the points found.
+//!    the stop where that footpath begins, points whose departure is the connection's less the footpath's seconds
+//!    (`board_walk`, and `board_walk_one` for a single value). It appends to the lists and changes `heads`, `offers`
+//!    and the scratch vector `ridden`; it reads the same labels and `hop.bound`, and never the points found.
 //!
 //! A ride is counted where the trip is boarded, in 2 and 3: a label's value doesn't include it.
 //!
@@ -37,12 +38,12 @@
 //! in every trip and at the source, each point is attained by what its tag spells, and each way to go on over the
 //! connections from i on is covered: some point departs no earlier and is no worse. At stops and in trips a way may be
 //! left uncovered if its value (in a trip, with the ride in it) is outdone (`IsOutdone`): riding never improves a
-//! value, and some point found is no worse and departs no earlier than every connection before i. The loop of
-//! `scan_window` carries the invariant (`matched` in proofs/scan/scan_window/Invariants.antt): the law
-//! `nothing_follows` begins it, `one_index_down` keeps it at each step, and `match_is_the_answer` ends it. `specs/`
-//! (Points, Continuations, Matching, Steps, then Parts) says what a step is; the functions of `laws` prove that it
-//! suffices. The invariant holds at each index, so the points found at any of them match the journeys that board there
-//! or later; only `match_is_the_answer` needs the window's start.
+//! value, and some point found is no worse than it and departs no earlier than any connection still to be read (of an
+//! index below i). The loop of `scan_window` carries the invariant (`matched` in
+//! proofs/scan/scan_window/Invariants.antt): the law `nothing_follows` begins it, `one_index_down` keeps it at each
+//! step, and `match_is_the_answer` ends it. `specs/` (Points, Continuations, Matching, Steps, then Parts) says what a
+//! step is; the functions of `laws` prove that it suffices. The invariant holds at each index, so the points found at
+//! any of them match the journeys that board there or later; only `match_is_the_answer` needs the window's start.
 //!
 //! A tag is an index: of a label, into `Trips::exits`; of a stop's point, into the steps of `Stops::lists`; of a point
 //! found, into `Origin::set_outs`, and once it is in `Found`, into its nodes. An offer's tag is the vector's length

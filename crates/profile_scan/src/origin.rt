@@ -80,7 +80,7 @@ impl<C: Criterion> Origin<C> {
     pub fn set_out_after(
         &mut self,
         asked: &ScanQuery<C>,
-        hop: &Hop<C::V>,
+        place: u32,
         departure: SourceDeparture,
         labels: &[Label<C::V>],
     ) -> Result<(), AllocError>
@@ -89,7 +89,7 @@ impl<C: Criterion> Origin<C> {
         requires labels { AdmitsLabels (C.rules asked.now.criterion) labels.now }
         ensures origin { OnOk result (ChangesOrigin asked.now.criterion self.old self.new) }
         ensures takes { OnOk result ((walks : List Footpath) → OriginTakes (C.rules asked.now.criterion) walks
-            (λ tags. settings_out_after (C.rules asked.now.criterion) tags hop.now.place
+            (λ tags. settings_out_after (C.rules asked.now.criterion) tags place
             departure.time departure.start (label_points labels.now))
             self.old self.new) }
     {
@@ -98,7 +98,7 @@ impl<C: Criterion> Origin<C> {
             let value = value_with_start(&asked.criterion, departure.start, &label.value);
             let set_out = SetOut {
                 start: departure.start,
-                first: hop.place,
+                first: place,
                 label: label.tag,
             };
             self.offer(&asked.criterion, departure.time, value, set_out)?;
@@ -132,7 +132,7 @@ impl<C: Criterion> Origin<C> {
         }
         match departure_with(&asked.query, &hop.connection, start) {
             None => Ok(()),
-            Some(departure) => self.set_out_after(asked, hop, departure, labels),
+            Some(departure) => self.set_out_after(asked, hop.place, departure, labels),
         }
     }
 

@@ -64,7 +64,7 @@ impl<C: Criterion> Origins<C> {
         ensures others { OnOk result ((other : ℕ) → other ≢ stop
             → slice_get self.new.each.items other ≡ slice_get self.old.each.items other) }
     {
-        self.each[stop as usize].set_out_after(asked, hop, departure, labels)
+        self.each[stop as usize].set_out_after(asked, hop.place, departure, labels)
     }
 
     // Offers to the points found from the stop where a start begins, for each label of the connection's trip, the point

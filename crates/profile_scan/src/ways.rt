@@ -53,7 +53,8 @@ impl Ways {
         })
     }
 
-    /// The shortest of the ways from these stops, none of which is a target, if there is any; of equal ones the first.
+    /// Of the ways from these stops the shortest, and of equally short ones that of the first stop; `None` if no stop
+    /// has one. It is called for sources, none of which is a target.
     pub fn direct_walk(&self, sources: &[u32]) -> Option<Footpath>
         requires { (stop : ℕ) → Contains sources.now stop → stop < length (ways_of self.now) }
         ensures { IsShortestWay (ways_of self.now) sources.now (length sources.now) result }

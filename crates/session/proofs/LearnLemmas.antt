@@ -15,7 +15,7 @@ use Rattle.session.specs.declared.reply_form.ReplyForm.{ReplyForm}
 use Rattle.session.specs.Lines.{Asked, too_long, no_json, no_request, asks, IsAsked, memory_line}
 use Rattle.session.specs.SeatSteps.{Follows, SeatMove, answered, joined, answers_in}
 use Rattle.session.specs.Sessions.{AreTurns, LastRelease, moves_of}
-use Rattle.session.specs.Turns.{Meets, ProfileIsMet, Turn, WantsMemory}
+use Rattle.session.specs.Turns.{DeskState, Meets, ProfileIsMet, Turn, WantsMemory, desk_state}
 use Rattle.session.specs.Learning.{AreFromPublished, ArePublished, IsFromPublished, IsPublishedIfHeld, Learns, LearningTells}
 use Rattle.session.proofs.SeatLemmas.{answers_grow, step_grows}
 use Rattle.session.proofs.TurnLemmas.{moves_follow}
@@ -175,19 +175,19 @@ asked_from k form held asked t is (inl memory) published are = inl memory.0
 asked_from k form held asked t is (inr met) published are =
     inr (asked, is, request_from k form held asked t.moves t.orders t.reply met published are)
 
-turns_from : (k : KnownHistory) (form : ReplyForm) (number : ℕ) (a b : SeatValue) (asked asked_then : List OrderValue) (turns : List Turn)
-    → AreTurns form number a asked turns b asked_then → IsPublishedIfHeld k a.held → ArePublished k (answers_in (moves_of turns))
+turns_from : (k : KnownHistory) (form : ReplyForm) (number : ℕ) (a b : DeskState) (turns : List Turn)
+    → AreTurns form number a turns b → IsPublishedIfHeld k a.seat.held → ArePublished k (answers_in (moves_of turns))
     → AreFromPublished k form turns
-turns_from k form number a b asked asked_then [] same held are = tt
-turns_from k form number a b asked asked_then (t ∷ turns) (m, between, turn, rest) held are =
+turns_from k form number a b [] same held are = tt
+turns_from k form number a b (t ∷ turns) (m, turn, rest) held are =
     let parts = published_parts k (answers_in t.moves) (answers_in (moves_of turns))
     (subst (λ (xs : List SeatAnswer). ArePublished k xs) (answers_in-append t.moves (moves_of turns)) are) in
     let first : (t.reply ≡ memory_line) ⊎ ((asked : Asked) × IsAsked form.sets t.line asked × IsFromPublished k form asked t.reply) =
     elim turn.is [
       | inl memory ↦ inl memory.0
-      | inr met ↦ asked_from k form a.held met.0 t met.1 met.2 held parts.0
+      | inr met ↦ asked_from k form a.seat.held met.0 t met.1 met.2 held parts.0
     ] in
-    (first, turns_from k form number m b between asked_then turns rest (held_published number k a m t.moves turn.seat held parts.0) parts.1)
+    (first, turns_from k form number m b turns rest (held_published number k a.seat m.seat t.moves turn.seat held parts.0) parts.1)
 
 -- what was answered in the turns, and by the release behind them
 released_too : (number : ℕ) (last b : SeatValue) → LastRelease number last b → (rest : List SeatAnswer) × (b.answers ≡ last.answers ++ rest)
@@ -196,13 +196,13 @@ released_too number last b (inr gave) = (gave.1.0 ∷ [], step_grows number last
 
 -- what turns tell, by what the seat learned in them
 pub learning_tells : LearningTells
-learning_tells k l a b learns = λ form number asked asked_then turns last does released held.
+learning_tells k l a b learns = λ form number asked turns last does released held.
     let moves = answers_in (moves_of turns) in
-    let grown = answers_grow number a last (moves_of turns) (moves_follow form number a last asked asked_then turns does) in
-    let rest = released_too number last b released in
+    let grown = answers_grow number a last.seat (moves_of turns) (moves_follow form number (desk_state a asked) last turns does) in
+    let rest = released_too number last.seat b released in
     let all : b.answers ≡ a.answers ++ (moves ++ rest.0) =
     rest.1 ∙ ap (λ (xs : List SeatAnswer). xs ++ rest.0) grown ∙ append_assoc a.answers moves rest.0 in
     let same : learns.answers ≡ moves ++ rest.0 =
     append_cancel_left a.answers learns.answers (moves ++ rest.0) (sym learns.answers_are ∙ all) in
     let parts = published_parts l moves rest.0 (subst (λ (xs : List SeatAnswer). ArePublished l xs) same learns.published) in
-    turns_from l form number a last asked asked_then turns does held parts.0
+    turns_from l form number (desk_state a asked) last turns does held parts.0

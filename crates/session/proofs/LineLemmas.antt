@@ -4,43 +4,38 @@ use Rattle.std.proofs.Common.{length, take, Option, Result, Ok, Err, refl, sym, 
 use Rattle.std.proofs.lemmas.List.{take-append-le, take_all, length_push}
 use Rattle.std.specs.Io.KnownBytes.{Appends, Consumes, IsAtEnd}
 use Rattle.std.proofs.KnownBytes.{Appends-nil, Appends-trans}
-use Rattle.epochs.specs.Seats.{SeatValue}
 use Rattle.lines.specs.Counting.{one_more}
 use Rattle.lines.specs.Cutting.{IsCut, IsOneLine, lines_of, rest_of, whole_lines}
 use Rattle.lines.specs.Reading.{GivesEnded, GivesRest, HasGiven, unread_of}
 use Rattle.lines.specs.declared.reader.LineReader.{LineReader}
 use Rattle.lines.proofs.CutLemmas.{IsCut-lines, IsCut-rest, IsCut-whole, lines_of-some}
 use Rattle.lines.proofs.GivenLemmas.{HasGiven-start, HasGiven-read, HasGiven-ended, HasGiven-rest, HasGiven-nothing}
-use Rattle.orders.specs.Ordering.{OrderValue}
 use Rattle.session.specs.declared.reply_form.ReplyForm.{ReplyForm}
 use Rattle.session.specs.declared.fault.Ended.{Ended}
 use Rattle.session.specs.declared.fault.SessionFault.{SessionFault}
-use Rattle.session.specs.Sessions.{AnswerLines, AreShort, AreTurns, EndsSo, IsCutShort, Serves, lines_in, text_of}
-use Rattle.session.specs.Turns.{Turn, TurnsTo}
+use Rattle.session.specs.Sessions.{AnswerLines, AreShort, AreTurns, EndsSo, IsCutShort, Serves, SessionState, exchange_of, lines_in, text_of}
+use Rattle.session.specs.Turns.{DeskState, Turn, TurnsTo}
 use Rattle.session.proofs.TurnLemmas.{AreTurns-more, lines_in-more, text_of-more}
+
+-- what is to be read and what was written, how many reads and writes failed, and the desk
+abbrev pub session_state : Option (List ℕ) → Option (List ℕ) → ℕ → ℕ → DeskState → SessionState
+session_state unread written failed_reads failed_writes desk =
+    record { unread = unread; written = written; failed_reads = failed_reads; failed_writes = failed_writes; desk = desk }
 
 -- the lines that were given are answered, and the replies written
 pub record SoFar (form : ReplyForm) (number : ℕ) (to_read read_then : Option (List ℕ)) (unread : List ℕ) (contents contents_then : Option (List ℕ))
-    (a : SeatValue) (asked : List OrderValue) (b : SeatValue) (asked_then : List OrderValue) (count : ℕ) : Type 0 where
+    (a b : DeskState) (count : ℕ) : Type 0 where
   pub turns : List Turn
   pub given : HasGiven to_read read_then unread (lines_in turns)
   pub writes : Appends contents contents_then (text_of turns)
-  pub does : AreTurns form number a asked turns b asked_then
+  pub does : AreTurns form number a turns b
   pub many : length turns ≡ count
   pub short : AreShort turns
 
-pub SoFar-start : {form : ReplyForm} (number : ℕ) (known : Option (List ℕ)) (unread : List ℕ) (contents : Option (List ℕ)) (a : SeatValue)
-    (asked : List OrderValue) → unread ≡ [] → SoFar form number known known unread contents contents a asked a asked 0
-SoFar-start {form} number known unread contents a asked none =
-    record { turns = []; given = HasGiven-start known unread none; writes = Appends-nil contents; does = (refl, refl); many = refl; short = tt }
-
--- a turn for a line: what it does, and how much of its reply is written
-pub record TurnOf (form : ReplyForm) (number : ℕ) (line : List ℕ) (b : SeatValue) (between : List OrderValue) (after : SeatValue)
-    (asked_then : List OrderValue) (contents contents_then : Option (List ℕ)) (written : ℕ) : Type 0 where
-  pub turn : Turn
-  pub line_is : turn.line ≡ line
-  pub does : TurnsTo form number b between turn after asked_then
-  pub writes : Appends contents contents_then (take written turn.reply)
+pub SoFar-start : {form : ReplyForm} (number : ℕ) (known : Option (List ℕ)) (unread : List ℕ) (contents : Option (List ℕ)) (a : DeskState)
+    → unread ≡ [] → SoFar form number known known unread contents contents a a 0
+SoFar-start {form} number known unread contents a none =
+    record { turns = []; given = HasGiven-start known unread none; writes = Appends-nil contents; does = refl; many = refl; short = tt }
 
 more_lines : (turns : List Turn) (t : Turn) (line : List ℕ) → t.line ≡ line → lines_in (turns ++ t ∷ []) ≡ lines_in turns ++ line ∷ []
 more_lines turns t line is = lines_in-more turns t ∙ ap (λ (l : List ℕ). lines_in turns ++ l ∷ []) is
@@ -68,11 +63,11 @@ first_of given rest all is = sym (ap (λ (ls : List (List ℕ)). take (length gi
 
 -- a line is answered and its reply is written
 pub SoFar-more : {form : ReplyForm} (number : ℕ) (to_read known later : Option (List ℕ)) (unread bytes : List ℕ) (contents wrote writes : Option (List ℕ))
-    (a b after : SeatValue) (asked between asked_then : List OrderValue) (count : ℕ) (new : LineReader)
-    → SoFar form number to_read known unread contents wrote a asked b between count → Consumes known later bytes → (gives : GivesEnded (unread ++ bytes) new)
-    → (t : Turn) → t.line ≡ gives.line → TurnsTo form number b between t after asked_then → Appends wrote writes t.reply
-    → SoFar form number to_read later (unread_of new) contents writes a asked after asked_then (count + 1)
-SoFar-more {form} number to_read known later unread bytes contents wrote writes a b after asked between asked_then count
+    (a b after : DeskState) (count : ℕ) (new : LineReader)
+    → SoFar form number to_read known unread contents wrote a b count → Consumes known later bytes → (gives : GivesEnded (unread ++ bytes) new)
+    → (t : Turn) → t.line ≡ gives.line → TurnsTo form number b t after → Appends wrote writes t.reply
+    → SoFar form number to_read later (unread_of new) contents writes a after (count + 1)
+SoFar-more {form} number to_read known later unread bytes contents wrote writes a b after count
     new so_far came gives t line_is turn written =
     let given = HasGiven-ended to_read known later unread bytes (lines_in so_far.turns) new so_far.given came gives in
     let lines : lines_in so_far.turns ++ gives.line ∷ [] ≡ lines_in (so_far.turns ++ t ∷ []) = sym (more_lines so_far.turns t gives.line line_is) in
@@ -82,7 +77,7 @@ SoFar-more {form} number to_read known later unread bytes contents wrote writes 
       given = subst (λ (ls : List (List ℕ)). HasGiven to_read later (unread_of new) ls) lines given;
       writes = subst (λ (xs : List ℕ). Appends contents writes xs) text
           (Appends-trans contents wrote writes (text_of so_far.turns) t.reply so_far.writes written);
-      does = AreTurns-more number a b after asked between asked_then so_far.turns t so_far.does turn;
+      does = AreTurns-more number a b after so_far.turns t so_far.does turn;
       many = omega (arith, so_far.many, length-append so_far.turns (t ∷ []));
       short = AreShort-more so_far.turns t so_far.short (short_turn t gives.line line_is gives.short);
     }
@@ -96,12 +91,13 @@ not_rose first now same up = absurd (omega (arith, same, up))
 
 -- a session that ends so behind the lines that are answered
 serves_so_far : {form : ReplyForm} (number : ℕ) (result : Result Ended SessionFault) (to_read known later : Option (List ℕ)) (unread bytes : List ℕ)
-    (contents wrote : Option (List ℕ)) (a b : SeatValue) (asked asked_then : List OrderValue) (count : ℕ) (read_failed write_failed : Type 0)
-    → count ≤ 1_000_000 → (so_far : SoFar form number to_read known unread contents wrote a asked b asked_then count)
+    (contents wrote : Option (List ℕ)) (a b : DeskState) (count : ℕ) (reads reads_then fails fails_then : ℕ)
+    → count ≤ 1_000_000 → (so_far : SoFar form number to_read known unread contents wrote a b count)
     → (more : HasGiven to_read later (unread ++ bytes) (lines_in so_far.turns))
-    → EndsSo result more.read (text_of so_far.turns) so_far.turns (IsAtEnd later) read_failed write_failed
-    → Serves form number result to_read later contents wrote read_failed write_failed a asked b asked_then
-serves_so_far {form} number result to_read known later unread bytes contents wrote a b asked asked_then count read_failed write_failed few so_far more ends =
+    → EndsSo result (exchange_of more.read (text_of so_far.turns) so_far.turns (session_state to_read contents reads fails a)
+    (session_state later wrote reads_then fails_then b))
+    → Serves form number result (session_state to_read contents reads fails a) (session_state later wrote reads_then fails_then b)
+serves_so_far {form} number result to_read known later unread bytes contents wrote a b count reads reads_then fails fails_then few so_far more ends =
     record {
       read = more.read;
       written = text_of so_far.turns;
@@ -116,28 +112,28 @@ serves_so_far {form} number result to_read known later unread bytes contents wro
 
 -- nothing is left
 pub ends_at_end : {form : ReplyForm} (number : ℕ) (to_read known later : Option (List ℕ)) (unread bytes : List ℕ) (contents wrote : Option (List ℕ))
-    (a b : SeatValue) (asked asked_then : List OrderValue) (count : ℕ) (read_failed write_failed : Type 0) (ended : Ended)
-    → count ≤ 1_000_000 → SoFar form number to_read known unread contents wrote a asked b asked_then count → Consumes known later bytes → unread ++ bytes ≡ []
-    → IsAtEnd later → (¬ read_failed) → (¬ write_failed)
-    → Serves form number (Ok ended) to_read later contents wrote read_failed write_failed a asked b asked_then
-ends_at_end {form} number to_read known later unread bytes contents wrote a b asked asked_then count read_failed
-    write_failed ended few so_far came none end no_read no_write =
+    (a b : DeskState) (count : ℕ) (reads reads_then fails fails_then : ℕ) (ended : Ended)
+    → count ≤ 1_000_000 → SoFar form number to_read known unread contents wrote a b count → Consumes known later bytes → unread ++ bytes ≡ []
+    → IsAtEnd later → (¬ (reads < reads_then)) → (¬ (fails < fails_then))
+    → Serves form number (Ok ended) (session_state to_read contents reads fails a) (session_state later wrote reads_then fails_then b)
+ends_at_end {form} number to_read known later unread bytes contents wrote a b count reads reads_then fails fails_then ended few so_far came none end
+    no_read no_write =
     let more = HasGiven-read to_read known later unread bytes (lines_in so_far.turns) so_far.given came in
-    serves_so_far number (Ok ended) to_read known later unread bytes contents wrote a b asked asked_then count
-    read_failed write_failed few so_far more
+    serves_so_far number (Ok ended) to_read known later unread bytes contents wrote a b count
+    reads reads_then fails fails_then few so_far more
     (end, no_read, no_write, sym (HasGiven-nothing to_read later (unread ++ bytes) (lines_in so_far.turns) more none), refl)
 
 -- the rest was the last line
 pub ends_with_rest : {form : ReplyForm} (number : ℕ) (to_read known later : Option (List ℕ)) (unread bytes : List ℕ)
-    (contents wrote writes : Option (List ℕ)) (a b after : SeatValue) (asked between asked_then : List OrderValue)
-    (count : ℕ) (new : LineReader) (read_failed write_failed : Type 0) (ended : Ended)
-    → count < 1_000_000 → SoFar form number to_read known unread contents wrote a asked b between count → Consumes known later bytes
+    (contents wrote writes : Option (List ℕ)) (a b after : DeskState)
+    (count : ℕ) (new : LineReader) (reads reads_then fails fails_then : ℕ) (ended : Ended)
+    → count < 1_000_000 → SoFar form number to_read known unread contents wrote a b count → Consumes known later bytes
     → GivesRest (unread ++ bytes) new (IsAtEnd later)
-    → (t : Turn) → t.line ≡ unread ++ bytes → TurnsTo form number b between t after asked_then → Appends wrote writes t.reply → (¬ read_failed)
-    → (¬ write_failed)
-    → Serves form number (Ok ended) to_read later contents writes read_failed write_failed a asked after asked_then
-ends_with_rest {form} number to_read known later unread bytes contents wrote writes a b after asked between asked_then
-    count new read_failed write_failed ended few so_far came gives t line_is turn written no_read no_write =
+    → (t : Turn) → t.line ≡ unread ++ bytes → TurnsTo form number b t after → Appends wrote writes t.reply → (¬ (reads < reads_then))
+    → (¬ (fails < fails_then))
+    → Serves form number (Ok ended) (session_state to_read contents reads fails a) (session_state later writes reads_then fails_then after)
+ends_with_rest {form} number to_read known later unread bytes contents wrote writes a b after
+    count new reads reads_then fails fails_then ended few so_far came gives t line_is turn written no_read no_write =
     let more = HasGiven-read to_read known later unread bytes (lines_in so_far.turns) so_far.given came in
     let lines : lines_in (so_far.turns ++ t ∷ []) ≡ lines_of more.read =
     more_lines so_far.turns t (unread ++ bytes) line_is
@@ -150,7 +146,7 @@ ends_with_rest {form} number to_read known later unread bytes contents wrote wri
       reads = more.consumed;
       writes = subst (λ (xs : List ℕ). Appends contents writes xs) text
           (Appends-trans contents wrote writes (text_of so_far.turns) t.reply so_far.writes written);
-      does = AreTurns-more number a b after asked between asked_then so_far.turns t so_far.does turn;
+      does = AreTurns-more number a b after so_far.turns t so_far.does turn;
       few = omega (arith, so_far.many, few, length_push so_far.turns t);
       short = AreShort-more so_far.turns t so_far.short (short_turn t (unread ++ bytes) line_is gives.short);
       ends = (gives.end, no_read, no_write, lines, refl);
@@ -168,17 +164,18 @@ AnswerLines-more turns t read line at_end line_is (inr all) = inr (all.0, more_l
 
 -- a reply isn't wholly written: these bytes were read, and of their lines those given are the first
 cut_short : {form : ReplyForm} (number : ℕ) (to_read later : Option (List ℕ)) (read : List ℕ) (line : List ℕ)
-    (contents wrote writes : Option (List ℕ)) (a b after : SeatValue) (asked between asked_then : List OrderValue)
-    (read_failed write_failed : Type 0) (turns : List Turn)
-    → Consumes to_read later read → AreTurns form number a asked turns b between → Appends contents wrote (text_of turns)
+    (contents wrote writes : Option (List ℕ)) (a b after : DeskState)
+    (reads reads_then fails fails_then : ℕ) (turns : List Turn)
+    → Consumes to_read later read → AreTurns form number a turns b → Appends contents wrote (text_of turns)
     → ((rest : List (List ℕ)) × (whole_lines read ≡ (lines_in turns ++ line ∷ []) ++ rest))
     ⊎ (IsAtEnd later × (lines_of read ≡ lines_in turns ++ line ∷ []))
     → length turns < 1_000_000 → AreShort turns → length line ≤ 16_777_216
-    → (t : Turn) → t.line ≡ line → TurnsTo form number b between t after asked_then → (n : ℕ) → Appends wrote writes (take n t.reply) → (¬ read_failed)
-    → write_failed
-    → Serves form number (Err SessionFault.WriteFailed) to_read later contents writes read_failed write_failed a asked after asked_then
-cut_short {form} number to_read later read line contents wrote writes a b after asked between asked_then
-    read_failed write_failed turns consumed does before all few short short_line t line_is turn n written no_read
+    → (t : Turn) → t.line ≡ line → TurnsTo form number b t after → (n : ℕ) → Appends wrote writes (take n t.reply) → (¬ (reads < reads_then))
+    → fails < fails_then
+    → Serves form number (Err SessionFault.WriteFailed) (session_state to_read contents reads fails a)
+    (session_state later writes reads_then fails_then after)
+cut_short {form} number to_read later read line contents wrote writes a b after
+    reads reads_then fails fails_then turns consumed does before all few short short_line t line_is turn n written no_read
     failed =
     let cut : IsCutShort (text_of turns ++ take n t.reply) (turns ++ t ∷ []) =
     record { answered = turns; last = t; count = n; turns_are = refl; written_is = refl } in
@@ -188,69 +185,72 @@ cut_short {form} number to_read later read line contents wrote writes a b after 
       turns = turns ++ t ∷ [];
       reads = consumed;
       writes = Appends-trans contents wrote writes (text_of turns) (take n t.reply) before written;
-      does = AreTurns-more number a b after asked between asked_then turns t does turn;
+      does = AreTurns-more number a b after turns t does turn;
       few = omega (arith, few, length_push turns t);
       short = AreShort-more turns t short (short_turn t line line_is short_line);
       ends = (failed, no_read, AnswerLines-more turns t read line (IsAtEnd later) line_is all, cut);
     }
 
 pub cut_short_at_line : {form : ReplyForm} (number : ℕ) (to_read known later : Option (List ℕ)) (unread bytes : List ℕ)
-    (contents wrote writes : Option (List ℕ)) (a b after : SeatValue) (asked between asked_then : List OrderValue)
-    (count : ℕ) (new : LineReader) (read_failed write_failed : Type 0)
-    → count < 1_000_000 → SoFar form number to_read known unread contents wrote a asked b between count → Consumes known later bytes
+    (contents wrote writes : Option (List ℕ)) (a b after : DeskState)
+    (count : ℕ) (new : LineReader) (reads reads_then fails fails_then : ℕ)
+    → count < 1_000_000 → SoFar form number to_read known unread contents wrote a b count → Consumes known later bytes
     → (gives : GivesEnded (unread ++ bytes) new)
-    → (t : Turn) → t.line ≡ gives.line → TurnsTo form number b between t after asked_then → (n : ℕ) → Appends wrote writes (take n t.reply) → (¬ read_failed)
-    → write_failed
-    → Serves form number (Err SessionFault.WriteFailed) to_read later contents writes read_failed write_failed a asked after asked_then
-cut_short_at_line {form} number to_read known later unread bytes contents wrote writes a b after asked between
-    asked_then count new read_failed write_failed few so_far came gives t line_is turn n written no_read failed =
+    → (t : Turn) → t.line ≡ gives.line → TurnsTo form number b t after → (n : ℕ) → Appends wrote writes (take n t.reply) → (¬ (reads < reads_then))
+    → fails < fails_then
+    → Serves form number (Err SessionFault.WriteFailed) (session_state to_read contents reads fails a)
+    (session_state later writes reads_then fails_then after)
+cut_short_at_line {form} number to_read known later unread bytes contents wrote writes a b after count new reads reads_then fails fails_then few
+    so_far came gives t line_is turn n written no_read failed =
     let given = HasGiven-ended to_read known later unread bytes (lines_in so_far.turns) new so_far.given came gives in
     let whole = IsCut-wholes given.read (unread_of new) (lines_in so_far.turns ++ gives.line ∷ []) given.cut in
-    cut_short number to_read later given.read gives.line contents wrote writes a b after
-    asked between asked_then read_failed write_failed so_far.turns given.consumed so_far.does so_far.writes
+    cut_short number to_read later given.read gives.line contents wrote writes a b after reads reads_then fails fails_then so_far.turns
+    given.consumed so_far.does so_far.writes
     (inl (whole_lines (unread_of new), whole))
     (omega (arith, few, so_far.many)) so_far.short gives.short t line_is turn n written no_read failed
 
 pub cut_short_at_rest : {form : ReplyForm} (number : ℕ) (to_read known later : Option (List ℕ)) (unread bytes : List ℕ)
-    (contents wrote writes : Option (List ℕ)) (a b after : SeatValue) (asked between asked_then : List OrderValue)
-    (count : ℕ) (new : LineReader) (read_failed write_failed : Type 0)
-    → count < 1_000_000 → SoFar form number to_read known unread contents wrote a asked b between count → Consumes known later bytes
+    (contents wrote writes : Option (List ℕ)) (a b after : DeskState)
+    (count : ℕ) (new : LineReader) (reads reads_then fails fails_then : ℕ)
+    → count < 1_000_000 → SoFar form number to_read known unread contents wrote a b count → Consumes known later bytes
     → GivesRest (unread ++ bytes) new (IsAtEnd later)
-    → (t : Turn) → t.line ≡ unread ++ bytes → TurnsTo form number b between t after asked_then → (n : ℕ) → Appends wrote writes (take n t.reply)
-    → (¬ read_failed) → write_failed
-    → Serves form number (Err SessionFault.WriteFailed) to_read later contents writes read_failed write_failed a asked after asked_then
-cut_short_at_rest {form} number to_read known later unread bytes contents wrote writes a b after asked between
-    asked_then count new read_failed write_failed few so_far came gives t line_is turn n written no_read failed =
+    → (t : Turn) → t.line ≡ unread ++ bytes → TurnsTo form number b t after → (n : ℕ) → Appends wrote writes (take n t.reply)
+    → (¬ (reads < reads_then)) → fails < fails_then
+    → Serves form number (Err SessionFault.WriteFailed) (session_state to_read contents reads fails a)
+    (session_state later writes reads_then fails_then after)
+cut_short_at_rest {form} number to_read known later unread bytes contents wrote writes a b after count new reads reads_then fails fails_then few
+    so_far came gives t line_is turn n written no_read failed =
     let more = HasGiven-read to_read known later unread bytes (lines_in so_far.turns) so_far.given came in
     let lines : lines_of more.read ≡ lines_in so_far.turns ++ (unread ++ bytes) ∷ [] =
     HasGiven-rest to_read later (unread ++ bytes) (lines_in so_far.turns) more gives.one gives.some in
-    cut_short number to_read later more.read (unread ++ bytes) contents wrote writes a b after asked between asked_then
-    read_failed write_failed so_far.turns more.consumed so_far.does so_far.writes (inr (gives.end, lines))
+    cut_short number to_read later more.read (unread ++ bytes) contents wrote writes a b after
+    reads reads_then fails fails_then so_far.turns more.consumed so_far.does so_far.writes (inr (gives.end, lines))
     (omega (arith, few, so_far.many)) so_far.short gives.short t line_is turn n written no_read failed
 
 -- a line can't be read: the lines before it are answered
 pub read_fails : {form : ReplyForm} (number : ℕ) (to_read known later : Option (List ℕ)) (unread bytes : List ℕ) (contents wrote : Option (List ℕ))
-    (a b : SeatValue) (asked asked_then : List OrderValue) (count : ℕ) (read_failed write_failed : Type 0)
-    → count ≤ 1_000_000 → SoFar form number to_read known unread contents wrote a asked b asked_then count → Consumes known later bytes
-    → IsOneLine (unread ++ bytes) → read_failed ⊎ (length (unread ++ bytes) ≡ 16_777_217) → (¬ write_failed)
-    → Serves form number (Err SessionFault.ReadFailed) to_read later contents wrote read_failed write_failed a asked b asked_then
-read_fails {form} number to_read known later unread bytes contents wrote a b asked asked_then count read_failed
-    write_failed few so_far came one failed no_write =
+    (a b : DeskState) (count : ℕ) (reads reads_then fails fails_then : ℕ)
+    → count ≤ 1_000_000 → SoFar form number to_read known unread contents wrote a b count → Consumes known later bytes
+    → IsOneLine (unread ++ bytes) → (reads < reads_then) ⊎ (length (unread ++ bytes) ≡ 16_777_217) → (¬ (fails < fails_then))
+    → Serves form number (Err SessionFault.ReadFailed) (session_state to_read contents reads fails a)
+    (session_state later wrote reads_then fails_then b)
+read_fails {form} number to_read known later unread bytes contents wrote a b count reads reads_then fails fails_then few so_far came one failed no_write =
     let more = HasGiven-read to_read known later unread bytes (lines_in so_far.turns) so_far.given came in
     let rest : rest_of more.read ≡ unread ++ bytes = IsCut-rest more.read (unread ++ bytes) (lines_in so_far.turns) one more.cut in
-    let why : read_failed ⊎ (length (rest_of more.read) ≡ 16_777_217) = subst (λ (xs : List ℕ). read_failed ⊎ (length xs ≡ 16_777_217)) (sym rest) failed in
-    serves_so_far number (Err SessionFault.ReadFailed) to_read known later unread bytes contents wrote a b asked asked_then count
-    read_failed write_failed few so_far more
+    let why : (reads < reads_then) ⊎ (length (rest_of more.read) ≡ 16_777_217) =
+    subst (λ (xs : List ℕ). (reads < reads_then) ⊎ (length xs ≡ 16_777_217)) (sym rest) failed in
+    serves_so_far number (Err SessionFault.ReadFailed) to_read known later unread bytes contents wrote a b count
+    reads reads_then fails fails_then few so_far more
     (why, no_write, sym (IsCut-whole more.read (unread ++ bytes) (lines_in so_far.turns) one more.cut), refl)
 
 -- a million lines are answered, and a byte is there
 pub too_many : {form : ReplyForm} (number : ℕ) (to_read known later : Option (List ℕ)) (unread bytes : List ℕ) (contents wrote : Option (List ℕ))
-    (a b : SeatValue) (asked asked_then : List OrderValue) (count : ℕ) (read_failed write_failed : Type 0)
-    → count ≡ 1_000_000 → SoFar form number to_read known unread contents wrote a asked b asked_then count → Consumes known later bytes
-    → 0 < length (unread ++ bytes) → (¬ read_failed) → (¬ write_failed)
-    → Serves form number (Err SessionFault.TooManyRequests) to_read later contents wrote read_failed write_failed a asked b asked_then
-too_many {form} number to_read known later unread bytes contents wrote a b asked asked_then count read_failed
-    write_failed million so_far came some no_read no_write =
+    (a b : DeskState) (count : ℕ) (reads reads_then fails fails_then : ℕ)
+    → count ≡ 1_000_000 → SoFar form number to_read known unread contents wrote a b count → Consumes known later bytes
+    → 0 < length (unread ++ bytes) → (¬ (reads < reads_then)) → (¬ (fails < fails_then))
+    → Serves form number (Err SessionFault.TooManyRequests) (session_state to_read contents reads fails a)
+    (session_state later wrote reads_then fails_then b)
+too_many {form} number to_read known later unread bytes contents wrote a b count reads reads_then fails fails_then million so_far came some no_read no_write =
     let more = HasGiven-read to_read known later unread bytes (lines_in so_far.turns) so_far.given came in
     let all : lines_of more.read ≡ lines_in so_far.turns ++ lines_of (unread ++ bytes) =
     IsCut-lines more.read (unread ++ bytes) (lines_in so_far.turns) more.cut in
@@ -265,8 +265,8 @@ too_many {form} number to_read known later unread bytes contents wrote a b asked
       full,
     ) in
     let first = first_of (lines_in so_far.turns) (lines_of (unread ++ bytes)) (lines_of more.read) all in
-    serves_so_far number (Err SessionFault.TooManyRequests) to_read known later unread bytes contents wrote a b asked asked_then count
-    read_failed write_failed (omega (arith, million)) so_far more
+    serves_so_far number (Err SessionFault.TooManyRequests) to_read known later unread bytes contents wrote a b count
+    reads reads_then fails fails_then (omega (arith, million)) so_far more
     (no_read, no_write, so_far.many ∙ million, long, first ∙ ap (λ (n : ℕ). take n (lines_of more.read)) full, refl)
 
 -- why a read fails; what else is known of a call that failed
@@ -288,9 +288,9 @@ read_stops first before now long Left same (inl failed) = one_failed first befor
 read_stops first before now long Left same (inr too_long) = none_failed first now Left (too_long.0 ∙ same)
 
 -- the seat's number stays
-pub TurnsTo-number : {form : ReplyForm} (n number : ℕ) (b after : SeatValue) (between asked_then : List OrderValue) (t : Turn) → n ≡ number
-    → TurnsTo form n b between t after asked_then → TurnsTo form number b between t after asked_then
-TurnsTo-number {form} n number b after between asked_then t same turn = subst (λ (k : ℕ). TurnsTo form k b between t after asked_then) same turn
+pub TurnsTo-number : {form : ReplyForm} (n number : ℕ) (b after : DeskState) (t : Turn) → n ≡ number
+    → TurnsTo form n b t after → TurnsTo form number b t after
+TurnsTo-number {form} n number b after t same turn = subst (λ (k : ℕ). TurnsTo form k b t after) same turn
 
 pub some_bytes : (new bytes : List ℕ) → new ≡ bytes → 0 < length new → 0 < length bytes
 some_bytes new bytes same some = subst (λ (xs : List ℕ). 0 < length xs) same some

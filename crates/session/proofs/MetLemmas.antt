@@ -78,15 +78,6 @@ profile_refused {form} number a b fault ask reply empty step fact =
     subst (λ (h : Option (ℕ × ImageValue)). ProfileIsMet form h ask (answered (SeatAnswer.PinRefused fault) ∷ []) reply) (sym empty) (inr refused) in
     record { moves = answered (SeatAnswer.PinRefused fault) ∷ []; meets = inr (refl, met); seat = (b, step, refl) }
 
--- a profile from what is held
-pub profile_met : {form : ReplyForm} (number : ℕ) (a : SeatValue) (v : ℕ) (image : ImageValue) (ask : AskValue) (reply : List ℕ) → a.held ≡ Some (v, image)
-    → (IsProfileReply form image v ask reply ⊎ (reply ≡ memory_line))
-    → IsMet form number a (asks (profile ask)) reply a
-profile_met {form} number a v image ask reply held (inl fact) =
-    let met : ProfileIsMet form a.held ask [] reply = subst (λ (h : Option (ℕ × ImageValue)). ProfileIsMet form h ask [] reply) (sym held) (refl, fact) in
-    record { moves = []; meets = inr (refl, met); seat = refl }
-profile_met {form} number a v image ask reply held (inr memory) = record { moves = []; meets = inl (memory, refl, inl refl); seat = refl }
-
 -- and from a version that is pinned for it
 pub profile_met_once : {form : ReplyForm} (number : ℕ) (a m b : SeatValue) (v : ℕ) (image : ImageValue) (r : Result (Unit {0}) PinFault) (ask : AskValue)
     (reply : List ℕ) → PinStep a (Ok tt) m → HoldsInSome number m.held

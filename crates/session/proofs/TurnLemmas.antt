@@ -14,8 +14,13 @@ use Rattle.session.specs.declared.reply_form.ReplyForm.{ReplyForm}
 use Rattle.session.specs.Lines.{Asked, too_long, no_json, no_request, asks, IsAsked, memory_line, refusal_line}
 use Rattle.session.specs.SeatSteps.{Follows, SeatMove}
 use Rattle.session.specs.Sessions.{AreTurns, moves_of, lines_in, orders_of, text_of}
-use Rattle.session.specs.Turns.{HasTurn, IsLoaded, IsMet, IsTurn, OrderIsMet, Turn, TurnsTo}
+use Rattle.session.specs.Turns.{DeskState, IsLoaded, IsMet, IsTurn, OrderIsMet, Turn, TurnsTo, desk_state}
 use Rattle.session.proofs.SeatLemmas.{Follows-append}
+
+-- there is such a turn of this line and this reply
+abbrev pub HasTurn : ReplyForm → ℕ → List ℕ → List ℕ → SeatValue → List OrderValue → SeatValue → List OrderValue → Type 0
+HasTurn form number line reply a asked b asked_then =
+    (t : Turn) × (t.line ≡ line) × (t.reply ≡ reply) × TurnsTo form number (desk_state a asked) t (desk_state b asked_then)
 
 abbrev turn_of : List ℕ → List SeatMove → List OrderValue → List ℕ → Turn
 turn_of line moves orders reply = record { line = line; moves = moves; orders = orders; reply = reply }
@@ -23,7 +28,7 @@ turn_of line moves orders reply = record { line = line; moves = moves; orders = 
 has_turn : {form : ReplyForm} (number : ℕ) (a b : SeatValue) (asked asked_then : List OrderValue) (t : Turn) → IsTurn form a.held t → Follows number a t.moves b
     → asked_then ≡ asked ++ t.orders → HasTurn form number t.line t.reply a asked b asked_then
 has_turn {form} number a b asked asked_then t is seat orders =
-    let turns : TurnsTo form number a asked t b asked_then = record { is = is; seat = seat; orders = orders } in
+    let turns : TurnsTo form number (desk_state a asked) t (desk_state b asked_then) = record { is = is; seat = seat; orders = orders } in
     (t, refl, refl, turns)
 
 -- nothing was done
@@ -110,31 +115,22 @@ pub text_of-more : (turns : List Turn) (t : Turn) → text_of (turns ++ t ∷ []
 text_of-more [] t = append-nil t.reply
 text_of-more (u ∷ turns) t = ap (λ (xs : List ℕ). u.reply ++ xs) (text_of-more turns t) ∙ sym (append_assoc u.reply (text_of turns) t.reply)
 
-pub AreTurns-more : {form : ReplyForm} (number : ℕ) (a m b : SeatValue) (asked between asked_then : List OrderValue) (turns : List Turn) (t : Turn)
-    → AreTurns form number a asked turns m between → TurnsTo form number m between t b asked_then
-    → AreTurns form number a asked (turns ++ t ∷ []) b asked_then
-AreTurns-more {form} number a m b asked between asked_then [] t same turn = (
-  b,
-  asked_then,
-  subst (λ (s : SeatValue). TurnsTo form number s asked t b asked_then) same.0
-      (subst (λ (xs : List OrderValue). TurnsTo form number m xs t b asked_then) same.1 turn),
-  (refl, refl),
-)
-AreTurns-more {form} number a m b asked between asked_then (u ∷ turns) t (n, middle, first, rest) turn =
-    (n, middle, first, AreTurns-more number n m b middle between asked_then turns t rest turn)
+pub AreTurns-more : {form : ReplyForm} (number : ℕ) (a m b : DeskState) (turns : List Turn) (t : Turn)
+    → AreTurns form number a turns m → TurnsTo form number m t b → AreTurns form number a (turns ++ t ∷ []) b
+AreTurns-more {form} number a m b [] t same turn = (b, subst (λ (s : DeskState). TurnsTo form number s t b) same turn, refl)
+AreTurns-more {form} number a m b (u ∷ turns) t (n, first, rest) turn = (n, first, AreTurns-more number n m b turns t rest turn)
 
 -- the lists grow by the turns' own
-pub moves_follow : (form : ReplyForm) (number : ℕ) (a b : SeatValue) (asked asked_then : List OrderValue) (turns : List Turn)
-    → AreTurns form number a asked turns b asked_then
-    → Follows number a (moves_of turns) b
-moves_follow form number a b asked asked_then [] same = same.0
-moves_follow form number a b asked asked_then (t ∷ turns) (m, between, turn, rest) =
-    Follows-append number a m b t.moves (moves_of turns) turn.seat (moves_follow form number m b between asked_then turns rest)
+pub moves_follow : (form : ReplyForm) (number : ℕ) (a b : DeskState) (turns : List Turn) → AreTurns form number a turns b
+    → Follows number a.seat (moves_of turns) b.seat
+moves_follow form number a b [] same = ap (λ desk. desk.seat) same
+moves_follow form number a b (t ∷ turns) (m, turn, rest) =
+    Follows-append number a.seat m.seat b.seat t.moves (moves_of turns) turn.seat (moves_follow form number m b turns rest)
 
-pub orders_grow : (form : ReplyForm) (number : ℕ) (a b : SeatValue) (asked asked_then : List OrderValue) (turns : List Turn)
-    → AreTurns form number a asked turns b asked_then → asked_then ≡ asked ++ orders_of turns
-orders_grow form number a b asked asked_then [] same = same.1 ∙ sym (append-nil asked)
-orders_grow form number a b asked asked_then (t ∷ turns) (m, between, turn, rest) =
-    orders_grow form number m b between asked_then turns rest
+pub orders_grow : (form : ReplyForm) (number : ℕ) (a b : DeskState) (turns : List Turn) → AreTurns form number a turns b
+    → b.asked ≡ a.asked ++ orders_of turns
+orders_grow form number a b [] same = ap (λ desk. desk.asked) same ∙ sym (append-nil a.asked)
+orders_grow form number a b (t ∷ turns) (m, turn, rest) =
+    orders_grow form number m b turns rest
     ∙ ap (λ (xs : List OrderValue). xs ++ orders_of turns) turn.orders
-    ∙ append_assoc asked t.orders (orders_of turns)
+    ∙ append_assoc a.asked t.orders (orders_of turns)

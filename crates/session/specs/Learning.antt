@@ -12,7 +12,7 @@ use Rattle.session.specs.declared.reply_form.ReplyForm.{ReplyForm}
 use Rattle.session.specs.Lines.{Asked, asks, IsAsked, memory_line, pin_fault_line}
 use Rattle.session.specs.Profiles.{IsProfileReply}
 use Rattle.session.specs.Sessions.{AreTurns, LastRelease}
-use Rattle.session.specs.Turns.{Turn}
+use Rattle.session.specs.Turns.{DeskState, Turn, desk_state}
 
 -- each version among these answers was published with that image in this history
 abbrev pub ArePublished : KnownHistory → List SeatAnswer → Type 0
@@ -52,8 +52,8 @@ AreFromPublished known form (t ∷ turns) =
 -- published, if what the seat held before them was published in it
 abbrev pub TellPublished : KnownHistory → SeatValue → SeatValue → Type 0
 TellPublished known a b =
-    (form : ReplyForm) (number : ℕ) (asked asked_then : List OrderValue) (turns : List Turn) (last : SeatValue)
-    → AreTurns form number a asked turns last asked_then → LastRelease number last b → IsPublishedIfHeld known a.held
+    (form : ReplyForm) (number : ℕ) (asked : List OrderValue) (turns : List Turn) (last : DeskState)
+    → AreTurns form number (desk_state a asked) turns last → LastRelease number last.seat b → IsPublishedIfHeld known a.held
     → AreFromPublished known form turns
 
 -- a seat that learns from `a` to `b` what `Learns` says answers profiles from what was published in the history that it knows at `b`

@@ -126,13 +126,16 @@ IsTurn form held t =
     ⊎ ((asked : Asked) × IsAsked form.sets t.line asked
     × (WantsMemory asked t.moves t.orders t.reply ⊎ Meets form held asked t.moves t.orders t.reply))
 
--- the turn's moves lead the seat from `a` to `b`, and the list of orders grows by the turn's orders
-pub record TurnsTo (form : ReplyForm) (number : ℕ) (a : SeatValue) (asked : List OrderValue) (t : Turn) (b : SeatValue)
-    (asked_then : List OrderValue) : Type 0 where
-  pub is : IsTurn form a.held t
-  pub seat : Follows number a t.moves b
-  pub orders : asked_then ≡ asked ++ t.orders
+-- what turns change: the seat, and the orders that were asked for
+pub record DeskState : Type 0 where
+  pub seat : SeatValue
+  pub asked : List OrderValue
 
--- there is such a turn of this line and this reply
-abbrev pub HasTurn : ReplyForm → ℕ → List ℕ → List ℕ → SeatValue → List OrderValue → SeatValue → List OrderValue → Type 0
-HasTurn form number line reply a asked b asked_then = (t : Turn) × (t.line ≡ line) × (t.reply ≡ reply) × TurnsTo form number a asked t b asked_then
+abbrev pub desk_state : SeatValue → List OrderValue → DeskState
+desk_state seat asked = record { seat = seat; asked = asked }
+
+-- the turn's moves lead the seat from `a` to `b`, and the list of orders grows by the turn's orders
+pub record TurnsTo (form : ReplyForm) (number : ℕ) (a : DeskState) (t : Turn) (b : DeskState) : Type 0 where
+  pub is : IsTurn form a.seat.held t
+  pub seat : Follows number a.seat t.moves b.seat
+  pub orders : b.asked ≡ a.asked ++ t.orders

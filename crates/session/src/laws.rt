@@ -2,7 +2,6 @@
 
 ghost use Rattle.std.specs.Prelude.{◌≡◌, ◌++◌, ℕ, Bool, List};
 ghost use Rattle.epochs.specs.Seats.{SeatValue};
-ghost use Rattle.orders.specs.Ordering.{OrderValue};
 ghost use Rattle.session.specs.Learning.{LearningTells};
 ghost use Rattle.image_layout.specs.Image.{ImageValue};
 ghost use Rattle.session_texts.specs.Requests.{AskValue};
@@ -11,7 +10,7 @@ ghost use Rattle.session.specs.OneStop.{IsFromOne, TellsOfOne};
 ghost use Rattle.session.specs.declared.reply_form.ReplyForm.{ReplyForm};
 ghost use Rattle.session.specs.SeatSteps.{Follows, NeverFalls, SeatMove, answers_in};
 ghost use Rattle.session.specs.Sessions.{AreTurns, moves_of, orders_of};
-ghost use Rattle.session.specs.Turns.{Turn};
+ghost use Rattle.session.specs.Turns.{DeskState, Turn};
 
 use answer_replies::laws::one_stop_is_plain;
 use session_texts::laws::{one_request, one_value};
@@ -35,14 +34,12 @@ pub fn versions_never_fall()
 /// The moves of all turns, in order, lead the seat from its value before the turns to its value after them. Its list of
 /// answers grows by the answers among these moves, and the list of orders by the orders of all turns.
 pub fn lists_grow_by_the_turns()
-    ensures seat { (form : ReplyForm) (number : ℕ) (a b : SeatValue) (asked asked_then : List OrderValue)
-        (turns : List Turn)
-        → AreTurns form number a asked turns b asked_then → Follows number a (moves_of turns) b }
+    ensures seat { (form : ReplyForm) (number : ℕ) (a b : DeskState) (turns : List Turn)
+        → AreTurns form number a turns b → Follows number a.seat (moves_of turns) b.seat }
     ensures answers { (number : ℕ) (a b : SeatValue) (moves : List SeatMove) → Follows number a moves b
         → b.answers ≡ a.answers ++ answers_in moves }
-    ensures orders { (form : ReplyForm) (number : ℕ) (a b : SeatValue) (asked asked_then : List OrderValue)
-        (turns : List Turn) → AreTurns form number a asked turns b asked_then
-        → asked_then ≡ asked ++ orders_of turns }
+    ensures orders { (form : ReplyForm) (number : ℕ) (a b : DeskState) (turns : List Turn)
+        → AreTurns form number a turns b → b.asked ≡ a.asked ++ orders_of turns }
 {}
 
 /// Each profile in a seat's turns is answered over the image that was published as the version that the reply names, in

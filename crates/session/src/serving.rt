@@ -7,8 +7,8 @@ ghost use Rattle.lines.specs.Showing.{ShowsLine};
 ghost use Rattle.epochs.specs.Seats.{SeatValue};
 ghost use Rattle.session.specs.Forms.{bare};
 ghost use Rattle.session.specs.Learning.{Learns, TellPublished};
-ghost use Rattle.session.specs.Sessions.{LastRelease, Serves};
-ghost use Rattle.session.specs.Turns.{AgreeOnNotices, Turn, TurnsTo};
+ghost use Rattle.session.specs.Sessions.{LastRelease, Serves, state_of};
+ghost use Rattle.session.specs.Turns.{AgreeOnNotices, Turn, TurnsTo, desk_state};
 
 use crate::desk::{Desk, Streams};
 use crate::fault::{Ended, SessionFault};
@@ -50,10 +50,9 @@ pub fn serve<
     ensures profiles { TellPublished (T.known seat.new) (T.value seat.old) (T.value seat.new) }
     ensures released { (T.value seat.new).held ≡ None }
     ensures session { (last : SeatValue) × LastRelease (T.number seat.old) last (T.value seat.new)
-        × Serves bare (T.number seat.old) result (In.remaining (inner_of reader.old))
-        (In.remaining (inner_of reader.new)) (Out.contents (inner_of writer.old))
-        (Out.contents (inner_of writer.new))
-        (failures_of reader.old < failures_of reader.new) (failures_of writer.old < failures_of writer.new) (T.value seat.old) (O.asked orders.old) last (O.asked orders.new) }
+        × Serves bare (T.number seat.old) result
+        (state_of In.remaining Out.contents reader.old writer.old (desk_state (T.value seat.old) (O.asked orders.old)))
+        (state_of In.remaining Out.contents reader.new writer.new (desk_state last (O.asked orders.new))) }
     ensures stops { StopsAtFailure reader.old reader.new × StopsAtFailure writer.old writer.new }
 {
     let desk = Desk::new(alloc, shelves, gate);
@@ -82,10 +81,11 @@ impl<'a, N: Drop, T: Versions<Notice = N>, G: Gate> Desk<'a, T, G> {
         ensures profiles { TellPublished (T.known seat.new) (T.value seat.old) (T.value seat.new) }
         ensures released { (T.value seat.new).held ≡ None }
         ensures session { (last : SeatValue) × LastRelease (T.number seat.old) last (T.value seat.new)
-            × Serves self.now.form (T.number seat.old) result (In.remaining (inner_of streams.old.reader))
-            (In.remaining (inner_of streams.new.reader)) (Out.contents (inner_of streams.old.writer))
-            (Out.contents (inner_of streams.new.writer))
-            (failures_of streams.old.reader < failures_of streams.new.reader) (failures_of streams.old.writer < failures_of streams.new.writer) (T.value seat.old) (O.asked orders.old) last (O.asked orders.new) }
+            × Serves self.now.form (T.number seat.old) result
+            (state_of In.remaining Out.contents streams.old.reader streams.old.writer
+            (desk_state (T.value seat.old) (O.asked orders.old)))
+            (state_of In.remaining Out.contents streams.new.reader streams.new.writer
+            (desk_state last (O.asked orders.new))) }
         ensures stops { StopsAtFailure streams.old.reader streams.new.reader
             × StopsAtFailure streams.old.writer streams.new.writer }
     {
@@ -123,10 +123,11 @@ impl<'a, N: Drop, T: Versions<Notice = N>, G: Gate> Desk<'a, T, G> {
         ensures number { T.number seat.new ≡ T.number seat.old }
         ensures route { O.route orders.new ≡ O.route orders.old }
         ensures learns { Learns (T.known seat.old) (T.value seat.old) (T.known seat.new) (T.value seat.new) }
-        ensures session { Serves self.now.form (T.number seat.old) result (In.remaining (inner_of reader.old))
-            (In.remaining (inner_of reader.new)) (Out.contents (inner_of writer.old))
-            (Out.contents (inner_of writer.new))
-            (failures_of reader.old < failures_of reader.new) (failures_of writer.old < failures_of writer.new) (T.value seat.old) (O.asked orders.old) (T.value seat.new) (O.asked orders.new) }
+        ensures session { Serves self.now.form (T.number seat.old) result
+            (state_of In.remaining Out.contents reader.old writer.old
+            (desk_state (T.value seat.old) (O.asked orders.old)))
+            (state_of In.remaining Out.contents reader.new writer.new
+            (desk_state (T.value seat.new) (O.asked orders.new))) }
         ensures stops { StopsAtFailure reader.old reader.new × StopsAtFailure writer.old writer.new }
     {
         let mut lines = LineReader::new(self.alloc);
@@ -175,8 +176,9 @@ impl<'a, N: Drop, T: Versions<Notice = N>, G: Gate> Desk<'a, T, G> {
             (λ _. failures_of writer.new ≡ failures_of writer.old)
             (λ _. HasFailed writer.old writer.new) }
         ensures turn { (l : List ℕ) → ShowsLine line.entry l
-            → (t : Turn) × (t.line ≡ l) × TurnsTo self.now.form (T.number seat.old) (T.value seat.old)
-            (O.asked orders.old) t (T.value seat.new) (O.asked orders.new) × MatchResult result
+            → (t : Turn) × (t.line ≡ l) × TurnsTo self.now.form (T.number seat.old)
+            (desk_state (T.value seat.old) (O.asked orders.old)) t (desk_state (T.value seat.new) (O.asked orders.new))
+            × MatchResult result
             (λ _. Appends (Out.contents (inner_of writer.old)) (Out.contents (inner_of writer.new)) t.reply)
             (λ _. (n : ℕ) × Appends (Out.contents (inner_of writer.old)) (Out.contents (inner_of writer.new))
             (take n t.reply)) }

@@ -4,7 +4,7 @@ ghost use Rattle.std.specs.Prelude.{◌≡◌, ℕ, List};
 ghost use Rattle.lines.specs.Showing.{ShowsLine};
 ghost use Rattle.session.specs.Learning.{Learns};
 ghost use Rattle.session.specs.Lines.{text_of_reply};
-ghost use Rattle.session.specs.Turns.{AgreeOnNotices, HasTurn};
+ghost use Rattle.session.specs.Turns.{AgreeOnNotices, Turn, TurnsTo, desk_state};
 
 use crate::desk::Desk;
 use crate::reply::SessionReply;
@@ -28,8 +28,9 @@ impl<'a, N: Drop, T: Versions<Notice = N>, G: Gate> Desk<'a, T, G> {
         ensures route { O.route orders.new ≡ O.route orders.old }
         ensures learns { Learns (T.known seat.old) (T.value seat.old) (T.known seat.new) (T.value seat.new) }
         ensures turn { (l : List ℕ) → ShowsLine line.entry l
-            → HasTurn self.now.form (T.number seat.old) l (text_of_reply result) (T.value seat.old)
-            (O.asked orders.old) (T.value seat.new) (O.asked orders.new) }
+            → (t : Turn) × (t.line ≡ l) × (t.reply ≡ text_of_reply result) × TurnsTo self.now.form (T.number seat.old)
+            (desk_state (T.value seat.old) (O.asked orders.old)) t
+            (desk_state (T.value seat.new) (O.asked orders.new)) }
     {
         let bytes = match line {
             Line::Whole(bytes) => bytes,

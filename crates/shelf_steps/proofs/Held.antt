@@ -95,11 +95,6 @@ in_use table l i k v version w r loads at now q =
     counted y.0 (get_or r.course.state.counts k 0) version s.2
     (few_counted r.course.state k (kept table i k v w r at now) s.1) (sym (r.words.each k y.0 y.1) ∙ q)
 
--- other events leave what a worker does
-other_worker : (s t : State) (w : ℕ) (ws : List Worker) → t.workers ≡ ws → slice_get ws w ≡ slice_get s.workers w
-    → slice_get t.workers w ≡ slice_get s.workers w
-other_worker s t w ws is same = ap (λ (x : List Worker). slice_get x w) is ∙ same
-
 same_state : (s t : State) (w : ℕ) → t ≡ s → slice_get t.workers w ≡ slice_get s.workers w
 same_state s t w is = ap (λ (x : State). slice_get x.workers w) is
 

@@ -118,9 +118,6 @@ Held number u h w = (h.0 < 8) × Well u h.1.version h.0 h.1 w.0 × IsHoldingAs n
 abbrev pub Pinned : ℕ → View → ℕ × Edition → Mine → Type 0
 Pinned number u h w = (h.0 < 8) × Pins u h.1.version h.0 h.1 w.0 × IsHoldingAs number h.0 h.1 w
 
-pub pinned_first : (number : ℕ) (u : View) (h : ℕ × Edition) (w : Mine) → Held number u h w → Pinned number u h w
-pinned_first number u h w t = (t.0, ([], omega arith, u, refl, t.1, tt), t.2)
-
 pub pinned_second : (number : ℕ) (u v : View) (i : ℕ) (h : ℕ × Edition) (w : Mine) → Late u i v → Held number v h w → Pinned number u h w
 pinned_second number u v i h w a t = (t.0, (i ∷ [], omega arith, v, (v, a, refl), t.1, (late_well u v w.0 i h.1.version h.0 h.1 a t.1, tt)), t.2)
 

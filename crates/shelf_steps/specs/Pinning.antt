@@ -61,10 +61,6 @@ IsRising [] = Unit {0}
 IsRising (n ∷ []) = Unit {0}
 IsRising (n ∷ m ∷ ns) = (n < m) × IsRising (m ∷ ns)
 
--- the worker's slot of the shelf is out with it, and empty: the edition was taken from it
-abbrev pub SlotOut : ℕ → View → List (ℕ × Option Edition) → Type 0
-SlotOut shelf u c = OfWorker u (λ a. c ≡ (16 * shelf + a.number, None) ∷ [])
-
 -- at most three late tries and then one that holds: each look found a greater version than the one before, and the last found the version that is
 -- held
 abbrev pub Pins : View → ℕ → ℕ → Edition → View → Type 0

@@ -144,22 +144,6 @@ pushed_cases [] x (suc k) y e = inl e
 pushed_cases (z ∷ xs) x zero y e = inl e
 pushed_cases (z ∷ xs) x (suc k) y e = pushed_cases xs x k y e
 
--- an answer's points are merged, and it is put behind the others
-pub took_in : {K V : Type 0} {c : _} (rules : Rules V) (found : Found K V c) (old new : MergedAnswers K V c) (points : List (Point V)) (number : ℕ)
-    → points ≡ listed found → number ≡ length old.founds.items → criterion_of new.best ≡ criterion_of old.best
-    → MergesFirst rules points number (length points) (points_of old.best) old.origins.items (points_of new.best) new.origins.items
-    → new.founds.items ≡ old.founds.items ++ found ∷ [] → TakesFound rules found old new
-took_in {K} {V} {c} rules found old new points number are is same merges pushed = record {
-  under = same;
-  merges = subst (λ (n : ℕ). MergesFirst rules (listed found) n (length (listed found)) (points_of old.best) old.origins.items (points_of new.best)
-      new.origins.items) is
-      (subst (λ (ps : List (Point V)). MergesFirst rules ps number (length ps) (points_of old.best) old.origins.items (points_of new.best)
-      new.origins.items) are merges);
-  founds = λ k f at. subst (λ (fs : List (Found K V c)). slice_get fs k ≡ Some f) (sym pushed) (slice_get-append old.founds.items (found ∷ []) k f at);
-  only_it = λ k f at. pushed_cases old.founds.items found k f (subst (λ (fs : List (Found K V c)). slice_get fs k ≡ Some f) pushed at);
-  put = subst (λ (fs : List (Found K V c)). slice_get fs (length old.founds.items) ≡ Some found) (sym pushed) (slice_get-last old.founds.items found);
-}
-
 -- a journey of the point that an answer has is one of the point that is kept
 pub attained_between : {K V : Type 0} {c : _} (rules_of : K → Rules V) (criterion : K) (t : TimetableValue) (b : BetweenValue) (merged : MergedAnswers K V c)
     (p : Point V) (origin : PointSource) (found : Found K V c) (point : Point V) (j : JourneyValue) → IsMerged rules_of criterion t b merged

@@ -14,10 +14,6 @@ one_scan_more log read now new n was more =
     let next : suc n ≡ n + 1 = omega arith in
     more ∙ (ap (λ (xs : List ℕ). xs ++ read) was ∙ (append_assoc log (repeated n read) read ∙ ap (λ (k : ℕ). log ++ repeated k read) next))
 
-pub some_of : (xs : List ℕ) → xs ≢ [] → 1 ≤ length xs
-some_of [] some = absurd (some refl)
-some_of (x ∷ xs) some = omega arith
-
 pub part_of_one : (t : TimetableValue) (b : BetweenValue) (log now new : List ℕ) (n part : ℕ) → n < length b.targets
     → now ≡ log ++ repeated n (reverse (window_between t b)) → new ≡ now ++ take part (reverse (window_between t b)) → ReadsPart t b log new
 part_of_one t b log now new n part below was more = record {

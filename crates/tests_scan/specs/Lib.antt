@@ -1,3 +1,4 @@
 pub mod Examples
 pub mod WrongSteps
 pub mod Bonus
+pub mod Both

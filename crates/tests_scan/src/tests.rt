@@ -4,6 +4,7 @@
 mod answering;
 mod between;
 mod bonus;
+mod both;
 mod dominating;
 mod drawn_sets;
 mod everywhere;

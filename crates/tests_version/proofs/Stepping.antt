@@ -126,18 +126,6 @@ known_after shelves k x top top' within up known new j v is = dite (ℕ_discrete
     ∙ slice_get-set_same shelves k x within)) ∙ is))
     (λ ne. let z = known j v (sym (ap (λ (s : Option Shelf). option_and_then version_of s) (slice_get-set_other shelves k j x ne)) ∙ is) in omega arith)
 
--- the loader may gather the slots of a free shelf
-gather_of : (k current newest : ℕ) (shelves : List Shelf) (u : View) (c : List (ℕ × Option Edition))
-    → RemembersSo current newest shelves (u, c) → slice_get shelves k ≡ Some Shelf.Free → MayGather k u c
-gather_of k current newest shelves (View.Working v) c h free = absurd h.0
-gather_of k current newest shelves (View.Noting x') c h free = absurd h.0
-gather_of k current newest shelves View.Spent c h free = absurd h.0
-gather_of k current newest shelves (View.Loading l) c h free = (ap (λ (s : List Shelf). slice_get s k) h.0.shelves_are ∙ free, h.0.empty, h.1)
-
-pub may_gather_so : (k current newest : ℕ) (shelves : List Shelf) (m : Mine) → RemembersSo current newest shelves m
-    → slice_get shelves k ≡ Some Shelf.Free → MayGather k m.0 m.1
-may_gather_so k current newest shelves m h free = gather_of k current newest shelves m.0 m.1 h free
-
 filled_of : (k current newest : ℕ) (shelves : List Shelf) (image : ImageValue) (f : ℕ
     → Option Edition) (u : View) (c : List (ℕ × Option Edition)) (m1 m2 : Mine)
     → RemembersSo current newest shelves (u, c) → slice_get shelves k ≡ Some Shelf.Free
@@ -296,25 +284,6 @@ freed_so k current newest shelves (View.Loading a) (View.Loading b) x h is f = r
   eight = length-set shelves k Shelf.Free ∙ h.eight;
   small = h.small;
   known = known_after shelves k Shelf.Free newest newest (slice_get_within shelves k x is) (omega arith) h.known (λ v e. absurd (cc));
-}
-
-pub busy_so : (k count current newest : ℕ) (shelves : List Shelf) (u u' : View)
-    → OfLoader u (λ l. Remembers current newest shelves l) → FindsBusy k count u u'
-    → OfLoader u' (λ l. Remembers current newest shelves l)
-busy_so k count current newest shelves (View.Working v) u' h f = absurd h
-busy_so k count current newest shelves (View.Noting x') u' h f = absurd h
-busy_so k count current newest shelves View.Spent u' h f = absurd h
-busy_so k count current newest shelves (View.Loading a) (View.Working v) h f = absurd f
-busy_so k count current newest shelves (View.Loading a) (View.Noting x') h f = absurd f
-busy_so k count current newest shelves (View.Loading a) View.Spent h f = absurd f
-busy_so k count current newest shelves (View.Loading a) (View.Loading b) h f = record {
-  empty = f.hand;
-  current_is = f.current.0 ∙ h.current_is;
-  newest_is = ap (λ (x : List ImageValue). length x) f.images ∙ h.newest_is;
-  shelves_are = f.shelves ∙ h.shelves_are;
-  eight = h.eight;
-  small = h.small;
-  known = h.known;
 }
 
 -- what stands at a place

@@ -6,9 +6,9 @@ mod releasing;
 mod spending;
 
 ghost use Rattle.std.specs.Prelude.{◌≡◌, ◌≤◌, [], All, length, IfOk};
-ghost use Rattle.epochs.specs.ShelfSeats.{ShelfSeatValue};
-ghost use Rattle.shelf_steps.specs.Events.{known_of};
 ghost use Rattle.workers.specs.Sessions.{MayClose};
+ghost use Rattle.workers.specs.Shelves.{shelf_seats};
+ghost use Rattle.workers.specs.Words.{sessions_of};
 
 use epochs::{PublishFault, ShelfLoader, ShelfSeat, Shelves, ShelvesName};
 use feed_files::MemoryFiles;
@@ -114,7 +114,7 @@ impl<'a, R: Wait + Sync> Client for Visitor<'a, R> {
 
     type Writer = Shared<'a, R>;
 
-    ghost opens = { λ _ _. Unit {0} };
+    ghost words = { record { opens = λ client result. Unit {0}; closes = λ reader writer end. Unit {0} } };
 
     fn open(self) -> Result<(&'static [u8], Shared<'a, R>), ConnFault> {
         match self.replies {
@@ -138,11 +138,12 @@ struct Row<C> {
 }
 
 impl<C> Clients<C> for Row<C> {
-    ghost came = { λ row. row.came };
-
-    ghost none_left = { λ row. row.visitors.items ≡ [] };
-
-    ghost holds = { λ _ _. Unit {0} };
+    ghost words = { record {
+      came = λ row. row.came;
+      none_left = λ row. row.visitors.items ≡ [];
+      Fact = Unit {0};
+      holds = λ row fact. Unit {0};
+    } };
 
     fn next(&mut self) -> Option<C> {
         let next = self.visitors.pop();
@@ -163,7 +164,11 @@ struct TwoFeeds {
 impl Feeds for TwoFeeds {
     type Files = MemoryFiles<'static>;
 
-    ghost named = { λ feed. feed.names.items };
+    ghost words = { record {
+      named = λ feeds. feeds.names.items;
+      are_files = λ feeds index files. Unit {0};
+      is_plan = λ feeds plan. Unit {0};
+    } };
 
     fn names(&self) -> &[String] {
         &self.names
@@ -298,13 +303,11 @@ fn count_ends<
     errors: E,
 ) -> Result<EndCounts, AllocError>
     requires shelves { shelves ≡ B.table }
-    requires seats { All (λ seat. seat.table ≡ B.table) seats.items }
-    requires loader { loader.table ≡ B.table }
+    requires seats { All (λ seat. seat.table ≡ shelves) seats.items }
+    requires loader { loader.table ≡ shelves }
     requires some { 1 ≤ length seats.items }
     requires few { length seats.items ≤ 16 }
-    requires closes { MayClose form C.opens C.Reader.remaining C.Writer.contents
-        (λ (seat : ShelfSeatValue). seat.number) (λ seat. seat.shown) (λ seat. known_of seat.view)
-        (λ seat. seat.table ≡ shelves) C.closes }
+    requires closes { MayClose (sessions_of form C.words C.Reader.remaining C.Writer.contents shelf_seats) shelves }
 {
     let feeds = two_feeds(alloc)?;
     let Ok(ran) = run_shelves::<B, _, _, _, _, _, _>(

@@ -35,14 +35,6 @@ is_its_station o station e = subst (λ (p : Option ℕ). is_station p station �
 abbrev pub claim_of : ℕ → ℕ → Source → Verdict → Claim
 claim_of to from source verdict = record { to = to; from = from; source = source; verdict = verdict }
 
--- claims with the same parts are the same
-pub same_claim : (to from : ℕ) (source : Source) (verdict : Verdict) (c : Claim) → to ≡ c.to → from ≡ c.from → source ≡ c.source → verdict ≡ c.verdict
-    → claim_of to from source verdict ≡ c
-same_claim to from source verdict c e_to e_from e_source e_verdict =
-    ap (λ (n : ℕ). claim_of n from source verdict) e_to ∙ ap (λ (n : ℕ). claim_of c.to n source verdict) e_from
-    ∙ ap (λ (s : Source). claim_of c.to c.from s verdict) e_source
-    ∙ ap (λ (w : Verdict). claim_of c.to c.from c.source w) e_verdict
-
 -- the stops whose station is keyed so are its children
 pub children_are : (all : List Stop) (station : ℕ) (stops : List ℕ) → IsGroup (map (λ (stop : Stop). stop.station) all) station stops
     → AreChildren all station stops
@@ -160,11 +152,6 @@ pub adds_station : (all : List Stop) (rows : List Transfer) (station to : ℕ) (
 adds_station all rows station to old mid new first second = unbanned_then (IsBannedClaim all rows) old mid new (IsClaimBy all rows (TheStation station) to)
     (IsSiblingInto all station to) (IsStationClaim all rows station to)
     (λ c h. inl h) (λ c h. inr h) (λ c h. h) first second
-
--- the loop
-pub adds_loop : (to : ℕ) (old : List Claim) → Adds old (old ++ claim_of to to Default (Takes 0) ∷ []) (IsLoopOf to)
-adds_loop to old = adds_one old (claim_of to to Default (Takes 0)) (IsLoopOf to) (record { to_is = refl; from_is = refl; source_is = refl; verdict_is = refl })
-    (λ c h. same_claim to to Default (Takes 0) c (sym h.to_is) (sym h.from_is) (sym h.source_is) (sym h.verdict_is))
 
 -- first as one of its station, then the loop
 pub adds_stop : (all : List Stop) (rows : List Transfer) (station to : ℕ) (old mid new : List Claim)

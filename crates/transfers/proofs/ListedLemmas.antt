@@ -187,8 +187,3 @@ all_listed feed end ends paths h = record {
   in_range = in_range feed paths (all_times feed end ends paths h);
   loops = has_loops feed paths (all_times feed end ends paths h);
 }
-
--- more than that many into the first stops
-pub more_below : (feed : Feed) (few end most : ℕ) (paths : List Footpath) → few < end
-    → AreListed feed (LeadBelow (few + 1)) paths × (most < length paths) → ListsMoreBelow feed end most
-more_below feed few end most paths below (listed, more) = (few + 1, omega (arith, below), paths, listed, more)

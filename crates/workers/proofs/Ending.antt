@@ -1,101 +1,87 @@
 -- How a session and an order end.
-use Rattle.std.proofs.Common.{◌≡◌, ◌<◌, ◌∷◌, ◌++◌, ℕ, List, [], Option, Some, None, IfSome, Result, refl, sym, subst, inl}
+use Rattle.std.proofs.Common.{◌≡◌, ◌∷◌, ◌++◌, ℕ, List, [], Option, Some, None, IfSome, Result, Ok, refl, sym, subst, inl}
 use Rattle.epochs.specs.Seats.{SeatValue}
 use Rattle.epochs.specs.declared.seats.LoaderAnswer.{LoaderAnswer}
-use Rattle.lines.specs.Counting.{inner_of}
-use Rattle.orders.specs.Ordering.{OrderValue}
-use Rattle.shelf_steps.specs.declared.views.KnownHistory.{KnownHistory}
-use Rattle.session.specs.Learning.{Learns, TellPublished}
+use Rattle.lines.specs.Counting.{failures_of, inner_of}
 use Rattle.session.specs.declared.fault.Ended.{Ended}
 use Rattle.session.specs.declared.fault.SessionFault.{SessionFault}
-use Rattle.session.specs.declared.reply_form.ReplyForm.{ReplyForm}
-use Rattle.session.specs.Sessions.{LastRelease, Serves}
+use Rattle.session.specs.Sessions.{LastRelease, Serves, state_of}
+use Rattle.session.specs.Turns.{desk_state}
 use Rattle.workers.specs.Ends.{Session, end_of}
 use Rattle.workers.specs.Loading.{IsEarly, IsNotPublished}
-use Rattle.workers.specs.Sessions.{AreServed, IsServed, IsServedAt, IsSession, MayClose}
-use Rattle.workers.specs.declared.clients.ConnFault.{ConnFault}
+use Rattle.workers.specs.Sessions.{AreServed, IsServedAt, IsSession, MayClose, Standing}
+use Rattle.workers.specs.Words.{SessionWords}
 use Rattle.workers.specs.declared.refusal.LoadRefusal.{LoadRefusal}
 use Rattle.workers.specs.declared.served.SessionEnd.{SessionEnd}
 use Rattle.session.specs.declared.desk.Streams.{Streams}
 
--- what is served from a new counted reader and writer is served from what they hold, and each failure is counted
-pub session_of : (form : ReplyForm) (number : ℕ) (end : SessionEnd) (result : Result Ended SessionFault)
-    (counted_to_read to_read read_then counted_contents contents contents_then : Option (List ℕ))
-    (reads reads_then writes writes_then : ℕ) (a b last : SeatValue) (asked asked_then : List OrderValue)
-    → end ≡ end_of result → counted_to_read ≡ to_read → counted_contents ≡ contents → reads ≡ 0 → writes ≡ 0 → LastRelease number last b
-    → Serves form number result counted_to_read read_then counted_contents contents_then (reads < reads_then) (writes < writes_then)
-    a asked last asked_then
-    → IsSession form number end to_read read_then contents contents_then (0 < reads_then) (0 < writes_then) a asked b asked_then
-session_of form number end result counted_to_read to_read read_then counted_contents contents contents_then
-    reads reads_then writes writes_then a b last asked asked_then end_is same_read same_contents no_reads no_writes released serves =
-    let Shows = λ (first held : Option (List ℕ)) (n m : ℕ).
-    Serves form number result first read_then held contents_then (n < reads_then) (m < writes_then) a asked last asked_then in
-    let read = subst (λ first. Shows first counted_contents reads writes) same_read serves in
-    let written = subst (λ held. Shows to_read held reads writes) same_contents read in
-    let from_no_read = subst (λ n. Shows to_read contents n writes) no_reads written in
-    record {
-      result = result;
-      last = last;
-      end_is = end_is;
-      released = released;
-      serves = subst (λ m. Shows to_read contents 0 m) no_writes from_no_read;
-    }
+module _ {C R W T S N : Type 0} (words : SessionWords C R W T S N) where
+  -- what is served from a new counted reader and writer is served from what they hold, and each failure is counted
+  pub session_of : (client : C) (was : R × W) (new now : Streams R W) (end : SessionEnd) (result : Result Ended SessionFault)
+      (last : SeatValue) (a b : Standing S)
+      → words.clients.opens client (Ok was) → inner_of new.reader ≡ was.0 → inner_of new.writer ≡ was.1
+      → failures_of new.reader ≡ 0 → failures_of new.writer ≡ 0 → end ≡ end_of result
+      → LastRelease (words.seats.number a.seat) last (words.seats.shown b.seat)
+      → Serves words.form (words.seats.number a.seat) result
+      (state_of words.unread words.written new.reader new.writer (desk_state (words.seats.shown a.seat) a.asked))
+      (state_of words.unread words.written now.reader now.writer (desk_state last b.asked))
+      → IsSession words client (now, end) a b
+  session_of client was new now end result last a b opens reader writer no_reads no_writes end_is released serves =
+      let Shows = λ (read : R) (write : W) (n m : ℕ).
+      Serves words.form (words.seats.number a.seat) result (record {
+        unread = words.unread read;
+        written = words.written write;
+        failed_reads = n;
+        failed_writes = m;
+        desk = desk_state (words.seats.shown a.seat) a.asked;
+      }) (state_of words.unread words.written now.reader now.writer (desk_state last b.asked)) in
+      let read = subst (λ (r : R). Shows r (inner_of new.writer) (failures_of new.reader) (failures_of new.writer)) reader serves in
+      let written = subst (λ (w : W). Shows was.0 w (failures_of new.reader) (failures_of new.writer)) writer read in
+      let from_no_read = subst (λ (n : ℕ). Shows was.0 was.1 n (failures_of new.writer)) no_reads written in
+      record {
+        was = was;
+        opens = opens;
+        result = result;
+        last = last;
+        end_is = end_is;
+        released = released;
+        serves = subst (λ (m : ℕ). Shows was.0 was.1 0 m) no_writes from_no_read;
+      }
 
-module _ {C R W S : Type 0} (form : ReplyForm) (opens : C → Result (R × W) ConnFault → Type 0)
-    (remaining : R → Option (List ℕ)) (contents : W → Option (List ℕ))
-    (number : S → ℕ) (value : S → SeatValue) (known : S → KnownHistory) where
   -- one client more is served behind the others
-  pub served_also : (clients : List C) (sessions : List (Session R W)) (client : C) (session : Session R W) (a m b : S)
-      (asked between asked_then : List OrderValue)
-      → AreServed form opens remaining contents number value known clients sessions a asked m between
-      → IsServedAt form opens remaining contents number value known client session m between b asked_then
-      → AreServed form opens remaining contents number value known (clients ++ client ∷ []) (sessions ++ session ∷ []) a asked b asked_then
-  served_also [] [] client session a m b asked between asked_then before also =
-      let At = λ (seat : S) (orders : List OrderValue).
-      IsServedAt form opens remaining contents number value known client session seat orders b asked_then in
-      let from_seat = subst (λ seat. At seat between) before.0 also in
-      let from_both = subst (λ orders. At a orders) before.1 from_seat in
-      (b, asked_then, from_both, (refl, refl))
-  served_also [] (first ∷ sessions) client session a m b asked between asked_then before also = absurd before
-  served_also (c ∷ clients) [] client session a m b asked between asked_then before also = absurd before
-  served_also (c ∷ clients) (first ∷ sessions) client session a m b asked between asked_then before also =
-      let rest = served_also clients sessions client session before.0 m b before.1 between asked_then before.3 also in
-      (before.0, before.1, before.2, rest)
+  pub served_also : (clients : List C) (sessions : List (Session R W)) (client : C) (session : Session R W) (a m b : Standing S)
+      → AreServed words clients sessions a m → IsServedAt words client session m b
+      → AreServed words (clients ++ client ∷ []) (sessions ++ session ∷ []) a b
+  served_also [] [] client session a m b before also = (b, subst (λ (from : Standing S). IsServedAt words client session from b) before also, refl)
+  served_also [] (first ∷ sessions) client session a m b before also = absurd before
+  served_also (c ∷ clients) [] client session a m b before also = absurd before
+  served_also (c ∷ clients) (first ∷ sessions) client session a m b before also =
+      (before.0, before.1, served_also clients sessions client session before.0 m b before.2 also)
 
   -- no client was taken
-  pub serves_none : (has : List C) (sessions : List (Session R W)) (a : S) (asked : List OrderValue) → has ≡ [] → sessions ≡ []
-      → AreServed form opens remaining contents number value known has sessions a asked a asked
-  serves_none has sessions a asked none unserved =
-      let Are = λ (clients : List C) (list : List (Session R W)).
-      AreServed form opens remaining contents number value known clients list a asked a asked in
-      let nothing : Are [] [] = (refl, refl) in
-      subst (λ clients. Are clients sessions) (sym none) (subst (λ list. Are [] list) (sym unserved) nothing)
+  pub serves_none : (has : List C) (sessions : List (Session R W)) (a : Standing S) → has ≡ [] → sessions ≡ [] → AreServed words has sessions a a
+  serves_none has sessions a none unserved =
+      let Are = λ (clients : List C) (list : List (Session R W)). AreServed words clients list a a in
+      let nothing : Are [] [] = refl in
+      subst (λ (clients : List C). Are clients sessions) (sym none) (subst (λ (list : List (Session R W)). Are [] list) (sym unserved) nothing)
 
   -- and one more, who is taken and served
   pub serves_next : (has has_then : List C) (sessions sessions_then : List (Session R W)) (client : C) (session : Session R W)
-      (a m b : S) (asked between asked_then : List OrderValue)
-      → AreServed form opens remaining contents number value known has sessions a asked m between → has_then ≡ has ++ client ∷ []
-      → number b ≡ number m → Learns (known m) (value m) (known b) (value b) → TellPublished (known b) (value m) (value b)
-      → ((value m).held ≡ None → (value b).held ≡ None)
-      → sessions_then ≡ sessions ++ session ∷ []
-      → IsServed form opens remaining contents (number m) client session.0 session.1 (value m) between (value b) asked_then
-      → AreServed form opens remaining contents number value known has_then sessions_then a asked b asked_then
-  serves_next has has_then sessions sessions_then client session a m b asked between asked_then before takes same learns profiles idle adds served =
-      let Are = λ (clients : List C) (list : List (Session R W)).
-      AreServed form opens remaining contents number value known clients list a asked b asked_then in
-      let one : IsServedAt form opens remaining contents number value known client session m between b asked_then =
-      (served, same, learns, profiles, idle) in
-      let all = served_also has sessions client session a m b asked between asked_then before one in
-      subst (λ clients. Are clients sessions_then) (sym takes) (subst (λ list. Are (has ++ client ∷ []) list) (sym adds) all)
+      (a m b : Standing S)
+      → AreServed words has sessions a m → has_then ≡ has ++ client ∷ [] → sessions_then ≡ sessions ++ session ∷ []
+      → IsServedAt words client session m b → AreServed words has_then sessions_then a b
+  serves_next has has_then sessions sessions_then client session a m b before takes adds served =
+      let Are = λ (clients : List C) (list : List (Session R W)). AreServed words clients list a b in
+      let all = served_also has sessions client session a m b before served in
+      subst (λ (clients : List C). Are clients sessions_then) (sym takes)
+      (subst (λ (list : List (Session R W)). Are (has ++ client ∷ []) list) (sym adds) all)
 
   -- the reader and the writer of a session that was served may be closed
-  pub may_close : (fits : S → Type 0) (closes : R → W → SessionEnd → Type 0) (client : C) (streams : Option (Streams R W)) (end : SessionEnd) (a b : S)
-      (asked asked_then : List OrderValue) → MayClose form opens remaining contents number value known fits closes → fits a → fits b
-      → IsServedAt form opens remaining contents number value known client (streams, end) a asked b asked_then
-      → IfSome streams (λ now. closes (inner_of now.reader) (inner_of now.writer) end)
-  may_close fits closes client None end a b asked asked_then may first last served = tt
-  may_close fits closes client (Some now) end a b asked asked_then may first last served =
-      may client now end a b asked asked_then first last served
+  pub may_close : (shelves : T) (client : C) (streams : Option (Streams R W)) (end : SessionEnd) (a b : Standing S) → MayClose words shelves
+      → words.seats.fits shelves a.seat → words.seats.fits shelves b.seat → IsServedAt words client (streams, end) a b
+      → IfSome streams (λ now. words.clients.closes (inner_of now.reader) (inner_of now.writer) end)
+  may_close shelves client None end a b may first last served = tt
+  may_close shelves client (Some now) end a b may first last served = may client now end a b first last served
 
 -- what is told before a publish was tried leaves the loader's seat as it was
 pub not_published : (answers : List LoaderAnswer) (refusal : LoadRefusal) → IsEarly refusal → IsNotPublished answers refusal answers

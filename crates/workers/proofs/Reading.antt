@@ -6,7 +6,8 @@ use Rattle.feed_files.specs.Files.{FileRead}
 use Rattle.feed_files.specs.Reading.{Content, Tells}
 use Rattle.feed_files.specs.Reads.{AreRead, SomeWereRead}
 use Rattle.gtfs_rows.specs.declared.fault.Table.{Table}
-use Rattle.workers.specs.Loading.{Holds, ShowsContent}
+use Rattle.workers.specs.Loading.{ShowsContent}
+use Rattle.workers.specs.Words.{Holds}
 
 -- what stands for a content that the files are known to hold and for one that the reads gave stands for one that the files show
 pub either_way : (holds : Holds) (old new : List FileRead) (Fits : Content → Type 0)

@@ -1,105 +1,111 @@
 -- Workers' shares, put together.
-use Rattle.std.proofs.Common.{◌≡◌, ◌∙◌, ◌+◌, ◌-◌, ◌++◌, ◌∷◌, ℕ, List, [], Option, Result, length, map, refl, sym, subst, ap, arith}
+use Rattle.std.proofs.Common.{◌≡◌, ◌∙◌, ◌+◌, ◌-◌, ◌++◌, ◌∷◌, ℕ, List, [], length, map, refl, sym, subst, ap, arith}
 use Rattle.std.proofs.lemmas.List.{append_assoc, append-nil, length-append, map-append}
-use Rattle.epochs.specs.Seats.{SeatValue}
 use Rattle.load_orders.specs.Asking.{OrderRoute, WorkerOrdersValue}
 use Rattle.load_orders.specs.Keeping.{KeeperValue, QueueId, with_one_out, with_orders}
 use Rattle.load_orders.specs.declared.queue.Order.{Order}
-use Rattle.shelf_steps.specs.declared.views.KnownHistory.{KnownHistory}
-use Rattle.session.specs.declared.reply_form.ReplyForm.{ReplyForm}
-use Rattle.workers.specs.Ends.{Session}
 use Rattle.workers.specs.Ordering.{IsKeeperOf, put_by}
-use Rattle.workers.specs.Sessions.{AreAllServed, AreShares, IsShare}
+use Rattle.workers.specs.Sessions.{AreAllServed, AreShares, IsShare, Post, ShareValue, WorkValue, post_at, posts_at}
+use Rattle.workers.specs.Words.{SessionWords}
 use Rattle.std.specs.Prelude.{IsPermutation, flat_map}
 use Rattle.client_queue.specs.Ends.{DealerValue, nothing_put, out_once_more}
 use Rattle.client_queue.specs.declared.queue.DealerView.{DealerView}
-use Rattle.workers.specs.declared.clients.ConnFault.{ConnFault}
 
 nothing_left : {X : Type 0} (list : List X) → length list ≡ 0 → list ≡ []
 nothing_left [] none = refl
 nothing_left (x ∷ list) none = absurd (omega (arith, none))
 
--- a hand more behind the others
-pub flat_also : {C : Type 0} (hands : List (List C)) (hand : List C)
-    → flat_map (λ (h : List C). h) (hands ++ hand ∷ []) ≡ flat_map (λ (h : List C). h) hands ++ hand
-flat_also [] hand = append-nil hand
-flat_also (first ∷ hands) hand =
-    ap (λ list. first ++ list) (flat_also hands hand) ∙ sym (append_assoc first (flat_map (λ h. h) hands) hand)
+-- one list more behind the others
+pub flat_also : {A B : Type 0} (f : A → List B) (list : List A) (last : A) → flat_map f (list ++ last ∷ []) ≡ flat_map f list ++ f last
+flat_also f [] last = append-nil (f last)
+flat_also f (first ∷ list) last =
+    ap (λ rest. f first ++ rest) (flat_also f list last) ∙ sym (append_assoc (f first) (flat_map f list) (f last))
 
-module _ {C R W S N : Type 0} (form : ReplyForm) (opens : C → Result (R × W) ConnFault → Type 0)
-    (remaining : R → Option (List ℕ)) (contents : W → Option (List ℕ))
-    (number : S → ℕ) (value : S → SeatValue) (known : S → KnownHistory) (noted : N → ℕ) (route : OrderRoute N) where
+module _ {C R W T S N : Type 0} (words : SessionWords C R W T S N) where
   -- one share more behind the others
-  pub shares_also : (seats : List S) (hands : List (List C)) (used : List (WorkerOrdersValue N)) (ends : List (Session R W)) (lasts : List S)
-      (seat : S) (hand : List C) (orders : WorkerOrdersValue N) (share : List (Session R W)) (last : S)
-      → AreShares form opens remaining contents number value known noted route seats hands used ends lasts
-      → IsShare form opens remaining contents number value known noted route seat hand orders share last
-      → AreShares form opens remaining contents number value known noted route
-      (seats ++ seat ∷ []) (hands ++ hand ∷ []) (used ++ orders ∷ []) (ends ++ share) (lasts ++ last ∷ [])
-  shares_also [] [] [] ends [] seat hand orders share last before also =
-      (share, [], ap (λ list. list ++ share) before ∙ sym (append-nil share), also, refl)
-  shares_also [] [] [] ends (l ∷ lasts) seat hand orders share last before also = absurd before
-  shares_also [] [] (u ∷ used) ends lasts seat hand orders share last before also = absurd before
-  shares_also [] (h ∷ hands) used ends lasts seat hand orders share last before also = absurd before
-  shares_also (first ∷ seats) [] used ends lasts seat hand orders share last before also = absurd before
-  shares_also (first ∷ seats) (h ∷ hands) [] ends lasts seat hand orders share last before also = absurd before
-  shares_also (first ∷ seats) (h ∷ hands) (u ∷ used) ends [] seat hand orders share last before also = absurd before
-  shares_also (first ∷ seats) (h ∷ hands) (u ∷ used) ends (l ∷ lasts) seat hand orders share last before also =
-      let rest = shares_also seats hands used before.1 lasts seat hand orders share last before.4 also in
-      let joined = ap (λ list. list ++ share) before.2 ∙ append_assoc before.0 before.1 share in
-      (before.0, before.1 ++ share, joined, before.3, rest)
+  pub shares_also : (posts : List (Post S N)) (hands : List (List C)) (shares : List (ShareValue R W S N))
+      (post : Post S N) (hand : List C) (share : ShareValue R W S N)
+      → AreShares words posts hands shares → IsShare words post hand share
+      → AreShares words (posts ++ post ∷ []) (hands ++ hand ∷ []) (shares ++ share ∷ [])
+  shares_also [] [] [] post hand share before also = (also, tt)
+  shares_also [] [] (s ∷ shares) post hand share before also = absurd before
+  shares_also [] (h ∷ hands) shares post hand share before also = absurd before
+  shares_also (p ∷ posts) [] shares post hand share before also = absurd before
+  shares_also (p ∷ posts) (h ∷ hands) [] post hand share before also = absurd before
+  shares_also (p ∷ posts) (h ∷ hands) (s ∷ shares) post hand share before also =
+      (before.0, shares_also posts hands shares post hand share before.1 also)
 
-  module _ {H : Type 0} (seat_of : H → S) where
-    -- of all these workers those that are left weren't joined yet; what the others took, and their orders, are these
-    abbrev pub Joined : List H → List H → List C → List (WorkerOrdersValue N) → List (Session R W) → List S → Type 0
-    Joined all left taken used ends lasts =
-        (done : List H) × (hands : List (List C)) × (all ≡ done ++ left) × (taken ≡ flat_map (λ hand. hand) hands)
-        × AreShares form opens remaining contents number value known noted route (map seat_of done) hands used ends lasts
+  module _ {H : Type 0} (seat_of : H → S) (route : OrderRoute N) where
+    -- of all these workers those that are left weren't joined yet; what the others took and left is this
+    pub record Joined (all left : List H) (taken : List C) (work : WorkValue R W S N) : Type 0 where
+      pub done : List H
+      pub hands : List (List C)
+      pub shares : List (ShareValue R W S N)
+      pub all_are : all ≡ done ++ left
+      pub taken_are : taken ≡ flat_map (λ hand. hand) hands
+      pub each : AreShares words (posts_at (map seat_of done) route) hands shares
+      pub sessions_are : work.sessions ≡ flat_map (λ share. share.sessions) shares
+      pub seats_are : work.seats ≡ map (λ share. share.seat) shares
+      pub orders_are : work.orders ≡ map (λ share. share.orders) shares
 
-    pub joined_none : (all left : List H) (taken : List C) (used : List (WorkerOrdersValue N)) (ends : List (Session R W)) (lasts : List S)
-        → left ≡ all → taken ≡ [] → used ≡ [] → ends ≡ [] → lasts ≡ [] → Joined all left taken used ends lasts
-    joined_none all left taken used ends lasts same nothing unused none nobody =
-        let Shares = AreShares form opens remaining contents number value known noted route [] [] in
-        let shares : Shares [] ends lasts = subst (λ list. Shares [] ends list) (sym nobody) none in
-        ([], [], sym same, nothing, subst (λ list. Shares list ends lasts) (sym unused) shares)
+    pub joined_none : (all left : List H) (taken : List C) (work : WorkValue R W S N)
+        → left ≡ all → taken ≡ [] → work.sessions ≡ [] → work.seats ≡ [] → work.orders ≡ [] → Joined all left taken work
+    joined_none all left taken work same nothing none nobody unused = record {
+      done = [];
+      hands = [];
+      shares = [];
+      all_are = sym same;
+      taken_are = nothing;
+      each = tt;
+      sessions_are = none;
+      seats_are = nobody;
+      orders_are = unused;
+    }
 
-    pub joined_next : (all left left_then : List H) (taken taken_then : List C) (used used_then : List (WorkerOrdersValue N))
-        (ends ends_then : List (Session R W)) (lasts lasts_then : List S)
-        (hand : List C) (orders : WorkerOrdersValue N) (share : List (Session R W)) (last : S) (worker : H)
-        → Joined all left taken used ends lasts → left ≡ worker ∷ left_then
-        → taken_then ≡ taken ++ hand → used_then ≡ used ++ orders ∷ [] → ends_then ≡ ends ++ share → lasts_then ≡ lasts ++ last ∷ []
-        → IsShare form opens remaining contents number value known noted route (seat_of worker) hand orders share last
-        → Joined all left_then taken_then used_then ends_then lasts_then
-    joined_next all left left_then taken taken_then used used_then ends ends_then lasts lasts_then hand orders share last worker
-        before step takes uses grows back also =
-        let done = before.0 in
-        let hands = before.1 in
-        let Shares = λ (seats : List S) (by : List (WorkerOrdersValue N)) (list : List (Session R W)) (seats_then : List S).
-        AreShares form opens remaining contents number value known noted route seats (hands ++ hand ∷ []) by list seats_then in
-        let more : Shares (map seat_of done ++ seat_of worker ∷ []) (used ++ orders ∷ []) (ends ++ share) (lasts ++ last ∷ []) =
-        shares_also (map seat_of done) hands used ends lasts (seat_of worker) hand orders share last before.4 also in
-        let seats = subst (λ seats. Shares seats (used ++ orders ∷ []) (ends ++ share) (lasts ++ last ∷ []))
-        (sym (map-append seat_of done (worker ∷ []))) more in
-        let by = subst (λ by. Shares (map seat_of (done ++ worker ∷ [])) by (ends ++ share) (lasts ++ last ∷ [])) (sym uses) seats in
-        let grown = subst (λ list. Shares (map seat_of (done ++ worker ∷ [])) used_then list (lasts ++ last ∷ [])) (sym grows) by in (
-          done ++ worker ∷ [],
-          hands ++ hand ∷ [],
-          before.2 ∙ ap (λ list. done ++ list) step ∙ sym (append_assoc done (worker ∷ []) left_then),
-          takes ∙ ap (λ list. list ++ hand) before.3 ∙ sym (flat_also hands hand),
-          subst (λ list. Shares (map seat_of (done ++ worker ∷ [])) used_then ends_then list) (sym back) grown,
-        )
+    posts_also : (done : List H) (worker : H)
+        → posts_at (map seat_of (done ++ worker ∷ [])) route ≡ posts_at (map seat_of done) route ++ post_at (seat_of worker) route ∷ []
+    posts_also done worker =
+        ap (λ seats. posts_at seats route) (map-append seat_of done (worker ∷ []))
+        ∙ map-append (λ seat. post_at seat route) (map seat_of done) (seat_of worker ∷ [])
+
+    pub joined_next : (all left left_then : List H) (taken taken_then : List C) (work work_then : WorkValue R W S N)
+        (hand : List C) (share : ShareValue R W S N) (worker : H)
+        → Joined all left taken work → left ≡ worker ∷ left_then → taken_then ≡ taken ++ hand
+        → work_then.sessions ≡ work.sessions ++ share.sessions → work_then.seats ≡ work.seats ++ share.seat ∷ []
+        → work_then.orders ≡ work.orders ++ share.orders ∷ [] → IsShare words (post_at (seat_of worker) route) hand share
+        → Joined all left_then taken_then work_then
+    joined_next all left left_then taken taken_then work work_then hand share worker before step takes grows back uses also =
+        let done = before.done in
+        let hands = before.hands in
+        let shares = before.shares in
+        let more = shares_also (posts_at (map seat_of done) route) hands shares (post_at (seat_of worker) route) hand share before.each also in
+        record {
+          done = done ++ worker ∷ [];
+          hands = hands ++ hand ∷ [];
+          shares = shares ++ share ∷ [];
+          all_are = before.all_are ∙ ap (λ list. done ++ list) step ∙ sym (append_assoc done (worker ∷ []) left_then);
+          taken_are = takes ∙ ap (λ list. list ++ hand) before.taken_are ∙ sym (flat_also (λ h. h) hands hand);
+          each = subst (λ posts. AreShares words posts (hands ++ hand ∷ []) (shares ++ share ∷ [])) (sym (posts_also done worker)) more;
+          sessions_are = grows ∙ ap (λ list. list ++ share.sessions) before.sessions_are ∙ sym (flat_also (λ s. s.sessions) shares share);
+          seats_are = back ∙ ap (λ list. list ++ share.seat ∷ []) before.seats_are ∙ sym (map-append (λ s. s.seat) shares (share ∷ []));
+          orders_are = uses ∙ ap (λ list. list ++ share.orders ∷ []) before.orders_are ∙ sym (map-append (λ s. s.orders) shares (share ∷ []));
+        }
 
     -- all were joined, and what they took is what was put
-    pub joined_all : (all left : List H) (sent taken : List C) (used : List (WorkerOrdersValue N)) (ends : List (Session R W)) (lasts : List S)
-        → Joined all left taken used ends lasts → length left ≡ 0 → IsPermutation sent taken
-        → AreAllServed form opens remaining contents number value known noted route sent (map seat_of all) used ends lasts
-    joined_all all left sent taken used ends lasts before none dealt =
-        let whole : all ≡ before.0 = before.2 ∙ ap (λ list. before.0 ++ list) (nothing_left left none) ∙ append-nil before.0 in (
-          before.1,
-          subst (λ list. IsPermutation sent list) before.3 dealt,
-          subst (λ workers. AreShares form opens remaining contents number value known noted route (map seat_of workers) before.1 used ends lasts)
-              (sym whole) before.4,
-        )
+    pub joined_all : (all left : List H) (sent taken : List C) (work : WorkValue R W S N)
+        → Joined all left taken work → length left ≡ 0 → IsPermutation sent taken
+        → AreAllServed words sent (posts_at (map seat_of all) route) work
+    joined_all all left sent taken work before none dealt =
+        let whole : all ≡ before.done = before.all_are ∙ ap (λ list. before.done ++ list) (nothing_left left none) ∙ append-nil before.done in
+        record {
+          hands = before.hands;
+          dealt = subst (λ list. IsPermutation sent list) before.taken_are dealt;
+          shares = before.shares;
+          each = subst (λ workers. AreShares words (posts_at (map seat_of workers) route) before.hands before.shares) (sym whole) before.each;
+          sessions_are = before.sessions_are;
+          seats_are = before.seats_are;
+          orders_are = before.orders_are;
+        }
 
 module _ {S H : Type 0} (seat_of : H → S) where
   -- no worker is at a seat yet
@@ -128,10 +134,6 @@ pub moved_next : {X : Type 0} (all left left_then moved moved_then : List X) (pu
 moved_next all left left_then moved moved_then put x before step grows same =
     let more : moved_then ≡ moved ++ x ∷ [] = grows ∙ ap (λ last. moved ++ last ∷ []) same in
     before ∙ ap (λ list. moved ++ list) step ∙ sym (append_assoc moved (x ∷ []) left_then) ∙ sym (ap (λ list. list ++ left_then) more)
-
--- and all were
-pub moved_all : {X : Type 0} (all left moved : List X) → all ≡ moved ++ left → length left ≡ 0 → moved ≡ all
-moved_all all left moved before none = sym (before ∙ ap (λ list. moved ++ list) (nothing_left left none) ∙ append-nil moved)
 
 -- a worker more is out, and one more is among them
 pub one_more_out : {C H : Type 0} (dealer dealer_then : DealerValue C) (workers workers_then : List H) (worker : H)

@@ -1,7 +1,5 @@
 -- Orders that are carried out.
-use Rattle.std.specs.Prelude.{◌≡◌, ◌≤◌, ◌+◌, ◌++◌, ◌∷◌, ℕ, true, List, [], Option, Some, None, Result}
-use Rattle.epochs.specs.declared.seats.LoaderAnswer.{LoaderAnswer}
-use Rattle.feed_files.specs.Files.{FileRead}
+use Rattle.std.specs.Prelude.{◌≡◌, ◌≤◌, ◌+◌, ◌++◌, ◌∷◌, ℕ, true, List, [], Option, Result, MatchOption, length, map}
 use Rattle.feed_loader.specs.Faults.{failed_by, failed_in}
 use Rattle.feed_loader.specs.declared.plan.Plan.{Plan}
 use Rattle.load_orders.specs.Keeping.{QueueId}
@@ -11,7 +9,9 @@ use Rattle.load_orders.specs.declared.ways.LoadAnswer.{LoadAnswer}
 use Rattle.orders.specs.Ordering.{order_fault_number}
 use Rattle.orders.specs.declared.fault.OrderFault.{OrderFault}
 use Rattle.workers.specs.Drawing.{IsDrawnAt}
-use Rattle.workers.specs.Loading.{Holds, IsOutcome, load_answer, reading}
+use Rattle.workers.specs.Learned.{LoaderLearns}
+use Rattle.workers.specs.Loading.{IsOutcome, load_answer, load_state, reading}
+use Rattle.workers.specs.Words.{LoadWords}
 use Rattle.workers.specs.declared.drawing.DrawnFiles.{DrawnFiles}
 use Rattle.workers.specs.declared.loading.LoadedVersion.{LoadedVersion}
 use Rattle.workers.specs.declared.refusal.LoadRefusal.{LoadRefusal}
@@ -21,36 +21,86 @@ abbrev pub FailedAsReported : {D T : Type 0} → (D → ℕ) → (D → List (Li
 FailedAsReported failures failed files files_then outcome =
     (failures files_then ≡ failures files + failed_in (reading outcome)) × (failed files_then ≡ failed_by (failed files) (reading outcome))
 
--- for any notices with their versions; and for so many feeds, with their files, what these hold, what was read of them, how many reads
--- failed and of which files, and the plans by which feeds may be loaded
-module _ {N D : Type 0} (noted : N → ℕ) (are_files : ℕ → D → Type 0) (holds : D → Holds) (reads : D → List FileRead) (failures : D → ℕ)
-    (failed : D → List (List ℕ)) (is_plan : Plan → Type 0) (places : ℕ) where
-  -- the files of the feed at this index, drawn when just these orders had been taken from this queue, are loaded, and the answer is what came of
-  -- that; or there is no such feed, and none are drawn
-  abbrev pub IsLoadOf : QueueId N → List (Order N) → ℕ → Option (DrawnFiles D N) → LoadAnswer N → List LoaderAnswer → List LoaderAnswer → Type 0
-  IsLoadOf queue taken feed (Some drawn) answer before after =
-      (plan : Plan) × (outcome : Result (LoadedVersion × Option N) LoadRefusal) × IsDrawnAt queue taken drawn × are_files feed drawn.first.value × is_plan plan
-      × IsOutcome noted (holds drawn.first.value) (reads drawn.first.value) (reads drawn.files) plan before outcome after
-      × FailedAsReported failures failed drawn.first.value drawn.files outcome × (answer ≡ load_answer outcome)
-  IsLoadOf queue taken feed None answer before after =
-      (places ≤ feed) × (after ≡ before) × (answer ≡ LoadAnswer.Refused (order_fault_number OrderFault.UnknownFeed))
+-- where loads take place: these feeds, and the queue from which their orders come
+pub record Depot (F D T L N : Type 0) : Type 1 where
+  pub words : LoadWords F D T L N
+  pub feeds : F
+  pub queue : QueueId N
 
-  -- this order is carried out, once just these were taken: its own feed is loaded, from files that are drawn for it, and what came of that very
-  -- load is sent by its own way back
-  abbrev pub IsCarriedOut : QueueId N → List (Order N) → Order N → Option (DrawnFiles D N) → AnsweredValue N
-      → List LoaderAnswer → List LoaderAnswer → Type 0
-  IsCarriedOut queue taken order files answered before after =
-      IsSentBack order.way_back answered.answer answered.sent × IsLoadOf queue taken order.feed files answered.answer before after
+abbrev pub depot_of : {F D T L N : Type 0} → LoadWords F D T L N → F → QueueId N → Depot F D T L N
+depot_of words feeds queue = record { words = words; feeds = feeds; queue = queue }
+
+-- a load: of the feed at this index, once just these orders were taken, from these files, if any were drawn; and its answer
+pub record LoadValue (D N : Type 0) : Type 0 where
+  pub feed : ℕ
+  pub taken : List (Order N)
+  pub files : Option (DrawnFiles D N)
+  pub answer : LoadAnswer N
+
+abbrev pub load_value : {D N : Type 0} → ℕ → List (Order N) → Option (DrawnFiles D N) → LoadAnswer N → LoadValue D N
+load_value feed taken files answer = record { feed = feed; taken = taken; files = files; answer = answer }
+
+-- an order, those that were taken by then, this one included, the files that were drawn for it, if any, and what was answered
+pub record Errand (D N : Type 0) : Type 0 where
+  pub order : Order N
+  pub taken : List (Order N)
+  pub files : Option (DrawnFiles D N)
+  pub answered : AnsweredValue N
+
+abbrev pub errand_of : {D N : Type 0} → Order N → List (Order N) → Option (DrawnFiles D N) → AnsweredValue N → Errand D N
+errand_of order taken files answered = record { order = order; taken = taken; files = files; answered = answered }
+
+-- what the loader leaves: its end of the queue of orders, and the files that it used, order after order
+pub record LoadsValue (D N : Type 0) : Type 0 where
+  pub orders : LoaderOrdersValue N
+  pub used : List (Option (DrawnFiles D N))
+
+abbrev pub loads_value : {D N : Type 0} → LoaderOrdersValue N → List (Option (DrawnFiles D N)) → LoadsValue D N
+loads_value orders used = record { orders = orders; used = used }
+
+module _ {F D T L N : Type 0} (depot : Depot F D T L N) where
+  -- the files of the feed at this index, drawn when just these orders had been taken from the queue, are loaded, and the answer is what came of that
+  pub record IsLoad (load : LoadValue D N) (drawn : DrawnFiles D N) (a b : L) : Type 0 where
+    pub plan : Plan
+    pub outcome : Result (LoadedVersion × Option N) LoadRefusal
+    pub drawn_at : IsDrawnAt depot.queue load.taken drawn
+    pub are_files : depot.words.feeds.are_files depot.feeds load.feed drawn.first.value
+    pub is_plan : depot.words.feeds.is_plan depot.feeds plan
+    pub comes : IsOutcome depot.words.outcomes plan (load_state drawn.first.value a) outcome (load_state drawn.files b)
+    pub failed : FailedAsReported depot.words.outcomes.files.failures depot.words.outcomes.files.failed drawn.first.value drawn.files outcome
+    pub answer_is : load.answer ≡ load_answer outcome
+
+  -- there is no such feed, and no files are drawn
+  pub record IsOfNoFeed (load : LoadValue D N) (a b : L) : Type 0 where
+    pub beyond : length (depot.words.feeds.named depot.feeds) ≤ load.feed
+    pub same : b ≡ a
+    pub answer_is : load.answer ≡ LoadAnswer.Refused (order_fault_number OrderFault.UnknownFeed)
+
+  abbrev pub IsLoadOf : LoadValue D N → L → L → Type 0
+  IsLoadOf load a b = MatchOption load.files (IsOfNoFeed load a b) (λ drawn. IsLoad load drawn a b)
+
+  -- this order is carried out: its own feed is loaded, from files that are drawn for it, and what came of that very load is sent by its own way back
+  pub record IsCarriedOut (errand : Errand D N) (a b : L) : Type 0 where
+    pub sent : IsSentBack errand.order.way_back errand.answered.answer errand.answered.sent
+    pub load : IsLoadOf (load_value errand.order.feed errand.taken errand.files errand.answered.answer) a b
 
   -- after these earlier orders of the queue, further ones are carried out in turn, each once, and each with files of its own
-  abbrev pub AreCarriedOut : QueueId N → List (Order N) → List (Order N) → List (Option (DrawnFiles D N)) → List (AnsweredValue N)
-      → List LoaderAnswer → List LoaderAnswer → Type 0
-  AreCarriedOut queue earlier [] [] [] before after = after ≡ before
-  AreCarriedOut queue earlier (order ∷ orders) (files ∷ others) (answered ∷ rest) before after =
-      (between : List LoaderAnswer) × IsCarriedOut queue (earlier ++ order ∷ []) order files answered before between
-      × AreCarriedOut queue (earlier ++ order ∷ []) orders others rest between after
-  AreCarriedOut _ _ _ _ _ before after = ⊥
+  abbrev pub AreCarriedOut : List (Order N) → List (Errand D N) → L → L → Type 0
+  AreCarriedOut earlier [] a b = b ≡ a
+  AreCarriedOut earlier (errand ∷ errands) a b =
+      (m : L) × (errand.taken ≡ earlier ++ errand.order ∷ []) × IsCarriedOut errand a m × AreCarriedOut errand.taken errands m b
 
-  -- at this end of the queue orders were taken until none came, and all were carried out in turn, each once, of these files
-  abbrev pub AllCarriedOut : LoaderOrdersValue N → List (Option (DrawnFiles D N)) → List LoaderAnswer → List LoaderAnswer → Type 0
-  AllCarriedOut end used before after = (end.over ≡ true) × AreCarriedOut end.queue [] end.taken used end.answered before after
+  -- all orders that were taken were carried out in turn, each once, of these files
+  pub record AreCarried (a : L) (loads : LoadsValue D N) (b : L) : Type 0 where
+    pub errands : List (Errand D N)
+    pub orders_are : loads.orders.taken ≡ map (λ errand. errand.order) errands
+    pub answers_are : loads.orders.answered ≡ map (λ errand. errand.answered) errands
+    pub files_are : loads.used ≡ map (λ errand. errand.files) errands
+    pub carried : AreCarriedOut [] errands a b
+
+  -- and orders were taken until none came. What was published is in the history that the loader's seat knows
+  pub record AreLoaded (a : L) (loads : LoadsValue D N) (b : L) : Type 0 where
+    pub over : loads.orders.over ≡ true
+    pub carried : AreCarried a loads b
+    pub learns : LoaderLearns (depot.words.outcomes.loader.known a) (depot.words.outcomes.loader.answers a)
+        (depot.words.outcomes.loader.known b) (depot.words.outcomes.loader.answers b)

@@ -1,3 +1,5 @@
+pub mod Words
+pub mod Shelves
 pub mod Ends
 pub mod Sessions
 pub mod Dealing
@@ -7,3 +9,4 @@ pub mod Ordering
 pub mod Drawing
 pub mod Learned
 pub mod Lines
+pub mod Headline

@@ -16,6 +16,7 @@ use Rattle.epochs.specs.Seats.{PublishStep, RefuseStep, CollectStep}
 use Rattle.epochs.specs.declared.collected.Collected.{Collected}
 use Rattle.epochs.specs.declared.faults.PublishFault.{PublishFault}
 use Rattle.epochs.specs.declared.seats.LoaderAnswer.{LoaderAnswer}
+use Rattle.workers.specs.Words.{Holds, OutcomeWords}
 use Rattle.workers.specs.declared.loading.LoadedVersion.{LoadedVersion}
 use Rattle.workers.specs.declared.refusal.LoadRefusal.{LoadRefusal}
 
@@ -44,10 +45,6 @@ abbrev pub IsNotPublished : List LoaderAnswer → LoadRefusal → List LoaderAns
 IsNotPublished before (LoadRefusal.Load fault) after = after ≡ before
 IsNotPublished before (LoadRefusal.Publish fault) after = ((after ≡ before) × (fault ≡ PublishFault.OutOfMemory)) ⊎ RefuseStep before fault after
 
--- what files are known to hold, by their names
-abbrev pub Holds : Type 0
-Holds = List ℕ → Option (Option (List ℕ))
-
 -- the files show this content: they are known to hold it, or the reads between two moments gave it
 abbrev pub ShowsContent : Holds → List FileRead → List FileRead → Content → Type 0
 ShowsContent holds old new content = Tells holds content ⊎ ((ts : List Table) × AreRead content ts old new)
@@ -60,15 +57,28 @@ IsRefusalOf holds old new plan (LoadRefusal.Publish fault) =
     (image : ImageValue) × (report : Report) × AllWereRead old new
     × ((content : Content) → ShowsContent holds old new content → IsImageOf content plan image report)
 
+-- what a load changes: the feed's files, and the loader's seat
+pub record LoadState (D L : Type 0) : Type 0 where
+  pub files : D
+  pub loader : L
+
+abbrev pub load_state : {D L : Type 0} → D → L → LoadState D L
+load_state files loader = record { files = files; loader = loader }
+
 -- what comes of files: each was read once, the image of what they show is published as the version that the answer names, with its counts, and a notice of
 -- that version comes; or the first of them were read, nothing is published, and the first refusal is reported
-abbrev pub IsOutcome : {N : Type 0} → (N → ℕ) → Holds → List FileRead → List FileRead → Plan
-    → List LoaderAnswer → Result (LoadedVersion × Option N) LoadRefusal → List LoaderAnswer → Type 0
-IsOutcome noted holds old new plan before (Ok loaded) after =
-    (image : ImageValue) × AllWereRead old new × ((content : Content) → ShowsContent holds old new content → IsImageOf content plan image loaded.0.report)
-    × IsPublished before image loaded.0.version after × MatchOption loaded.1 ⊥ (λ notice. noted notice ≡ loaded.0.version)
-IsOutcome noted holds old new plan before (Err refusal) after =
-    SomeWereRead old new × IsRefusalOf holds old new plan refusal × IsNotPublished before refusal after
+abbrev pub IsOutcome : {D T L N : Type 0} → OutcomeWords D T L N → Plan → LoadState D L
+    → Result (LoadedVersion × Option N) LoadRefusal → LoadState D L → Type 0
+IsOutcome words plan a (Ok loaded) b =
+    (image : ImageValue) × AllWereRead (words.files.reads a.files) (words.files.reads b.files)
+    × ((content : Content) → ShowsContent (words.files.holds a.files) (words.files.reads a.files) (words.files.reads b.files) content
+    → IsImageOf content plan image loaded.0.report)
+    × IsPublished (words.loader.answers a.loader) image loaded.0.version (words.loader.answers b.loader)
+    × MatchOption loaded.1 ⊥ (λ notice. words.version notice ≡ loaded.0.version)
+IsOutcome words plan a (Err refusal) b =
+    SomeWereRead (words.files.reads a.files) (words.files.reads b.files)
+    × IsRefusalOf (words.files.holds a.files) (words.files.reads a.files) (words.files.reads b.files) plan refusal
+    × IsNotPublished (words.loader.answers a.loader) refusal (words.loader.answers b.loader)
 
 -- the number under which a refusal is reported
 abbrev pub refusal_number : LoadRefusal → ℕ

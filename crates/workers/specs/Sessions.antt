@@ -1,121 +1,168 @@
 -- What clients' sessions do.
-use Rattle.std.specs.Prelude.{◌≡◌, ◌<◌, ◌++◌, ◌∷◌, ℕ, Option, Some, None, List, [], Result, Ok, Err, IsPermutation, flat_map}
+use Rattle.std.specs.Prelude.{◌≡◌, ◌++◌, ◌∷◌, ℕ, Some, None, List, [], Result, Ok, Err, IsPermutation, MatchOption, flat_map, map}
 use Rattle.client_queue.specs.declared.queue.DealerView.{DealerView}
 use Rattle.epochs.specs.Seats.{SeatValue}
-use Rattle.lines.specs.Counting.{failures_of, inner_of}
+use Rattle.lines.specs.Counting.{inner_of}
 use Rattle.load_orders.specs.Asking.{OrderRoute, WorkerOrdersValue}
 use Rattle.orders.specs.Ordering.{OrderValue}
 use Rattle.shelf_steps.specs.declared.views.KnownHistory.{KnownHistory}
 use Rattle.session.specs.Learning.{AreFromPublished, Learns, TellPublished}
 use Rattle.session.specs.declared.fault.Ended.{Ended}
 use Rattle.session.specs.declared.fault.SessionFault.{SessionFault}
-use Rattle.session.specs.declared.reply_form.ReplyForm.{ReplyForm}
-use Rattle.session.specs.Sessions.{LastRelease, Serves}
+use Rattle.session.specs.Sessions.{LastRelease, Serves, SessionState, state_of}
+use Rattle.session.specs.Turns.{desk_state}
 use Rattle.workers.specs.Ends.{Session, end_of}
 use Rattle.workers.specs.Ordering.{IsAskedBy}
+use Rattle.workers.specs.Words.{SessionWords}
 use Rattle.workers.specs.declared.clients.ConnFault.{ConnFault}
 use Rattle.workers.specs.declared.served.SessionEnd.{SessionEnd}
 use Rattle.session.specs.declared.desk.Streams.{Streams}
 
--- a session is served at this seat, its profiles are replied in this form, and it ends so; what was to be read, what was written, the seat and
--- the orders are given as they were before it and after it
-pub record IsSession (form : ReplyForm) (number : ℕ) (end : SessionEnd) (to_read read_then contents contents_then : Option (List ℕ))
-    (read_failed write_failed : Type 0)
-    (a : SeatValue) (asked : List OrderValue) (b : SeatValue) (asked_then : List OrderValue) : Type 0 where
-  pub result : Result Ended SessionFault
-  pub last : SeatValue
-  pub end_is : end ≡ end_of result
-  pub released : LastRelease number last b
-  pub serves : Serves form number result to_read read_then contents contents_then read_failed write_failed a asked last asked_then
+-- a seat, and the orders that were asked for at it
+pub record Standing (S : Type 0) : Type 0 where
+  pub seat : S
+  pub asked : List OrderValue
 
--- a client that can't be opened changes nothing
-pub record IsUnopened (end : SessionEnd) (a : SeatValue) (asked : List OrderValue) (b : SeatValue) (asked_then : List OrderValue) : Type 0 where
-  pub end_is : end ≡ SessionEnd.Failed
-  pub seat : b ≡ a
-  pub orders : asked_then ≡ asked
+abbrev pub standing : {S : Type 0} → S → List OrderValue → Standing S
+standing seat asked = record { seat = seat; asked = asked }
 
-module _ {C R W : Type 0} (form : ReplyForm) (opens : C → Result (R × W) ConnFault → Type 0)
-    (remaining : R → Option (List ℕ)) (contents : W → Option (List ℕ)) where
-  -- the client's own reader and writer were opened and served, and are so now, with only this session's failures counted; or the client couldn't
-  -- be opened
-  abbrev pub IsServed : ℕ → C → Option (Streams R W) → SessionEnd → SeatValue → List OrderValue → SeatValue → List OrderValue → Type 0
-  IsServed number client (Some now) end a asked b asked_then =
-      (was : R × W) × opens client (Ok was)
-      × IsSession form number end (remaining was.0) (remaining (inner_of now.reader)) (contents was.1) (contents (inner_of now.writer))
-      (0 < failures_of now.reader) (0 < failures_of now.writer) a asked b asked_then
-  IsServed number client None end a asked b asked_then = (fault : ConnFault) × opens client (Err fault) × IsUnopened end a asked b asked_then
+-- where a worker begins: at this seat, with orders that go this way
+pub record Post (S N : Type 0) : Type 0 where
+  pub seat : S
+  pub route : OrderRoute N
+
+abbrev pub post_at : {S N : Type 0} → S → OrderRoute N → Post S N
+post_at seat route = record { seat = seat; route = route }
+
+-- a worker at each of these seats, with orders that all go the same way
+abbrev pub posts_at : {S N : Type 0} → List S → OrderRoute N → List (Post S N)
+posts_at seats route = map (λ seat. post_at seat route) seats
+
+-- what a worker leaves: its clients' sessions, its seat, and its orders
+pub record ShareValue (R W S N : Type 0) : Type 0 where
+  pub sessions : List (Session R W)
+  pub seat : S
+  pub orders : WorkerOrdersValue N
+
+abbrev pub share_of : {R W S N : Type 0} → List (Session R W) → S → WorkerOrdersValue N → ShareValue R W S N
+share_of sessions seat orders = record { sessions = sessions; seat = seat; orders = orders }
+
+-- what all workers leave: the sessions, worker after worker; and each one's seat and orders
+pub record WorkValue (R W S N : Type 0) : Type 0 where
+  pub sessions : List (Session R W)
+  pub seats : List S
+  pub orders : List (WorkerOrdersValue N)
+
+abbrev pub work_of : {R W S N : Type 0} → List (Session R W) → List S → List (WorkerOrdersValue N) → WorkValue R W S N
+work_of sessions seats orders = record { sessions = sessions; seats = seats; orders = orders }
+
+-- a client, and the session that it had
+pub record Visit (C R W : Type 0) : Type 0 where
+  pub client : C
+  pub session : Session R W
+
+abbrev pub visit_of : {C R W : Type 0} → C → Session R W → Visit C R W
+visit_of client session = record { client = client; session = session }
+
+module _ {C R W T S N : Type 0} (words : SessionWords C R W T S N) where
+  -- a session as it begins, over what opening the client gave
+  abbrev pub opened : R × W → Standing S → SessionState
+  opened was a = record {
+    unread = words.unread was.0;
+    written = words.written was.1;
+    failed_reads = 0;
+    failed_writes = 0;
+    desk = desk_state (words.seats.shown a.seat) a.asked;
+  }
+
+  -- the client's own reader and writer were opened and served at this seat, and are so now, with only this session's failures counted
+  pub record IsSession (client : C) (visit : Streams R W × SessionEnd) (a b : Standing S) : Type 0 where
+    pub was : R × W
+    pub opens : words.clients.opens client (Ok was)
+    pub result : Result Ended SessionFault
+    pub last : SeatValue
+    pub end_is : visit.1 ≡ end_of result
+    pub released : LastRelease (words.seats.number a.seat) last (words.seats.shown b.seat)
+    pub serves : Serves words.form (words.seats.number a.seat) result (opened was a)
+        (state_of words.unread words.written visit.0.reader visit.0.writer (desk_state last b.asked))
+
+  -- the client couldn't be opened, and nothing was changed
+  pub record IsUnopened (client : C) (end : SessionEnd) (a b : Standing S) : Type 0 where
+    pub fault : ConnFault
+    pub opens : words.clients.opens client (Err fault)
+    pub end_is : end ≡ SessionEnd.Failed
+    pub same : b ≡ a
+
+  -- the client was served so, or couldn't be opened
+  abbrev pub IsServed : C → Session R W → Standing S → Standing S → Type 0
+  IsServed client session a b = MatchOption session.0 (IsUnopened client session.1 a b) (λ now. IsSession client (now, session.1) a b)
 
   -- as `IsServed`; and each profile in the session's turns, unless memory or a version was wanting, is answered exactly, over the accepted image
   -- that this history published as the version that the reply names
-  abbrev pub IsExact : KnownHistory → ℕ → C → Option (Streams R W) → SessionEnd → SeatValue → List OrderValue → SeatValue → List OrderValue → Type 0
-  IsExact history number client (Some now) end a asked b asked_then =
-      (was : R × W) × opens client (Ok was)
-      × (session : IsSession form number end (remaining was.0) (remaining (inner_of now.reader)) (contents was.1) (contents (inner_of now.writer))
-      (0 < failures_of now.reader) (0 < failures_of now.writer) a asked b asked_then)
-      × AreFromPublished history form session.serves.turns
-  IsExact history number client None end a asked b asked_then = (fault : ConnFault) × opens client (Err fault) × IsUnopened end a asked b asked_then
+  abbrev pub IsExact : KnownHistory → Visit C R W → Standing S → Standing S → Type 0
+  IsExact history visit a b = MatchOption visit.session.0 (IsUnopened visit.client visit.session.1 a b)
+      (λ now. (session : IsSession visit.client (now, visit.session.1) a b) × AreFromPublished history words.form session.serves.turns)
 
-  -- over seats with these numbers and values
-  module _ {S : Type 0} (number : S → ℕ) (value : S → SeatValue) where
-    -- the clients are served at this seat one after the other, and each profile in their sessions is answered exactly, as this history has it
-    abbrev pub AreExact : KnownHistory → List C → List (Session R W) → S → List OrderValue → S → List OrderValue → Type 0
-    AreExact history [] [] a asked b asked_then = (b ≡ a) × (asked_then ≡ asked)
-    AreExact history (client ∷ clients) (session ∷ sessions) a asked b asked_then =
-        (m : S) × (between : List OrderValue)
-        × IsExact history (number a) client session.0 session.1 (value a) asked (value m) between
-        × AreExact history clients sessions m between b asked_then
-    AreExact history _ _ a asked b asked_then = ⊥
+  -- the clients are served at this seat one after the other, and each profile in their sessions is answered exactly, as the history has it that the
+  -- seat knows in the end
+  abbrev pub AreExact : List C → List (Session R W) → Standing S → Standing S → Type 0
+  AreExact [] [] a b = b ≡ a
+  AreExact (client ∷ clients) (session ∷ sessions) a b =
+      (m : Standing S) × IsExact (words.seats.known b.seat) (visit_of client session) a m × AreExact clients sessions m b
+  AreExact _ _ a b = ⊥
 
-  -- over seats with these numbers, values, and parts of their shelves' one history that they know
-  module _ {S : Type 0} (number : S → ℕ) (value : S → SeatValue) (known : S → KnownHistory) where
-    -- a client is served at this seat, which learns meanwhile: each profile is answered over the image that the history published as its
-    -- version, and the seat holds nothing then if it held nothing
-    abbrev pub IsServedAt : C → Session R W → S → List OrderValue → S → List OrderValue → Type 0
-    IsServedAt client session a asked b asked_then =
-        IsServed (number a) client session.0 session.1 (value a) asked (value b) asked_then × (number b ≡ number a)
-        × Learns (known a) (value a) (known b) (value b) × TellPublished (known b) (value a) (value b)
-        × ((value a).held ≡ None → (value b).held ≡ None)
+  -- a client is served at this seat, which learns meanwhile: each profile is answered over the image that the history published as its version, and
+  -- the seat holds nothing then if it held nothing
+  pub record IsServedAt (client : C) (session : Session R W) (a b : Standing S) : Type 0 where
+    pub served : IsServed client session a b
+    pub number : words.seats.number b.seat ≡ words.seats.number a.seat
+    pub learns : Learns (words.seats.known a.seat) (words.seats.shown a.seat) (words.seats.known b.seat) (words.seats.shown b.seat)
+    pub profiles : TellPublished (words.seats.known b.seat) (words.seats.shown a.seat) (words.seats.shown b.seat)
+    pub idle : (words.seats.shown a.seat).held ≡ None → (words.seats.shown b.seat).held ≡ None
 
-    -- whatever session was served at a seat that fits, its reader and its writer may be closed as they are then
-    abbrev pub MayClose : (S → Type 0) → (R → W → SessionEnd → Type 0) → Type 0
-    MayClose fits closes = (client : C) (now : Streams R W) (end : SessionEnd) (a b : S) (asked asked_then : List OrderValue)
-        → fits a → fits b → IsServedAt client (Some now, end) a asked b asked_then → closes (inner_of now.reader) (inner_of now.writer) end
+  -- whatever session was served at a seat of these shelves, its reader and its writer may be closed as they are then
+  abbrev pub MayClose : T → Type 0
+  MayClose shelves = (client : C) (now : Streams R W) (end : SessionEnd) (a b : Standing S)
+      → words.seats.fits shelves a.seat → words.seats.fits shelves b.seat → IsServedAt client (Some now, end) a b
+      → words.clients.closes (inner_of now.reader) (inner_of now.writer) end
 
-    -- the clients are served at this seat one after the other, each in one of these sessions
-    abbrev pub AreServed : List C → List (Session R W) → S → List OrderValue → S → List OrderValue → Type 0
-    AreServed [] [] a asked b asked_then = (b ≡ a) × (asked_then ≡ asked)
-    AreServed (client ∷ clients) (session ∷ sessions) a asked b asked_then =
-        (m : S) × (between : List OrderValue) × IsServedAt client session a asked m between × AreServed clients sessions m between b asked_then
-    AreServed _ _ _ _ _ _ = ⊥
+  -- the clients are served at this seat one after the other, each in one of these sessions
+  abbrev pub AreServed : List C → List (Session R W) → Standing S → Standing S → Type 0
+  AreServed [] [] a b = b ≡ a
+  AreServed (client ∷ clients) (session ∷ sessions) a b =
+      (m : Standing S) × IsServedAt client session a m × AreServed clients sessions m b
+  AreServed _ _ a b = ⊥
 
-    -- over notices of these versions, and what the workers' orders go by
-    module _ {N : Type 0} (noted : N → ℕ) (route : OrderRoute N) where
-      -- a worker's share: the sessions are those of these clients at its seat. If the seat held nothing at first, each profile in them is answered
-      -- exactly, by the history that the seat knows in the end. All that was ordered in them was asked of these orders, which go this way
-      abbrev pub IsShare : S → List C → WorkerOrdersValue N → List (Session R W) → S → Type 0
-      IsShare seat clients orders sessions last = AreServed clients sessions seat [] last orders.asked
-          × ((value seat).held ≡ None → AreExact number value (known last) clients sessions seat [] last orders.asked)
-          × IsAskedBy noted route orders
+  -- a worker's share: the sessions are those of these clients at its seat. If the seat held nothing at first, each profile in them is answered
+  -- exactly. All that was ordered in them was asked of these orders, which go the way of this post
+  pub record IsShare (post : Post S N) (clients : List C) (share : ShareValue R W S N) : Type 0 where
+    pub served : AreServed clients share.sessions (standing post.seat []) (standing share.seat share.orders.asked)
+    pub exact : (words.seats.shown post.seat).held ≡ None
+        → AreExact clients share.sessions (standing post.seat []) (standing share.seat share.orders.asked)
+    pub asked : IsAskedBy words.seats.version post.route share.orders
 
-      -- the sessions are the workers' shares, end to end. Each worker got one hand of the clients that were dealt; these were served at its seat,
-      -- with its orders, and its seat is then the one in the last list
-      abbrev pub AreShares : List S → List (List C) → List (WorkerOrdersValue N) → List (Session R W) → List S → Type 0
-      AreShares [] [] [] sessions [] = sessions ≡ []
-      AreShares (seat ∷ seats) (hand ∷ hands) (orders ∷ others) sessions (last ∷ lasts) =
-          (share : List (Session R W)) × (rest : List (Session R W)) × (sessions ≡ share ++ rest)
-          × IsShare seat hand orders share last × AreShares seats hands others rest lasts
-      AreShares _ _ _ _ _ = ⊥
+  -- each worker at one of these posts got one hand of the clients, and this is its share
+  abbrev pub AreShares : List (Post S N) → List (List C) → List (ShareValue R W S N) → Type 0
+  AreShares [] [] [] = Unit {0}
+  AreShares (post ∷ posts) (hand ∷ hands) (share ∷ shares) = IsShare post hand share × AreShares posts hands shares
+  AreShares _ _ _ = ⊥
 
-      -- the clients are dealt to the workers, each to one and once; each worker serves its hand at its seat, one after the other; and
-      -- these are their orders, and their sessions, one for each client
-      abbrev pub AreAllServed : List C → List S → List (WorkerOrdersValue N) → List (Session R W) → List S → Type 0
-      AreAllServed clients seats orders sessions lasts =
-          (hands : List (List C)) × IsPermutation clients (flat_map (λ hand. hand) hands) × AreShares seats hands orders sessions lasts
+  -- the clients are dealt to the workers at these posts, each to one and once; and what the workers leave is each one's share, end to end: one
+  -- session for each client
+  pub record AreAllServed (clients : List C) (posts : List (Post S N)) (work : WorkValue R W S N) : Type 0 where
+    pub hands : List (List C)
+    pub dealt : IsPermutation clients (flat_map (λ hand. hand) hands)
+    pub shares : List (ShareValue R W S N)
+    pub each : AreShares posts hands shares
+    pub sessions_are : work.sessions ≡ flat_map (λ share. share.sessions) shares
+    pub seats_are : work.seats ≡ map (λ share. share.seat) shares
+    pub orders_are : work.orders ≡ map (λ share. share.orders) shares
 
-      -- all clients by which the list of those who came grew are served
-      abbrev pub AreServedSince : List C → List C → List S → List (WorkerOrdersValue N) → List (Session R W) → List S → Type 0
-      AreServedSince before after seats orders sessions lasts =
-          (clients : List C) × (after ≡ before ++ clients) × AreAllServed clients seats orders sessions lasts
+  -- all clients by whom the list of those who came grew are served
+  pub record AreServedSince (before after : List C) (posts : List (Post S N)) (work : WorkValue R W S N) : Type 0 where
+    pub clients : List C
+    pub came : after ≡ before ++ clients
+    pub all : AreAllServed clients posts work
 
 -- so many workers are out, none is back, and the queue was closed for each
 pub record IsReadyToJoin {C : Type 0} (dealer : DealerView C) (workers : ℕ) : Type 0 where

@@ -4,10 +4,12 @@ ghost use Rattle.std.specs.Prelude.{◌≡◌, ◌≤◌, ◌∷◌, ◌++◌, [
 ghost use Rattle.std.specs.Io.KnownBytes.{Appends};
 ghost use Rattle.feed_loader.specs.declared.plan.Plan.{Plan};
 ghost use Rattle.load_orders.specs.Telling.{AnsweredValue};
-ghost use Rattle.workers.specs.Carrying.{AllCarriedOut, FailedAsReported, IsCarriedOut, IsLoadOf};
+ghost use Rattle.workers.specs.Carrying.{AreLoaded, FailedAsReported, IsCarriedOut, IsLoadOf};
+ghost use Rattle.workers.specs.Carrying.{depot_of, errand_of, load_value, loads_value};
 ghost use Rattle.workers.specs.Learned.{LoaderLearns};
 ghost use Rattle.workers.specs.Lines.{outcome_line};
-ghost use Rattle.workers.specs.Loading.{IsOutcome, load_answer};
+ghost use Rattle.workers.specs.Loading.{IsOutcome, load_answer, load_state};
+ghost use Rattle.workers.specs.Words.{files_of, loader_of, loads_of, outcomes_of};
 ghost use Rattle.workers.specs.declared.drawing.DrawnFiles.{DrawnFiles};
 
 use crate::drawing::{DrawnFiles, UsedFiles};
@@ -46,13 +48,11 @@ impl<'a, R: Wait, N: Drop, T: Versions<Notice = N> + Loads, F: Feeds> LoadContex
         requires loads { T.Loads.loads self.now.shelves.now seat }
         requires none { (orders.taken ≡ []) × (orders.answered ≡ []) × (used ≡ []) }
         ensures loads { T.Loads.loads self.now.shelves.now result.1 }
-        ensures learns { LoaderLearns (T.Loads.learned seat) (T.Loads.answers seat)
-            (T.Loads.learned result.1) (T.Loads.answers result.1) }
         ensures queue { result.0.queue ≡ orders.queue }
-        ensures carried { AllCarriedOut T.Versions.noted (F.are_files self.now.feeds.now) F.Files.holds F.Files.reads
-            F.Files.failures F.Files.failed
-            (F.is_plan self.now.feeds.now) (length (F.named self.now.feeds.now))
-            result.0 result.2 (T.Loads.answers seat) (T.Loads.answers result.1) }
+        ensures loaded { AreLoaded (depot_of (loads_of F.words (outcomes_of
+            (files_of F.Files.holds F.Files.reads F.Files.failures F.Files.failed)
+            (loader_of T.Loads.loads T.Loads.answers T.Loads.learned) T.Versions.noted))
+            self.now.feeds.now result.0.queue) seat (loads_value result.0 result.2) result.1 }
     {
         for _ in self.rt.forever() {
             match orders.next(self.rt) {
@@ -83,11 +83,10 @@ impl<'a, R: Wait, N: Drop, T: Versions<Notice = N> + Loads, F: Feeds> LoadContex
         ensures taken { orders.new.taken ≡ orders.old.taken }
         ensures carried { (answer : AnsweredValue N) × (files : Option (DrawnFiles F.Files N))
             × (orders.new.answered ≡ orders.old.answered ++ answer ∷ []) × (used.new ≡ used.old ++ files ∷ [])
-            × IsCarriedOut T.Versions.noted (F.are_files self.now.feeds.now) F.Files.holds F.Files.reads
-            F.Files.failures F.Files.failed
-            (F.is_plan self.now.feeds.now)
-            (length (F.named self.now.feeds.now)) orders.old.queue orders.old.taken order files answer
-            (T.Loads.answers seat.old) (T.Loads.answers seat.new) }
+            × IsCarriedOut (depot_of (loads_of F.words (outcomes_of
+            (files_of F.Files.holds F.Files.reads F.Files.failures F.Files.failed)
+            (loader_of T.Loads.loads T.Loads.answers T.Loads.learned) T.Versions.noted))
+            self.now.feeds.now orders.old.queue) (errand_of order orders.old.taken files answer) seat.old seat.new }
     {
         let (answer, files) = self.load_at(order.feed, orders, seat, errors);
         used.note(&files);
@@ -107,11 +106,11 @@ impl<'a, R: Wait, N: Drop, T: Versions<Notice = N> + Loads, F: Feeds> LoadContex
         ensures loads { T.Loads.loads self.now.shelves.now seat.new }
         ensures learns { LoaderLearns (T.Loads.learned seat.old) (T.Loads.answers seat.old)
             (T.Loads.learned seat.new) (T.Loads.answers seat.new) }
-        ensures load { IsLoadOf T.Versions.noted (F.are_files self.now.feeds.now) F.Files.holds F.Files.reads
-            F.Files.failures F.Files.failed
-            (F.is_plan self.now.feeds.now)
-            (length (F.named self.now.feeds.now)) orders.now.queue orders.now.taken index result.1 result.0
-            (T.Loads.answers seat.old) (T.Loads.answers seat.new) }
+        ensures load { IsLoadOf (depot_of (loads_of F.words (outcomes_of
+            (files_of F.Files.holds F.Files.reads F.Files.failures F.Files.failed)
+            (loader_of T.Loads.loads T.Loads.answers T.Loads.learned) T.Versions.noted))
+            self.now.feeds.now orders.now.queue) (load_value index orders.now.taken result.1
+            result.0) seat.old seat.new }
     {
         let names = self.feeds.names();
         match (
@@ -150,9 +149,10 @@ impl<'a, R: Wait, N: Drop, T: Versions<Notice = N> + Loads, F: Feeds> LoadContex
             (T.Loads.learned seat.new) (T.Loads.answers seat.new) }
         ensures first { files.new.first ≡ files.old.first }
         ensures end { files.new.end ≡ files.old.end }
-        ensures outcome { (plan : Plan) × F.is_plan self.now.feeds.now plan
-            × IsOutcome T.Versions.noted (F.Files.holds files.new.first.value) (F.Files.reads files.new.first.value)
-            (F.Files.reads files.new.files) plan (T.Loads.answers seat.old) result (T.Loads.answers seat.new)
+        ensures outcome { (plan : Plan) × F.words.is_plan self.now.feeds.now plan
+            × IsOutcome (outcomes_of (files_of F.Files.holds F.Files.reads F.Files.failures F.Files.failed)
+            (loader_of T.Loads.loads T.Loads.answers T.Loads.learned) T.Versions.noted)
+            plan (load_state files.new.first.value seat.old) result (load_state files.new.files seat.new)
             × FailedAsReported F.Files.failures F.Files.failed files.new.first.value files.new.files result }
     {
         match self.feeds.plan(self.alloc) {

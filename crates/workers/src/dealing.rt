@@ -16,9 +16,9 @@ pub(crate) fn deal_all<R: Wait, C: Drop, K: Clients<C> + Drop>(
     takers: usize,
 ) -> K
     requires { dealer.old.view.closings ≡ 0 }
-    ensures none_left { K.none_left result }
-    ensures holds { (fact : K.Fact) → K.holds clients fact → K.holds result fact }
-    ensures put { (since : List C) × (K.came result ≡ K.came clients ++ since)
+    ensures none_left { K.words.none_left result }
+    ensures holds { (fact : K.words.Fact) → K.words.holds clients fact → K.words.holds result fact }
+    ensures put { (since : List C) × (K.words.came result ≡ K.words.came clients ++ since)
         × IsClosedFor takers since dealer.old dealer.new }
 {
     let source = put_all(rt, clients, dealer);
@@ -33,9 +33,9 @@ fn put_all<R: Wait, C: Drop, K: Clients<C> + Drop>(
     dealer: &mut Dealer<C>,
 ) -> K
     requires { dealer.old.view.closings ≡ 0 }
-    ensures none_left { K.none_left result }
-    ensures holds { (fact : K.Fact) → K.holds clients fact → K.holds result fact }
-    ensures put { IsPutSince (K.came clients) (K.came result) dealer.old dealer.new }
+    ensures none_left { K.words.none_left result }
+    ensures holds { (fact : K.words.Fact) → K.words.holds clients fact → K.words.holds result fact }
+    ensures put { IsPutSince (K.words.came clients) (K.words.came result) dealer.old dealer.new }
 {
     for _ in rt.forever() {
         match clients.next() {

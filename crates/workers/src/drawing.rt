@@ -5,7 +5,8 @@ ghost use Rattle.connections.specs.declared.days.TheConstants.{MAX_DAYS};
 ghost use Rattle.workers.specs.Carrying.{FailedAsReported};
 ghost use Rattle.workers.specs.Drawing.{IsDrawnAt};
 ghost use Rattle.workers.specs.Learned.{LoaderLearns};
-ghost use Rattle.workers.specs.Loading.{IsOutcome};
+ghost use Rattle.workers.specs.Loading.{IsOutcome, load_state};
+ghost use Rattle.workers.specs.Words.{files_of, loader_of, outcomes_of};
 
 use crate::feeds::Feeds;
 use crate::loading::{LoadedVersion, load_one};
@@ -37,8 +38,9 @@ impl<D: FeedFiles, N: Drop> DrawnFiles<D, N> {
         index: usize,
         orders: &LoaderOrders<N>,
     ) -> Option<DrawnFiles<D, N>>
-        ensures { MatchOption result (length (F.named feeds.now) ≤ index) (λ drawn. (drawn.files ≡ drawn.first.value)
-            × (D.failures drawn.files ≡ 0) × F.are_files feeds.now index drawn.first.value
+        ensures { MatchOption result (length (F.words.named feeds.now) ≤ index) (λ drawn.
+            (drawn.files ≡ drawn.first.value)
+            × (D.failures drawn.files ≡ 0) × F.words.are_files feeds.now index drawn.first.value
             × IsDrawnAt orders.now.queue orders.now.taken drawn) }
     {
         match feeds.files(index) {
@@ -69,8 +71,9 @@ impl<D: FeedFiles, N: Drop> DrawnFiles<D, N> {
             (T.Loads.learned loader.new) (T.Loads.answers loader.new) }
         ensures first { self.new.first ≡ self.old.first }
         ensures end { self.new.end ≡ self.old.end }
-        ensures outcome { IsOutcome T.Versions.noted (D.holds self.new.first.value) (D.reads self.new.first.value)
-            (D.reads self.new.files) plan.now (T.Loads.answers loader.old) result (T.Loads.answers loader.new) }
+        ensures outcome { IsOutcome (outcomes_of (files_of D.holds D.reads D.failures D.failed)
+            (loader_of T.Loads.loads T.Loads.answers T.Loads.learned) T.Versions.noted)
+            plan.now (load_state self.new.first.value loader.old) result (load_state self.new.files loader.new) }
         ensures failed_so { FailedAsReported D.failures D.failed self.new.first.value self.new.files result }
     {
         load_one(alloc, &mut self.files, plan, shelves, loader)

@@ -1,9 +1,9 @@
 //! The feeds that may be ordered.
 
-ghost use Rattle.std.specs.Prelude.{◌≡◌, ◌≤◌, ℕ, List, String, length, IfOk, IfErr, MatchOption};
-ghost use Rattle.std.specs.Global.{Global};
+ghost use Rattle.std.specs.Prelude.{◌≡◌, ◌≤◌, length, IfOk, IfErr, MatchOption};
 ghost use Rattle.connections.specs.declared.days.TheConstants.{MAX_DAYS};
 ghost use Rattle.feed_loader.specs.declared.plan.Plan.{Plan};
+ghost use Rattle.workers.specs.Words.{FeedWords};
 
 use crate::loading::LoadedVersion;
 use crate::refusal::LoadRefusal;
@@ -16,31 +16,26 @@ use std::time::Instant;
 pub trait Feeds {
     type Files: FeedFiles + Send + Drop;
 
-    // Their names, by index.
-    ghost named: { Self → List (String Global) };
-
-    // These are the files of the feed at that index.
-    ghost are_files: { Self → ℕ → Self.Files → Type 0 } = { λ _ _ _. Unit {0} };
-
-    // A feed may be loaded by this plan.
-    ghost is_plan: { Self → Plan → Type 0 } = { λ _ _. Unit {0} };
+    // Their names, by index; whether these are the files of the feed at an index; and whether a feed may be loaded by
+    // this plan.
+    ghost words: { FeedWords Self Self.Files };
 
     /// Their names, by index.
     fn names(&self) -> &[String]
-        ensures { result.now ≡ named self.now };
+        ensures { result.now ≡ words.named self.now };
 
     /// The plan by which the next feed is loaded. It is asked for anew before each load, since it may depend on a
     /// clock. Running out of memory is the only error, and even then there is such a plan.
     fn plan(&self, alloc: Global) -> Result<Plan, AllocError>
-        ensures plan { IfOk result (is_plan self.now) }
+        ensures plan { IfOk result (words.is_plan self.now) }
         ensures some { IfOk result (λ plan. 1 ≤ plan.days) }
         ensures few { IfOk result (λ plan. plan.days ≤ MAX_DAYS) }
-        ensures possible { IfErr result (λ _. (plan : Plan) × is_plan self.now plan) };
+        ensures possible { IfErr result (λ _. (plan : Plan) × words.is_plan self.now plan) };
 
     /// The files of the feed at the index, of which no read has failed yet. None only where there is no such feed.
     fn files(&self, index: usize) -> Option<Self::Files>
-        ensures { MatchOption result (length (named self.now) ≤ index) (λ files. (Self.Files.failures files ≡ 0)
-            × are_files self.now index files) };
+        ensures { MatchOption result (length (words.named self.now) ≤ index) (λ files. (Self.Files.failures files ≡ 0)
+            × words.are_files self.now index files) };
 
     /// Called before the feed at the index is loaded. Returns the instant at which that is, for `finish`, or none.
     fn begin(&self, index: usize) -> Option<Instant>;

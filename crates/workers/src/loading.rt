@@ -9,7 +9,8 @@ ghost use Rattle.feed_loader.specs.Faults.{failed_by, failed_in};
 ghost use Rattle.epochs.specs.Seats.{RefuseStep};
 ghost use Rattle.workers.specs.Learned.{LoaderLearns};
 ghost use Rattle.workers.specs.Loading.{ShowsContent, reading};
-ghost use Rattle.workers.specs.Loading.{IsEarly, IsImageOf, IsOutcome, IsPublished, IsRefusalOf};
+ghost use Rattle.workers.specs.Loading.{IsEarly, IsImageOf, IsOutcome, IsPublished, IsRefusalOf, load_state};
+ghost use Rattle.workers.specs.Words.{files_of, loader_of, outcomes_of};
 
 use crate::refusal::LoadRefusal;
 use epochs::{Loads, PublishFault, Versions};
@@ -44,8 +45,9 @@ pub fn load_one<F: FeedFiles, N, T: Versions<Notice = N> + Loads>(
     ensures failed { F.failed files.new ≡ failed_by (F.failed files.old) (reading result) }
     ensures learns { LoaderLearns (T.Loads.learned loader.old) (T.Loads.answers loader.old)
         (T.Loads.learned loader.new) (T.Loads.answers loader.new) }
-    ensures outcome { IsOutcome T.Versions.noted (F.holds files.old) (F.reads files.old) (F.reads files.new) plan.now
-        (T.Loads.answers loader.old) result (T.Loads.answers loader.new) }
+    ensures outcome { IsOutcome (outcomes_of (files_of F.holds F.reads F.failures F.failed)
+        (loader_of T.Loads.loads T.Loads.answers T.Loads.learned) T.Versions.noted)
+        plan.now (load_state files.old loader.old) result (load_state files.new loader.new) }
 {
     match shared_image(alloc, files, plan) {
         Ok((image, report)) => match publish_image(shelves, loader, image) {

@@ -1,22 +1,24 @@
 //! The workers and the loader, in one scope.
 
 ghost use denote.Param.Send.{IsSend, IsSync};
-ghost use Rattle.std.specs.Prelude.{◌≡◌, ◌≤◌, ◌++◌, ◌∷◌, [], All, length, IfOk, OnOk};
-ghost use Rattle.workers.specs.Carrying.{AllCarriedOut};
-ghost use Rattle.workers.specs.Learned.{LoaderLearns};
-ghost use Rattle.workers.specs.Ordering.{AreAllTaken, route_to};
-ghost use Rattle.workers.specs.Sessions.{AreServedSince, IsShare, MayClose};
+ghost use Rattle.std.specs.Prelude.{◌≡◌, ◌++◌, ◌∷◌, [], IfOk, OnOk};
+ghost use Rattle.workers.specs.Carrying.{AreLoaded, depot_of, loads_value};
+ghost use Rattle.workers.specs.Headline.{AllLoaded, AllServed, AreReady, IsLeft, house_of};
+ghost use Rattle.workers.specs.Ordering.{route_to};
+ghost use Rattle.workers.specs.Sessions.{IsShare, MayClose, post_at, share_of};
+ghost use Rattle.workers.specs.Words.{files_of, loader_of, loads_of, outcomes_of, seats_of, sessions_of};
 
 use crate::carrying::LoadContext;
 use crate::clients::{Client, Clients};
 use crate::drawing::UsedFiles;
 use crate::feeds::Feeds;
+use crate::outcome::ServingOutcome;
 use crate::served::Served;
 use crate::serving::DeskWorker;
 use crate::shares::{LoadsAt, RouteTo, Share, ShareAt, close_and_join, deal_and_join};
 use client_queue::client_queue;
 use epochs::{Loads, Versions};
-use load_orders::{LoaderOrders, Notes, UsedLoader, UsedOrders, WorkerOrders, order_queue};
+use load_orders::{LoaderOrders, Notes, UsedOrders, WorkerOrders, order_queue};
 use orders::Gate;
 use session::{Desk, ReplyForm};
 use std::alloc::{AllocError, Global};
@@ -36,25 +38,6 @@ impl From<AllocError> for WorkersFault {
     fn from(_refused: AllocError) -> WorkersFault {
         WorkersFault
     }
-}
-
-/// What is left once all clients were served.
-#[derive(Drop)]
-pub struct ServingOutcome<C: Client, K, S, L, N: Drop, D> {
-    /// The sessions, seat after seat.
-    pub served: Served<C::Reader, C::Writer>,
-    /// The clients' source.
-    pub clients: K,
-    /// The workers' seats, in their order.
-    pub seats: Vec<S>,
-    /// What the loader took and answered.
-    pub orders: UsedLoader<N>,
-    /// The loader's seat.
-    pub loader: L,
-    /// The workers' orders, seat after seat: only contracts see them.
-    pub asked: Notes<UsedOrders<N>>,
-    /// The files that the loader used, order after order: only contracts see them.
-    pub used: UsedFiles<D, N>,
 }
 
 /// Serves all clients, with a worker for each seat, and loads the feeds that they order. Profiles are replied in this
@@ -79,64 +62,62 @@ pub fn run_workers<
     gate: &G,
     form: ReplyForm,
     errors: E,
-) -> Result<ServingOutcome<C, K, T::Seat, T::Loader, T::Notice, F::Files>, WorkersFault>
+) -> Result<
+    ServingOutcome<C::Reader, C::Writer, K, T::Seat, T::Loader, T::Notice, F::Files>,
+    WorkersFault,
+>
 where
     T::Seat: Send + Drop,
     T::Loader: Send + Drop,
     T::Notice: Send + Drop,
-    requires seats { All (T.Versions.fits shelves.now) seats.items }
-    requires loader { T.Loads.loads shelves.now loader }
-    requires some { 1 ≤ length seats.items }
-    requires few { length seats.items ≤ 16 }
-    requires closes { MayClose form C.opens C.Reader.remaining C.Writer.contents T.Versions.number T.Versions.value
-        T.Versions.known (T.Versions.fits shelves.now) C.closes }
-    ensures none_left { IfOk result (λ ran. K.none_left ran.clients) }
-    ensures holds { IfOk result (λ ran. (fact : K.Fact) → K.holds clients fact → K.holds ran.clients fact) }
-    ensures seats { IfOk result (λ ran. All (T.Versions.fits shelves.now) ran.seats.items) }
-    ensures loader { IfOk result (λ ran. T.Loads.loads shelves.now ran.loader) }
-    ensures shares { IfOk result (λ ran. AreServedSince form C.opens C.Reader.remaining C.Writer.contents
-        T.Versions.number T.Versions.value T.Versions.known
-        T.Versions.noted (route_to (F.named feeds.now) ran.orders.queue) (K.came clients) (K.came ran.clients)
-        seats.items ran.asked ran.served ran.seats.items) }
-    ensures taken { IfOk result (λ ran. AreAllTaken ran.asked ran.orders) }
-    ensures loads { IfOk result (λ ran. AllCarriedOut T.Versions.noted (F.are_files feeds.now) F.Files.holds
-        F.Files.reads F.Files.failures F.Files.failed (F.is_plan feeds.now) (length (F.named feeds.now)) ran.orders
-        ran.used (T.Loads.answers loader) (T.Loads.answers ran.loader)) }
-    ensures learns { IfOk result (λ ran. LoaderLearns (T.Loads.learned loader) (T.Loads.answers loader)
-        (T.Loads.learned ran.loader) (T.Loads.answers ran.loader)) }
+    requires ready { AreReady
+        (seats_of T.Versions.fits T.Versions.number T.Versions.value T.Versions.known T.Versions.noted)
+        (loader_of T.Loads.loads T.Loads.answers T.Loads.learned)
+        (house_of clients shelves.now seats.items loader feeds.now) }
+    requires closes { MayClose (sessions_of form C.words C.Reader.remaining C.Writer.contents
+        (seats_of T.Versions.fits T.Versions.number T.Versions.value T.Versions.known T.Versions.noted)) shelves.now }
+    ensures left { IfOk result (IsLeft
+        (seats_of T.Versions.fits T.Versions.number T.Versions.value T.Versions.known T.Versions.noted)
+        (loader_of T.Loads.loads T.Loads.answers T.Loads.learned) K.words
+        (house_of clients shelves.now seats.items loader feeds.now)) }
+    ensures served { IfOk result (AllServed (sessions_of form C.words C.Reader.remaining C.Writer.contents
+        (seats_of T.Versions.fits T.Versions.number T.Versions.value T.Versions.known T.Versions.noted)) K.words F.words
+        (house_of clients shelves.now seats.items loader feeds.now)) }
+    ensures loaded { IfOk result (AllLoaded (loads_of F.words (outcomes_of
+        (files_of F.Files.holds F.Files.reads F.Files.failures F.Files.failed)
+        (loader_of T.Loads.loads T.Loads.answers T.Loads.learned) T.Versions.noted))
+        (house_of clients shelves.now seats.items loader feeds.now)) }
 {
     thread::scope(
         thread::scope_env(),
         rt,
         move |scope| -> Result<
-            ServingOutcome<C, K, T::Seat, T::Loader, T::Notice, F::Files>,
+            ServingOutcome<C::Reader, C::Writer, K, T::Seat, T::Loader, T::Notice, F::Files>,
             WorkersFault,
         >
             requires { IsSync R.row × IsSync T.row × IsSync F.row × IsSync G.row × IsSend T.Seat.row
                 × IsSend T.Loader.row
                 × IsSend T.Notice.row × IsSend C.row × IsSend C.Reader.row × IsSend C.Writer.row
                 × IsSend F.Files.row × IsSend E.row
-                × All (T.Versions.fits shelves.now) seats.items × T.Loads.loads shelves.now loader
-                × (1 ≤ length seats.items)
-                × MayClose form C.opens C.Reader.remaining C.Writer.contents T.Versions.number T.Versions.value
-                T.Versions.known (T.Versions.fits shelves.now) C.closes }
-            ensures none_left { IfOk result (λ ran. K.none_left ran.clients) }
-            ensures holds { IfOk result (λ ran. (fact : K.Fact) → K.holds clients fact → K.holds ran.clients fact) }
-            ensures seats { IfOk result (λ ran. All (T.Versions.fits shelves.entry.now) ran.seats.items) }
-            ensures loader { IfOk result (λ ran. T.Loads.loads shelves.entry.now ran.loader) }
-            ensures shares { IfOk result (λ ran. AreServedSince form C.opens C.Reader.remaining C.Writer.contents
-                T.Versions.number T.Versions.value T.Versions.known
-                T.Versions.noted (route_to (F.named feeds.entry.now) ran.orders.queue)
-                (K.came clients) (K.came ran.clients)
-                seats.items ran.asked ran.served ran.seats.items) }
-            ensures taken { IfOk result (λ ran. AreAllTaken ran.asked ran.orders) }
-            ensures loads { IfOk result (λ ran.
-                AllCarriedOut T.Versions.noted (F.are_files feeds.entry.now) F.Files.holds F.Files.reads
-                F.Files.failures F.Files.failed
-                (F.is_plan feeds.entry.now) (length (F.named feeds.entry.now)) ran.orders ran.used
-                (T.Loads.answers loader) (T.Loads.answers ran.loader)) }
-            ensures learns { IfOk result (λ ran. LoaderLearns (T.Loads.learned loader) (T.Loads.answers loader)
-                (T.Loads.learned ran.loader) (T.Loads.answers ran.loader)) }
+                × AreReady
+                (seats_of T.Versions.fits T.Versions.number T.Versions.value T.Versions.known T.Versions.noted)
+                (loader_of T.Loads.loads T.Loads.answers T.Loads.learned)
+                (house_of clients shelves.now seats.items loader feeds.now)
+                × MayClose (sessions_of form C.words C.Reader.remaining C.Writer.contents
+                (seats_of T.Versions.fits T.Versions.number T.Versions.value T.Versions.known T.Versions.noted))
+                shelves.now }
+            ensures left { IfOk result (IsLeft
+                (seats_of T.Versions.fits T.Versions.number T.Versions.value T.Versions.known T.Versions.noted)
+                (loader_of T.Loads.loads T.Loads.answers T.Loads.learned) K.words
+                (house_of clients shelves.entry.now seats.items loader feeds.entry.now)) }
+            ensures served { IfOk result (AllServed (sessions_of form C.words C.Reader.remaining C.Writer.contents
+                (seats_of T.Versions.fits T.Versions.number T.Versions.value T.Versions.known T.Versions.noted))
+                K.words F.words
+                (house_of clients shelves.entry.now seats.items loader feeds.entry.now)) }
+            ensures loaded { IfOk result (AllLoaded (loads_of F.words (outcomes_of
+                (files_of F.Files.holds F.Files.reads F.Files.failures F.Files.failed)
+                (loader_of T.Loads.loads T.Loads.answers T.Loads.learned) T.Versions.noted))
+                (house_of clients shelves.entry.now seats.items loader feeds.entry.now)) }
         {
             let mut dealer = client_queue(alloc)?;
             let room = Vec::with_capacity(alloc, seats.len())?;
@@ -156,12 +137,10 @@ where
                     requires { T.Loads.loads shelves.now loader_seat × (orders.taken ≡ []) × (orders.answered ≡ [])
                         × (unused ≡ []) }
                     ensures { T.Loads.loads shelves.entry.now result.1 × (result.0.queue ≡ orders.queue)
-                        × AllCarriedOut T.Versions.noted (F.are_files feeds.entry.now) F.Files.holds F.Files.reads
-                        F.Files.failures F.Files.failed
-                        (F.is_plan feeds.entry.now) (length (F.named feeds.entry.now))
-                        result.0 result.2 (T.Loads.answers loader_seat) (T.Loads.answers result.1)
-                        × LoaderLearns (T.Loads.learned loader_seat) (T.Loads.answers loader_seat)
-                        (T.Loads.learned result.1) (T.Loads.answers result.1) }
+                        × AreLoaded (depot_of (loads_of F.words (outcomes_of
+                        (files_of F.Files.holds F.Files.reads F.Files.failures F.Files.failed)
+                        (loader_of T.Loads.loads T.Loads.answers T.Loads.learned) T.Versions.noted))
+                        feeds.entry.now result.0.queue) loader_seat (loads_value result.0 result.2) result.1 }
                 {
                     let loading = LoadContext {
                         rt,
@@ -193,14 +172,16 @@ where
                     move || -> (Share<C, T::Seat>, UsedOrders<T::Notice>)
                         requires { T.Versions.fits shelves.now seat × (taker.taken ≡ []) × (nobody_yet ≡ [])
                             × (end.items ≡ [])
-                            × MayClose form C.opens C.Reader.remaining C.Writer.contents T.Versions.number
-                            T.Versions.value T.Versions.known (T.Versions.fits shelves.now) C.closes }
+                            × MayClose (sessions_of form C.words C.Reader.remaining C.Writer.contents
+                            (seats_of T.Versions.fits T.Versions.number T.Versions.value T.Versions.known
+                            T.Versions.noted)) shelves.now }
                         ensures { (result.0.taker.queue ≡ taker.queue)
                             × T.Versions.fits shelves.entry.now result.0.seat
-                            × IsShare form C.opens C.Reader.remaining C.Writer.contents
-                            T.Versions.number T.Versions.value T.Versions.known
-                            T.Versions.noted (route_to (F.named feeds.entry.now) end.queue)
-                            seat result.0.taker.taken result.1 result.0.served result.0.seat }
+                            × IsShare (sessions_of form C.words C.Reader.remaining C.Writer.contents
+                            (seats_of T.Versions.fits T.Versions.number T.Versions.value T.Versions.known
+                            T.Versions.noted))
+                            (post_at seat (route_to (F.words.named feeds.entry.now) end.queue))
+                            result.0.taker.taken (share_of result.0.served result.0.seat result.1) }
                     {
                         let desk = Desk {
                             alloc,

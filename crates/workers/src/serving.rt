@@ -2,10 +2,9 @@
 
 ghost use Rattle.std.specs.Prelude.{◌≡◌, ◌∷◌, ◌++◌, [], None, IfSome};
 ghost use Rattle.lines.specs.Counting.{inner_of};
-ghost use Rattle.session.specs.Learning.{Learns, TellPublished};
 ghost use Rattle.session.specs.Turns.{AgreeOnNotices};
-ghost use Rattle.workers.specs.Sessions.{AreExact, AreServed, IsServed, MayClose};
-ghost use Rattle.workers.specs.declared.served.SessionEnd.{SessionEnd};
+ghost use Rattle.workers.specs.Sessions.{AreExact, AreServed, IsServedAt, MayClose, standing};
+ghost use Rattle.workers.specs.Words.{seats_of, sessions_of};
 
 use crate::clients::{Client, ConnFault};
 use crate::served::{Served, SessionEnd, end_of};
@@ -37,15 +36,11 @@ impl<'a, R: Wait, N: Drop, T: Versions<Notice = N>, G: Gate> DeskWorker<'a, R, T
         requires fits { T.fits self.now.desk.shelves.now seat.old }
         requires notices { AgreeOnNotices O.notice_version T.noted }
         ensures fits { T.fits self.now.desk.shelves.now seat.new }
-        ensures number { T.number seat.new ≡ T.number seat.old }
-        ensures learns { Learns (T.known seat.old) (T.value seat.old) (T.known seat.new) (T.value seat.new) }
-        ensures profiles { TellPublished (T.known seat.new) (T.value seat.old) (T.value seat.new) }
-        ensures idle { (T.value seat.old).held ≡ None → (T.value seat.new).held ≡ None }
         ensures route { O.route orders.new ≡ O.route orders.old }
         ensures served { served.new ≡ served.old ++ result ∷ [] }
-        ensures session { IsServed self.now.desk.form C.opens C.Reader.remaining C.Writer.contents
-            (T.number seat.old) client
-            result.0 result.1 (T.value seat.old) (O.asked orders.old) (T.value seat.new) (O.asked orders.new) }
+        ensures session { IsServedAt (sessions_of self.now.desk.form C.words C.Reader.remaining C.Writer.contents
+            (seats_of T.fits T.number T.value T.known T.noted))
+            client result (standing seat.old (O.asked orders.old)) (standing seat.new (O.asked orders.new)) }
     {
         match client.open() {
             Ok((reader, writer)) => {
@@ -76,18 +71,21 @@ impl<'a, R: Wait, N: Drop, T: Versions<Notice = N>, G: Gate> DeskWorker<'a, R, T
         requires fits { T.fits self.now.desk.shelves.now seat }
         requires notices { AgreeOnNotices O.notice_version T.noted }
         requires none { (taker.taken ≡ []) × (served ≡ []) }
-        requires closes { MayClose self.now.desk.form C.opens C.Reader.remaining C.Writer.contents T.number T.value
-            T.known (T.fits self.now.desk.shelves.now) C.closes }
+        requires closes { MayClose (sessions_of self.now.desk.form C.words C.Reader.remaining C.Writer.contents
+            (seats_of T.fits T.number T.value T.known T.noted))
+            self.now.desk.shelves.now }
         ensures fits { T.fits self.now.desk.shelves.now result.0.seat }
         ensures queue { result.0.taker.queue ≡ taker.queue }
         ensures route { O.route result.1 ≡ O.route orders }
-        ensures learns { Learns (T.known seat) (T.value seat) (T.known result.0.seat) (T.value result.0.seat) }
-        ensures served { AreServed self.now.desk.form C.opens C.Reader.remaining C.Writer.contents T.number T.value
-            T.known
-            result.0.taker.taken result.0.served seat (O.asked orders) result.0.seat (O.asked result.1) }
-        ensures exact { (T.value seat).held ≡ None → AreExact self.now.desk.form C.opens C.Reader.remaining
-            C.Writer.contents T.number T.value (T.known result.0.seat)
-            result.0.taker.taken result.0.served seat (O.asked orders) result.0.seat (O.asked result.1) }
+        ensures served { AreServed (sessions_of self.now.desk.form C.words C.Reader.remaining C.Writer.contents
+            (seats_of T.fits T.number T.value T.known T.noted))
+            result.0.taker.taken result.0.served
+            (standing seat (O.asked orders)) (standing result.0.seat (O.asked result.1)) }
+        ensures exact { (T.value seat).held ≡ None → AreExact
+            (sessions_of self.now.desk.form C.words C.Reader.remaining C.Writer.contents
+            (seats_of T.fits T.number T.value T.known T.noted))
+            result.0.taker.taken result.0.served
+            (standing seat (O.asked orders)) (standing result.0.seat (O.asked result.1)) }
     {
         for _ in self.rt.forever() {
             match taker.next(self.rt) {
@@ -116,7 +114,7 @@ impl<'a, R: Wait, N: Drop, T: Versions<Notice = N>, G: Gate> DeskWorker<'a, R, T
 
 // Closes a client's reader and writer, if there are any.
 fn close<C: Client>(streams: Option<Streams<C::Reader, C::Writer>>, end: SessionEnd)
-    requires closes { IfSome streams (λ now. C.closes (inner_of now.reader) (inner_of now.writer) end) }
+    requires closes { IfSome streams (λ now. C.words.closes (inner_of now.reader) (inner_of now.writer) end) }
 {
     if let Some(Streams { reader, writer }) = streams {
         C::close(reader.into_inner(), writer.into_inner(), end);

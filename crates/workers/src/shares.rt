@@ -2,10 +2,10 @@
 
 ghost use Rattle.std.specs.Prelude.{◌≡◌, ◌≤◌, [], All, IsPermutation, length, map, IfOk, IfSome};
 ghost use Rattle.client_queue.specs.Ends.{nothing_put};
-ghost use Rattle.workers.specs.Carrying.{AllCarriedOut};
-ghost use Rattle.workers.specs.Learned.{LoaderLearns};
+ghost use Rattle.workers.specs.Carrying.{AreLoaded, depot_of, loads_value};
 ghost use Rattle.workers.specs.Ordering.{GoesBy, IsKeeperOf, put_by, route_to};
-ghost use Rattle.workers.specs.Sessions.{AreAllServed, AreServedSince, IsReadyToJoin};
+ghost use Rattle.workers.specs.Sessions.{AreAllServed, AreServedSince, IsReadyToJoin, posts_at, work_of};
+ghost use Rattle.workers.specs.Words.{files_of, loader_of, loads_of, outcomes_of, seats_of, sessions_of};
 
 use crate::clients::{Client, Clients};
 use crate::dealing::deal_all;
@@ -92,13 +92,16 @@ impl<C: Client + Drop, S, N: Drop, T: Versions<Seat = S, Notice = N>, F: Feeds> 
 > for ShareAt<C, N, T, F> {
     ghost use Rattle.std.specs.Prelude.{◌≡◌};
     ghost use Rattle.workers.specs.Ordering.{route_to};
-    ghost use Rattle.workers.specs.Sessions.{IsShare};
+    ghost use Rattle.workers.specs.Sessions.{IsShare, post_at, share_of};
+    ghost use Rattle.workers.specs.Words.{seats_of, sessions_of};
 
     ghost kept_by = { λ promise done. (done.0.taker.queue ≡ promise.taker.value.queue)
         × T.fits promise.shelves.value done.0.seat
-        × IsShare promise.form C.opens C.Reader.remaining C.Writer.contents T.number T.value T.known T.noted
-        (route_to (F.named promise.route.feeds.value) promise.route.end.value.queue)
-        promise.seat.value done.0.taker.taken done.1 done.0.served done.0.seat };
+        × IsShare (sessions_of promise.form C.words C.Reader.remaining C.Writer.contents
+        (seats_of T.fits T.number T.value T.known T.noted))
+        (post_at promise.seat.value
+        (route_to (F.words.named promise.route.feeds.value) promise.route.end.value.queue))
+        done.0.taker.taken (share_of done.0.served done.0.seat done.1) };
 }
 
 /// The promise of the loader's thread: all orders of these feeds that came to the loader were carried out, from what
@@ -140,18 +143,15 @@ impl<
     T: Versions<Notice = N> + Loads<Loader = L>,
     F: Feeds<Files = D>,
 > Promise<(LoaderOrders<N>, L, UsedFiles<D, N>)> for LoadsAt<T, F, N> {
-    ghost use Rattle.std.specs.Prelude.{◌≡◌, length};
-    ghost use Rattle.workers.specs.Carrying.{AllCarriedOut};
-    ghost use Rattle.workers.specs.Learned.{LoaderLearns};
+    ghost use Rattle.std.specs.Prelude.{◌≡◌};
+    ghost use Rattle.workers.specs.Carrying.{AreLoaded, depot_of, loads_value};
+    ghost use Rattle.workers.specs.Words.{files_of, loader_of, loads_of, outcomes_of};
 
     ghost kept_by = { λ promise done. T.Loads.loads promise.shelves.value done.1
         × (done.0.queue ≡ promise.orders.value.queue)
-        × AllCarriedOut T.Versions.noted (F.are_files promise.feeds.value) D.holds D.reads
-        D.failures D.failed
-        (F.is_plan promise.feeds.value) (length (F.named promise.feeds.value)) done.0 done.2
-        (T.Loads.answers promise.seat.value) (T.Loads.answers done.1)
-        × LoaderLearns (T.Loads.learned promise.seat.value) (T.Loads.answers promise.seat.value)
-        (T.Loads.learned done.1) (T.Loads.answers done.1) };
+        × AreLoaded (depot_of (loads_of F.words (outcomes_of (files_of D.holds D.reads D.failures D.failed)
+        (loader_of T.Loads.loads T.Loads.answers T.Loads.learned) T.Versions.noted))
+        promise.feeds.value done.0.queue) promise.seat.value (loads_value done.0 done.2) done.1 };
 }
 
 /// Puts all clients in the queue, closes it for each worker, and joins the workers. Returns the clients' source, the
@@ -193,13 +193,13 @@ pub(crate) fn deal_and_join<
     requires room { room.items ≡ [] }
     requires keeper { IsKeeperOf route.end.value.queue [] (length workers.items) asks.old }
     ensures back { IfOk result (λ ran. IsKeeperOf route.end.value.queue (put_by ran.3) 0 asks.new) }
-    ensures none_left { IfOk result (λ ran. K.none_left ran.0) }
-    ensures holds { IfOk result (λ ran. (fact : K.Fact) → K.holds clients fact → K.holds ran.0 fact) }
+    ensures none_left { IfOk result (λ ran. K.words.none_left ran.0) }
+    ensures holds { IfOk result (λ ran. (fact : K.words.Fact) → K.words.holds clients fact → K.words.holds ran.0 fact) }
     ensures fits { IfOk result (λ ran. All (T.fits shelves.now) ran.2.items) }
-    ensures shares { IfOk result (λ ran. AreServedSince form C.opens C.Reader.remaining C.Writer.contents
-        T.number T.value T.known T.noted (route_to (F.named route.feeds.value) route.end.value.queue)
-        (K.came clients) (K.came ran.0)
-        (map (λ worker. worker.promise.seat.value) workers.items) ran.3 ran.1 ran.2.items) }
+    ensures served { IfOk result (λ ran. AreServedSince (sessions_of form C.words C.Reader.remaining C.Writer.contents
+        (seats_of T.fits T.number T.value T.known T.noted)) (K.words.came clients) (K.words.came ran.0)
+        (posts_at (map (λ worker. worker.promise.seat.value) workers.items)
+        (route_to (F.words.named route.feeds.value) route.end.value.queue)) (work_of ran.1 ran.2.items ran.3)) }
 {
     let source = deal_all(rt, clients, &mut dealer, workers.len());
     match join_workers(rt, shelves, form, dealer, workers, room, asks, route) {
@@ -237,10 +237,11 @@ fn join_workers<
     requires keeper { IsKeeperOf route.end.value.queue [] (length workers.items) asks.old }
     ensures back { IfOk result (λ joined. IsKeeperOf route.end.value.queue (put_by joined.2) 0 asks.new) }
     ensures fits { IfOk result (λ joined. All (T.fits shelves.now) joined.1.items) }
-    ensures shares { IfOk result (λ joined. AreAllServed form C.opens C.Reader.remaining C.Writer.contents
-        T.number T.value T.known T.noted (route_to (F.named route.feeds.value) route.end.value.queue)
-        dealer.view.sent (map (λ worker. worker.promise.seat.value) workers.items)
-        joined.2 joined.0 joined.1.items) }
+    ensures served { IfOk result (λ joined. AreAllServed (sessions_of form C.words C.Reader.remaining C.Writer.contents
+        (seats_of T.fits T.number T.value T.known T.noted)) dealer.view.sent
+        (posts_at (map (λ worker. worker.promise.seat.value) workers.items)
+        (route_to (F.words.named route.feeds.value) route.end.value.queue))
+        (work_of joined.0 joined.1.items joined.2)) }
 {
     let mut served = Served::new();
     let mut seats = room;
@@ -289,12 +290,10 @@ pub(crate) fn close_and_join<
     ensures all { IfSome result (λ done. IsPermutation asks.put done.0.taken) }
     ensures queue { IfSome result (λ done. done.0.queue ≡ asks.queue) }
     ensures loads { IfSome result (λ done. T.Loads.loads loading.promise.shelves.value done.1) }
-    ensures carried { IfSome result (λ done. AllCarriedOut T.Versions.noted (F.are_files loading.promise.feeds.value)
-        D.holds D.reads D.failures D.failed (F.is_plan loading.promise.feeds.value)
-        (length (F.named loading.promise.feeds.value)) done.0 done.2
-        (T.Loads.answers loading.promise.seat.value) (T.Loads.answers done.1)) }
-    ensures learns { IfSome result (λ done. LoaderLearns (T.Loads.learned loading.promise.seat.value)
-        (T.Loads.answers loading.promise.seat.value) (T.Loads.learned done.1) (T.Loads.answers done.1)) }
+    ensures loaded { IfSome result (λ done. AreLoaded (depot_of (loads_of F.words
+        (outcomes_of (files_of D.holds D.reads D.failures D.failed)
+        (loader_of T.Loads.loads T.Loads.answers T.Loads.learned) T.Versions.noted))
+        loading.promise.feeds.value done.0.queue) loading.promise.seat.value (loads_value done.0 done.2) done.1) }
 {
     asks.close(rt);
     let (orders, seat, used) = loading.join(rt);

@@ -9,15 +9,17 @@ use Rattle.csa_program.proofs.answer_over.Goals as goal
 pub returns-in-Ok : goal.returns-in-Ok
 returns-in-Ok g c =
     let may_hold = g.H.ImageDisk.may_hold c.args.rt.now in
+    let disk = g.H.OutDisk.files c.args.rt.now in
     let asked = c.args.asked in
     let input = g.I.Read.remaining c.args.input.now in
     let image = c.in-Ok.image in
     let held : HoldsOfBytes may_hold (path_of asked) input (SpellsImage image) = search rules in
-    over_image may_hold (path_of asked) input (λ i. PrintsAsked i asked) _ _ image _ _ held c.in-Ok.ensures.silent c.answer.ensures
+    over_image may_hold (path_of asked) input (λ i. PrintsAsked may_hold disk i asked) _ _ image _ _ held c.in-Ok.ensures.silent c.answer.ensures
 
 pub returns-in-Err : goal.returns-in-Err
 returns-in-Err g c =
     let may_hold = g.H.ImageDisk.may_hold c.args.rt.now in
+    let disk = g.H.OutDisk.files c.args.rt.now in
     let asked = c.args.asked in
     let input = g.I.Read.remaining c.args.input.now in
     let before = g.O.Write.contents c.args.output.now in
@@ -26,4 +28,4 @@ returns-in-Err g c =
     subst (λ (path : List ℕ). IsOutcome (PrintsRefusal (IsRefusedImage may_hold path input)) c.in-Err.status before after) c.path.ensures
     c.in-Err.ensures.refused
     in
-    over_none may_hold (path_of asked) input (λ i. PrintsAsked i asked) _ _ _ ended
+    over_none may_hold (path_of asked) input (λ i. PrintsAsked may_hold disk i asked) _ _ _ ended

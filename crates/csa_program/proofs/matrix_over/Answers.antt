@@ -7,9 +7,10 @@ returns-in-Ok g c =
     let may_hold = g.H.ImageDisk.may_hold c.args.rt.now in
     let input = g.I.Read.remaining c.args.input.now in
     let ran = c.run.ensures in
-    table_over may_hold input c.args.request _ _ c.in-Ok.image _ _ c.in-Ok.ensures.image c.in-Ok.ensures.silent
+    table_over may_hold (g.H.OutDisk.files c.args.rt.now) input c.args.request _ _ c.in-Ok.image _ _ c.in-Ok.ensures.image c.in-Ok.ensures.silent
     ran.status ran.printed ran.refused ran.unlisted ran.cut ran.silent
 
 pub returns-in-Err : goal.returns-in-Err
 returns-in-Err g c =
-    no_table (g.H.ImageDisk.may_hold c.args.rt.now) (g.I.Read.remaining c.args.input.now) c.args.request _ _ _ c.in-Err.ensures.refused
+    no_table (g.H.ImageDisk.may_hold c.args.rt.now) (g.H.OutDisk.files c.args.rt.now) (g.I.Read.remaining c.args.input.now) c.args.request
+    _ _ _ c.in-Err.ensures.refused

@@ -14,6 +14,6 @@ returns-in-Err-Help g c =
     let same : c.as_str.result.now ≡ string_bytes text = search rules in
     let wrote = c.write_text.ensures in
     subst (λ (asked : Result CommandRequest NoCommand). IsEndOf (g.H.ImageDisk.may_hold c.args.rt.now) g.H.Disk.gives
-    (g.I.Read.remaining c.args.input.now) asked c.write_text.result (g.O.Write.contents c.args.output.now)
+    (g.H.OutDisk.files c.args.rt.now) (g.I.Read.remaining c.args.input.now) asked c.write_text.result (g.O.Write.contents c.args.output.now)
     (g.O.Write.contents c.write_text.new.writer)) (sym asks)
     (written (λ printed. printed ≡ string_bytes text) c.write_text.result c.as_str.result.now _ _ same wrote.status wrote.written wrote.begun)

@@ -13,5 +13,5 @@ returns-in-Matrix g c =
     let ran = c.matrix_over in
     let after = g.O.Write.contents ran.new.output in
     let asks : c.args.request ≡ Matrix c.in-Matrix.request = search rules in
-    subst (λ (asked : CommandRequest). IsEnd may_hold g.H.Disk.gives input asked ran.result before after) (sym asks)
+    subst (λ (asked : CommandRequest). IsEnd may_hold g.H.Disk.gives (g.H.OutDisk.files c.args.rt.now) input asked ran.result before after) (sym asks)
     ran.ensures

@@ -84,6 +84,7 @@ rows base_feed/stops.txt stop_id,parent_station | A,Q | B, | C,
 rows base_feed/transfers.txt from_stop_id,to_stop_id | A
 tells csa: transfers.txt, line 2: the number of fields is 1, in the header 2
 tells csa: stops.txt, line 2: parent_station \"Q\" isn't a station in stops.txt (the field may be left blank)
+tells csa: stop_times.txt, line 3: trip_id \"T1\" has a time in this row that is earlier than the one before it
 answers refused 4 RowLength transfers.txt 1
 remove base_feed
 base
@@ -117,6 +118,69 @@ tells csa: base_feed: no such file or folder
 answers refused 1 MissingFile agency.txt 0
 ";
 
+/// Faults in the times of several trips.
+const TIMES: &str = "
+# Of each trip whose times are wrong the first fault is told, also of one that isn't in trips.txt. A trip with a blank \
+stop_id isn't judged.
+base
+run tables base_feed --all-faults
+file base_feed/stop_times.txt
+has trip_id,arrival_time,departure_time,stop_id,stop_sequence
+has T9,08:30:00,08:30:00,A,2
+has T9,,,Q,3
+has T2,08:20:00,08:20:00,C,2
+has T1,08:00:00,08:00:00,A,1
+has T1,08:10:00,08:10:00,B,1
+has T1,08:05:00,08:05:00,C,2
+has T2,08:30:00,08:30:00,B,1
+has T8,08:00:00,08:00:00,A,1
+has T8,,,,2
+tells csa: stop_times.txt, line 2: trip_id \"T9\" isn't in trips.txt; 1 further row names it too
+tells csa: stop_times.txt, line 3: stop_id \"Q\" isn't in stops.txt
+tells csa: stop_times.txt, line 3: trip_id \"T9\" begins or ends with this row, which has no time
+tells csa: stop_times.txt, line 4: trip_id \"T2\" has a time in this row that is earlier than the one before it
+tells csa: stop_times.txt, line 6: stop_sequence \"1\" is in an earlier row of this trip too
+tells csa: stop_times.txt, line 9: trip_id \"T8\" isn't in trips.txt; 1 further row names it too
+answers refused 9 UnknownId stop_times.txt 1
+
+# Without a fault of an id, the feed is refused for that of the first trip of trips.txt.
+file base_feed/stop_times.txt
+has trip_id,arrival_time,departure_time,stop_id,stop_sequence
+has T2,08:20:00,08:20:00,C,2
+has T1,08:00:00,08:00:00,A,1
+has T1,08:00:00,08:00:00,B,2
+has T2,08:30:00,08:30:00,B,1
+has T1,07:30:00,07:30:00,C,3
+tells csa: stop_times.txt, line 6: trip_id \"T1\" has a time in this row that is earlier than the one before it
+tells csa: stop_times.txt, line 2: trip_id \"T2\" has a time in this row that is earlier than the one before it
+answers refused 13 TimeGoesBack stop_times.txt 5
+
+# A strict build tells also where a trip takes no time.
+file base_feed/stop_times.txt
+has trip_id,arrival_time,departure_time,stop_id,stop_sequence
+has T1,08:00:00,08:00:00,A,1
+has T1,08:00:00,08:00:00,B,2
+has T2,08:12:00,08:12:00,B,1
+has T2,08:12:00,08:12:00,C,2
+asks build base_feed built.csa --first 20240115 --days 1 --zone fixed:0 --strict --all-faults
+tells csa: stop_times.txt, line 3: trip_id \"T1\" arrives in this row no later than it departed from the stop before
+tells csa: stop_times.txt, line 5: trip_id \"T2\" arrives in this row no later than it departed from the stop before
+answers refused 14 HopWithoutDuration stop_times.txt 2
+lacks built.csa
+
+# Times aren't judged if a record is at fault by itself.
+run tables base_feed --all-faults
+file base_feed/stop_times.txt
+has trip_id,arrival_time,departure_time,stop_id,stop_sequence
+has T1,08:00:00,08:00:00,A,1
+has T1,07:00:00,07:00:00,B,2
+has T2,08:60:00,08:12:00,B,1
+tells csa: stop_times.txt, line 4: arrival_time \"08:60:00\" isn't a time, H:MM:SS or HH:MM:SS \
+with minutes and seconds below 60
+answers refused 5 BadTime stop_times.txt 3
+remove base_feed
+";
+
 /// Many faults of one kind, and lines that end and quote in various ways.
 const MANY_FAULTS: &str = "
 # Of 150 faults of a kind 100 are told.
@@ -140,7 +204,9 @@ counts 3 104 has T%,,,A,1
 has T3,,,A,2
 has T104,,,A,2
 tells csa: stop_times.txt, line 3: trip_id \"T3\" isn't in trips.txt; 1 further row names it too
+tells csa: stop_times.txt, line 3: trip_id \"T3\" begins or ends with this row, which has no time
 counts 4 102 tells csa: stop_times.txt, line %: trip_id \"T%\" isn't in trips.txt
+tells csa: stop_times.txt, line 104: trip_id \"T104\" begins or ends with this row, which has no time
 tells csa: stop_times.txt: 2 more faults of kind 9 UnknownId
 answers refused 9 UnknownId stop_times.txt 2
 
@@ -207,5 +273,5 @@ remove base_feed
 
 #[test]
 fn all_faults_are_reported(rt: HostRuntime) -> Result<(), Fail> {
-    try_transcripts(&rt, &[ALL_FAULTS, MANY_FAULTS])
+    try_transcripts(&rt, &[ALL_FAULTS, TIMES, MANY_FAULTS])
 }

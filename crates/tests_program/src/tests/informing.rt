@@ -18,6 +18,9 @@ prints footpaths 3
 prints name-bytes 7
 prints trips-20240115 2
 ends 0
+run info - --json
+answers {\"base\":1705276800,\"bytes\":188,\"connections\":3,\"footpaths\":3,\"layout\":1,\"name-bytes\":7,\
+\"stops\":3,\"trips\":2,\"trips-20240115\":2,\"utc\":\"2024-01-15T00:00:00Z\"}
 sample 2
 saves base.csa
 run info base.csa
@@ -66,6 +69,13 @@ prints name-bytes 7
 prints trips-20240115 1
 prints trips-20240201 1
 ends 0
+run info --json -
+answers {\"base\":-1,\"bytes\":188,\"connections\":3,\"footpaths\":3,\"layout\":1,\"name-bytes\":7,\
+\"stops\":3,\"trips\":2,\"trips-20240115\":1,\"trips-20240201\":1,\"utc\":\"1969-12-31T23:59:59Z\"}
+set 8 2147483647
+run info - --json
+answers {\"base\":9223372036854775807,\"bytes\":188,\"connections\":3,\"footpaths\":3,\"layout\":1,\
+\"name-bytes\":7,\"stops\":3,\"trips\":2,\"trips-20240115\":1,\"trips-20240201\":1,\"utc\":null}
 
 # Stops A, B and C with loops, no trips and no connections: no day.
 image 1346458435 1 3 0 0 3 3 1705276800 0 0 1 2 3 0 0 1 0 2 0 0 1 2 3 4407873
@@ -100,12 +110,31 @@ prints trips-20240115 2
 prints trips-20240117 2
 ends 0
 remove days.csa
+
+# A stop_id with quotation marks and an end of a line.
+file base_feed/stops.txt
+has stop_id,stop_name
+has A,A
+has B,B
+has C,C
+has \"D \"\"4
+has 5\",D
+run build base_feed days.csa --first 20240115 --days 1 --zone fixed:0 --no-warnings
+answers stops 4 runs 2 connections 3 footpaths 4 lifted 0 flex 0 frequencies 0 skipped 0
+run stops days.csa D
+prints 3 D \"4
+answers 5
+run stops days.csa D --json
+answers [{\"id\":\"D \\\"4\\n5\",\"number\":3}]
+remove days.csa
 remove base_feed
 
 # What is no image is refused as by `csa verify`.
 sample
 cut 3
 run info -
+answers refused 51 OddLength
+run info - --json
 answers refused 51 OddLength
 ";
 
@@ -117,6 +146,8 @@ prints first 20240115
 prints last 20240115
 prints trips-20240115 2
 ends 0
+run days base_feed --json
+answers {\"first\":\"20240115\",\"last\":\"20240115\",\"trips-20240115\":2}
 
 # A Monday and a Wednesday, of which one is removed, days without trips, and a day that is added.
 with calendar.txt 1 S,1,0,1,0,0,0,0,20240114,20240118
@@ -130,6 +161,9 @@ prints trips-20240117 0
 prints trips-20240118 0
 prints trips-20240119 2
 ends 0
+run days --json base_feed
+answers {\"first\":\"20240115\",\"last\":\"20240119\",\"trips-20240115\":2,\"trips-20240116\":0,\
+\"trips-20240117\":0,\"trips-20240118\":0,\"trips-20240119\":2}
 
 # A service of which all days are removed gives service on them; another service has no trips.
 file base_feed/calendar.txt
@@ -171,10 +205,15 @@ run days base_feed
 prints first none
 prints last none
 ends 0
+run days base_feed --json
+answers {\"first\":null,\"last\":null}
 remove base_feed
 
 # A feed that `csa tables` refuses.
 run days no_such_folder
+tells csa: no_such_folder: no such file or folder
+answers refused 1 MissingFile agency.txt 0
+run days no_such_folder --json
 tells csa: no_such_folder: no such file or folder
 answers refused 1 MissingFile agency.txt 0
 ";

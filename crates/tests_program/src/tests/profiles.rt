@@ -120,6 +120,12 @@ answers refused 33 BadWindow
 profile A C 07:00:00 09:00:00 10:00:00 walking
 complains 64
 
+# A stop_id may begin with a hyphen.
+asks profile - --from -1 --to C --after 07:00:00 --until 09:00:00 --by 10:00:00 --criterion arrival
+tells csa: --from \"-1\": no stop of the image has this stop_id (stations aren't stops: give a platform's stop_id, \
+which `csa stops IMAGE TEXT` lists)
+answers refused 31 UnknownStop
+
 # The stops are listed by their numbers, all or those with a text in their names.
 run stops -
 prints 0 A
@@ -127,6 +133,13 @@ prints 1 B
 answers 2 C
 run stops - B
 answers 1 B
+run stops - --json
+answers [{\"id\":\"A\",\"number\":0},{\"id\":\"B\",\"number\":1},{\"id\":\"C\",\"number\":2}]
+run stops --json - B
+answers [{\"id\":\"B\",\"number\":1}]
+run stops - b --json
+tells csa: no stop_id contains \"b\" (stop names and stations aren't searched)
+answers []
 run stops - b
 tells csa: no stop_id contains \"b\" (stop names and stations aren't searched)
 ends 0

@@ -51,7 +51,7 @@ impl<'a, B: ShelvesName + Send + Sync> Client for Waiter<'a, B> {
 
     type Writer = Looking<'a, B>;
 
-    ghost opens = { λ _ _. Unit {0} };
+    ghost words = { record { opens = λ client result. Unit {0}; closes = λ reader writer end. Unit {0} } };
 
     fn open(self) -> Result<(&'static [u8], Looking<'a, B>), ConnFault> {
         Ok((WAIT.as_bytes(), self.replies))

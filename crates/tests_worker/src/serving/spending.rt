@@ -53,7 +53,7 @@ impl Client for Sender {
 
     type Writer = Sink;
 
-    ghost opens = { λ _ _. Unit {0} };
+    ghost words = { record { opens = λ client result. Unit {0}; closes = λ reader writer end. Unit {0} } };
 
     fn open(self) -> Result<(LineEnds, Sink), ConnFault> {
         Ok((LineEnds { left: self.lines }, Sink))

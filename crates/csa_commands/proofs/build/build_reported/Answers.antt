@@ -2,7 +2,7 @@
 use Rattle.std.proofs.Common.{◌∙◌}
 use Rattle.feed_files.specs.Reads.{all_tables}
 use Rattle.feed_loader.specs.Refused.{IsLoaded}
-use Rattle.csa_commands.specs.Writing.{IsWholeImage}
+use Rattle.image_files.specs.Writing.{IsWholeImage}
 use Rattle.csa_commands.proofs.OfFolder.{whole_of}
 use Rattle.csa_commands.proofs.build.build_reported.Goals as goal
 

@@ -13,11 +13,13 @@ use Rattle.csa_commands.proofs.build.run.Goals as goal
 pub returns-after-warnings : goal.returns-after-warnings
 returns-after-warnings g c =
     let gives = g.H.Disk.gives in
+    let disk = g.H.OutDisk.files c.args.rt.now in
     let request = c.args.request in
     let built = c.in-Ok.built in
+    let done = c.in-Ok.ensures in
     outcome_of (PrintsOnly (λ text. text ≡ report_line built.report))
-    (PrintsOfFeed (IsReportLine gives request.folder.now request.plan) (IsBuildRefusal gives request.folder.now request.plan)) _ _ _
-    (λ s text is. inl (is.0, (built.image.timetable, built.image.names, built.report, c.in-Ok.ensures.built, is.1))) c.print_counts.ensures
+    (PrintsOfFeed (IsReportLine gives disk request) (IsBuildRefusal gives request.folder.now request.plan)) _ _ _
+    (λ s text is. inl (is.0, (built.image.timetable, built.image.names, built.report, done.built, done.put, is.1))) c.print_counts.ensures
 
 pub returns-in-Err-Refused : goal.returns-in-Err-Refused
 returns-in-Err-Refused g c =
@@ -29,5 +31,5 @@ returns-in-Err-Refused g c =
     let passed = subst (λ (fault : LoadFault). ¬ (IsWantOfMemory fault) → IsBuildRefusal gives request.folder.now request.plan fault)
     (sym figures.fault-is) unbuilt in
     let done = c.refuse_feed.ensures in
-    feed_refused (IsReportLine gives request.folder.now request.plan) (IsBuildRefusal gives request.folder.now request.plan)
+    feed_refused (IsReportLine gives (g.H.OutDisk.files c.args.rt.now) request) (IsBuildRefusal gives request.folder.now request.plan)
     _ _ _ _ passed done.status done.memory done.refused done.printed done.silent done.begun

@@ -1,7 +1,6 @@
 use Rattle.std.proofs.Common.{inl}
-use Rattle.feed_days.specs.Days.{AreDayLines}
 use Rattle.csa_commands.specs.Ending.{PrintsOnly}
-use Rattle.csa_commands.specs.Folders.{AreDaysOf, IsTablesRefusalOf}
+use Rattle.csa_commands.specs.Folders.{AreDaysOf, IsDays, IsTablesRefusalOf}
 use Rattle.csa_commands.specs.Refusing.{PrintsOfFeed}
 use Rattle.csa_commands.proofs.Outcomes.{feed_refused, outcome_of}
 use Rattle.csa_commands.proofs.days.run.Goals as goal
@@ -9,15 +8,17 @@ use Rattle.csa_commands.proofs.days.run.Goals as goal
 pub returns-in-Ok : goal.returns-in-Ok
 returns-in-Ok g c =
     let gives = g.H.Disk.gives in
-    let folder = c.args.folder.now in
+    let folder = c.args.request.folder.now in
+    let json = c.args.request.json in
     let feed = c.in-Ok.feed in
-    outcome_of (PrintsOnly (AreDayLines feed)) (PrintsOfFeed (AreDaysOf gives folder) (IsTablesRefusalOf gives folder)) _ _ _
+    outcome_of (PrintsOnly (IsDays json feed)) (PrintsOfFeed (AreDaysOf gives folder json) (IsTablesRefusalOf gives folder)) _ _ _
     (λ s text is. inl (is.0, (feed, c.in-Ok.ensures.feed, is.1))) c.print_days.ensures
 
 pub returns-in-Err : goal.returns-in-Err
 returns-in-Err g c =
     let gives = g.H.Disk.gives in
-    let folder = c.args.folder.now in
+    let folder = c.args.request.folder.now in
+    let json = c.args.request.json in
     let done = c.refuse_feed.ensures in
-    feed_refused (AreDaysOf gives folder) (IsTablesRefusalOf gives folder) c.in-Err.fault _ _ _ c.in-Err.ensures.refused
+    feed_refused (AreDaysOf gives folder json) (IsTablesRefusalOf gives folder) c.in-Err.fault _ _ _ c.in-Err.ensures.refused
     done.status done.memory done.refused done.printed done.silent done.begun

@@ -1,10 +1,12 @@
 use Rattle.std.proofs.Common.{rules}
-use Rattle.image_facts.specs.Facts.{AreFacts}
+use Rattle.csa_commands.specs.Informing.{IsInfo}
 use Rattle.csa_commands.proofs.Outcomes.{written}
 use Rattle.csa_commands.proofs.info.run.Goals as goal
 
 pub returns-in-Ok : goal.returns-in-Ok
 returns-in-Ok g c =
-    let facts : AreFacts c.args.image.now c.as_str.result.now = search rules in
+    let image = c.args.image.now in
+    let json = c.args.request.json in
+    let info : IsInfo json image c.as_str.result.now = search rules in
     let wrote = c.write_text.ensures in
-    written (AreFacts c.args.image.now) _ c.as_str.result.now _ _ facts wrote.status wrote.written wrote.begun
+    written (IsInfo json image) _ c.as_str.result.now _ _ info wrote.status wrote.written wrote.begun

@@ -1,5 +1,5 @@
 use Rattle.std.proofs.Common.{rules}
-use Rattle.csa_commands.proofs.Appended.{appended_and_kept, appended_further}
+use Rattle.image_files.proofs.Appended.{appended_and_kept, appended_further}
 use Rattle.csa_commands.proofs.status.write_bytes.Goals as goal
 use Rattle.csa_commands.proofs.status.write_bytes.Goals.{in-Ok, in-Err+else-ne}
 

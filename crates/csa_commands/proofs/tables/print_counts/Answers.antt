@@ -1,10 +1,10 @@
 use Rattle.std.proofs.Common.{◌≡◌, rules}
-use Rattle.csa_commands.specs.Tabling.{counts_text}
+use Rattle.csa_commands.specs.Tabling.{counts_asked}
 use Rattle.csa_commands.proofs.Outcomes.{written}
 use Rattle.csa_commands.proofs.tables.print_counts.Goals as goal
 
 pub returns-in-Ok : goal.returns-in-Ok
 returns-in-Ok g c =
-    let same : c.as_str.result.now ≡ counts_text c.args.counts = search rules in
+    let same : c.as_str.result.now ≡ counts_asked c.args.json c.args.counts = search rules in
     let wrote = c.write_text.ensures in
-    written (λ text. text ≡ counts_text c.args.counts) _ c.as_str.result.now _ _ same wrote.status wrote.written wrote.begun
+    written (λ text. text ≡ counts_asked c.args.json c.args.counts) _ c.as_str.result.now _ _ same wrote.status wrote.written wrote.begun

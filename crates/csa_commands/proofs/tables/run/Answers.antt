@@ -2,22 +2,24 @@ use Rattle.std.proofs.Common.{◌≡◌, inl}
 use Rattle.csa_commands.specs.Ending.{PrintsOnly}
 use Rattle.csa_commands.specs.Folders.{IsTablesRefusalOf}
 use Rattle.csa_commands.specs.Refusing.{PrintsOfFeed}
-use Rattle.csa_commands.specs.Tabling.{IsCountsLine, counts_text}
+use Rattle.csa_commands.specs.Tabling.{IsCounts, counts_asked}
 use Rattle.csa_commands.proofs.Outcomes.{feed_refused, outcome_of}
 use Rattle.csa_commands.proofs.tables.run.Goals as goal
 
 pub returns-in-Ok-clause-printed : goal.returns-in-Ok-clause-printed
 returns-in-Ok-clause-printed g c =
     let gives = g.H.Disk.gives in
-    let folder = c.args.request.folder.now in
+    let request = c.args.request in
+    let folder = request.folder.now in
     let counts = c.in-Ok.counts in
-    outcome_of (PrintsOnly (λ text. text ≡ counts_text counts)) (PrintsOfFeed (IsCountsLine gives folder) (IsTablesRefusalOf gives folder)) _ _ _
+    outcome_of (PrintsOnly (λ text. text ≡ counts_asked request.json counts)) (PrintsOfFeed (IsCounts gives request) (IsTablesRefusalOf gives folder)) _ _ _
     (λ s text is. inl (is.0, (counts, c.in-Ok.ensures.counts, is.1))) c.print_counts.ensures
 
 pub returns-in-Err-clause-printed : goal.returns-in-Err-clause-printed
 returns-in-Err-clause-printed g c =
     let gives = g.H.Disk.gives in
-    let folder = c.args.request.folder.now in
+    let request = c.args.request in
+    let folder = request.folder.now in
     let done = c.refuse_feed.ensures in
-    feed_refused (IsCountsLine gives folder) (IsTablesRefusalOf gives folder) c.in-Err.fault _ _ _ c.in-Err.ensures.refused
+    feed_refused (IsCounts gives request) (IsTablesRefusalOf gives folder) c.in-Err.fault _ _ _ c.in-Err.ensures.refused
     done.status done.memory done.refused done.printed done.silent done.begun

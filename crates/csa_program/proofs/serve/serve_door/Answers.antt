@@ -1,4 +1,4 @@
-use Rattle.std.proofs.Common.{◌≡◌, ◌∙◌, map, sym, subst, IfOk, None}
+use Rattle.std.proofs.Common.{◌∙◌, map, sym, subst}
 use Rattle.std.proofs.lemmas.List.{length-map}
 use Rattle.csa_program.specs.Door.{AreCountedOff}
 use Rattle.workers.specs.Ordering.{route_to}
@@ -16,12 +16,12 @@ returns-clause-many g c wanted counted =
     (sym c.requires.nobody) counted in
     let many = shown.many c.requires.nobody ∙ sym (length-map last.came (λ visitor. visitor.number)) in
     as_many wanted last.left last.accepted last.is_endless last.failed (map (λ visitor. visitor.number) last.came) _
-    (shown.holds wanted was) shown.none_left many
+    (shown.left.holds wanted was) shown.left.none_left many
 
 -- the sessions of all who came to the door
 pub returns-clause-sessions : goal.returns-clause-sessions
 returns-clause-sessions g c =
     let ran = c.in_ok-ran.ran in
-    all_sessions (λ visitor result. IfOk result (λ opened. opened.1 ≡ visitor.stream)) (λ _. None) (λ _. None) c.form_of-form.result _
+    all_sessions _ _ _ c.form_of-form.result _
     c.args.door.came ran.clients.came (route_to c.args.folders.now.names.items ran.orders.queue) c.args.made.2.items ran.seats.items ran.asked
-    ran.served c.form_of-form.ensures c.requires.nobody c.in_ok-ran.ensures.shares
+    ran.served c.form_of-form.ensures c.requires.nobody c.in_ok-ran.ensures.served

@@ -1,12 +1,9 @@
-use Rattle.std.proofs.Common.{[], ◌≡◌, ◌∙◌, ℕ, List, Option, Some, refl, sym, true, false, unwrap_or, ap, arith}
+use Rattle.std.proofs.Common.{[], ◌≡◌, ◌∙◌, ℕ, List, Option, Some, sym, true, false, unwrap_or, ap, arith}
 use Rattle.std.specs.Str.{bytes_eq}
 use Rattle.csv.specs.Records.{fields_of}
 use Rattle.gtfs_rows.specs.Cells.{cell, trim_spaces}
 use Rattle.gtfs_rows.proofs.CellLemmas.{column-here, column-later, field_there}
 use Rattle.gtfs_rows.proofs.cells.column.Goals as goal
-
-pub loop-index-init : goal.loop-index-init
-loop-index-init c = refl
 
 pub returns-then-eq : goal.returns-then-eq
 returns-then-eq c =

@@ -1,8 +1,9 @@
 use Rattle.std.proofs.Common.{◌≡◌, ◌∙◌, ◌++◌, Some, ap, refl, sym, rules, string_bytes}
+use Rattle.csv.proofs.WriteFacts.{on_ok_both}
 use Rattle.csv.specs.Records.{fields_of}
 use Rattle.gtfs_rows.specs.Rows.{key_by, value}
 use Rattle.gtfs_rows.specs.declared.columns.Key.TheVariants as keys
-use Rattle.gtfs_rows.proofs.KeyLemmas.{key_new, no_keys, on_ok_both}
+use Rattle.gtfs_rows.proofs.KeyLemmas.{key_new, no_keys}
 use Rattle.gtfs_rows.proofs.keyed.keep.Goals as goal
 
 pub returns-in-Nothing-clause-ok : goal.returns-in-Nothing-clause-ok

@@ -3,15 +3,9 @@ use Rattle.csv.specs.Records.{fields_of}
 use Rattle.gtfs_rows.specs.Source.{last_of, left_of}
 use Rattle.gtfs_rows.specs.Faults.{length_first}
 use Rattle.gtfs_rows.specs.Tables.{judge_of}
-use Rattle.gtfs_rows.proofs.CellLemmas.{text_first, text_rest}
+use Rattle.gtfs_rows.proofs.CellLemmas.{text_rest}
 use Rattle.gtfs_rows.proofs.FaultLemmas.{closed, faultless_more, first_fault, opened}
 use Rattle.gtfs_rows.proofs.reader.add_records.Goals as goal
-
-pub add_record-requires : goal.add_record-requires
-add_record-requires g c =
-    let next : left_of c.loop-taken.records ≡ last_of c.advance.new.self ∷ left_of c.advance.new.self =
-    rw c.in-Ok-true.field-0-test at (c.in-Ok-true.ensures.reads c.loop-taken.invariant.reading) in
-    rw c.last.ensures (text_first (left_of c.loop-taken.records) (left_of c.advance.new.self) (last_of c.advance.new.self) next c.loop-taken.invariant.text)
 
 pub returns-in-Ok-false-clause-ok : goal.returns-in-Ok-false-clause-ok
 returns-in-Ok-false-clause-ok g c =

@@ -1,9 +1,10 @@
 use Rattle.std.proofs.Common.{None, map, slice_index_or, string_bytes}
 use Rattle.csv.specs.Records.{fields_of}
+use Rattle.gtfs_rows.specs.Ids.{given_also, seen_also}
 use Rattle.gtfs_rows.specs.Rows.{SpellsStopTime, value}
 use Rattle.gtfs_rows.specs.declared.rows.StopTimeRow.{StopTimeRow}
 use Rattle.gtfs_rows.proofs.CellLemmas.{cell_text}
-use Rattle.gtfs_rows.proofs.SeenLemmas.{rows_more, stops_more, trips_more}
+use Rattle.gtfs_rows.proofs.SeenLemmas.{ids_more, rows_more}
 use Rattle.gtfs_rows.proofs.stop_times.add_stop_time.Goals as goal
 
 pub index_of-requires : goal.index_of-requires
@@ -35,9 +36,9 @@ returns-clause-ok c = λ before held.
     } in (
       c.in_ok-time.ensures.fine,
       record {
-        trips = trips_more c.args.cells.now.indices.now before (fields_of c.args.cells.now.fields.now) (map string_bytes c.args.times.now.trips.keys)
+        trips = ids_more seen_also 0 c.args.cells.now.indices.now before (fields_of c.args.cells.now.fields.now) (map string_bytes c.args.times.now.trips.keys)
             (map string_bytes c.index_of.new.ids.keys) held.trips (rw c.get.ensures at c.in_ok-trip.ensures.more);
-        stops = stops_more c.args.cells.now.indices.now before (fields_of c.args.cells.now.fields.now) (map string_bytes c.args.times.now.stops.keys)
+        stops = ids_more given_also 3 c.args.cells.now.indices.now before (fields_of c.args.cells.now.fields.now) (map string_bytes c.args.times.now.stops.keys)
             (map string_bytes c.stop_index.new.stops.keys) held.stops (rw c.get-2.ensures at c.in_ok-stop.ensures.more);
         rows = rows_more (map string_bytes c.args.times.now.trips.keys) (map string_bytes c.args.times.now.stops.keys)
             (map string_bytes c.index_of.new.ids.keys) (map string_bytes c.stop_index.new.stops.keys)

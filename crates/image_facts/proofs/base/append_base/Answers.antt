@@ -1,6 +1,7 @@
 use Rattle.std.proofs.Common.{◌≡◌, ◌++◌, refl, string_bytes, subst, w64, ℤ}
 use Rattle.std.proofs.lemmas.Int.{to_z-of_z}
-use Rattle.image_facts.specs.Base.{IsUtcLine, base_line}
+use Rattle.image_facts.specs.Base.{IsUtc, base_line}
+use Rattle.image_facts.specs.declared.form.Form.{Form}
 use Rattle.text_pieces.proofs.Joined.{two}
 use Rattle.image_facts.proofs.base.append_base.Goals as goal
 
@@ -9,7 +10,7 @@ returns c =
     let same = to_z-of_z w64 c.args.base c.ranges.base in
     let utc = c.in_ok-append_utc.ensures in (
       base_line c.args.base ++ utc.0,
-      (utc.0, subst (λ (n : ℤ). IsUtcLine n utc.0) same utc.1, refl),
+      (utc.0, subst (λ (n : ℤ). IsUtc Form.Lines n utc.0) same utc.1, refl),
       two (string_bytes c.args.lines.now) (string_bytes c.append_seconds.new.lines) (string_bytes c.append_utc.new.lines) (base_line c.args.base) utc.0
           (subst (λ (n : ℤ). string_bytes c.append_seconds.new.lines ≡ string_bytes c.args.lines.now ++ base_line n) same c.in_ok-append_seconds.ensures)
           utc.2,

@@ -5,7 +5,7 @@ use Rattle.image_facts.proofs.days.append_entries.Given as goal
 -- what was added, and what is to come of the rest
 abbrev pub invariant-loop-day : goal.invariant-loop-day
 invariant-loop-day l = record {
-  lines : string_bytes l.lines ++ rest_text l.count l.rest ≡ string_bytes l.fn.lines ++ rest_text 0 l.days;
+  lines : string_bytes l.lines ++ rest_text l.form l.count l.rest ≡ string_bytes l.fn.lines ++ rest_text l.form 0 l.days;
   counted : l.count + length l.rest ≤ length l.days;
 }
 

@@ -1,7 +1,7 @@
 //! Worked queries through the one call that answers them, over an image in place and over its lists decoded. The texts
 //! of the answers were worked out by hand.
 
-use super::{ASKED, NO_TRIPS, WITH_DIRECT_TRIP, by, until};
+use super::{ASKED, NO_TRIPS, WITH_CHAIN, WITH_DIRECT_TRIP, WITH_WALK, by, until};
 use crate::tests::images::{REPEATED, image};
 use criteria::{Arrival, ArrivalTrips, ArrivalTripsWalk, ShowsFigures};
 use image_layout::{sample_words, second_sample_words};
@@ -36,6 +36,23 @@ points 1 read 3 walk none";
 const DIRECT: &str = "\
 dep 08:00:00 arr 08:30:00 : ride 0 1
 points 1 read 3 walk none";
+
+/// On foot to a trip.
+const WALKED_START: &str = "\
+dep 08:10:00 arr 08:20:00 : walk 0 1 120 ride 2 2
+points 1 read 3 walk none";
+
+/// Two trips that one can still reach in time: the second is reached on foot.
+const EARLY_STARTS: &str = "\
+dep 08:00:00 arr 08:20:00 : ride 0 0 walk 1 1 0 ride 2 2
+dep 08:08:00 arr 08:30:00 : walk 0 1 120 ride 1 1
+points 2 read 3 walk none";
+
+/// On foot from a trip, or to one, beside the footpath for the whole way.
+const BESIDE_A_WALK: &str = "\
+dep 08:00:00 arr 08:11:00 : ride 0 0 walk 1 2 60
+dep 08:11:00 arr 08:20:00 : walk 0 1 60 ride 2 2
+points 2 read 3 walk 120";
 
 const NONE: &str = "points 0 read 3 walk none";
 
@@ -191,6 +208,16 @@ fn rows_by_arrival(rt: HostRuntime) -> Result<(), Fail> {
         (&sample, until(28800), CHANGE),
         (&sample, by(30000), CHANGE),
         (&sample, by(29999), NONE),
+    ];
+    try_rows(&rt, rt.alloc(), &Arrival, &rows)
+}
+
+#[test]
+fn rows_on_foot(rt: HostRuntime) -> Result<(), Fail> {
+    let rows: [Row<'_>; 3] = [
+        (&WITH_WALK, ASKED, WALKED_START),
+        (&WITH_WALK, until(29399), EARLY_STARTS),
+        (&WITH_CHAIN, ASKED, BESIDE_A_WALK),
     ];
     try_rows(&rt, rt.alloc(), &Arrival, &rows)
 }

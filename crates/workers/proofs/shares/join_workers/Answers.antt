@@ -6,13 +6,16 @@ use Rattle.std.specs.Prelude.{String, List}
 use Rattle.std.specs.Global.{Global}
 use Rattle.load_orders.specs.Keeping.{QueueId}
 use Rattle.workers.specs.Ordering.{GoesBy, IsKeeperOf, put_by, route_to}
-use Rattle.workers.specs.Sessions.{AreAllServed, IsShare}
+use Rattle.workers.specs.Sessions.{AreAllServed, IsShare, post_at, posts_at, share_of, work_of}
+use Rattle.workers.specs.Words.{seats_of, sessions_of}
 use Rattle.session.specs.declared.reply_form.ReplyForm.{ReplyForm}
 use Rattle.workers.proofs.Shared.{joined_none, joined_next, joined_all, keeper_next, keeper_none}
 use Rattle.workers.proofs.shares.join_workers.Goals as goal
 
 pub loop-worker-init : goal.loop-worker-init
 loop-worker-init g c =
+    let words = sessions_of c.args.form g.C.Client.words g.C.Reader.Read.remaining g.C.Writer.Write.contents
+    (seats_of g.T.Versions.fits g.T.Versions.number g.T.Versions.value g.T.Versions.known g.T.Versions.noted) in
     let items = c.into_iter-worker-iterator.ensures.into_iter_gives.0 in
     let ready = c.requires.out in
     let none = ready.none_ended in
@@ -32,10 +35,9 @@ loop-worker-init g c =
       closings = ready.closings ∙ ap length (sym items);
       out = ready.out ∙ ap length (sym items);
       ended = omega (arith, none, many, all);
-      joined = joined_none c.args.form g.C.Client.opens g.C.Reader.Read.remaining g.C.Writer.Write.contents
-          g.T.Versions.number g.T.Versions.value g.T.Versions.known
-          g.T.Versions.noted (route_to (g.F.Feeds.named c.args.route.feeds.value) c.args.route.end.value.queue)
-          _ _ _ _ _ _ _ refl ready.nothing_back c.none-orders.ensures c.new-served.ensures c.requires.room;
+      joined = joined_none words (λ worker. worker.promise.seat.value)
+          (route_to (g.F.Feeds.words.named c.args.route.feeds.value) c.args.route.end.value.queue)
+          _ _ _ _ refl ready.nothing_back c.new-served.ensures c.requires.room c.none-orders.ensures;
       keeper = keeper_none _ _ _ _ _ c.requires.keeper items c.none-orders.ensures;
     }
 
@@ -52,11 +54,13 @@ take_in-requires g c =
     let was = c.loop-worker.invariant in
     let routes = subst (λ workers. All (λ worker. GoesBy worker.promise.route c.args.route) workers) c.in-Some.ensures.steps.0 was.routes in
     let route = routes 0 c.in-Some.worker (omega arith) in
-    ap (λ route. route.queue) c.join-share.ensures.2.2.0 ∙ route.0 ∙ sym (ap (λ keeper. keeper.queue) was.keeper)
+    ap (λ route. route.queue) c.join-share.ensures.2.asked.0 ∙ route.0 ∙ sym (ap (λ keeper. keeper.queue) was.keeper)
 
 -- one worker more is joined, whose taker came back because the queue was closed for it
 pub loop-worker-preserved : goal.loop-worker-preserved
 loop-worker-preserved g c =
+    let words = sessions_of c.args.form g.C.Client.words g.C.Reader.Read.remaining g.C.Writer.Write.contents
+    (seats_of g.T.Versions.fits g.T.Versions.number g.T.Versions.value g.T.Versions.known g.T.Versions.noted) in
     let was = c.loop-worker.invariant in
     let step = c.in-Some.ensures.steps in
     let short = ap length step.0 in
@@ -68,14 +72,14 @@ loop-worker-preserved g c =
     let routes = subst (λ workers. All (λ worker. GoesBy worker.promise.route c.args.route) workers) step.0 was.routes in
     let route = routes 0 c.in-Some.worker (omega arith) in
     let Share = λ (form : ReplyForm) (names : List (String Global)) (queue : QueueId _).
-    IsShare form g.C.Client.opens g.C.Reader.Read.remaining g.C.Writer.Write.contents
-    g.T.Versions.number g.T.Versions.value g.T.Versions.known g.T.Versions.noted (route_to names queue)
-    c.in-Some.worker.promise.seat.value done.taker.taken pair.1 done.served done.seat in
-    let by_form = subst (λ (form : ReplyForm). Share form (g.F.Feeds.named c.in-Some.worker.promise.route.feeds.value)
+    IsShare (sessions_of form g.C.Client.words g.C.Reader.Read.remaining g.C.Writer.Write.contents
+    (seats_of g.T.Versions.fits g.T.Versions.number g.T.Versions.value g.T.Versions.known g.T.Versions.noted))
+    (post_at c.in-Some.worker.promise.seat.value (route_to names queue)) done.taker.taken (share_of done.served done.seat pair.1) in
+    let by_form = subst (λ (form : ReplyForm). Share form (g.F.Feeds.words.named c.in-Some.worker.promise.route.feeds.value)
     c.in-Some.worker.promise.route.end.value.queue) (forms 0 c.in-Some.worker (omega arith)) c.join-share.ensures.2 in
-    let by_queue = subst (λ (queue : QueueId _). Share c.args.form (g.F.Feeds.named c.in-Some.worker.promise.route.feeds.value) queue)
+    let by_queue = subst (λ (queue : QueueId _). Share c.args.form (g.F.Feeds.words.named c.in-Some.worker.promise.route.feeds.value) queue)
     route.0 by_form in
-    let share = subst (λ feeds. Share c.args.form (g.F.Feeds.named feeds) c.args.route.end.value.queue) route.1 by_queue in
+    let share = subst (λ feeds. Share c.args.form (g.F.Feeds.words.named feeds) c.args.route.end.value.queue) route.1 by_queue in
     let fits = subst (λ shelves. g.T.Versions.fits shelves done.seat) (at 0 c.in-Some.worker (omega arith)) c.join-share.ensures.1 in
     let back = c.take_back.ensures in
     let view = ap (λ dealer. dealer.view) back in
@@ -101,17 +105,18 @@ loop-worker-preserved g c =
       closings = closings ∙ was.closings;
       out = omega (arith, out, were, short);
       ended = omega (arith, ended, once, had, short, closings);
-      joined = joined_next c.args.form g.C.Client.opens g.C.Reader.Read.remaining g.C.Writer.Write.contents
-          g.T.Versions.number g.T.Versions.value g.T.Versions.known
-          g.T.Versions.noted (route_to (g.F.Feeds.named c.args.route.feeds.value) c.args.route.end.value.queue)
-          _ _ _ _ _ _ _ _ _ _ _ _ done.taker.taken pair.1 done.served done.seat c.in-Some.worker was.joined step.0
-          (ap (λ v. v.taken) view) c.note.ensures c.join.ensures c.in-Ok.ensures.items share;
+      joined = joined_next words (λ worker. worker.promise.seat.value)
+          (route_to (g.F.Feeds.words.named c.args.route.feeds.value) c.args.route.end.value.queue)
+          _ _ _ _ _ _ _ done.taker.taken (share_of done.served done.seat pair.1) c.in-Some.worker was.joined step.0
+          (ap (λ v. v.taken) view) c.join.ensures c.in-Ok.ensures.items c.note.ensures share;
       keeper = keeper_next _ _ _ _ _ _ _ _ pair.1 was.keeper step.0 c.note.ensures c.take_in.ensures;
     }
 
 -- all were
 pub returns : goal.returns
 returns g c =
+    let words = sessions_of c.args.form g.C.Client.words g.C.Reader.Read.remaining g.C.Writer.Write.contents
+    (seats_of g.T.Versions.fits g.T.Versions.number g.T.Versions.value g.T.Versions.known g.T.Versions.noted) in
     let was = c.loop-worker.invariant in
     let items = c.into_iter-worker-iterator.ensures.into_iter_gives.0 in
     let all = ap length items in
@@ -122,13 +127,10 @@ returns g c =
     let back : c.loop-worker.dealer.view.ended ≡ c.loop-worker.dealer.view.closings = omega (arith, ended, none) in
     let dealt = c.all_were_taken.ensures.all (was.out ∙ none) (omega (arith, closings, all, many)) back in
     let sent = subst (λ list. IsPermutation list c.loop-worker.dealer.view.taken) was.sent dealt in
-    let served = joined_all c.args.form g.C.Client.opens g.C.Reader.Read.remaining g.C.Writer.Write.contents
-    g.T.Versions.number g.T.Versions.value g.T.Versions.known
-    g.T.Versions.noted (route_to (g.F.Feeds.named c.args.route.feeds.value) c.args.route.end.value.queue)
-    _ _ _ _ _ _ _ _ was.joined none sent in
-    let shares = subst (λ workers. AreAllServed c.args.form g.C.Client.opens g.C.Reader.Read.remaining g.C.Writer.Write.contents
-    g.T.Versions.number g.T.Versions.value g.T.Versions.known
-    g.T.Versions.noted (route_to (g.F.Feeds.named c.args.route.feeds.value) c.args.route.end.value.queue) c.args.dealer.view.sent
-    (map (λ worker. worker.promise.seat.value) workers) c.loop-worker.orders c.loop-worker.served c.loop-worker.seats.items) items served in
+    let route = route_to (g.F.Feeds.words.named c.args.route.feeds.value) c.args.route.end.value.queue in
+    let left = work_of c.loop-worker.served c.loop-worker.seats.items c.loop-worker.orders in
+    let all_served = joined_all words (λ worker. worker.promise.seat.value) route _ _ _ _ left was.joined none sent in
+    let served = subst (λ workers. AreAllServed words c.args.dealer.view.sent
+    (posts_at (map (λ worker. worker.promise.seat.value) workers) route) left) items all_served in
     let kept = subst (λ (n : ℕ). IsKeeperOf c.args.route.end.value.queue (put_by c.loop-worker.orders) n c.loop-worker.asks) none was.keeper in
-    record { back = kept; fits = was.fit; shares = shares }
+    record { back = kept; fits = was.fit; served = served }

@@ -1,6 +1,8 @@
 use Rattle.std.proofs.Common.{◌≡◌, ◌+◌, All, length}
 use Rattle.std.specs.Vec.Iter.{into_iter_items, into_iter_len}
 use Rattle.workers.specs.Ordering.{GoesBy, IsKeeperOf, put_by, route_to}
+use Rattle.workers.specs.Sessions.{work_of}
+use Rattle.workers.specs.Words.{seats_of, sessions_of}
 use Rattle.workers.proofs.Shared.{Joined}
 use Rattle.workers.proofs.shares.join_workers.Given as goal
 
@@ -20,9 +22,10 @@ invariant-loop-worker g l = record {
   closings : l.dealer.view.closings ≡ length (into_iter_items l.initial.worker-iterator);
   out : l.dealer.view.out ≡ length (into_iter_items l.worker-iterator);
   ended : l.dealer.view.ended + length (into_iter_items l.worker-iterator) ≡ l.dealer.view.closings;
-  joined : Joined l.fn.form g.C.Client.opens g.C.Reader.Read.remaining g.C.Writer.Write.contents g.T.Versions.number g.T.Versions.value g.T.Versions.known
-      g.T.Versions.noted (route_to (g.F.Feeds.named l.fn.route.feeds.value) l.fn.route.end.value.queue)
-      (λ worker. worker.promise.seat.value) (into_iter_items l.initial.worker-iterator) (into_iter_items l.worker-iterator)
-      l.dealer.view.taken l.orders l.served l.seats.items;
+  joined : Joined (sessions_of l.fn.form g.C.Client.words g.C.Reader.Read.remaining g.C.Writer.Write.contents
+      (seats_of g.T.Versions.fits g.T.Versions.number g.T.Versions.value g.T.Versions.known g.T.Versions.noted))
+      (λ worker. worker.promise.seat.value) (route_to (g.F.Feeds.words.named l.fn.route.feeds.value) l.fn.route.end.value.queue)
+      (into_iter_items l.initial.worker-iterator) (into_iter_items l.worker-iterator)
+      l.dealer.view.taken (work_of l.served l.seats.items l.orders);
   keeper : IsKeeperOf l.fn.route.end.value.queue (put_by l.orders) (length (into_iter_items l.worker-iterator)) l.asks;
 }

@@ -47,13 +47,13 @@ loop-k-preserved g c =
           let mid = story exits steps c.loop-k.self.set_outs.items in
           let now = story exits steps c.offer.new.self.set_outs.items in
           let tags = from_to (spelling_of walks before) (spelling_of walks all) in
-          let set_out : SetOut = record { start = c.args.departure.start; first = c.args.hop.now.place; label = x.tag } in
+          let set_out : SetOut = record { start = c.args.departure.start; first = c.args.place; label = x.tag } in
           takes_next rules (label_points c.args.labels.now)
           (λ (label : Point g.row.C-V.Denot). set_out_way tags c.args.departure.time
           (started rules c.args.departure.start (rules.ride label.value)) (record {
             start =
                 c.args.departure.start;
-            first = c.args.hop.now.place;
+            first = c.args.place;
             label = label.tag;
           }))
           c.loop-k.k x (points_of c.args.self.now.found) (points_of c.loop-k.self.found) (points_of c.offer.new.self.found) c.label_at-label.ensures
@@ -83,7 +83,7 @@ returns-clause-takes g c walks exits steps before all ext_before ext =
     (λ label. (set_out_way tags c.args.departure.time label.value (record {
       start = c.args.departure.start;
       first =
-          c.args.hop.now.place;
+          c.args.place;
       label = label.tag;
     })).fits_tag tt) _ c.loop-k.k (points_of c.args.self.now.found)
     (points_of c.loop-k.self.found) (omega arith)

@@ -18,6 +18,6 @@ invariant-loop-k g l =
           → Takes rules walks (story exits steps l.fn.self.set_outs.items) (story exits steps l.self.set_outs.items)
           (λ tags. each_of (StandsBefore (label_points l.labels) l.k)
           (λ label. set_out_way tags l.departure.time (started rules l.departure.start (rules.ride label.value))
-          (record { start = l.departure.start; first = l.hop.place; label = label.tag }))) (points_of l.fn.self.found)
+          (record { start = l.departure.start; first = l.place; label = label.tag }))) (points_of l.fn.self.found)
           (points_of l.self.found);
     }

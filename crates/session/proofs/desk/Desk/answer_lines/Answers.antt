@@ -16,7 +16,7 @@ loop-init g c = record {
   reads = refl;
   writes =
       refl;
-  so_far = SoFar-start _ _ _ _ _ _ c.new-lines.ensures;
+  so_far = SoFar-start _ _ _ _ _ c.new-lines.ensures;
 }
 
 pub returns-in-Err-clause-session : goal.returns-in-Err-clause-session
@@ -37,8 +37,8 @@ returns-in-Err-answer_line-2-clause-session g c =
     let e = c.in-Ok-Ended.ensures in
     let gives = Gives-ended _ _ _ _ c.in-Ok-Ended.field-0-is e.2.0 in
     let done = c.in-Err-answer_line-2.ensures.turn gives.line (c.line-line-in-Ok-Ended.ensures gives.line gives.shown) in
-    let turn = TurnsTo-number _ _ _ _ _ _ _ c.loop.invariant.number done.2 in
-    cut_short_at_line _ _ _ _ _ e.0 _ _ _ _ _ _ _ _ _ _ _ _ _ (omega (arith, c.loop-test.true, c.loop.auto.counter-end))
+    let turn = TurnsTo-number _ _ _ _ _ c.loop.invariant.number done.2 in
+    cut_short_at_line _ _ _ _ _ e.0 _ _ _ _ _ _ _ _ _ _ _ _ (omega (arith, c.loop-test.true, c.loop.auto.counter-end))
     c.loop.invariant.so_far e.1 gives done.0 done.1 turn done.3.0 done.3.1 (not_rose _ _ (e.2.1 ∙ c.loop.invariant.reads))
     (rose _ _ _ c.requires.counts.1 c.loop.invariant.writes c.in-Err-answer_line-2.ensures.failures.0)
 
@@ -47,7 +47,7 @@ loop-preserved g c =
     let e = c.in-Ok-Ended.ensures in
     let gives = Gives-ended _ _ _ _ c.in-Ok-Ended.field-0-is e.2.0 in
     let done = c.in-Ok-answer_line.ensures.turn gives.line (c.line-line-in-Ok-Ended.ensures gives.line gives.shown) in
-    let turn = TurnsTo-number _ _ _ _ _ _ _ c.loop.invariant.number done.2 in
+    let turn = TurnsTo-number _ _ _ _ _ c.loop.invariant.number done.2 in
     record {
       fits = c.in-Ok-answer_line.ensures.fits;
       number = c.in-Ok-answer_line.ensures.number ∙ c.loop.invariant.number;
@@ -55,7 +55,7 @@ loop-preserved g c =
       learns = learns_on _ _ _ _ _ _ c.loop.invariant.learns c.in-Ok-answer_line.ensures.learns;
       reads = e.2.1 ∙ c.loop.invariant.reads;
       writes = c.in-Ok-answer_line.ensures.failures ∙ c.loop.invariant.writes;
-      so_far = SoFar-more _ _ _ _ _ e.0 _ _ _ _ _ _ _ _ _ _ _ c.loop.invariant.so_far e.1 gives done.0 done.1 turn done.3;
+      so_far = SoFar-more _ _ _ _ _ e.0 _ _ _ _ _ _ _ _ c.loop.invariant.so_far e.1 gives done.0 done.1 turn done.3;
     }
 
 pub returns-in-Ok-clause-session : goal.returns-in-Ok-clause-session
@@ -63,8 +63,8 @@ returns-in-Ok-clause-session g c =
     let e = c.in-Ok-Rest.ensures in
     let gives = Gives-rest _ _ _ _ c.in-Ok-Rest.field-0-is e.2.0 in
     let done = c.in-Ok.ensures.turn _ (c.line-line.ensures _ gives.shown) in
-    let turn = TurnsTo-number _ _ _ _ _ _ _ c.loop.invariant.number done.2 in
-    ends_with_rest _ _ _ _ _ e.0 _ _ _ _ _ _ _ _ _ _ _ _ _ _ (omega (arith, c.loop-test.true, c.loop.auto.counter-end))
+    let turn = TurnsTo-number _ _ _ _ _ c.loop.invariant.number done.2 in
+    ends_with_rest _ _ _ _ _ e.0 _ _ _ _ _ _ _ _ _ _ _ _ _ (omega (arith, c.loop-test.true, c.loop.auto.counter-end))
     c.loop.invariant.so_far e.1 gives done.0 done.1 turn done.3 (not_rose _ _ (e.2.1 ∙ c.loop.invariant.reads))
     (not_rose _ _ (c.in-Ok.ensures.failures ∙ c.loop.invariant.writes))
 
@@ -73,8 +73,8 @@ returns-in-Err-answer_line-clause-session g c =
     let e = c.in-Ok-Rest.ensures in
     let gives = Gives-rest _ _ _ _ c.in-Ok-Rest.field-0-is e.2.0 in
     let done = c.in-Err-answer_line.ensures.turn _ (c.line-line.ensures _ gives.shown) in
-    let turn = TurnsTo-number _ _ _ _ _ _ _ c.loop.invariant.number done.2 in
-    cut_short_at_rest _ _ _ _ _ e.0 _ _ _ _ _ _ _ _ _ _ _ _ _ (omega (arith, c.loop-test.true, c.loop.auto.counter-end))
+    let turn = TurnsTo-number _ _ _ _ _ c.loop.invariant.number done.2 in
+    cut_short_at_rest _ _ _ _ _ e.0 _ _ _ _ _ _ _ _ _ _ _ _ (omega (arith, c.loop-test.true, c.loop.auto.counter-end))
     c.loop.invariant.so_far e.1 gives done.0 done.1 turn done.3.0 done.3.1 (not_rose _ _ (e.2.1 ∙ c.loop.invariant.reads))
     (rose _ _ _ c.requires.counts.1 c.loop.invariant.writes c.in-Err-answer_line.ensures.failures.0)
 

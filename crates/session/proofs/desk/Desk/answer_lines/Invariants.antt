@@ -2,6 +2,7 @@ use Rattle.std.proofs.Common.{◌≡◌}
 use Rattle.lines.specs.Counting.{failures_of, inner_of}
 use Rattle.lines.specs.Reading.{unread_of}
 use Rattle.session.specs.Learning.{Learns}
+use Rattle.session.specs.Turns.{desk_state}
 use Rattle.session.proofs.LineLemmas.{SoFar}
 use Rattle.session.proofs.desk.Desk.answer_lines.Given as goal
 
@@ -16,6 +17,6 @@ invariant-loop g l = record {
   so_far : SoFar l.self.form (g.T.Versions.number l.fn.seat)
       (g.In.Read.remaining (inner_of l.fn.reader)) (g.In.Read.remaining (inner_of l.reader)) (unread_of l.lines)
       (g.Out.Write.contents (inner_of l.fn.writer)) (g.Out.Write.contents (inner_of l.writer))
-      (g.T.Versions.value l.fn.seat) (g.O.Orders.asked l.fn.orders) (g.T.Versions.value l.seat)
-      (g.O.Orders.asked l.orders) l.counter;
+      (desk_state (g.T.Versions.value l.fn.seat) (g.O.Orders.asked l.fn.orders))
+      (desk_state (g.T.Versions.value l.seat) (g.O.Orders.asked l.orders)) l.counter;
 }

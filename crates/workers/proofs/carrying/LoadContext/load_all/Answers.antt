@@ -1,12 +1,17 @@
-use Rattle.std.proofs.Common.{◌∙◌, [], length, refl}
-use Rattle.workers.proofs.Carried.{all_carried, carries_also, carries_nothing, each_answered}
+use Rattle.std.proofs.Common.{◌∙◌, refl, subst, sym, ap, ◌++◌, ◌∷◌, []}
+use Rattle.load_orders.specs.Keeping.{QueueId}
+use Rattle.workers.specs.Carrying.{IsCarriedOut, depot_of, errand_of, loads_value}
+use Rattle.workers.specs.Words.{files_of, loader_of, loads_of, outcomes_of}
+use Rattle.workers.proofs.Carried.{carried_same, carries_also, carries_nothing, each_answered}
 use Rattle.workers.proofs.Learning.{loader_on, loader_same}
 use Rattle.workers.proofs.carrying.LoadContext.load_all.Goals as goal
 
 -- nothing was taken yet
 pub loop-init : goal.loop-init
 loop-init g c =
-    let feeds = c.args.self.now.feeds.now in
+    let words = loads_of g.F.Feeds.words (outcomes_of
+    (files_of g.F.Files.FeedFiles.holds g.F.Files.FeedFiles.reads g.F.Files.FeedFiles.failures g.F.Files.FeedFiles.failed)
+    (loader_of g.T.Loads.loads g.T.Loads.answers g.T.Loads.learned) g.T.Versions.noted) in
     let none = c.requires.none in
     record {
       next = tt;
@@ -14,49 +19,58 @@ loop-init g c =
       queue = refl;
       loads = c.requires.loads;
       learns = loader_same (g.T.Loads.learned c.args.seat) (g.T.Loads.answers c.args.seat);
-      carried = carries_nothing g.T.Versions.noted (g.F.Feeds.are_files feeds) g.F.Files.FeedFiles.holds g.F.Files.FeedFiles.reads
-          g.F.Files.FeedFiles.failures g.F.Files.FeedFiles.failed (g.F.Feeds.is_plan feeds)
-          (length (g.F.Feeds.named feeds)) c.args.orders.queue c.args.orders c.args.used (g.T.Loads.answers c.args.seat) none.0 none.1 none.2;
+      carried = carries_nothing (depot_of words c.args.self.now.feeds.now c.args.orders.queue) c.args.seat (loads_value c.args.orders c.args.used)
+          none.0 none.1 none.2;
     }
 
 -- each order that was taken was answered before the next is
 pub next-requires-in-loop : goal.next-requires-in-loop
 next-requires-in-loop g c =
-    let feeds = c.args.self.now.feeds.now in
-    each_answered g.T.Versions.noted (g.F.Feeds.are_files feeds) g.F.Files.FeedFiles.holds g.F.Files.FeedFiles.reads
-    g.F.Files.FeedFiles.failures g.F.Files.FeedFiles.failed (g.F.Feeds.is_plan feeds) (length (g.F.Feeds.named feeds))
-    c.args.orders.queue [] c.loop.orders.taken c.loop.used c.loop.orders.answered
-    (g.T.Loads.answers c.args.seat) (g.T.Loads.answers c.loop.seat) c.loop.invariant.carried
+    let words = loads_of g.F.Feeds.words (outcomes_of
+    (files_of g.F.Files.FeedFiles.holds g.F.Files.FeedFiles.reads g.F.Files.FeedFiles.failures g.F.Files.FeedFiles.failed)
+    (loader_of g.T.Loads.loads g.T.Loads.answers g.T.Loads.learned) g.T.Versions.noted) in
+    each_answered (depot_of words c.args.self.now.feeds.now c.args.orders.queue) c.args.seat (loads_value c.loop.orders c.loop.used) c.loop.seat
+    c.loop.invariant.carried
 
 -- an order more was taken and carried out
 pub loop-preserved : goal.loop-preserved
 loop-preserved g c =
+    let words = loads_of g.F.Feeds.words (outcomes_of
+    (files_of g.F.Files.FeedFiles.holds g.F.Files.FeedFiles.reads g.F.Files.FeedFiles.failures g.F.Files.FeedFiles.failed)
+    (loader_of g.T.Loads.loads g.T.Loads.answers g.T.Loads.learned) g.T.Versions.noted) in
     let feeds = c.args.self.now.feeds.now in
     let one = c.load_feed.ensures in
-    let at_queue = c.in-Some-next.ensures.queue ∙ c.loop.invariant.queue in
+    let next = c.in-Some-next.ensures in
+    let at_queue = next.queue ∙ c.loop.invariant.queue in
+    let errand = errand_of c.in-Some-next.order c.next-in-loop.new.self.taken one.carried.1 one.carried.0 in
+    let also = subst (λ (queue : QueueId _). IsCarriedOut (depot_of words feeds queue) errand c.loop.seat c.load_feed.new.seat) at_queue
+    one.carried.4 in
     record {
       next = tt;
       finite = tt;
       queue = one.queue ∙ at_queue;
       loads = one.loads;
       learns = loader_on _ _ _ _ _ _ c.loop.invariant.learns one.learns;
-      carried = carries_also g.T.Versions.noted (g.F.Feeds.are_files feeds) g.F.Files.FeedFiles.holds g.F.Files.FeedFiles.reads
-          g.F.Files.FeedFiles.failures g.F.Files.FeedFiles.failed (g.F.Feeds.is_plan feeds)
-          (length (g.F.Feeds.named feeds)) c.args.orders.queue c.loop.orders c.next-in-loop.new.self c.load_feed.new.orders
-          c.loop.used c.load_feed.new.used c.in-Some-next.order
-          (g.T.Loads.answers c.args.seat) (g.T.Loads.answers c.loop.seat) (g.T.Loads.answers c.load_feed.new.seat)
-          c.loop.invariant.carried at_queue c.in-Some-next.ensures.taken c.in-Some-next.ensures.answered one.taken one.carried;
+      carried = carries_also (depot_of words feeds c.args.orders.queue) c.args.seat c.loop.seat c.load_feed.new.seat
+          (loads_value c.loop.orders c.loop.used) (loads_value c.load_feed.new.orders c.load_feed.new.used) errand c.loop.invariant.carried
+          next.taken (one.taken ∙ next.taken) (one.carried.2 ∙ ap (λ list. list ++ one.carried.0 ∷ []) next.answered) one.carried.3 also;
     }
 
 -- none came any more
 pub returns-in-None-next : goal.returns-in-None-next
 returns-in-None-next g c =
-    let feeds = c.args.self.now.feeds.now in
+    let words = loads_of g.F.Feeds.words (outcomes_of
+    (files_of g.F.Files.FeedFiles.holds g.F.Files.FeedFiles.reads g.F.Files.FeedFiles.failures g.F.Files.FeedFiles.failed)
+    (loader_of g.T.Loads.loads g.T.Loads.answers g.T.Loads.learned) g.T.Versions.noted) in
     let last = c.in-None-next.ensures in
     let at_queue = last.queue ∙ c.loop.invariant.queue in
-    let carried = all_carried g.T.Versions.noted (g.F.Feeds.are_files feeds) g.F.Files.FeedFiles.holds g.F.Files.FeedFiles.reads
-    g.F.Files.FeedFiles.failures g.F.Files.FeedFiles.failed (g.F.Feeds.is_plan feeds)
-    (length (g.F.Feeds.named feeds)) c.args.orders.queue c.loop.orders c.next-in-loop.new.self c.loop.used
-    (g.T.Loads.answers c.args.seat) (g.T.Loads.answers c.loop.seat)
-    c.loop.invariant.carried at_queue last.taken last.answered last.over in
-    record { loads = c.loop.invariant.loads; learns = c.loop.invariant.learns; queue = at_queue; carried = carried }
+    record {
+      loads = c.loop.invariant.loads;
+      queue = at_queue;
+      loaded = record {
+        over = last.over;
+        carried = carried_same words c.args.self.now.feeds.now c.args.orders.queue c.next-in-loop.new.self.queue c.args.seat c.loop.seat
+            c.loop.orders c.next-in-loop.new.self c.loop.used (sym at_queue) last.taken last.answered c.loop.invariant.carried;
+        learns = c.loop.invariant.learns;
+      };
+    }

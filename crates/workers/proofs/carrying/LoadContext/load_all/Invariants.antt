@@ -1,6 +1,7 @@
-use Rattle.std.proofs.Common.{◌≡◌, [], length}
-use Rattle.workers.specs.Carrying.{AreCarriedOut}
+use Rattle.std.proofs.Common.{◌≡◌}
+use Rattle.workers.specs.Carrying.{AreCarried, depot_of, loads_value}
 use Rattle.workers.specs.Learned.{LoaderLearns}
+use Rattle.workers.specs.Words.{files_of, loader_of, loads_of, outcomes_of}
 use Rattle.workers.proofs.carrying.LoadContext.load_all.Given as goal
 
 abbrev pub invariant-loop : goal.invariant-loop
@@ -9,10 +10,9 @@ invariant-loop g l = record {
   finite : (goal.iterator-loop g).is_finite l.iterator';
   queue : l.orders.queue ≡ l.fn.orders.queue;
   loads : g.T.Loads.loads l.self.shelves.now l.seat;
-  carried : AreCarriedOut g.T.Versions.noted (g.F.Feeds.are_files l.self.feeds.now) g.F.Files.FeedFiles.holds g.F.Files.FeedFiles.reads
-      g.F.Files.FeedFiles.failures g.F.Files.FeedFiles.failed
-      (g.F.Feeds.is_plan l.self.feeds.now)
-      (length (g.F.Feeds.named l.self.feeds.now)) l.fn.orders.queue [] l.orders.taken l.used l.orders.answered
-      (g.T.Loads.answers l.fn.seat) (g.T.Loads.answers l.seat);
+  carried : AreCarried (depot_of (loads_of g.F.Feeds.words (outcomes_of
+      (files_of g.F.Files.FeedFiles.holds g.F.Files.FeedFiles.reads g.F.Files.FeedFiles.failures g.F.Files.FeedFiles.failed)
+      (loader_of g.T.Loads.loads g.T.Loads.answers g.T.Loads.learned) g.T.Versions.noted))
+      l.self.feeds.now l.fn.orders.queue) l.fn.seat (loads_value l.orders l.used) l.seat;
   learns : LoaderLearns (g.T.Loads.learned l.fn.seat) (g.T.Loads.answers l.fn.seat) (g.T.Loads.learned l.seat) (g.T.Loads.answers l.seat);
 }

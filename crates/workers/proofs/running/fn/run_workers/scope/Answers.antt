@@ -5,23 +5,24 @@ use Rattle.workers.proofs.Shared.{keeper_out, one_more_out, seated_none, seated_
 use mathlib.Core.Path.{sym}
 use Rattle.std.specs.Prelude.{IsPermutation}
 use Rattle.load_orders.specs.Keeping.{QueueId}
-use Rattle.workers.specs.Carrying.{AllCarriedOut}
-use Rattle.workers.specs.Learned.{LoaderLearns}
+use Rattle.workers.specs.Carrying.{AreLoaded, depot_of, loads_value}
 use Rattle.workers.specs.Ordering.{GoesBy, route_to}
-use Rattle.workers.specs.Sessions.{AreServedSince, MayClose}
+use Rattle.workers.specs.Sessions.{AreServedSince, MayClose, posts_at, work_of}
+use Rattle.workers.specs.Words.{files_of, loader_of, loads_of, outcomes_of, seats_of, sessions_of}
 use Rattle.workers.proofs.running.fn.run_workers.scope.Goals as goal
 
 -- the next seat is one of those that are left
 pub spawn_with-begun-requires-clause-runs : goal.spawn_with-begun-requires-clause-runs
 spawn_with-begun-requires-clause-runs g c =
+    let words = sessions_of c.captures.form g.C.Client.words g.C.Reader.Read.remaining g.C.Writer.Write.contents
+    (seats_of g.T.Versions.fits g.T.Versions.number g.T.Versions.value g.T.Versions.known g.T.Versions.noted) in
     let left : All (g.T.Versions.fits c.captures.shelves.now) (c.in-Some.seat ∷ c.next.new.self.rest.items) =
     subst (λ items. All (g.T.Versions.fits c.captures.shelves.now) items) c.in-Some.ensures.steps.0 c.loop-seat.invariant.fit in
     let fits : g.T.Versions.fits c.captures.shelves.now c.in-Some.seat = left 0 c.in-Some.seat (omega arith) in
     let ready : g.T.Versions.fits c.captures.shelves.now c.in-Some.seat × (c.in_ok-taker.taker.taken ≡ []) × (c.new-nobody_yet.result ≡ [])
     × (c.in_ok-end.end.items ≡ [])
-    × MayClose c.captures.form g.C.Client.opens g.C.Reader.Read.remaining g.C.Writer.Write.contents
-    g.T.Versions.number g.T.Versions.value g.T.Versions.known (g.T.Versions.fits c.captures.shelves.now) g.C.Client.closes =
-    (fits, ap (λ taker. taker.taken) c.in_ok-taker.ensures.taker, c.new-nobody_yet.ensures, c.in_ok-end.ensures.nothing, c.requires.15) in
+    × MayClose words c.captures.shelves.now =
+    (fits, ap (λ taker. taker.taken) c.in_ok-taker.ensures.taker, c.new-nobody_yet.ensures, c.in_ok-end.ensures.nothing, c.requires.13) in
     λ κs within. (
       ready,
       (search rules, search rules, search rules, search rules, search rules, search rules, search rules, search rules, search rules, search rules),
@@ -70,7 +71,7 @@ loop-seat-preserved g c =
 -- all seats may be used at the shelves
 pub loop-seat-init : goal.loop-seat-init
 loop-seat-init g c =
-    let all : All (g.T.Versions.fits c.captures.shelves.now) c.captures.seats.items = c.requires.12 in
+    let all : All (g.T.Versions.fits c.captures.shelves.now) c.captures.seats.items = c.requires.12.fit in
     let none = c.new-workers.ensures.items in
     record {
       next = tt;
@@ -112,41 +113,35 @@ returns-in-Some-close_and_join g c =
     let kept = ran.ensures.back in
     let queue : c.of-route.result.end.value.queue ≡ after.orders.queue = sym (joined.queue ∙ ap (λ keeper. keeper.queue) kept) in
     let taken = subst (λ list. IsPermutation list after.orders.taken) (ap (λ keeper. keeper.put) kept) joined.all in
-    let at_seats = subst (λ seats. AreServedSince c.captures.form g.C.Client.opens g.C.Reader.Read.remaining g.C.Writer.Write.contents
-    g.T.Versions.number g.T.Versions.value g.T.Versions.known
-    g.T.Versions.noted (route_to (g.F.Feeds.named c.of-route.result.feeds.value) c.of-route.result.end.value.queue)
-    (g.K.Clients.came c.captures.clients) (g.K.Clients.came ran.clients) seats ran.asked ran.served ran.seats.items) seats ran.ensures.shares in
-    let of_feeds = subst (λ feeds. AreServedSince c.captures.form g.C.Client.opens g.C.Reader.Read.remaining g.C.Writer.Write.contents
-    g.T.Versions.number g.T.Versions.value g.T.Versions.known
-    g.T.Versions.noted (route_to (g.F.Feeds.named feeds) c.of-route.result.end.value.queue)
-    (g.K.Clients.came c.captures.clients) (g.K.Clients.came ran.clients) c.captures.seats.items ran.asked ran.served ran.seats.items)
-    c.of-route.ensures.feeds at_seats in
-    let shares = subst (λ (queue : QueueId _). AreServedSince c.captures.form g.C.Client.opens g.C.Reader.Read.remaining g.C.Writer.Write.contents
-    g.T.Versions.number g.T.Versions.value g.T.Versions.known
-    g.T.Versions.noted (route_to (g.F.Feeds.named c.captures.feeds.now) queue)
-    (g.K.Clients.came c.captures.clients) (g.K.Clients.came ran.clients) c.captures.seats.items ran.asked ran.served ran.seats.items)
-    queue of_feeds in
+    let words = sessions_of c.captures.form g.C.Client.words g.C.Reader.Read.remaining g.C.Writer.Write.contents
+    (seats_of g.T.Versions.fits g.T.Versions.number g.T.Versions.value g.T.Versions.known g.T.Versions.noted) in
+    let loads = loads_of g.F.Feeds.words (outcomes_of
+    (files_of g.F.Files.FeedFiles.holds g.F.Files.FeedFiles.reads g.F.Files.FeedFiles.failures g.F.Files.FeedFiles.failed)
+    (loader_of g.T.Loads.loads g.T.Loads.answers g.T.Loads.learned) g.T.Versions.noted) in
+    let at_seats = subst (λ seats. AreServedSince words (g.K.Clients.words.came c.captures.clients) (g.K.Clients.words.came ran.clients)
+    (posts_at seats (route_to (g.F.Feeds.words.named c.of-route.result.feeds.value) c.of-route.result.end.value.queue))
+    (work_of ran.served ran.seats.items ran.asked)) seats ran.ensures.served in
+    let of_feeds = subst (λ feeds. AreServedSince words (g.K.Clients.words.came c.captures.clients) (g.K.Clients.words.came ran.clients)
+    (posts_at c.captures.seats.items (route_to (g.F.Feeds.words.named feeds) c.of-route.result.end.value.queue))
+    (work_of ran.served ran.seats.items ran.asked)) c.of-route.ensures.feeds at_seats in
+    let served = subst (λ (queue : QueueId _). AreServedSince words (g.K.Clients.words.came c.captures.clients) (g.K.Clients.words.came ran.clients)
+    (posts_at c.captures.seats.items (route_to (g.F.Feeds.words.named c.captures.feeds.now) queue))
+    (work_of ran.served ran.seats.items ran.asked)) queue of_feeds in
     let feeds = ap (λ promise. promise.feeds.value) promised ∙ c.of-promise.ensures.feeds in
     let seat = ap (λ promise. promise.seat.value) promised ∙ c.of-promise.ensures.seat in
-    let at_feeds = subst (λ feeds. AllCarriedOut g.T.Versions.noted (g.F.Feeds.are_files feeds) g.F.Files.FeedFiles.holds g.F.Files.FeedFiles.reads
-    g.F.Files.FeedFiles.failures g.F.Files.FeedFiles.failed
-    (g.F.Feeds.is_plan feeds) (length (g.F.Feeds.named feeds)) after.orders after.used
-    (g.T.Loads.answers c.in-Ok.loading.promise.seat.value) (g.T.Loads.answers after.loader)) feeds joined.carried in
+    let at_feeds = subst (λ feeds. AreLoaded (depot_of loads feeds after.orders.queue) c.in-Ok.loading.promise.seat.value
+    (loads_value after.orders after.used) after.loader) feeds joined.loaded in
+    let loaded = subst (λ seat. AreLoaded (depot_of loads c.captures.feeds.now after.orders.queue) seat
+    (loads_value after.orders after.used) after.loader) seat at_feeds in
     let loader = subst (λ shelves. g.T.Loads.loads shelves after.loader) (ap (λ promise. promise.shelves.value) promised ∙ c.of-promise.ensures.shelves)
     joined.loads in
-    let loads = subst (λ seat. AllCarriedOut g.T.Versions.noted (g.F.Feeds.are_files c.captures.feeds.now)
-    g.F.Files.FeedFiles.holds g.F.Files.FeedFiles.reads g.F.Files.FeedFiles.failures g.F.Files.FeedFiles.failed
-    (g.F.Feeds.is_plan c.captures.feeds.now) (length (g.F.Feeds.named c.captures.feeds.now)) after.orders after.used
-    (g.T.Loads.answers seat) (g.T.Loads.answers after.loader)) seat at_feeds in
-    let learns = subst (λ seat. LoaderLearns (g.T.Loads.learned seat) (g.T.Loads.answers seat) (g.T.Loads.learned after.loader)
-    (g.T.Loads.answers after.loader)) seat joined.learns in
     record {
-      none_left = ran.ensures.none_left;
-      holds = ran.ensures.holds;
-      seats = ran.ensures.fits;
-      loader = loader;
-      shares = shares;
-      taken = taken;
-      loads = loads;
-      learns = learns;
+      left = record {
+        none_left = ran.ensures.none_left;
+        holds = ran.ensures.holds;
+        fit = ran.ensures.fits;
+        loader_fits = loader;
+      };
+      served = served;
+      loaded = record { taken = taken; loaded = loaded };
     }

@@ -1,0 +1,11 @@
+use Rattle.std.proofs.Common.{string_bytes}
+use Rattle.feed_days.specs.Days.{trips_line}
+use Rattle.text_pieces.proofs.Joined.{four}
+use Rattle.feed_days.proofs.listing.append_trips_line.Goals as goal
+
+pub returns : goal.returns
+unfolding trips_line
+returns c =
+    four (string_bytes c.args.lines.now) (string_bytes c.put_text.new.out) (string_bytes c.put_date.new.lines)
+    (string_bytes c.put_number.new.out) (string_bytes c.put_text-2.new.out) _ _ _ _
+    c.in_ok-put_text.ensures c.in_ok-put_date.ensures c.in_ok-put_number.ensures c.in_ok-put_text-2.ensures

@@ -1,0 +1,18 @@
+-- All faults in the times of trips.
+use Rattle.std.specs.Prelude.{◌≡◌, ℕ, List, map, Option, Bool}
+use Rattle.gtfs_rows.specs.declared.fault.TableFault.{TableFault}
+use Rattle.gtfs_rows.specs.declared.rows.StopTimeRow.{StopTimeRow}
+use Rattle.gtfs_tables.specs.Feeds.{trip_fault}
+use Rattle.gtfs_tables.specs.First.{all_below}
+use Rattle.gtfs_tables.specs.Order.{IsInOrder, row_of}
+use Rattle.gtfs_tables.specs.declared.order.SortKey.{SortKey}
+
+-- the rows of stop_times.txt in the order of their turns
+abbrev pub rows_in : List StopTimeRow → List SortKey → List StopTimeRow
+rows_in rows turns = map (λ turn. row_of rows turn.number) turns
+
+-- the first fault of each trip with a number below `count` that has one, in the order of the trips
+pub record AreTimeFaults (trips : List (Option ℕ)) (rows : List StopTimeRow) (count : ℕ) (strict : Bool) (faults : List TableFault) : Type 0 where
+  pub turns : List SortKey
+  pub in_order : IsInOrder trips rows turns
+  pub faults_are : faults ≡ all_below (trip_fault strict turns (rows_in rows turns)) count

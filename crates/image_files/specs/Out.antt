@@ -1,0 +1,15 @@
+-- What a disk says of the files that are written on it.
+use Rattle.std.specs.Prelude.{ℕ, List, Option}
+
+-- `None` stands for contents that aren't known
+pub record OutFiles : Type 1 where
+  -- at this path may be something that isn't a plain file
+  pub special : List ℕ → Type 0
+  -- a file that was made or opened at this path may have these contents then
+  pub may_begin : List ℕ → Option (List ℕ) → Type 0
+  -- a file that was made or opened at the first path, and is at the second, may have these contents there
+  pub may_stand : List ℕ → List ℕ → Option (List ℕ) → Type 0
+
+-- nothing is known
+abbrev pub any_files : OutFiles
+any_files = record { special = λ path. Unit {0}; may_begin = λ path contents. Unit {0}; may_stand = λ place path contents. Unit {0} }

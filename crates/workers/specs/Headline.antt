@@ -1,0 +1,54 @@
+-- What a server did, from what it was started with to what is left.
+use Rattle.std.specs.Prelude.{◌≡◌, ◌≤◌, List, All, length}
+use Rattle.atomic_table.specs.Seated.{TableId}
+use Rattle.epochs.specs.ShelfLoads.{ShelfLoaderValue}
+use Rattle.epochs.specs.ShelfSeats.{ShelfSeatValue}
+use Rattle.workers.specs.Carrying.{AreLoaded, depot_of, loads_value}
+use Rattle.workers.specs.Ordering.{AreAllTaken, route_to}
+use Rattle.workers.specs.Sessions.{AreServedSince, posts_at, work_of}
+use Rattle.workers.specs.Shelves.{shelf_loader, shelf_seats}
+use Rattle.workers.specs.Words.{FeedWords, LoadWords, LoaderWords, SeatWords, SessionWords, SourceWords}
+use Rattle.workers.specs.declared.outcome.ServingOutcome.{ServingOutcome}
+
+-- what a server is started with
+pub record House (K T S L F : Type 0) : Type 0 where
+  pub clients : K
+  pub shelves : T
+  pub seats : List S
+  pub loader : L
+  pub feeds : F
+
+abbrev pub house_of : {K T S L F : Type 0} → K → T → List S → L → F → House K T S L F
+house_of clients shelves seats loader feeds = record { clients = clients; shelves = shelves; seats = seats; loader = loader; feeds = feeds }
+
+-- 1 to 16 seats, and the loader's, may be used at these shelves
+pub record AreReady {K T S L N F : Type 0} (seats : SeatWords T S N) (loader : LoaderWords T L) (house : House K T S L F) : Type 0 where
+  pub fit : All (seats.fits house.shelves) house.seats
+  pub loader_fits : loader.fits house.shelves house.loader
+  pub some : 1 ≤ length house.seats
+  pub few : length house.seats ≤ 16
+
+-- the shelves are those of this name, and 1 to 16 seats and the loader's are theirs
+pub record AreReadyAt {K F : Type 0} (name : TableId) (house : House K TableId ShelfSeatValue ShelfLoaderValue F) : Type 0 where
+  pub named : house.shelves ≡ name
+  pub ready : AreReady shelf_seats shelf_loader house
+
+module _ {C R W K T S L N F D : Type 0} where
+  -- no further client comes, and what held of their source holds still; and the seats are of the same shelves
+  pub record IsLeft (seats : SeatWords T S N) (loader : LoaderWords T L) (source : SourceWords K C) (house : House K T S L F)
+      (left : ServingOutcome R W K S L N D) : Type 0 where
+    pub none_left : source.none_left left.clients
+    pub holds : (fact : source.Fact) → source.holds house.clients fact → source.holds left.clients fact
+    pub fit : All (seats.fits house.shelves) left.seats.items
+    pub loader_fits : loader.fits house.shelves left.loader
+
+  -- each client who came meanwhile was dealt to exactly one worker and had one session at its seat, with orders of these feeds
+  abbrev pub AllServed : SessionWords C R W T S N → SourceWords K C → FeedWords F D → House K T S L F → ServingOutcome R W K S L N D → Type 0
+  AllServed words source feeds house left = AreServedSince words (source.came house.clients) (source.came left.clients)
+      (posts_at house.seats (route_to (feeds.named house.feeds) left.orders.queue)) (work_of left.served left.seats.items left.asked)
+
+-- the loader took exactly the orders that the sessions put, each once, and carried out each
+pub record AllLoaded {R W K T S L N F D : Type 0} (words : LoadWords F D T L N) (house : House K T S L F) (left : ServingOutcome R W K S L N D)
+    : Type 0 where
+  pub taken : AreAllTaken left.asked left.orders
+  pub loaded : AreLoaded (depot_of words house.feeds left.orders.queue) house.loader (loads_value left.orders left.used) left.loader

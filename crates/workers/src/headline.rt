@@ -1,0 +1,123 @@
+//! Workers at shelves without a lock, under a name that the caller picks.
+
+ghost use Rattle.std.specs.Prelude.{◌≡◌, [], All, IfOk};
+ghost use Rattle.epochs.specs.Pinned.{PinnedAreLeftAlone};
+ghost use Rattle.workers.specs.Headline.{AllLoaded, AllServed, AreReadyAt, IsLeft, house_of};
+ghost use Rattle.workers.specs.Sessions.{MayClose};
+ghost use Rattle.workers.specs.Shelves.{shelf_loader, shelf_seats};
+ghost use Rattle.workers.specs.Words.{files_of, loads_of, outcomes_of, sessions_of};
+
+use crate::clients::{Client, Clients};
+use crate::feeds::Feeds;
+use crate::outcome::ServingOutcome;
+use crate::running::{WorkersFault, run_workers};
+use epochs::laws::pinned_images_are_left_alone;
+use epochs::{
+    NamedLoader, NamedNotice, NamedSeat, NamedShelves, ShelfLoader, ShelfSeat, Shelves, ShelvesName,
+};
+use orders::Gate;
+use session::ReplyForm;
+use std::alloc::{AllocError, Global};
+use std::io::Write;
+use std::sync::Wait;
+use std::thread::Threads;
+
+/// Serves all clients and loads the feeds that they order, as [`run_workers`] does, at shelves without a lock. The
+/// seats come back without the shelves' name.
+///
+/// This contract is the headline of the program, except for what a scan reads: that is a clause of
+/// `station_answers::answer_between`. Each clause is one name of `specs/Headline.antt`, `Sessions` or `epochs`:
+///
+/// - `ready`: 1 to 16 seats and the loader's are of these shelves.
+/// - `closes`: a client's reader and writer may be closed after whatever session may be served over them.
+/// - `left`: no further client comes, and what held of their source holds still; the seats are of these shelves.
+/// - `served`: each client who came was dealt to exactly one worker and had one session at its seat. Each line that was
+///   read has its reply, up to where the session ended; and each profile is answered exactly, over the image that was
+///   published as the version that the reply names.
+/// - `loaded`: the loader took exactly the orders that the sessions put, each once, and carried out each. Each image
+///   that it published is that of the bytes that the files of the ordered feed gave.
+/// - `pinned`: no image is collected while a seat has it pinned.
+pub fn run_shelves<
+    B: ShelvesName + Send + Sync,
+    C: Client + Drop + Send,
+    K: Clients<C> + Drop,
+    F: Feeds + Sync,
+    G: Gate + Sync,
+    E: Write + Send + Drop,
+    R: Threads + Wait + Sync,
+>(
+    rt: &R,
+    alloc: Global,
+    clients: K,
+    shelves: Shelves,
+    seats: Vec<ShelfSeat>,
+    loader: ShelfLoader,
+    feeds: &F,
+    gate: &G,
+    form: ReplyForm,
+    errors: E,
+) -> Result<
+    ServingOutcome<C::Reader, C::Writer, K, ShelfSeat, ShelfLoader, NamedNotice<B>, F::Files>,
+    WorkersFault,
+>
+    requires ready { AreReadyAt B.table (house_of clients shelves seats.items loader feeds.now) }
+    requires closes { MayClose (sessions_of form C.words C.Reader.remaining C.Writer.contents shelf_seats) shelves }
+    ensures left { IfOk result (IsLeft shelf_seats shelf_loader K.words
+        (house_of clients shelves seats.items loader feeds.now)) }
+    ensures served { IfOk result (AllServed (sessions_of form C.words C.Reader.remaining C.Writer.contents shelf_seats)
+        K.words F.words (house_of clients shelves seats.items loader feeds.now)) }
+    ensures loaded { IfOk result (AllLoaded (loads_of F.words
+        (outcomes_of
+        (files_of F.Files.holds F.Files.reads F.Files.failures F.Files.failed) shelf_loader shelf_seats.version))
+        (house_of clients shelves seats.items loader feeds.now)) }
+    ensures pinned { PinnedAreLeftAlone }
+{
+    pinned_images_are_left_alone();
+    let room = Vec::with_capacity(alloc, seats.len())?;
+    let seats = named_seats::<B>(alloc, seats)?;
+    let shelves = NamedShelves::<B>::of(shelves);
+    let loader = NamedLoader::<B>::of(loader);
+    let ran = run_workers(
+        rt, alloc, clients, &shelves, seats, loader, feeds, gate, form, errors,
+    )?;
+    Ok(ServingOutcome {
+        served: ran.served,
+        clients: ran.clients,
+        seats: unnamed_seats(ran.seats, room)?,
+        orders: ran.orders,
+        loader: ran.loader.into_inner(),
+        asked: ran.asked,
+        used: ran.used,
+    })
+}
+
+// The seats, under their shelves' name.
+fn named_seats<B: ShelvesName>(
+    alloc: Global,
+    seats: Vec<ShelfSeat>,
+) -> Result<Vec<NamedSeat<B>>, AllocError>
+    requires { All (λ seat. seat.table ≡ B.table) seats.items }
+    ensures { IfOk result (λ named. named.items ≡ seats.items) }
+{
+    let mut named = Vec::with_capacity(alloc, seats.len())?;
+    for seat in seats {
+        named.push(NamedSeat::of(seat))?;
+    }
+    Ok(named)
+}
+
+// The seats without the name, moved into `room`.
+fn unnamed_seats<B: ShelvesName>(
+    seats: Vec<NamedSeat<B>>,
+    room: Vec<ShelfSeat>,
+) -> Result<Vec<ShelfSeat>, AllocError>
+    requires { room.items ≡ [] }
+    ensures same { IfOk result (λ inner. inner.items ≡ seats.items) }
+    ensures table { IfOk result (λ inner. All (λ seat. seat.table ≡ B.table) inner.items) }
+{
+    let mut inner = room;
+    for seat in seats {
+        inner.push(seat.into_inner())?;
+    }
+    Ok(inner)
+}

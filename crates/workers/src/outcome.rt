@@ -1,0 +1,24 @@
+//! What is left of a server.
+
+use crate::drawing::UsedFiles;
+use crate::served::Served;
+use load_orders::{Notes, UsedLoader, UsedOrders};
+
+/// What is left once all clients were served.
+#[derive(Drop)]
+pub struct ServingOutcome<R, W, K, S, L, N: Drop, D> {
+    /// The sessions, seat after seat.
+    pub served: Served<R, W>,
+    /// The clients' source.
+    pub clients: K,
+    /// The workers' seats, in their order.
+    pub seats: Vec<S>,
+    /// What the loader took and answered.
+    pub orders: UsedLoader<N>,
+    /// The loader's seat.
+    pub loader: L,
+    /// The workers' orders, seat after seat: only contracts see them.
+    pub asked: Notes<UsedOrders<N>>,
+    /// The files that the loader used, order after order: only contracts see them.
+    pub used: UsedFiles<D, N>,
+}
