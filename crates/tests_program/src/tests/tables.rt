@@ -6,10 +6,10 @@ use std::test::Fail;
 const CHANGES: &str = "
 # The feed of examples/base.
 base
-run tables base_feed
-answers tables agencies 1 stops 3 trips 2 stop_times 5 calendar 1 calendar_dates 0 transfers 0
 run tables base_feed --json
 answers {\"agencies\":1,\"calendar\":1,\"calendar_dates\":0,\"stop_times\":5,\"stops\":3,\"transfers\":0,\"trips\":2}
+run tables base_feed
+answers tables agencies 1 stops 3 trips 2 stop_times 5 calendar 1 calendar_dates 0 transfers 0
 
 # Values: minutes, and a number with a fraction.
 with stop_times.txt 2 T1,08:60:00,08:10:00,B,2
