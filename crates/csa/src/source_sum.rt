@@ -2,4 +2,4 @@
 
 /// The sum of all sources but this file, as `release/sources --program` prints it. `release/stamp` writes it, and
 /// `.ci/run` compares it with the sources.
-pub const SOURCES: &str = "a0c5fa466b46cea4f4b40cae3a07479822732c7ce0fba02cdadd0304849a847d";
+pub const SOURCES: &str = "b4b179005354181eb2f75a4e28315888950846f73c0e956719f32ce08c8c4624";
