@@ -1,22 +1,33 @@
 //! An image as a source, read where it is.
 
 ghost use Rattle.std.specs.Prelude.{◌≡◌, []};
+ghost use Rattle.std.specs.List.{flat_map};
 ghost use Rattle.std.proofs.Props.{props};
 ghost use Rattle.timetable.specs.Legal.{IsLegal};
 ghost use Rattle.timetable.specs.LegalProp.{IsLegal-prop};
 ghost use Rattle.timetable.specs.Limits.{IsWithinLimits};
+ghost use Rattle.image_layout.specs.Spelling.{footpath_words};
+ghost use Rattle.sources.specs.FootStarts.{AreStarts};
 
 use crate::source::ConnSource;
+use image_layout::Header;
 use image_verifier::{Departures, Verified, first_departure};
 use timetable::{Connection, Footpath, Trace};
 
-/// An image that is read in place: it is borrowed, and nothing of it is copied.
+/// An image that is read in place: it is borrowed, and nothing of it is copied. Where its footpaths are is computed
+/// from its header once, and not for each connection.
 #[derive(Drop)]
 pub struct InPlace<'a> {
     image: &'a Verified,
+    // for each stop the index at which the footpaths into it start, and the number of all footpaths
+    starts: &'a [u32],
+    // two words for each footpath, the stop that it leaves and its seconds
+    footpaths: &'a [u32],
     log: Trace<usize>,
     ghost legal: { IsLegal image.now.timetable } by { IsLegal-prop image.now.timetable },
     ghost limits: { IsWithinLimits image.now.timetable } by { Prim.hlevel props },
+    ghost indexed: { AreStarts image.now.timetable starts.now } by { Prim.hlevel props },
+    ghost spelled: { footpaths.now ≡ flat_map footpath_words image.now.timetable.footpaths } by { Prim.hlevel props },
 }
 
 impl<'a> InPlace<'a> {
@@ -27,8 +38,12 @@ impl<'a> InPlace<'a> {
     {
         // The contract of this call says that the timetable is legal and within the limits.
         image.stops();
+        let words = image.words();
+        let header = Header::of(words);
         InPlace {
             image,
+            starts: &words[header.foot_index_offset()..header.footpath_offset()],
+            footpaths: &words[header.footpath_offset()..header.name_index_offset()],
             log: Trace::new(),
         }
     }
@@ -61,7 +76,7 @@ impl<'a> ConnSource for InPlace<'a> {
     }
 
     fn walks_into(&self, stop: usize) -> (usize, usize) {
-        self.image.walks_into(stop)
+        (self.starts[stop] as usize, self.starts[stop + 1] as usize)
     }
 
     fn footpath(&self, index: usize) -> Footpath {
@@ -69,7 +84,11 @@ impl<'a> ConnSource for InPlace<'a> {
     }
 
     fn footpath_into(&self, stop: usize, index: usize) -> Footpath {
-        self.image.footpath_into(stop, index)
+        Footpath {
+            from: self.footpaths[2 * index],
+            to: stop as u32,
+            secs: self.footpaths[2 * index + 1],
+        }
     }
 
     ghost legal = { λ source. source.legal };
