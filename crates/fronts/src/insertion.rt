@@ -17,6 +17,7 @@ use std::alloc::AllocError;
 // Before the list that begins at `index`, puts those points of entry `from`'s front that the list's first front doesn't
 // better; if there are none, the list stays. It has to cover what follows `from` on its own list. Returns the head of
 // the list that has both.
+#[inline(always)]
 fn join_one<C: Criterion>(
     criterion: &C,
     entries: &mut Vec<FrontEntry<C::V>>,

@@ -14,6 +14,7 @@ use criteria::Criterion;
 use std::alloc::AllocError;
 
 // Adds a point to those kept, unless the front of entry `index` betters it.
+#[inline(always)]
 fn keep_point<C: Criterion>(
     criterion: &C,
     arena: Arena<'_, '_, C::V>,
@@ -36,6 +37,7 @@ fn keep_point<C: Criterion>(
 
 /// Keeps the points of the front of entry `from` that the front of entry `index` doesn't better, instead of those
 /// kept before.
+#[inline(always)]
 pub fn keep_front<C: Criterion>(
     criterion: &C,
     arena: Arena<'_, '_, C::V>,
@@ -86,6 +88,7 @@ fn keep_each<C: Criterion>(
 }
 
 // Adds a value: its step to `steps`, and to `kept` a point of this departure and value whose tag is that step's index.
+#[inline(always)]
 fn keep_value<V: Copy>(
     steps: &mut Vec<Step>,
     kept: &mut Vec<Item<V>>,

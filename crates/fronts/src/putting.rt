@@ -24,6 +24,7 @@ pub fn index_of(len: usize) -> Result<u32, AllocError>
 }
 
 // Pushes a point unless one of `points` is no worse.
+#[inline(always)]
 fn leave<C: Criterion>(
     criterion: &C,
     items: &mut Vec<Item<C::V>>,
@@ -43,6 +44,7 @@ fn leave<C: Criterion>(
 }
 
 // Pushes each of the `count` items from index `rest` on, unless one of `points` is no worse.
+#[inline(always)]
 fn leave_part<C: Criterion>(
     criterion: &C,
     items: &mut Vec<Item<C::V>>,
@@ -97,6 +99,7 @@ fn leave_front<C: Criterion>(
 }
 
 // Pushes all points but the first. Mostly there are no others, and then the vector isn't touched.
+#[inline(always)]
 fn push_others<V: Copy>(items: &mut Vec<Item<V>>, points: &[Item<V>]) -> Result<(), AllocError>
     requires some { 0 < length points.now }
     ensures extends { Extends items.old.items items.new.items }
