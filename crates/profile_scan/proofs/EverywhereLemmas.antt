@@ -1,5 +1,5 @@
 -- One scan for all sources, as each of them sees it.
-use Rattle.std.proofs.Common.{◌≡◌, ◌+◌, ◌<◌, ◌≤◌, ◌∷◌, ◌++◌, [], ℕ, List, Option, Some, Contains, false, length, map, slice_get, refl, sym}
+use Rattle.std.proofs.Common.{◌≡◌, ◌+◌, ◌<◌, ◌≤◌, ◌∷◌, ◌++◌, [], ℕ, List, Option, Some, Contains, length, map, slice_get, sym}
 use Rattle.std.proofs.Common.{◌∙◌, ap, subst, inl, inr, arith}
 use Rattle.std.specs.Global.{Vec}
 use Rattle.std.proofs.lemmas.Bool.{cases_eq}
@@ -19,9 +19,7 @@ use Rattle.profile_scan.specs.Values.{journey_value}
 use Rattle.profile_scan.specs.Continuations.{CountsFrom}
 use Rattle.profile_scan.specs.Plain.{IsPlainOf}
 use Rattle.profile_scan.specs.Points.{untagged}
-use Rattle.profile_scan.specs.Matching.{IsAttained, Matches, Spellings}
-use Rattle.profile_scan.specs.Steps.{AreCarried, Leaving, MayLeave, TakesIn, changes, ends, ends_after, leavings}
-use Rattle.profile_scan.specs.Bound.{carried, is_bettered}
+use Rattle.profile_scan.specs.Matching.{IsAttained, Matches}
 use Rattle.profile_scan.specs.Story.{Story, spelling_of}
 use Rattle.profile_scan.specs.Telling.{IsJourneySpelled, IsSpelledAgain}
 use Rattle.profile_scan.specs.Kept.{IsDirectSecs}
@@ -38,42 +36,8 @@ use Rattle.profile_scan.specs.declared.origins.Origins.{Origins}
 use Rattle.profile_scan.specs.declared.profiles.Profiles.{Profiles}
 use Rattle.profile_scan.proofs.Answer.{match_is_the_answer}
 use Rattle.profile_scan.proofs.AnsweredLemmas.{spelled_again_answer}
-use Rattle.profile_scan.proofs.BoundLemmas.{from_carried, into_carried}
-use Rattle.profile_scan.proofs.Offers.{takes_as}
 use Rattle.profile_scan.proofs.OrderLemmas.{listed_bag, listed_match}
 use Rattle.profile_scan.proofs.Single.{answer_from, attained_one, direct_one}
-
--- by no bound all is carried
-pub carried_by_none : {V : Type 0} (rules : Rules V) (t : TimetableValue) (found : List (Point V)) (i : ℕ) (values : List V) → values ≡ [] →
-    (points : List (Point V)) → AreCarried rules t found i points (carried rules values points)
-carried_by_none {V} rules t found i values none points =
-    let nothing : (v : V) → is_bettered rules values v ≡ false = λ v. ap (λ (vs : List V). is_bettered rules vs v) none in
-    record {
-      only = λ p h. (from_carried rules values points p h).0;
-      all = λ p h. inl (into_carried rules values points p h (nothing (rules.ride p.value)));
-    }
-
--- where one may leave a trip doesn't depend on where one set out
-leave_from : {V : Type 0} (t : TimetableValue) (q : BetweenValue) (stop i : ℕ) (bag : List (Point V)) (way : Leaving V) → MayLeave t q i bag way → MayLeave t
-    (from_stop q stop) i bag way
-leave_from t q stop i bag ends may = may
-leave_from t q stop i bag (ends_after f) may = may
-leave_from t q stop i bag (changes p) may = may
-
-leave_back : {V : Type 0} (t : TimetableValue) (q : BetweenValue) (stop i : ℕ) (bag : List (Point V)) (way : Leaving V) → MayLeave t
-    (from_stop q stop) i bag way → MayLeave t q i bag way
-leave_back t q stop i bag ends may = may
-leave_back t q stop i bag (ends_after f) may = may
-leave_back t q stop i bag (changes p) may = may
-
-pub leavings_from : {V : Type 0} (rules : Rules V) (t : TimetableValue) (q : BetweenValue) (stop : ℕ) (tags : Spellings) (i : ℕ)
-    (bag old new : List (Point V)) → TakesIn rules (leavings rules t q tags i bag) old new → TakesIn rules
-    (leavings rules t (from_stop q stop) tags i bag) old new
-leavings_from rules t q stop tags i bag old new takes =
-    takes_as rules (leavings rules t q tags i bag) (leavings rules t (from_stop q stop) tags i bag) old new
-    (λ way opened. record { there = way; is_open = (opened.0, leave_from t q stop i bag way opened.1); departs = refl; worth = refl; fits = λ tag h. h })
-    (λ way opened. takes.covered way (opened.0, leave_back t q stop i bag way opened.1))
-    takes
 
 -- points in order are those found from a stop
 pub in_order_from : {K V : Type 0} {d : _} (rules : Rules V) (origins : Origins K V d) (stop : ℕ) (o : Origin K V d) (points : List (Point V))
@@ -199,8 +163,8 @@ module _ {K V : Type 0} {c : _} (rules_of : K → Rules V) (t : TimetableValue) 
       record {
         answer = answer_from rules t q (listed_from profiles stop)
             (subst (λ (b : BetweenValue). IsAnswerBetween rules t (from_stop b stop) (listed_from profiles stop)) asked is.answer);
-        attained = λ p h. attained_one rules t q (spelling_of t.footpaths (story_from profiles.to_any.state stop)).journey p
-            (subst (λ (b : BetweenValue). IsAttained (spelling_of t.footpaths (story_from profiles.to_any.state stop)).journey
+        attained = λ p h. attained_one rules t q (spelling_of t.footpaths (story_from profiles.to_any stop)).journey p
+            (subst (λ (b : BetweenValue). IsAttained (spelling_of t.footpaths (story_from profiles.to_any stop)).journey
             (CountsBetween t (from_stop b stop)) (IsPlainOf t (Contains b.targets)) (journey_value rules t) p) asked (is.attained p h));
         direct = way;
       }

@@ -17,6 +17,7 @@ pub mod WayLemmas
 pub mod StepFacts
 pub mod LogLemmas
 mod OriginLemmas
+mod TakeLemmas
 mod EverywhereLemmas
 pub mod OrderLemmas
 pub mod Chains

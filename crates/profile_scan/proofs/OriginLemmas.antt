@@ -18,8 +18,9 @@ use Rattle.profile_scan.specs.Matching.{Spellings, from_to}
 use Rattle.profile_scan.specs.Steps.{Offer}
 use Rattle.profile_scan.specs.Story.{story, spelling_of}
 use Rattle.profile_scan.specs.Adding.{IsInTime, MayStart, StartsFrom, Takes, only_if}
-use Rattle.profile_scan.specs.Parts.{ChangesOrigin, OriginTakes}
-use Rattle.profile_scan.specs.Origins.{IsLoop, AreUnder, ChangesOrigins, SourceTakes, found_by, found_from, from_stop, set_outs_by, set_outs_from, starts_at}
+use Rattle.profile_scan.specs.Parts.{ChangesOrigin, SourceTakes}
+use Rattle.profile_scan.specs.Origins.{IsLoop, AreUnder, ChangesOrigins, found_by, found_from, from_stop, kept_from, kept_of}
+use Rattle.profile_scan.specs.Origins.{set_outs_by, set_outs_from, starts_at}
 use Rattle.profile_scan.specs.declared.origin.Origin.{Origin}
 use Rattle.profile_scan.specs.declared.origins.Origins.{Origins}
 use Rattle.profile_scan.specs.declared.story.Exit.{Exit}
@@ -84,7 +85,8 @@ module _ {K V : Type 0} {d : _} (stop : ℕ) (olds news : List (Origin K V d)) (
   pub set_others : (k : ℕ) → k ≢ stop → slice_get news k ≡ slice_get olds k
   set_others k other = ap (λ (xs : List (Origin K V d)). slice_get xs k) is ∙ slice_get-set_other olds stop k b other
 
-  pub source_takes : {A : Type 0} (rules : Rules V) (walks : List Footpath) (offer : Spellings → Offer A V) → OriginTakes rules walks offer a b
+  pub source_takes : {A : Type 0} (rules : Rules V) (walks : List Footpath) (offer : Spellings → Offer A V)
+      → SourceTakes rules walks offer (kept_of a) (kept_of b)
       → TakesBy rules walks offer (slice_get olds stop) (slice_get news stop)
   source_takes rules walks offer takes =
       subst (λ (o : Option (Origin K V d)). TakesBy rules walks offer o (slice_get news stop)) (sym at)
@@ -127,7 +129,8 @@ module _ {K V : Type 0} {d : _} (stop : ℕ) (old new : Origins K V d) (a b : Or
 -- a stop that hasn't changed takes nothing in of an offer that isn't there
 pub source_unless : {A K V : Type 0} {d : _} (rules : Rules V) (walks : List Footpath) (stop : ℕ) (P : Type 0) (offer : Spellings → Offer A V)
     (old new : Origins K V d)
-    → slice_get new.each.items stop ≡ slice_get old.each.items stop → (P → ⊥) → SourceTakes rules walks stop (λ tags. only_if P (offer tags)) old new
+    → slice_get new.each.items stop ≡ slice_get old.each.items stop → (P → ⊥)
+    → SourceTakes rules walks (λ tags. only_if P (offer tags)) (kept_from old stop) (kept_from new stop)
 source_unless {A} {K} {V} {d} rules walks stop P offer old new same fails =
     subst (λ (o : Option (Origin K V d)). TakesBy rules walks (λ tags. only_if P (offer tags)) (slice_get old.each.items stop) o) (sym same)
     (λ exits steps before all ext_before ext. takes_unless rules P (offer (from_to (spelling_of walks before) (spelling_of walks all)))

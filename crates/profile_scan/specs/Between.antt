@@ -31,6 +31,10 @@ question query = record {
   by = query.by;
 }
 
+-- the same of other sources: those of an index
+abbrev pub asked_from : (List ℕ → ℕ → List ℕ) → BetweenValue → ℕ → BetweenValue
+asked_from sources q index = record q { sources = sources q.sources index }
+
 -- the query from one stop to another in the same window
 abbrev pub pair_of : BetweenValue → ℕ → ℕ → Query
 pair_of b source target = record { source = source; target = target; from = b.from; until = b.until; by = b.by }

@@ -8,50 +8,22 @@ use Rattle.timetable.specs.TimetableValue.{TimetableValue}
 use Rattle.timetable.specs.declared.query.Query.{Query}
 use Rattle.timetable.specs.declared.network.Footpath.{Footpath}
 use Rattle.timetable.specs.Journeys.{Counts}
-use Rattle.fronts.specs.Labels.{AreLabels, trips_of}
-use Rattle.fronts.specs.Lists.{steps_of}
 use Rattle.profile_scan.specs.Between.{BetweenValue, CountsBetween, IsAnswerBetween, IsDirectWalk, question, secs_of}
 use Rattle.profile_scan.specs.Values.{journey_value}
-use Rattle.profile_scan.specs.Continuations.{CountsFrom}
 use Rattle.profile_scan.specs.Plain.{IsPlain, IsPlainOf}
 use Rattle.profile_scan.specs.Points.{Before, IsAnswer}
-use Rattle.profile_scan.specs.Matching.{IsAttained, Matches, ScanValue}
-use Rattle.profile_scan.specs.Adding.{trip_points}
-use Rattle.profile_scan.specs.Story.{Story, story, spelling_of}
-use Rattle.profile_scan.specs.Kept.{AreStops, IsDirectSecs, points_at, walk_by, ways_of}
+use Rattle.profile_scan.specs.Matching.{IsAttained}
+use Rattle.profile_scan.specs.Story.{Story, spelling_of}
+use Rattle.profile_scan.specs.Kept.{IsDirectSecs, story_of, walk_by, ways_of}
 use Rattle.profile_scan.specs.Destinations.{query_from, question_to}
-use Rattle.profile_scan.specs.Origins.{AreOrigins, found_from, from_stop, set_outs_from}
+use Rattle.profile_scan.specs.Origins.{AreOrigins, from_stop, kept_from}
 use Rattle.profile_scan.specs.declared.destination.Destination.{Destination}
-use Rattle.profile_scan.specs.declared.everywhere.StateOfAll.{StateOfAll}
 use Rattle.profile_scan.specs.declared.profiles.Profiles.{Profiles}
 use Rattle.profile_scan.specs.declared.to_any.ProfilesToAny.{ProfilesToAny}
 
--- what is kept, as one source sees it
-abbrev pub kept_from : {K V : Type 0} {c : _} → StateOfAll K V c → ℕ → ScanValue V
-kept_from state stop = record {
-  bag = points_at state.stops;
-  labels = trip_points state.trips.labels;
-  found = found_from state.origins stop;
-}
-
 -- what is written down, as one source sees it
-abbrev pub story_from : {K V : Type 0} {c : _} → StateOfAll K V c → ℕ → Story
-story_from state stop =
-    story state.trips.exits.items (steps_of state.stops.lists) (set_outs_from state.origins stop)
-
--- a state for `stops` stops and `trips` trips, under a criterion
-pub record IsStateOfAll {K V : Type 0} {c : _} (rules_of : K → Rules V) (criterion : K) (stops trips : ℕ)
-    (state : StateOfAll K V c) : Type 0 where
-  pub at_stops : AreStops rules_of criterion stops state.stops
-  pub long : trips_of state.trips.labels ≡ trips
-  pub labels : AreLabels (rules_of criterion) state.trips.labels
-  pub origins : AreOrigins criterion stops state.origins
-
--- the points found from a stop match every journey from there that boards connection `start` or a later one
-abbrev pub HasFoundFrom : {K V : Type 0} {c : _} → Rules V → TimetableValue → BetweenValue → ℕ → StateOfAll K V c → ℕ → Type 0
-HasFoundFrom rules t q start state stop =
-    Matches rules (spelling_of t.footpaths (story_from state stop)).journey
-    (CountsFrom t (from_stop q stop) start) (IsPlainOf t (Contains q.targets)) (journey_value rules t) (found_from state.origins stop)
+abbrev pub story_from : {K V : Type 0} {c : _} → ProfilesToAny K V c → ℕ → Story
+story_from profiles = story_of kept_from profiles.state
 
 -- points are those of another list, in order
 pub record AreInOrder {V : Type 0} (rules : Rules V) (found points : List (Point V)) : Type 0 where
@@ -87,7 +59,7 @@ pub record AnswersFromStop {K V : Type 0} {c : _} (rules : Rules V) (t : Timetab
     (stop : ℕ) : Type 0 where
   pub answer : IsAnswerBetween rules t (from_stop (asked_to_any profiles) stop) (listed_to_any profiles stop)
   pub attained : (p : Point V) → Contains (listed_to_any profiles stop) p
-      → IsAttained (spelling_of t.footpaths (story_from profiles.state stop)).journey
+      → IsAttained (spelling_of t.footpaths (story_from profiles stop)).journey
       (CountsBetween t (from_stop (asked_to_any profiles) stop)) (IsPlainOf t (Contains (asked_to_any profiles).targets)) (journey_value rules t) p
 
 -- the same from every stop, also from a target, for which no query can be asked: there the journeys are those that come back to it or go on to another. And the
@@ -99,7 +71,7 @@ pub record AnswerToAny {K V : Type 0} {c : _} (rules_of : K → Rules V) (t : Ti
       → IsDirectWalk t (from_stop (asked_to_any profiles) stop) (walk_to_any profiles stop)
   pub loops : (stop : ℕ) → stop < t.stops → Contains (asked_to_any profiles).targets stop → IsDirectSecs t stop stop (secs_of (walk_to_any profiles stop))
   pub long : stops_to_any profiles ≡ t.stops
-  pub origins : AreOrigins (criterion_to_any profiles) t.stops profiles.state.origins
+  pub origins : AreOrigins (criterion_to_any profiles) t.stops profiles.state.origin
   pub ways : length (ways_of profiles.asked.ways) ≡ t.stops
 
 -- answers to a single target: the points of a stop, what was asked from every stop, by which criterion, and how many stops there are
@@ -125,7 +97,7 @@ pub record AnswersFrom {K V : Type 0} {c : _} (rules : Rules V) (t : TimetableVa
     (profiles : Profiles K V c) : Type 0 where
   pub answer : IsAnswer rules t q (listed_from profiles q.source)
   pub attained : (p : Point V) → Contains (listed_from profiles q.source) p
-      → IsAttained (spelling_of t.footpaths (story_from profiles.to_any.state q.source)).journey
+      → IsAttained (spelling_of t.footpaths (story_from profiles.to_any q.source)).journey
       (Counts t q) (IsPlain t q.target) (journey_value rules t) p
   pub direct : IsDirectSecs t q.target q.source (walk_from profiles q.source)
 

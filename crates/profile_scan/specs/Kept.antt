@@ -1,7 +1,6 @@
 -- What the vectors of a scan keep for each stop and each trip.
 use Rattle.std.specs.Prelude.{◌≡◌, ◌⊎◌, ℕ, ◌<◌, ◌≤◌, List, length, vec_len, Contains, slice_get, slice_index, slice_index_or}
 use Rattle.std.specs.Prelude.{Option, Some, None, Bool, true, false, nat_le, map}
-use Rattle.bags.specs.Bag.{criterion_of, points_of}
 use Rattle.bags.specs.declared.point.Point.{Point}
 use Rattle.timetable.specs.declared.network.Footpath.{Footpath}
 use Rattle.timetable.specs.declared.limits.TheConstants.{MAX_WALK_SECS}
@@ -11,8 +10,12 @@ use Rattle.criteria.specs.Laws.{Rules, Admits}
 use Rattle.fronts.specs.Lists.{IsSound, lists_criterion, entries_of, steps_of, list_points}
 use Rattle.fronts.specs.Labels.{AreLabels, trips_of}
 use Rattle.profile_scan.specs.Adding.{trip_points}
-use Rattle.profile_scan.specs.Matching.{ScanValue}
-use Rattle.profile_scan.specs.Story.{Story, story}
+use Rattle.profile_scan.specs.Between.{BetweenValue}
+use Rattle.profile_scan.specs.Values.{journey_value}
+use Rattle.profile_scan.specs.Continuations.{CountsFrom}
+use Rattle.profile_scan.specs.Plain.{IsPlainOf}
+use Rattle.profile_scan.specs.Matching.{Matches, ScanValue}
+use Rattle.profile_scan.specs.Story.{SourceValue, Story, story, spelling_of}
 use Rattle.profile_scan.specs.declared.last_offers.LastOffer.{LastOffer}
 use Rattle.profile_scan.specs.declared.stops.Stops.{Stops}
 use Rattle.profile_scan.specs.Bound.{AreBounds}
@@ -89,29 +92,35 @@ pub record HasStop {K V : Type 0} (rules_of : K → Rules V) (criterion : K) (st
   pub there : stop < vec_len kept.heads
   pub stops : AreStops rules_of criterion (vec_len kept.heads) kept
 
--- what a scan keeps, from its parts
-abbrev pub kept_by : {K V : Type 0} {c : _} → State K V c → ScanValue V
-kept_by state = record {
+-- what a scan keeps for the question at an index, from its parts
+abbrev pub kept_by : {K V O : Type 0} → (O → ℕ → SourceValue V) → State K O V → ℕ → ScanValue V
+kept_by kept state index = record {
   bag = points_at state.stops;
   labels = trip_points state.trips.labels;
-  found = points_of state.origin.found;
+  found = (kept state.origin index).found;
 }
 
--- what it has written down
-abbrev pub story_of : {K V : Type 0} {c : _} → State K V c → Story
-story_of state = story state.trips.exits.items (steps_of state.stops.lists) state.origin.set_outs.items
+-- what it has written down for that question
+abbrev pub story_of : {K V O : Type 0} → (O → ℕ → SourceValue V) → State K O V → ℕ → Story
+story_of kept state index =
+    story state.trips.exits.items (steps_of state.stops.lists) (kept state.origin index).set_outs
 
 -- a state for `stops` stops and `trips` trips, under a criterion
-pub record IsState {K V : Type 0} {c : _} (rules_of : K → Rules V) (criterion : K) (stops trips : ℕ)
-    (state : State K V c) : Type 0 where
+pub record IsState {K V O : Type 0} (rules_of : K → Rules V) (IsUnder : K → ℕ → O → Type 0) (criterion : K) (stops trips : ℕ)
+    (state : State K O V) : Type 0 where
   pub at_stops : AreStops rules_of criterion stops state.stops
   pub long : trips_of state.trips.labels ≡ trips
   pub labels : AreLabels (rules_of criterion) state.trips.labels
-  pub found : criterion_of state.origin.found ≡ criterion
+  pub origin : IsUnder criterion stops state.origin
 
--- the shape of a scan that has read the connections of a timetable from an index on: sizes, criterion, and a bound that points found outdo. Which points were
--- found, `MatchesFrom` says; the loop of scan_window carries it
-pub record IsScan {K V : Type 0} {c : _} (rules_of : K → Rules V) (criterion : K) (t : TimetableValue) (place : ℕ)
-    (scan : Scan K V c) : Type 0 where
-  pub state : IsState rules_of criterion t.stops t.trips scan.state
-  pub bound : AreBounds (rules_of criterion) t (points_of scan.state.origin.found) place scan.bound.values.items
+-- the shape of a scan that has read the connections of a timetable from an index on: sizes, criterion, and a bound that the points found for each question
+-- outdo. Which points were found, `MatchesFrom` says; the loop of scan_window carries it
+pub record IsScan {K V O : Type 0} (rules_of : K → Rules V) (IsUnder : K → ℕ → O → Type 0) (kept : O → ℕ → SourceValue V) (criterion : K)
+    (t : TimetableValue) (place : ℕ) (scan : Scan K O V) : Type 0 where
+  pub state : IsState rules_of IsUnder criterion t.stops t.trips scan.state
+  pub bound : (index : ℕ) → AreBounds (rules_of criterion) t (kept scan.state.origin index).found place scan.bound.values.items
+
+-- points found match every journey that boards connection `start` or a later one
+abbrev pub HasFound : {V : Type 0} → Rules V → TimetableValue → BetweenValue → ℕ → Story → List (Point V) → Type 0
+HasFound rules t q start s found =
+    Matches rules (spelling_of t.footpaths s).journey (CountsFrom t q start) (IsPlainOf t (Contains q.targets)) (journey_value rules t) found

@@ -1,20 +1,14 @@
--- What a scan keeps for each stop as a source.
+-- What a scan keeps where journeys set out: for a query's sources together, or for each stop.
 use Rattle.std.specs.Prelude.{◌≡◌, ℕ, List, [], ◌∷◌, length, Option, Some, None, slice_get}
-use Rattle.criteria.specs.Laws.{Rules}
 use Rattle.bags.specs.Bag.{criterion_of, points_of}
 use Rattle.bags.specs.declared.point.Point.{Point}
 use Rattle.timetable.specs.declared.network.Connection.{Connection}
 use Rattle.timetable.specs.declared.network.Footpath.{Footpath}
 use Rattle.fronts.specs.Front.{Extends}
-use Rattle.fronts.specs.declared.entry.Step.{Step}
 use Rattle.profile_scan.specs.Between.{BetweenValue}
-use Rattle.profile_scan.specs.Matching.{Spellings}
-use Rattle.profile_scan.specs.Steps.{Offer}
-use Rattle.profile_scan.specs.Adding.{Takes}
-use Rattle.profile_scan.specs.Story.{story}
+use Rattle.profile_scan.specs.Story.{SourceValue}
 use Rattle.profile_scan.specs.declared.origin.Origin.{Origin}
 use Rattle.profile_scan.specs.declared.origins.Origins.{Origins}
-use Rattle.profile_scan.specs.declared.story.Exit.{Exit}
 use Rattle.profile_scan.specs.declared.story.SetOut.{SetOut}
 
 -- the same query from another stop
@@ -30,6 +24,10 @@ abbrev pub IsLoop : Option Footpath → Type 0
 IsLoop None = ⊥
 IsLoop (Some walk) = walk.to ≡ walk.from
 
+-- what is kept for a query's sources together
+abbrev pub kept_of : {K V : Type 0} {c : _} → Origin K V c → SourceValue V
+kept_of origin = record { found = points_of origin.found; set_outs = origin.set_outs.items }
+
 abbrev pub found_by : {K V : Type 0} {c : _} → Option (Origin K V c) → List (Point V)
 found_by None = []
 found_by (Some origin) = points_of origin.found
@@ -44,6 +42,10 @@ found_from origins stop = found_by (slice_get origins.each.items stop)
 
 abbrev pub set_outs_from : {K V : Type 0} {c : _} → Origins K V c → ℕ → List SetOut
 set_outs_from origins stop = set_outs_by (slice_get origins.each.items stop)
+
+-- both
+abbrev pub kept_from : {K V : Type 0} {c : _} → Origins K V c → ℕ → SourceValue V
+kept_from origins stop = record { found = found_from origins stop; set_outs = set_outs_from origins stop }
 
 -- the points found from each stop are under a criterion
 abbrev pub AreUnder : {K V : Type 0} {c : _} → K → Origins K V c → Type 0
@@ -61,11 +63,3 @@ pub record ChangesOrigins {K V : Type 0} {c : _} (criterion : K) (old new : Orig
   pub long : length new.each.items ≡ length old.each.items
   pub under : AreUnder criterion new
   pub set_outs : (stop : ℕ) → Extends (set_outs_from old stop) (set_outs_from new stop)
-
--- the points found from a stop take an offer in
-abbrev pub SourceTakes : {A K V : Type 0} {c : _}
-    → Rules V → List Footpath → ℕ → (Spellings → Offer A V) → Origins K V c → Origins K V c → Type 0
-SourceTakes rules walks stop offer old new =
-    (exits : List Exit) (steps : List Step)
-    → Takes rules walks (story exits steps (set_outs_from old stop)) (story exits steps (set_outs_from new stop))
-    offer (found_from old stop) (found_from new stop)

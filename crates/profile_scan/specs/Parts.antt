@@ -1,31 +1,23 @@
 -- What each part of a scan's state takes in at a connection, and what it keeps.
 use Rattle.std.specs.Prelude.{◌≡◌, ℕ, ◌<◌, List, Contains, slice_get, Some}
 use Rattle.criteria.specs.Laws.{Rules, Admits}
-use Rattle.bags.specs.Bag.{criterion_of, points_of}
+use Rattle.bags.specs.Bag.{criterion_of}
 use Rattle.bags.specs.declared.point.Point.{Point}
 use Rattle.timetable.specs.declared.network.Footpath.{Footpath}
-use Rattle.timetable.specs.TimetableValue.{TimetableValue}
-use Rattle.timetable.specs.Journeys.{connection_at}
 use Rattle.fronts.specs.Front.{Extends}
 use Rattle.fronts.specs.Labels.{AreLabels, trips_of}
 use Rattle.fronts.specs.Lists.{steps_of}
 use Rattle.fronts.specs.declared.entry.RiddenLabel.{RiddenLabel}
 use Rattle.fronts.specs.declared.entry.Step.{Step}
 use Rattle.fronts.specs.declared.labels.Label.{Label}
-use Rattle.profile_scan.specs.Between.{BetweenValue}
-use Rattle.profile_scan.specs.Values.{journey_value}
-use Rattle.profile_scan.specs.Continuations.{CountsFrom}
-use Rattle.profile_scan.specs.Plain.{IsPlainOf}
-use Rattle.profile_scan.specs.Matching.{Matches, Spellings}
-use Rattle.profile_scan.specs.Steps.{Offer, leavings, boardings, settings_out}
+use Rattle.profile_scan.specs.Matching.{Spellings}
+use Rattle.profile_scan.specs.Steps.{Offer}
 use Rattle.profile_scan.specs.Adding.{Takes, IsRelabelled, AreRidden, StandsBetween, each_of, boardings_by}
 use Rattle.profile_scan.specs.Adding.{label_points, trip_points}
-use Rattle.profile_scan.specs.Bound.{carried}
-use Rattle.profile_scan.specs.Story.{Story, Grows, story, spelling_of}
-use Rattle.profile_scan.specs.Kept.{AreStops, points_at, story_of}
+use Rattle.profile_scan.specs.Story.{SourceValue, story}
+use Rattle.profile_scan.specs.Kept.{AreStops, points_at}
 use Rattle.profile_scan.specs.declared.hop.Hop.{Hop}
 use Rattle.profile_scan.specs.declared.origin.Origin.{Origin}
-use Rattle.profile_scan.specs.declared.scan.State.{State}
 use Rattle.profile_scan.specs.declared.stops.Stops.{Stops}
 use Rattle.profile_scan.specs.declared.story.Exit.{Exit}
 use Rattle.profile_scan.specs.declared.story.SetOut.{SetOut}
@@ -57,13 +49,11 @@ pub record ChangesOrigin {K V : Type 0} {c : _} (criterion : K) (old new : Origi
   pub found : criterion_of new.found ≡ criterion
   pub set_outs : Extends old.set_outs.items new.set_outs.items
 
--- the points found take an offer in
-abbrev pub OriginTakes : {A K V : Type 0} {c : _}
-    → Rules V → List Footpath → (Spellings → Offer A V) → Origin K V c → Origin K V c → Type 0
-OriginTakes rules walks offer old new =
+-- the points found where journeys set out take an offer in
+abbrev pub SourceTakes : {A V : Type 0} → Rules V → List Footpath → (Spellings → Offer A V) → SourceValue V → SourceValue V → Type 0
+SourceTakes rules walks offer old new =
     (exits : List Exit) (steps : List Step)
-    → Takes rules walks (story exits steps old.set_outs.items) (story exits steps new.set_outs.items)
-    offer (points_of old.found) (points_of new.found)
+    → Takes rules walks (story exits steps old.set_outs) (story exits steps new.set_outs) offer old.found new.found
 
 -- `count` stops, and the ridden values are admitted
 pub record AreReady {K V : Type 0} (rules_of : K → Rules V) (criterion : K) (count : ℕ)
@@ -111,34 +101,3 @@ BoardsAfterEach {K} {V} rules walks begin end hop ridden old new =
     → StopTakes rules walks stop
     (λ tags. each_of (StandsBetween walks begin end) (boardings_by rules tags hop.place hop.connection stop labels))
     old new
-
--- the labels of a hop's trip as points
-abbrev pub points_of_trip : {K V : Type 0} {c : _} → State K V c → Hop V → List (Point V)
-points_of_trip state hop = trip_points state.trips.labels hop.connection.trip
-
--- a state takes in a connection, in the order of the code: alighting changes the labels of its trip; with these one sets out, which changes the points found,
--- and boards, which changes the points of stops
-pub record TakesConnection {K V : Type 0} {c : _} (rules : Rules V) (t : TimetableValue) (q : BetweenValue) (hop : Hop V)
-    (old new : State K V c) : Type 0 where
-  pub between : Story
-  pub grows_first : Grows (story_of old) between
-  pub grows_then : Grows between (story_of new)
-  pub labels : IsRelabelled rules hop.connection.trip old.trips.labels new.trips.labels
-  pub leaves : Takes rules t.footpaths (story_of old) between
-      (λ tags. leavings rules t q tags hop.place
-      (carried rules hop.bound.now (points_at old.stops (connection_at t hop.place).to)))
-      (points_of_trip old hop) (points_of_trip new hop)
-  pub sets_out : Takes rules t.footpaths between (story_of new)
-      (λ tags. settings_out rules t q tags hop.place (points_of_trip new hop))
-      (points_of old.origin.found) (points_of new.origin.found)
-  pub boards : (stop : ℕ) → Takes rules t.footpaths between (story_of new)
-      (λ tags. boardings rules t tags hop.place stop (carried rules hop.bound.now (points_of_trip new hop)))
-      (points_at old.stops stop) (points_at new.stops stop)
-
--- points found, under a criterion, match every journey that boards connection `start` or a later one
-pub record HasFound {K V : Type 0} {c : _} (rules_of : K → Rules V) (t : TimetableValue) (criterion : K) (q : BetweenValue)
-    (start : ℕ) (state : State K V c) : Type 0 where
-  pub same : criterion_of state.origin.found ≡ criterion
-  pub matches : Matches (rules_of criterion) (spelling_of t.footpaths (story_of state)).journey
-      (CountsFrom t q start) (IsPlainOf t (Contains q.targets)) (journey_value (rules_of criterion) t)
-      (points_of state.origin.found)

@@ -1,6 +1,7 @@
 -- What a scan writes down, and what it tells: how one goes on from each label, from each point of a stop, and from each
 -- point found.
 use Rattle.std.specs.Prelude.{ℕ, zero, suc, List, [], length, Option, Some, None, slice_get}
+use Rattle.bags.specs.declared.point.Point.{Point}
 use Rattle.timetable.specs.declared.network.Footpath.{Footpath}
 use Rattle.timetable.specs.JourneyValue.{JourneyValue}
 use Rattle.fronts.specs.declared.entry.Step.{Step}
@@ -20,6 +21,11 @@ pub record Story : Type 0 where
 
 abbrev pub story : List Exit → List Step → List SetOut → Story
 story exits steps set_outs = record { exits = exits; steps = steps; set_outs = set_outs }
+
+-- what is kept where journeys set out: the points found, and how one sets out for each; a point's tag is the index
+pub record SourceValue (V : Type 0) : Type 0 where
+  pub found : List (Point V)
+  pub set_outs : List SetOut
 
 -- a story, and the same with more written down after it
 pub record Grows (old new : Story) : Type 0 where

@@ -11,6 +11,7 @@ use crate::between::Between;
 use crate::found::{Found, in_order};
 use crate::found_between::FoundBetween;
 use crate::hop::ScanQuery;
+use crate::origin::Origin;
 use crate::scan::scan_window;
 use crate::starts::starts_from;
 use crate::telling::tell_journeys;
@@ -81,7 +82,7 @@ pub fn profile_between<S: ConnSource, C: Criterion>(
     let start = source.first_at(query.from);
     let end = source.first_at(query.by);
     let asked = ask(alloc, source, criterion, query)?;
-    let scan = scan_window(alloc, source, &asked, start..end)?;
+    let scan = scan_window::<S, C, Origin<C>>(alloc, source, &asked, start..end)?;
     let points = in_order(alloc, criterion, &scan.state.origin.found)?;
     let view = ScanView {
         trips: &scan.state.trips,

@@ -5,21 +5,22 @@
 //! from the last to the first, as the profile variant of the Connection Scan Algorithm does (Dibbelt, Pajor, Strasser,
 //! Wagner, ACM Journal of Experimental Algorithmics, 2018). `profile` is that scan, reading from any `ConnSource`,
 //! under any criterion. The window is the connections that depart at `from` or later and before `by`, since a later leg
-//! may depart after `until`. The loop is `scan::scan_window`, which calls `Scan::step` for each index from the window's
-//! end down; by `log`, no step reads another connection. A step returns at once if it sees that the connection can add
+//! may depart after `until`. The loop is `scan::scan_window`. It reads each index of the window once, in falling order,
+//! as its clause `log` says, and calls `Scan::step`. A step returns at once if it sees that the connection can add
 //! nothing; else it renews the bound for the connection's departure, makes a `Hop` and calls `State::take`:
 //!
-//! 1. Leave the trip: `Trips::alight` changes only the labels of the connection's trip, by `fronts::offer_label`, and
-//!    appends to `exits`; it reads the stops as they were before this connection, and `hop.bound`. The journey may end
-//!    there, or one footpath on (`hop.way`): `Trips::end` offers the value that `value_at_end` makes. Or the passenger
-//!    may change: `Trips::change` offers the stop's points that depart at the arrival or later. Staying on needs no
-//!    code: the labels that the trip has remain. A stop's point departs when the walk to the next connection begins.
-//!    That walk is one footpath; to board at the same stop it is the stop's loop, whose seconds are the change time. So
-//!    1 adds no change time: 3 subtracts it from the departure. `Leads` (timetable's specs/Journeys.antt) defines when
-//!    one may change, and `journeys::check` tests it of one journey.
-//! 2. Set out: `Origin::set_out` changes only the points found and appends to `set_outs`; it reads the labels that
-//!    `alight` left, and not the bound. It sets out without a footpath if the connection begins at a source, and after
-//!    each footpath, loops excepted, from a source to there; `Starts` only marks the sources and the stops that such
+//! 1. Leave the trip, if passengers may get off. The journey may end there, or one footpath on (`hop.way`):
+//!    `Trips::end` offers that to the labels of the connection's trip, with the value that `value_at_end` makes. Or
+//!    the passenger may change: `Trips::change` offers the stop's points that depart at the arrival or later. Both
+//!    change only those labels, by `fronts::offer_label`, and append to `exits`; they read the stops as they were
+//!    before this connection, and `hop.bound`. Staying on needs no code: the labels that the trip has remain. A stop's
+//!    point departs when the walk to the next connection begins. That walk is one footpath; to board at the same stop
+//!    it is the stop's loop, whose seconds are the change time. So 1 adds no change time: 3 subtracts it from the
+//!    departure. `Leads` (timetable's specs/Journeys.antt) defines when one may change, and `journeys::check` tests it
+//!    of one journey.
+//! 2. Set out: `AtSource::set_out` changes only the points found and appends to `set_outs`; it reads the labels that 1
+//!    left, and not the bound. It sets out without a footpath if the connection begins at a source, and after each
+//!    footpath, loops excepted, from a source to there; `Starts` only marks the sources and the stops that such
 //!    footpaths lead to.
 //! 3. Board: for each footpath into the stop where the connection begins, its loop included, `Stops::board` offers, to
 //!    the stop where that footpath begins, points whose departure is the connection's less the footpath's seconds
@@ -28,11 +29,16 @@
 //!
 //! A ride is counted where the trip is boarded, in 2 and 3: a label's value doesn't include it.
 //!
+//! `AtSource` is where journeys set out. For one query it is `Origin`: one list of points found, from all sources
+//! together. `profiles_to_any` answers from every stop to any of several targets, and `profiles_to` to a single one:
+//! there it is `Origins`, a list for each stop. All else is the same scan, and all is proved for an `index`: any number
+//! for `Origin`, the stop for `Origins`.
+//!
 //! `hop.bound` has values of points found that depart no earlier than the connection. 1 leaves out a point of the stop,
 //! and 3 a label, if one of these values is no worse than that point's or label's own value with the ride in this trip.
 //! What remains is `carried` (specs/Bound.antt); `AreCarried` (specs/Steps.antt) says what a step may leave out. The
-//! bound is renewed before 1, so 3 doesn't see what 2 has just found. It stays empty unless the criterion says
-//! `riding_worsens`.
+//! bound is renewed before 1, so 3 doesn't see what 2 has just found. It stays empty for `Origins`, and unless the
+//! criterion says `riding_worsens`.
 //!
 //! The invariant is `MatchesFrom` (specs/Matching.antt) at the index i that the scan has come down to. At every stop,
 //! in every trip and at the source, each point is attained by what its tag spells, and each way to go on over the
@@ -50,18 +56,14 @@
 //! before the offer, and the record is pushed only if the offer is accepted; these vectors only grow while a scan runs,
 //! so a tag keeps its meaning. `spelling_of` (specs/Story.antt) says what a tag spells; `telling` makes nodes of it,
 //! and `journeys::extract` a journey of these.
-//!
-//! `profiles_to_any` answers from every stop to any of several targets by another scan, `everywhere::scan_for_all`: the
-//! same steps, but points found for each stop, and no bound. Its loop carries `MatchesFrom` for every stop as the
-//! source (`matched` in proofs/everywhere/scan_for_all/Invariants.antt). `profiles_to` is this scan to a single target.
 #![tactic(auto)]
 
 mod answering;
+mod at_source;
 mod between;
 mod bound;
 mod destination;
 mod destinations;
-mod everywhere;
 mod found;
 mod found_between;
 mod hop;

@@ -8,7 +8,9 @@ ghost use Rattle.profile_scan.specs.Adding.{IsInTime, StartsFrom};
 ghost use Rattle.profile_scan.specs.Between.{question};
 ghost use Rattle.profile_scan.specs.Hops.{KnowsSources};
 
+use crate::at_source::AtSource;
 use crate::between::Between;
+use crate::bound::Bound;
 use crate::hop::{Hop, ScanQuery};
 use crate::riding::label_at;
 use crate::story::SetOut;
@@ -38,10 +40,11 @@ impl<C: Criterion> Origin<C> {
     ghost use Rattle.profile_scan.specs.Steps.{settings_out};
     ghost use Rattle.profile_scan.specs.Hops.{KnowsSources, IsHopOf};
     ghost use Rattle.profile_scan.specs.Starts.{AreStarts};
-    ghost use Rattle.profile_scan.specs.Parts.{AdmitsLabels, ChangesOrigin, OriginTakes};
+    ghost use Rattle.profile_scan.specs.Parts.{AdmitsLabels, ChangesOrigin, SourceTakes};
+    ghost use Rattle.profile_scan.specs.Origins.{kept_of};
 
     /// Makes an origin without points.
-    pub fn new(alloc: Global, criterion: C) -> Self
+    pub fn empty(alloc: Global, criterion: C) -> Self
         ensures criterion { criterion_of result.found ≡ criterion }
         ensures none { points_of result.found ≡ [] }
     {
@@ -63,8 +66,8 @@ impl<C: Criterion> Origin<C> {
         requires same { criterion_of self.old.found ≡ criterion.now }
         requires admitted { Admits (C.rules criterion.now) value }
         ensures origin { OnOk result (ChangesOrigin criterion.now self.old self.new) }
-        ensures takes { OnOk result ((walks : List Footpath) → OriginTakes (C.rules criterion.now) walks
-            (λ tags. set_out_way tags departure value set_out) self.old self.new) }
+        ensures takes { OnOk result ((walks : List Footpath) → SourceTakes (C.rules criterion.now) walks
+            (λ tags. set_out_way tags departure value set_out) (kept_of self.old) (kept_of self.new)) }
     {
         let tag = self.set_outs.len();
         let stands = self.found.insert(departure, value, tag)?;
@@ -88,10 +91,10 @@ impl<C: Criterion> Origin<C> {
         requires found { criterion_of self.old.found ≡ asked.now.criterion }
         requires labels { AdmitsLabels (C.rules asked.now.criterion) labels.now }
         ensures origin { OnOk result (ChangesOrigin asked.now.criterion self.old self.new) }
-        ensures takes { OnOk result ((walks : List Footpath) → OriginTakes (C.rules asked.now.criterion) walks
+        ensures takes { OnOk result ((walks : List Footpath) → SourceTakes (C.rules asked.now.criterion) walks
             (λ tags. settings_out_after (C.rules asked.now.criterion) tags place
             departure.time departure.start (label_points labels.now))
-            self.old self.new) }
+            (kept_of self.old) (kept_of self.new)) }
     {
         for k in 0..labels.len() {
             let label = label_at(labels, k);
@@ -121,11 +124,11 @@ impl<C: Criterion> Origin<C> {
         requires found { criterion_of self.old.found ≡ asked.now.criterion }
         requires labels { AdmitsLabels (C.rules asked.now.criterion) labels.now }
         ensures origin { OnOk result (ChangesOrigin asked.now.criterion self.old self.new) }
-        ensures takes { OnOk result ((walks : List Footpath) → OriginTakes (C.rules asked.now.criterion) walks
+        ensures takes { OnOk result ((walks : List Footpath) → SourceTakes (C.rules asked.now.criterion) walks
             (λ tags. only_if (MayStart (question asked.now.query) hop.now.connection start)
             (settings_out_after (C.rules asked.now.criterion) tags hop.now.place
             (hop.now.connection.dep - start_secs start) start (label_points labels.now)))
-            self.old self.new) }
+            (kept_of self.old) (kept_of self.new)) }
     {
         if !is_from_source(asked, hop, start) {
             return Ok(());
@@ -135,28 +138,37 @@ impl<C: Criterion> Origin<C> {
             Some(departure) => self.set_out_after(asked, hop.place, departure, labels),
         }
     }
+}
 
-    /// Sets out for a connection, if passengers may get on there: offers to the points found, for each label of its
-    /// trip, the point of boarding with it, if the query allows its departure: without a start, at a source; after each
-    /// footpath, except a loop, from a source to where the connection begins.
-    pub fn set_out<S: ConnSource>(
+impl<C: Criterion> AtSource<C> for Origin<C> {
+    ghost use Rattle.std.specs.Prelude.{ℕ};
+    ghost use Rattle.std.proofs.Common.{subst};
+    ghost use Rattle.bags.specs.Bag.{criterion_of, points_of};
+    ghost use Rattle.bags.specs.Dominance.{IsBag};
+    ghost use Rattle.profile_scan.specs.Origins.{kept_of};
+
+    ghost kept = { λ origin index. kept_of origin };
+
+    ghost sources = { λ sources index. sources };
+
+    ghost IsUnder = { λ criterion stops origin. criterion_of origin.found ≡ criterion };
+
+    fn new(alloc: Global, criterion: &C, _stops: u32) -> Result<Self, AllocError> {
+        Ok(Origin::empty(alloc, *criterion))
+    }
+
+    #[inline(always)]
+    fn renew(&self, criterion: &C, time: u32, bound: &mut Bound<C>) -> Result<(), AllocError> {
+        bound.renew(criterion, &self.found, self.set_outs.len(), time)
+    }
+
+    fn set_out<S: ConnSource>(
         &mut self,
         asked: &ScanQuery<C>,
         source: &S,
         hop: &Hop<C::V>,
         labels: &[Label<C::V>],
-    ) -> Result<(), AllocError>
-        requires hop { IsHopOf (C.rules asked.now.criterion) (S.timetable source.now)
-            (question asked.now.query) hop.now }
-        requires starts { AreStarts (S.timetable source.now) (question asked.now.query).sources asked.now.starts }
-        requires found { criterion_of self.old.found ≡ asked.now.criterion }
-        requires labels { AdmitsLabels (C.rules asked.now.criterion) labels.now }
-        ensures origin { OnOk result (ChangesOrigin asked.now.criterion self.old self.new) }
-        ensures takes { OnOk result (OriginTakes (C.rules asked.now.criterion) (S.timetable source.now).footpaths
-            (λ tags. settings_out (C.rules asked.now.criterion) (S.timetable source.now) (question asked.now.query) tags
-            hop.now.place (label_points labels.now))
-            self.old self.new) }
-    {
+    ) -> Result<(), AllocError> {
         if !hop.connection.board {
             return Ok(());
         }
@@ -171,6 +183,9 @@ impl<C: Criterion> Origin<C> {
         }
         Ok(())
     }
+
+    ghost bags = { λ criterion stops origin under index.
+        subst (λ k. IsBag (C.rules k) (points_of origin.found)) under origin.found.kept };
 }
 
 /// How one sets out: the start, and when one leaves the source.

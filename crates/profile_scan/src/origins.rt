@@ -3,6 +3,8 @@
 ghost use Rattle.std.specs.Prelude.{◌≡◌, MatchBool};
 ghost use Rattle.profile_scan.specs.Origins.{IsLoop, starts_at};
 
+use crate::at_source::AtSource;
+use crate::bound::Bound;
 use crate::hop::{Hop, ScanQuery};
 use crate::origin::{Origin, SourceDeparture, departure_with};
 use criteria::Criterion;
@@ -26,21 +28,9 @@ impl<C: Criterion> Origins<C> {
     ghost use Rattle.profile_scan.specs.Adding.{label_points, only_if, settings_out_after, MayStart};
     ghost use Rattle.profile_scan.specs.Steps.{settings_out};
     ghost use Rattle.profile_scan.specs.Hops.{IsHopOf};
-    ghost use Rattle.profile_scan.specs.Parts.{AdmitsLabels};
-    ghost use Rattle.profile_scan.specs.Origins.{AreOrigins, AreUnder, ChangesOrigins, SourceTakes};
-    ghost use Rattle.profile_scan.specs.Origins.{found_from, from_stop, starts_at};
-
-    /// Makes `count` origins without points.
-    pub fn new(alloc: Global, criterion: C, count: u32) -> Result<Self, AllocError>
-        ensures origins { IfOk result (λ origins. AreOrigins criterion count origins) }
-        ensures none { IfOk result (λ origins. (stop : ℕ) → found_from origins stop ≡ []) }
-    {
-        let mut each = Vec::with_capacity(alloc, count as usize)?;
-        for _stop in 0..count {
-            each.push(Origin::new(alloc, criterion))?;
-        }
-        Ok(Origins { each })
-    }
+    ghost use Rattle.profile_scan.specs.Parts.{AdmitsLabels, SourceTakes};
+    ghost use Rattle.profile_scan.specs.Origins.{AreUnder, ChangesOrigins, kept_from};
+    ghost use Rattle.profile_scan.specs.Origins.{from_stop, starts_at};
 
     // Offers to the points found from a stop, for each label of the connection's trip, the point of boarding the
     // connection with it after this departure from there.
@@ -57,10 +47,10 @@ impl<C: Criterion> Origins<C> {
         requires origins { AreUnder asked.now.criterion self.old }
         requires labels { AdmitsLabels (C.rules asked.now.criterion) labels.now }
         ensures origins { OnOk result (ChangesOrigins asked.now.criterion self.old self.new) }
-        ensures takes { OnOk result ((walks : List Footpath) → SourceTakes (C.rules asked.now.criterion) walks stop
+        ensures takes { OnOk result ((walks : List Footpath) → SourceTakes (C.rules asked.now.criterion) walks
             (λ tags. settings_out_after (C.rules asked.now.criterion) tags hop.now.place
             departure.time departure.start (label_points labels.now))
-            self.old self.new) }
+            (kept_from self.old stop) (kept_from self.new stop)) }
         ensures others { OnOk result ((other : ℕ) → other ≢ stop
             → slice_get self.new.each.items other ≡ slice_get self.old.each.items other) }
     {
@@ -83,11 +73,11 @@ impl<C: Criterion> Origins<C> {
         requires labels { AdmitsLabels (C.rules asked.now.criterion) labels.now }
         ensures origins { OnOk result (ChangesOrigins asked.now.criterion self.old self.new) }
         ensures takes { OnOk result ((walks : List Footpath) (stop : ℕ)
-            → SourceTakes (C.rules asked.now.criterion) walks stop
+            → SourceTakes (C.rules asked.now.criterion) walks
             (λ tags. only_if (MayStart (from_stop (question asked.now.query) stop) hop.now.connection start)
             (settings_out_after (C.rules asked.now.criterion) tags hop.now.place
             (hop.now.connection.dep - start_secs start) start (label_points labels.now)))
-            self.old self.new) }
+            (kept_from self.old stop) (kept_from self.new stop)) }
     {
         if is_loop(start) {
             return Ok(());
@@ -98,28 +88,42 @@ impl<C: Criterion> Origins<C> {
             Some(departure) => self.set_out_from(asked, hop, stop, departure, labels),
         }
     }
+}
 
-    /// Sets out for a connection, if passengers may get on, from the stop where it begins and from each stop from which
-    /// a footpath, except a loop, leads there: offers to the points found from that stop, for each label of its trip,
-    /// the point of boarding the connection with it.
-    pub fn set_out<S: ConnSource>(
+/// Each stop is the source of a question of its own. A point found from one stop outdoes nothing for another, so the
+/// bound stays empty.
+impl<C: Criterion> AtSource<C> for Origins<C> {
+    ghost use Rattle.std.specs.Prelude.{[], ◌∷◌, ℕ};
+    ghost use Rattle.bags.specs.Dominance.{IsBag};
+    ghost use Rattle.profile_scan.specs.Origins.{AreOrigins, found_from, kept_from};
+
+    ghost kept = { kept_from };
+
+    ghost sources = { λ sources stop. stop ∷ [] };
+
+    ghost IsUnder = { λ criterion stops origins. AreOrigins criterion stops origins
+        × ((stop : ℕ) → IsBag (C.rules criterion) (found_from origins stop)) };
+
+    fn new(alloc: Global, criterion: &C, stops: u32) -> Result<Self, AllocError> {
+        let mut each = Vec::with_capacity(alloc, stops as usize)?;
+        for _stop in 0..stops {
+            each.push(Origin::empty(alloc, *criterion))?;
+        }
+        Ok(Origins { each })
+    }
+
+    #[inline(always)]
+    fn renew(&self, _criterion: &C, _time: u32, _bound: &mut Bound<C>) -> Result<(), AllocError> {
+        Ok(())
+    }
+
+    fn set_out<S: ConnSource>(
         &mut self,
         asked: &ScanQuery<C>,
         source: &S,
         hop: &Hop<C::V>,
         labels: &[Label<C::V>],
-    ) -> Result<(), AllocError>
-        requires hop { IsHopOf (C.rules asked.now.criterion) (S.timetable source.now)
-            (question asked.now.query) hop.now }
-        requires origins { AreOrigins asked.now.criterion (S.timetable source.now).stops self.old }
-        requires labels { AdmitsLabels (C.rules asked.now.criterion) labels.now }
-        ensures origins { OnOk result (ChangesOrigins asked.now.criterion self.old self.new) }
-        ensures takes { OnOk result ((stop : ℕ)
-            → SourceTakes (C.rules asked.now.criterion) (S.timetable source.now).footpaths stop
-            (λ tags. settings_out (C.rules asked.now.criterion) (S.timetable source.now)
-            (from_stop (question asked.now.query) stop) tags hop.now.place (label_points labels.now))
-            self.old self.new) }
-    {
+    ) -> Result<(), AllocError> {
         if !hop.connection.board {
             return Ok(());
         }
@@ -131,6 +135,8 @@ impl<C: Criterion> Origins<C> {
         }
         Ok(())
     }
+
+    ghost bags = { λ criterion stops origins is stop. is.1 stop };
 }
 
 // Whether a start is a loop.

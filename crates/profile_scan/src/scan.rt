@@ -2,9 +2,9 @@
 
 ghost use Rattle.std.specs.Prelude.{◌≡◌, ◌↔◌, None, true};
 
+use crate::at_source::AtSource;
 use crate::bound::Bound;
 use crate::hop::{Hop, ScanQuery};
-use crate::origin::Origin;
 use crate::stops::Stops;
 use crate::trips::Trips;
 use crate::ways::Way;
@@ -15,34 +15,37 @@ use std::alloc::{AllocError, Global};
 use std::ops::Range;
 use timetable::Connection;
 
-/// What a scan keeps of the connections that it has read: for each trip, for each stop, and for the source.
+/// What a scan keeps of the connections that it has read: for each trip, for each stop, and where journeys set out.
 #[derive(Drop)]
-pub struct State<C: Criterion> {
+pub struct State<C: Criterion, O> {
     pub trips: Trips<C>,
     pub stops: Stops<C>,
-    pub origin: Origin<C>,
+    pub origin: O,
 }
 
-impl<C: Criterion> State<C> {
-    ghost use Rattle.profile_scan.specs.Between.{question};
-    ghost use Rattle.std.specs.Prelude.{◌≡◌, ◌<◌, [], ℕ, IfOk, OnOk, true, length, vec_len};
-    ghost use Rattle.bags.specs.Bag.{points_of};
-    ghost use Rattle.profile_scan.specs.Steps.{IsIdle};
-    ghost use Rattle.profile_scan.specs.Kept.{HasStop, IsState, kept_by};
+impl<C: Criterion, O: AtSource<C>> State<C, O> {
+    ghost use Rattle.profile_scan.specs.Between.{asked_from, question};
+    ghost use Rattle.std.specs.Prelude.{◌≡◌, ◌+◌, [], ℕ, IfOk, OnOk, Contains, true};
+    ghost use Rattle.profile_scan.specs.Matching.{from_to};
+    ghost use Rattle.profile_scan.specs.Steps.{IsIdle, IsStep};
+    ghost use Rattle.profile_scan.specs.Adding.{trip_points};
+    ghost use Rattle.profile_scan.specs.Bound.{AreBounds};
+    ghost use Rattle.profile_scan.specs.Story.{spelling_of};
+    ghost use Rattle.profile_scan.specs.Kept.{HasStop, IsState, kept_by, points_at, story_of};
     ghost use Rattle.profile_scan.specs.Hops.{IsHopOf};
     ghost use Rattle.profile_scan.specs.Starts.{AreStarts};
-    ghost use Rattle.profile_scan.specs.Parts.{HasTrip, TakesConnection};
+    ghost use Rattle.profile_scan.specs.Parts.{HasTrip};
 
     // A state for `stops` stops and `trips` trips, before any connection is read.
     fn new(alloc: Global, criterion: &C, stops: u32, trips: u32) -> Result<Self, AllocError>
-        ensures state { IfOk result (λ state. IsState C.rules criterion.now stops trips state) }
-        ensures bags { IfOk result (λ state. (stop : ℕ) → (kept_by state).bag stop ≡ []) }
-        ensures labels { IfOk result (λ state. (trip : ℕ) → (kept_by state).labels trip ≡ []) }
-        ensures found { IfOk result (λ state. points_of state.origin.found ≡ []) }
+        ensures state { IfOk result (λ state. IsState C.rules O.IsUnder criterion.now stops trips state) }
+        ensures bags { IfOk result (λ state. (stop : ℕ) → points_at state.stops stop ≡ []) }
+        ensures labels { IfOk result (λ state. (trip : ℕ) → trip_points state.trips.labels trip ≡ []) }
+        ensures found { IfOk result (λ state. (index : ℕ) → (O.kept state.origin index).found ≡ []) }
     {
         let trips = Trips::new(alloc, criterion, trips)?;
+        let origin = O::new(alloc, criterion, stops)?;
         let stops = Stops::new(alloc, criterion, stops)?;
-        let origin = Origin::new(alloc, *criterion);
         Ok(State {
             trips,
             stops,
@@ -50,12 +53,12 @@ impl<C: Criterion> State<C> {
         })
     }
 
-    // Returns true only if the connection can add nothing, like most; false is always safe.
+    // Returns true only if the connection can add nothing; false is always safe.
     fn is_idle(&self, asked: &ScanQuery<C>, connection: &Connection, way: Option<Way>) -> bool
         requires trip { HasTrip (C.rules asked.now.criterion) connection.now.trip self.now.trips }
         requires stop { HasStop C.rules asked.now.criterion connection.now.to self.now.stops }
         ensures { result ≡ true → IsIdle connection.now way
-            ((kept_by self.now).labels connection.now.trip) ((kept_by self.now).bag connection.now.to) }
+            (trip_points self.now.trips.labels connection.now.trip) (points_at self.now.stops connection.now.to) }
     {
         if label_count(&asked.criterion, &self.trips.labels, connection.trip) > 0 {
             return false;
@@ -64,8 +67,8 @@ impl<C: Criterion> State<C> {
         alighting_leads_nowhere(connection, way, head)
     }
 
-    // Takes one connection in: alights where it ends; then, by the labels that its trip has now, sets out for it and
-    // boards it.
+    // Takes one connection in: leaves the trip where it ends; then, by the labels that the trip has now, sets out for
+    // it and boards it.
     fn take<S: ConnSource>(
         &mut self,
         asked: &ScanQuery<C>,
@@ -75,14 +78,23 @@ impl<C: Criterion> State<C> {
         requires hop { IsHopOf (C.rules asked.now.criterion) (S.timetable source.now)
             (question asked.now.query) hop.now }
         requires starts { AreStarts (S.timetable source.now) (question asked.now.query).sources asked.now.starts }
-        requires state { IsState C.rules asked.now.criterion
+        requires bound { (index : ℕ) → AreBounds (C.rules asked.now.criterion) (S.timetable source.now)
+            (O.kept self.old.origin index).found (hop.now.place + 1) hop.now.bound.now }
+        requires state { IsState C.rules O.IsUnder asked.now.criterion
             (S.timetable source.now).stops (S.timetable source.now).trips self.old }
-        ensures state { OnOk result (IsState C.rules asked.now.criterion
+        ensures state { OnOk result (IsState C.rules O.IsUnder asked.now.criterion
             (S.timetable source.now).stops (S.timetable source.now).trips self.new) }
-        ensures takes { OnOk result (TakesConnection (C.rules asked.now.criterion) (S.timetable source.now)
-            (question asked.now.query) hop.now self.old self.new) }
+        ensures step { OnOk result ((index : ℕ)
+            → IsStep (C.rules asked.now.criterion) (S.timetable source.now)
+            (asked_from O.sources (question asked.now.query) index)
+            (from_to (spelling_of (S.timetable source.now).footpaths (story_of O.kept self.old index))
+            (spelling_of (S.timetable source.now).footpaths (story_of O.kept self.new index)))
+            hop.now.place (kept_by O.kept self.old index) (kept_by O.kept self.new index)) }
     {
-        self.trips.alight(asked, hop, &self.stops)?;
+        if hop.connection.alight {
+            self.trips.end(asked, hop)?;
+            self.trips.change(asked, hop, &self.stops)?;
+        }
         let labels = labels_of(&asked.criterion, &self.trips.labels, hop.connection.trip);
         if labels.len() == 0 {
             return Ok(());
@@ -97,7 +109,7 @@ impl<C: Criterion> State<C> {
 /// has neither a footpath to a target (a target's own loop counts) nor points.
 /// `way` is that footpath, `head` the head of the stop's list, which is 0 if it has no points. It ignores the labels of
 /// the connection's trip.
-pub fn alighting_leads_nowhere(connection: &Connection, way: Option<Way>, head: u32) -> bool
+fn alighting_leads_nowhere(connection: &Connection, way: Option<Way>, head: u32) -> bool
     ensures { (result ≡ true) ↔ (connection.now.alight ≡ true → (way ≡ None) × (head ≡ 0)) }
 {
     if !connection.alight {
@@ -114,14 +126,14 @@ pub fn alighting_leads_nowhere(connection: &Connection, way: Option<Way>, head: 
 
 /// What a scan keeps, and its bound: values of points found that depart no earlier than the connections to come.
 #[derive(Drop)]
-pub struct Scan<C: Criterion> {
-    pub state: State<C>,
+pub struct Scan<C: Criterion, O> {
+    pub state: State<C, O>,
     pub bound: Bound<C>,
 }
 
-impl<C: Criterion> Scan<C> {
-    ghost use Rattle.profile_scan.specs.Between.{question};
-    ghost use Rattle.std.specs.Prelude.{◌≡◌, ◌+◌, OnOk};
+impl<C: Criterion, O: AtSource<C>> Scan<C, O> {
+    ghost use Rattle.profile_scan.specs.Between.{asked_from, question};
+    ghost use Rattle.std.specs.Prelude.{◌≡◌, ◌+◌, ℕ, OnOk};
     ghost use Rattle.profile_scan.specs.Matching.{from_to};
     ghost use Rattle.profile_scan.specs.Steps.{IsStep};
     ghost use Rattle.profile_scan.specs.Story.{spelling_of};
@@ -138,25 +150,24 @@ impl<C: Criterion> Scan<C> {
     ) -> Result<(), AllocError>
         requires asked { IsAsked (S.timetable source.now) asked.now }
         requires stands { StandsAt (S.timetable source.now) place connection.now }
-        requires scan { IsScan C.rules asked.now.criterion (S.timetable source.now) (place + 1) self.old }
-        ensures scan { OnOk result (IsScan C.rules asked.now.criterion (S.timetable source.now) place self.new) }
-        ensures step { OnOk result
-            (IsStep (C.rules asked.now.criterion) (S.timetable source.now) (question asked.now.query)
-            (from_to (spelling_of (S.timetable source.now).footpaths (story_of self.old.state))
-            (spelling_of (S.timetable source.now).footpaths (story_of self.new.state)))
-            place (kept_by self.old.state) (kept_by self.new.state)) }
+        requires scan { IsScan C.rules O.IsUnder O.kept asked.now.criterion
+            (S.timetable source.now) (place + 1) self.old }
+        ensures scan { OnOk result (IsScan C.rules O.IsUnder O.kept asked.now.criterion
+            (S.timetable source.now) place self.new) }
+        ensures step { OnOk result ((index : ℕ)
+            → IsStep (C.rules asked.now.criterion) (S.timetable source.now)
+            (asked_from O.sources (question asked.now.query) index)
+            (from_to (spelling_of (S.timetable source.now).footpaths (story_of O.kept self.old.state index))
+            (spelling_of (S.timetable source.now).footpaths (story_of O.kept self.new.state index)))
+            place (kept_by O.kept self.old.state index) (kept_by O.kept self.new.state index)) }
     {
         let way = asked.ways.way_from(connection.to);
         if self.state.is_idle(asked, connection, way) {
             return Ok(());
         }
-        let origin = &self.state.origin;
-        self.bound.renew(
-            &asked.criterion,
-            &origin.found,
-            origin.set_outs.len(),
-            connection.dep,
-        )?;
+        self.state
+            .origin
+            .renew(&asked.criterion, connection.dep, &mut self.bound)?;
         let hop = Hop {
             connection: *connection,
             place,
@@ -170,23 +181,26 @@ impl<C: Criterion> Scan<C> {
 }
 
 ghost use Rattle.std.specs.Prelude.{◌-◌, ◌++◌, ℕ, IfOk, OnOk, OnErr, take};
+ghost use Rattle.profile_scan.specs.Between.{asked_from, question};
 ghost use Rattle.profile_scan.specs.Hops.{IsWindow};
-ghost use Rattle.profile_scan.specs.Between.{question};
 ghost use Rattle.profile_scan.specs.Window.{falling};
-ghost use Rattle.profile_scan.specs.Parts.{HasFound};
+ghost use Rattle.profile_scan.specs.Kept.{HasFound, story_of};
 
-/// Scans the connections of a window, the last first. The points found match every journey boarding in it.
-pub fn scan_window<S: ConnSource, C: Criterion>(
+/// Scans the connections of a window, the last first. For each question, the points found match every journey that
+/// boards a connection of the window or a later one.
+pub fn scan_window<S: ConnSource, C: Criterion, O: AtSource<C>>(
     alloc: Global,
     source: &mut S,
     asked: &ScanQuery<C>,
     window: Range<usize>,
-) -> Result<Scan<C>, AllocError>
+) -> Result<Scan<C, O>, AllocError>
     requires { IsWindow (S.timetable source.old) asked.now window.start window.end }
     ensures timetable { S.timetable source.new ≡ S.timetable source.old }
-    ensures found { IfOk result (λ scan.
-        HasFound C.rules (S.timetable source.old) asked.now.criterion (question asked.now.query)
-        window.start scan.state) }
+    ensures under { IfOk result (λ scan.
+        O.IsUnder asked.now.criterion (S.timetable source.old).stops scan.state.origin) }
+    ensures found { IfOk result (λ scan. (index : ℕ) → HasFound (C.rules asked.now.criterion)
+        (S.timetable source.old) (asked_from O.sources (question asked.now.query) index) window.start
+        (story_of O.kept scan.state index) (O.kept scan.state.origin index).found) }
     ensures log { OnOk result
         (S.log source.new ≡ S.log source.old ++ falling window.start (window.end - window.start)) }
     ensures err { OnErr result ((n : ℕ)
@@ -198,8 +212,9 @@ pub fn scan_window<S: ConnSource, C: Criterion>(
         bound: Bound::new(alloc),
     };
     let mut place = window.end;
-    // Invariant: what is kept matches every way to go on over the connections from index `place` on, but for what the
-    // points found outdo at stops and in trips (`MatchesFrom`, `matched` in proofs/scan/scan_window/Invariants.antt).
+    // Invariant: for each question, what is kept matches every way to go on over the connections from index `place` on,
+    // but for what the points found outdo at stops and in trips (`MatchesFrom`, `matched` in
+    // proofs/scan/scan_window/Invariants.antt).
     while window.start < place {
         place -= 1;
         let connection = source.connection(place);

@@ -10,11 +10,11 @@ ghost use Rattle.profile_scan.specs.Everywhere.{AnswerToAny, AreInOrder, asked_t
 
 use crate::answering::timetable_of;
 use crate::destinations::Destinations;
-use crate::everywhere::{StateOfAll, scan_for_all};
 use crate::found::in_order;
 use crate::found_between::FoundBetween;
 use crate::hop::ScanQuery;
 use crate::origins::Origins;
+use crate::scan::{State, scan_window};
 use crate::starts::starts_from;
 use crate::telling::tell_journeys;
 use crate::view::ScanView;
@@ -30,7 +30,7 @@ use timetable::{Footpath, GhostValue};
 #[derive(Drop)]
 pub struct ProfilesToAny<C: Criterion> {
     asked: ScanQuery<C>,
-    state: StateOfAll<C>,
+    state: State<C, Origins<C>>,
     // the points of each stop, in order; a point's tag is the index of how one sets out for it
     lists: Vec<Vec<Point<C::V>>>,
 }
@@ -83,7 +83,7 @@ impl<C: Criterion> ProfilesToAny<C> {
             (C.rules (criterion_to_any self.now)) (S.timetable source.now)
             (from_stop (asked_to_any self.now) stop) found) }
     {
-        let origin = &self.state.origins.each[stop as usize];
+        let origin = &self.state.origin.each[stop as usize];
         let view = ScanView {
             trips: &self.state.trips,
             stops: &self.state.stops,
@@ -175,11 +175,11 @@ pub fn profiles_to_any<S: ConnSource, C: Criterion>(
     let start = source.first_at(destinations.from);
     let end = source.first_at(destinations.by);
     let asked = ask_from_all(alloc, source, criterion, destinations)?;
-    let state = scan_for_all(alloc, source, &asked, start..end)?;
-    let lists = lists_in_order(alloc, criterion, &state.origins)?;
+    let scan = scan_window::<S, C, Origins<C>>(alloc, source, &asked, start..end)?;
+    let lists = lists_in_order(alloc, criterion, &scan.state.origin)?;
     Ok(ProfilesToAny {
         asked,
-        state,
+        state: scan.state,
         lists,
     })
 }

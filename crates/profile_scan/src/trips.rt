@@ -42,7 +42,7 @@ impl<C: Criterion> Trips<C> {
     ghost use Rattle.profile_scan.specs.Bound.{is_bettered, carried};
     ghost use Rattle.profile_scan.specs.Story.{IsExit};
     ghost use Rattle.profile_scan.specs.declared.story.Exit.TheVariants.{Changes};
-    ghost use Rattle.profile_scan.specs.Adding.{one_way, only_if, changes_from, endings, endings_and_changes};
+    ghost use Rattle.profile_scan.specs.Adding.{one_way, only_if, changes_from, endings};
     ghost use Rattle.profile_scan.specs.Adding.{trip_points};
     ghost use Rattle.profile_scan.specs.Kept.{HasStop, points_at};
     ghost use Rattle.profile_scan.specs.Hops.{IsHop};
@@ -75,6 +75,31 @@ impl<C: Criterion> Trips<C> {
             self.exits.push(exit)?;
         }
         Ok(())
+    }
+
+    /// Offers the end of the journey to the labels of the connection's trip, if a passenger who gets off reaches a
+    /// target by `query.by`, at once or by footpath.
+    pub fn end(&mut self, asked: &ScanQuery<C>, hop: &Hop<C::V>) -> Result<(), AllocError>
+        requires hop { IsHop (C.rules asked.now.criterion) (question asked.now.query) hop.now }
+        requires trip { HasTrip (C.rules asked.now.criterion) hop.now.connection.trip self.old }
+        ensures trip { OnOk result
+            (ChangesTrip (C.rules asked.now.criterion) hop.now.connection.trip self.old self.new) }
+        ensures takes { OnOk result (TripTakes (C.rules asked.now.criterion) hop.now.connection.trip
+            (λ tags. endings (C.rules asked.now.criterion) tags hop.now.place
+            hop.now.connection (question asked.now.query) hop.now.way)
+            self.old self.new) }
+    {
+        match end_of(&hop.connection, &asked.query, hop.way) {
+            None => Ok(()),
+            Some(end) => {
+                let value = value_at_end(&asked.criterion, end.walk, end.time);
+                let exit = Exit::Ends {
+                    last: hop.place,
+                    walk: end.walk,
+                };
+                self.offer(&asked.criterion, hop.connection.trip, value, exit)
+            },
+        }
     }
 
     // Offers to the labels of the connection's trip one point of the stop where it ends, unless a value of `hop.bound`
@@ -113,12 +138,12 @@ impl<C: Criterion> Trips<C> {
         self.offer(&asked.criterion, hop.connection.trip, point.value, exit)
     }
 
-    // A passenger changes: the labels of the connection's trip come to cover each point of the stop where it ends that
-    // departs at the arrival or later, unless a value of `hop.bound` is no worse than the point's value with the ride.
-    // It suffices to offer the front at the arrival, which covers all such points. A front's first point (`own`) is
-    // read from its entry, the others from its items.
+    /// A passenger changes: the labels of the connection's trip come to cover each point of the stop where it ends that
+    /// departs at the arrival or later, unless a value of `hop.bound` is no worse than the point's value with the ride.
+    /// It suffices to offer the front at the arrival, which covers all such points. It is kept as an entry: the front's
+    /// first point stands in the entry itself, and the others are the entry's items.
     #[inline(always)]
-    fn change(
+    pub fn change(
         &mut self,
         asked: &ScanQuery<C>,
         hop: &Hop<C::V>,
@@ -141,69 +166,12 @@ impl<C: Criterion> Trips<C> {
         if count == 0 {
             return Ok(());
         }
-        // the entry's own point, the first of its front
         let own = stops.lists.front_point(entry, 0);
         self.change_by(asked, hop, &own)?;
         for k in 1..count {
             let point = stops.lists.front_point(entry, k);
             self.change_by(asked, hop, &point)?;
         }
-        Ok(())
-    }
-
-    // Offers the end of the journey to the labels of the connection's trip, if a passenger who gets off reaches a
-    // target by `query.by`, at once or by footpath.
-    fn end(&mut self, asked: &ScanQuery<C>, hop: &Hop<C::V>) -> Result<(), AllocError>
-        requires hop { IsHop (C.rules asked.now.criterion) (question asked.now.query) hop.now }
-        requires trip { HasTrip (C.rules asked.now.criterion) hop.now.connection.trip self.old }
-        ensures trip { OnOk result
-            (ChangesTrip (C.rules asked.now.criterion) hop.now.connection.trip self.old self.new) }
-        ensures takes { OnOk result (TripTakes (C.rules asked.now.criterion) hop.now.connection.trip
-            (λ tags. endings (C.rules asked.now.criterion) tags hop.now.place
-            hop.now.connection (question asked.now.query) hop.now.way)
-            self.old self.new) }
-    {
-        match end_of(&hop.connection, &asked.query, hop.way) {
-            None => Ok(()),
-            Some(end) => {
-                let value = value_at_end(&asked.criterion, end.walk, end.time);
-                let exit = Exit::Ends {
-                    last: hop.place,
-                    walk: end.walk,
-                };
-                self.offer(&asked.criterion, hop.connection.trip, value, exit)
-            },
-        }
-    }
-
-    /// Leaves a connection's trip where the connection ends, if passengers may get off there: offers to its labels
-    /// the end, and the changes by the points of that stop, except where a value of `hop.bound` is no worse than the
-    /// point's value with the ride.
-    #[inline(always)]
-    pub fn alight(
-        &mut self,
-        asked: &ScanQuery<C>,
-        hop: &Hop<C::V>,
-        stops: &Stops<C>,
-    ) -> Result<(), AllocError>
-        requires hop { IsHop (C.rules asked.now.criterion) (question asked.now.query) hop.now }
-        requires trip { HasTrip (C.rules asked.now.criterion) hop.now.connection.trip self.old }
-        requires stop { HasStop C.rules asked.now.criterion hop.now.connection.to stops.now }
-        ensures trip { OnOk result
-            (ChangesTrip (C.rules asked.now.criterion) hop.now.connection.trip self.old self.new) }
-        ensures takes { OnOk result (TripTakes (C.rules asked.now.criterion) hop.now.connection.trip
-            (λ tags. only_if (hop.now.connection.alight ≡ true)
-            (endings_and_changes (C.rules asked.now.criterion) tags hop.now.place
-            hop.now.connection (question asked.now.query) hop.now.way
-            (carried (C.rules asked.now.criterion) hop.now.bound.now
-            (points_at stops.now hop.now.connection.to))))
-            self.old self.new) }
-    {
-        if !hop.connection.alight {
-            return Ok(());
-        }
-        self.end(asked, hop)?;
-        self.change(asked, hop, stops)?;
         Ok(())
     }
 }

@@ -1,6 +1,6 @@
 use Rattle.std.proofs.Common.{◌≡◌, ◌<◌, ◌++◌, ℕ, List, Contains, map, length, reverse, take, refl, sym, ◌∙◌, ap, subst}
 use Rattle.reasoning.proofs.OptionLemmas.{on_err}
-use Rattle.bags.specs.Bag.{points_of}
+use Rattle.bags.specs.Bag.{criterion_of, points_of}
 use Rattle.bags.specs.declared.point.Point.{Point}
 use Rattle.timetable.specs.TimetableValue.{TimetableValue}
 use Rattle.sources.specs.FirstAt.{IsFirstAt}
@@ -8,12 +8,12 @@ use Rattle.profile_scan.specs.Between.{BetweenValue, question}
 use Rattle.profile_scan.specs.declared.between.Between.{Between}
 use Rattle.profile_scan.specs.Answered.{IsAnsweredBetween}
 use Rattle.profile_scan.specs.Nearest.{IsShortestWay}
-use Rattle.profile_scan.specs.Parts.{HasFound}
 use Rattle.profile_scan.specs.LawStatements.{CanScan}
 use Rattle.profile_scan.specs.Window.{window_of}
 use Rattle.profile_scan.proofs.Windows.{window_falls}
 use Rattle.profile_scan.specs.Points.{untagged}
-use Rattle.profile_scan.specs.Kept.{AreWays, story_of, ways_of}
+use Rattle.profile_scan.specs.Kept.{AreWays, HasFound, story_of, ways_of}
+use Rattle.profile_scan.specs.Origins.{kept_of}
 use Rattle.profile_scan.specs.Telling.{IsJourneySpelled, IsSpelledAgain}
 use Rattle.profile_scan.proofs.AnsweredLemmas.{answered, journeys_spelled}
 use Rattle.profile_scan.proofs.WayLemmas.{direct_is}
@@ -64,32 +64,39 @@ returns-in_err-spelled-clause-err g c =
     )
 
 -- what was found, of the criterion and the query that were asked
-found_is : (g : given.Over) (c : goal.In_ok-scan g) → HasFound g.C.Criterion.rules (g.S.ConnSource.timetable c.args.source.now) c.args.criterion.now
-    (question c.args.query.now) c.first_at-start.result c.in_ok-scan.scan.state
+found_is : (g : given.Over) (c : goal.In_ok-scan g) → HasFound (g.C.Criterion.rules c.args.criterion.now) (g.S.ConnSource.timetable c.args.source.now)
+    (question c.args.query.now) c.first_at-start.result (story_of (λ origin index. kept_of origin) c.in_ok-scan.scan.state 0)
+    (points_of c.in_ok-scan.scan.state.origin.found)
 found_is g c =
     let t = g.S.ConnSource.timetable c.args.source.now in
     let keeps = c.in_ok-asked.ensures.keeps in
     let state = c.in_ok-scan.scan.state in
-    subst (λ criterion. HasFound g.C.Criterion.rules t criterion (question c.args.query.now) c.first_at-start.result state) keeps.0
-    (subst (λ (b : BetweenValue). HasFound g.C.Criterion.rules t c.in_ok-asked.asked.criterion b c.first_at-start.result state) keeps.1
-    c.in_ok-scan.ensures.found)
+    let told = story_of (λ origin index. kept_of origin) state 0 in
+    let found = points_of state.origin.found in
+    subst (λ criterion. HasFound (g.C.Criterion.rules criterion) t (question c.args.query.now) c.first_at-start.result told found) keeps.0
+    (subst (λ (b : BetweenValue). HasFound (g.C.Criterion.rules c.in_ok-asked.asked.criterion) t b c.first_at-start.result told found) keeps.1
+    (c.in_ok-scan.ensures.found 0))
+
+under : (g : given.Over) (c : goal.In_ok-scan g) → criterion_of c.in_ok-scan.scan.state.origin.found ≡ c.args.criterion.now
+under g c = c.in_ok-scan.ensures.under ∙ c.in_ok-asked.ensures.keeps.0
 
 pub in_order-requires : goal.in_order-requires
-in_order-requires g c = (found_is g (goal.at.in_order-requires g c).In_ok-scan).same
+in_order-requires g c = under g (goal.at.in_order-requires g c).In_ok-scan
 
 pub tell_journeys-requires : goal.tell_journeys-requires
 tell_journeys-requires g c =
     let rules = g.C.Criterion.rules c.args.criterion.now in
     let t = g.S.ConnSource.timetable c.args.source.now in
     let state = c.in_ok-scan.scan.state in
+    let told = story_of (λ origin index. kept_of origin) state 0 in
     let points = c.in_ok-points.points.items in
     subst (λ (ps : List (Point g.row.C-V.Denot)). (p : Point g.row.C-V.Denot) → Contains ps p
-    → IsJourneySpelled (g.S.ConnSource.timetable c.scan_window.new.source).footpaths (story_of state) p.tag)
+    → IsJourneySpelled (g.S.ConnSource.timetable c.scan_window.new.source).footpaths told p.tag)
     (sym c.deref.ensures.value)
     (subst (λ (x : TimetableValue). (p : Point g.row.C-V.Denot) → Contains points p
-    → IsJourneySpelled x.footpaths (story_of state) p.tag) (sym c.in_ok-scan.ensures.timetable)
-    (journeys_spelled rules t (question c.args.query.now) c.first_at-start.result (story_of state) (points_of state.origin.found)
-    points (found_is g (goal.at.tell_journeys-requires g c).In_ok-scan).matches c.in_ok-points.ensures.only))
+    → IsJourneySpelled x.footpaths told p.tag) (sym c.in_ok-scan.ensures.timetable)
+    (journeys_spelled rules t (question c.args.query.now) c.first_at-start.result told (points_of state.origin.found)
+    points (found_is g (goal.at.tell_journeys-requires g c).In_ok-scan) c.in_ok-points.ensures.only))
 
 -- the ways from the sources
 ways_are : (g : given.Over) (c : goal.In_ok-scan g) → AreWays (g.S.ConnSource.timetable c.args.source.now) (question c.args.query.now).targets
@@ -120,23 +127,25 @@ made g c =
       in_time = c.requires.small.2;
     } in
     let state = c.in_ok-scan.scan.state in
+    let told = story_of (λ origin index. kept_of origin) state 0 in
     let found = points_of state.origin.found in
     let points = c.in_ok-spelled.spelled.points.items in
     let nodes = c.in_ok-spelled.spelled.nodes.items in
     let is = found_is g (goal.at.After-of g c).In_ok-scan in
-    let bag = bag_under g.C.Criterion.rules state.origin.found.criterion c.args.criterion.now found is.same state.origin.found.kept in
+    let bag = bag_under g.C.Criterion.rules state.origin.found.criterion c.args.criterion.now found (under g (goal.at.After-of g c).In_ok-scan)
+    state.origin.found.kept in
     let shortest = subst (λ (xs : List ℕ). IsShortestWay (ways_of c.in_ok-asked.asked.ways) xs (length xs) c.direct_walk.result)
     c.deref-2.ensures.value c.direct_walk.ensures in
     let way = direct_is t q (ways_of c.in_ok-asked.asked.ways) (ways_are g (goal.at.After-of g c).In_ok-scan) c.requires.sources
     c.requires.differ c.direct_walk.result shortest in
     let says = subst (λ (x : TimetableValue). (p : Point g.row.C-V.Denot) → Contains points p
-    → IsSpelledAgain x.footpaths (story_of state) c.in_ok-points.points.items nodes p) c.in_ok-scan.ensures.timetable
+    → IsSpelledAgain x.footpaths told c.in_ok-points.points.items nodes p) c.in_ok-scan.ensures.timetable
     (subst (λ (ps : List (Point g.row.C-V.Denot)). (p : Point g.row.C-V.Denot) → Contains points p
-    → IsSpelledAgain (g.S.ConnSource.timetable c.scan_window.new.source).footpaths (story_of state) ps nodes p)
+    → IsSpelledAgain (g.S.ConnSource.timetable c.scan_window.new.source).footpaths told ps nodes p)
     c.deref.ensures.value c.in_ok-spelled.ensures.says) in
     let same = subst (λ (ps : List (Point g.row.C-V.Denot)). map untagged points ≡ map untagged ps) c.deref.ensures.value c.in_ok-spelled.ensures.same in
-    answered rules laws t q can c.first_at-start.result c.first_at-start.ensures (story_of state) nodes found
-    c.in_ok-points.points.items points c.direct_walk.result is.matches bag
+    answered rules laws t q can c.first_at-start.result c.first_at-start.ensures told nodes found
+    c.in_ok-points.points.items points c.direct_walk.result is bag
     c.in_ok-points.ensures.ordered c.in_ok-points.ensures.only c.in_ok-points.ensures.each same says way
 
 -- that it answers is kept with the timetable and the query that stand beside it

@@ -1,16 +1,12 @@
-use Rattle.std.proofs.Common.{Contains, ◌≡◌, ◌+◌, ◌-◌, ◌<◌, ◌∷◌, [], ◌++◌, ℕ, length, arith, refl, sym, ◌∙◌, ap, subst}
+use Rattle.std.proofs.Common.{◌≡◌, ◌+◌, ◌-◌, ◌<◌, ◌∷◌, [], ◌++◌, ℕ, length, arith, refl, sym, ◌∙◌, ap, subst}
 use Rattle.reasoning.proofs.OptionLemmas.{on_err}
-use Rattle.bags.specs.Bag.{points_of}
 use Rattle.timetable.specs.TimetableValue.{TimetableValue}
-use Rattle.profile_scan.specs.Between.{question}
-use Rattle.profile_scan.specs.Values.{journey_value}
-use Rattle.profile_scan.specs.Continuations.{CountsFrom}
-use Rattle.profile_scan.specs.Plain.{IsPlainOf}
-use Rattle.profile_scan.specs.Matching.{from_to, MatchesFrom, Matches}
+use Rattle.profile_scan.specs.Between.{asked_from, question}
+use Rattle.profile_scan.specs.Matching.{from_to, MatchesFrom}
 use Rattle.profile_scan.specs.Steps.{IsStep}
 use Rattle.profile_scan.specs.LawStatements.{CanScan}
 use Rattle.profile_scan.specs.Story.{spelling_of}
-use Rattle.profile_scan.specs.Kept.{IsScan, IsState, kept_by, story_of}
+use Rattle.profile_scan.specs.Kept.{HasFound, IsScan, IsState, kept_by, story_of}
 use Rattle.profile_scan.specs.Hops.{IsAsked, StandsAt}
 use Rattle.profile_scan.specs.Window.{falling}
 use Rattle.profile_scan.proofs.BoundLemmas.{no_bounds}
@@ -24,33 +20,32 @@ pub loop-place-init : goal.loop-place-init
 loop-place-init g c =
     let rules = g.C.Criterion.rules c.args.asked.now.criterion in
     let t = g.S.ConnSource.timetable c.args.source.now in
-    let q = question c.args.asked.now.query in
-    let can : CanScan (g.S.ConnSource.timetable c.args.source.now) (question c.args.asked.now.query) =
-    record {
-      legal = g.met.S.ConnSource.legal c.args.source.now;
-      limits =
-          g.met.S.ConnSource.limits c.args.source.now;
-      in_time = c.requires.can_ask.by;
-    } in
+    let kept = g.O.AtSource.kept in
     let state = c.in_ok-state.state in
-    let spelled = spelling_of t.footpaths (story_of state) in
     let made = c.in_ok-state.ensures in
-    let counted = subst (λ (n : ℕ). IsState g.C.Criterion.rules c.args.asked.now.criterion c.stops.result n state) c.trips.ensures made.state in
+    let counted = subst (λ (n : ℕ). IsState g.C.Criterion.rules g.O.AtSource.IsUnder c.args.asked.now.criterion c.stops.result n state)
+    c.trips.ensures made.state in
     record {
       low = c.requires.order;
       high = omega arith;
       timetable = refl;
       log = log_none (g.S.ConnSource.log c.args.source.now) c.args.window.end;
       scan = record {
-        state = subst (λ (n : ℕ). IsState g.C.Criterion.rules c.args.asked.now.criterion n t.trips state) c.stops.ensures counted;
-        bound = no_bounds rules t (points_of state.origin.found) c.args.window.end c.new-2.result.values.items c.new-2.ensures;
+        state = subst (λ (n : ℕ). IsState g.C.Criterion.rules g.O.AtSource.IsUnder c.args.asked.now.criterion n t.trips state)
+            c.stops.ensures counted;
+        bound = λ index. no_bounds rules t (kept state.origin index).found c.args.window.end c.new-2.result.values.items c.new-2.ensures;
       };
-      matched = matches_alike rules t q spelled c.args.window.end (record {
-        bag = λ _. [];
-        labels = λ _. [];
-        found =
-            [];
-      }) (kept_by state) made.bags made.labels made.found
+      matched = λ index.
+          let q = asked_from g.O.AtSource.sources (question c.args.asked.now.query) index in
+          let can : CanScan (g.S.ConnSource.timetable c.args.source.now)
+          (asked_from g.O.AtSource.sources (question c.args.asked.now.query) index) = record {
+            legal = g.met.S.ConnSource.legal c.args.source.now;
+            limits = g.met.S.ConnSource.limits c.args.source.now;
+            in_time = c.requires.can_ask.by;
+          } in
+          let spelled = spelling_of t.footpaths (story_of kept state index) in
+          matches_alike rules t q spelled c.args.window.end (record { bag = λ _. []; labels = λ _. []; found = [] })
+          (kept_by kept state index) made.bags made.labels (made.found index)
           (nothing_follows rules t q can c.args.window.end c.requires.past spelled);
     }
 
@@ -62,38 +57,38 @@ loop-place-preserved g c =
     let test = c.loop-place-test.true in
     let i = c.loop-place.place - 1 in
     let rules = g.C.Criterion.rules c.args.asked.now.criterion in
-    let q = question c.args.asked.now.query in
-    let source = c.connection-connection.new.self in
     let t = g.S.ConnSource.timetable c.args.source.now in
     let same = c.connection-connection.ensures.same ∙ inv.timetable in
-    let can : CanScan (g.S.ConnSource.timetable c.args.source.now) (question c.args.asked.now.query) =
-    record {
-      legal = g.met.S.ConnSource.legal c.args.source.now;
-      limits =
-          g.met.S.ConnSource.limits c.args.source.now;
-      in_time = c.requires.can_ask.by;
-    } in
     let in_range = c.requires.past.in_range in
     let in_i : c.loop-place.place - 1 < length (g.S.ConnSource.timetable c.args.source.now).connections = omega arith in
-    let tags = from_to (spelling_of t.footpaths (story_of c.loop-place.scan.state)) (spelling_of t.footpaths (story_of c.step.new.self.state)) in
     let up : c.loop-place.place ≡ c.loop-place.place - 1 + 1 = omega arith in
+    let kept = g.O.AtSource.kept in
+    let old = c.loop-place.scan.state in
+    let new = c.step.new.self.state in
     record {
       low = omega arith;
       high = omega arith;
       timetable = same;
       log = c.connection-connection.ensures.log ∙ ap (λ ks. ks ++ i ∷ []) inv.log
           ∙ log_more (g.S.ConnSource.log c.args.source.now) i c.loop-place.place c.args.window.end (omega arith) high;
-      scan = subst (λ (x : TimetableValue). IsScan g.C.Criterion.rules c.args.asked.now.criterion x i c.step.new.self) same c.in_ok-step.ensures.scan;
-      matched =
+      scan = subst (λ (x : TimetableValue). IsScan g.C.Criterion.rules g.O.AtSource.IsUnder g.O.AtSource.kept c.args.asked.now.criterion x i
+          c.step.new.self) same c.in_ok-step.ensures.scan;
+      matched = λ index.
+          let q = asked_from g.O.AtSource.sources (question c.args.asked.now.query) index in
+          let can : CanScan (g.S.ConnSource.timetable c.args.source.now)
+          (asked_from g.O.AtSource.sources (question c.args.asked.now.query) index) = record {
+            legal = g.met.S.ConnSource.legal c.args.source.now;
+            limits = g.met.S.ConnSource.limits c.args.source.now;
+            in_time = c.requires.can_ask.by;
+          } in
+          let tags = from_to (spelling_of t.footpaths (story_of kept old index)) (spelling_of t.footpaths (story_of kept new index)) in
           one_index_down rules (g.met.C.Criterion.laws c.args.asked.now.criterion) t q can tags i in_i
-          (kept_by c.loop-place.scan.state) (kept_by c.step.new.self.state)
-          (subst (λ (n : ℕ). MatchesFrom rules t q (spelling_of t.footpaths (story_of c.loop-place.scan.state)) n
-          (kept_by c.loop-place.scan.state)) up inv.matched)
+          (kept_by kept old index) (kept_by kept new index)
+          (subst (λ (n : ℕ). MatchesFrom rules t q (spelling_of t.footpaths (story_of kept old index)) n (kept_by kept old index)) up
+          (inv.matched index))
           (subst (λ (x : TimetableValue). IsStep rules x q
-          (from_to (spelling_of x.footpaths (story_of c.loop-place.scan.state))
-          (spelling_of x.footpaths (story_of c.step.new.self.state))) i (kept_by c.loop-place.scan.state)
-          (kept_by c.step.new.self.state)) same
-          c.in_ok-step.ensures.step);
+          (from_to (spelling_of x.footpaths (story_of kept old index)) (spelling_of x.footpaths (story_of kept new index))) i
+          (kept_by kept old index) (kept_by kept new index)) same (c.in_ok-step.ensures.step index));
     }
 
 pub step-requires-clause-asked : goal.step-requires-clause-asked
@@ -122,8 +117,10 @@ step-requires-clause-scan g c =
     let test = c.loop-place-test.true in
     let same = c.connection-connection.ensures.same ∙ inv.timetable in
     let up : c.loop-place.place ≡ c.loop-place.place - 1 + 1 = omega arith in
-    subst (λ (x : TimetableValue). IsScan g.C.Criterion.rules c.args.asked.now.criterion x (c.loop-place.place - 1 + 1) c.loop-place.scan) (sym same)
-    (subst (λ (n : ℕ). IsScan g.C.Criterion.rules c.args.asked.now.criterion (g.S.ConnSource.timetable c.args.source.now) n c.loop-place.scan) up inv.scan)
+    subst (λ (x : TimetableValue). IsScan g.C.Criterion.rules g.O.AtSource.IsUnder g.O.AtSource.kept c.args.asked.now.criterion x
+    (c.loop-place.place - 1 + 1) c.loop-place.scan) (sym same)
+    (subst (λ (n : ℕ). IsScan g.C.Criterion.rules g.O.AtSource.IsUnder g.O.AtSource.kept c.args.asked.now.criterion
+    (g.S.ConnSource.timetable c.args.source.now) n c.loop-place.scan) up inv.scan)
 
 pub returns-in_err-step-clause-err : goal.returns-in_err-step-clause-err
 returns-in_err-step-clause-err g c =
@@ -142,19 +139,25 @@ returns-in_err-step-clause-err g c =
           (omega arith),
     )
 
+pub returns-clause-under : goal.returns-clause-under
+returns-clause-under g c = c.loop-place.invariant.scan.state.origin
+
 pub returns-clause-found : goal.returns-clause-found
-returns-clause-found g c =
+returns-clause-found g c index =
     let inv = c.loop-place.invariant in
     let low = inv.low in
     let test = c.loop-place-test.false in
-    let rules = g.C.Criterion.rules c.args.asked.now.criterion in
-    let t = g.S.ConnSource.timetable c.args.source.now in
-    let q = question c.args.asked.now.query in
     let at : c.loop-place.place ≡ c.args.window.start = omega arith in
     let state = c.loop-place.scan.state in
-    let m = inv.matched in
-    record {
-      same = inv.scan.state.found;
-      matches = subst (λ (n : ℕ). Matches rules (spelling_of t.footpaths (story_of state)).journey (CountsFrom t q n)
-          (IsPlainOf t (Contains q.targets)) (journey_value rules t) (points_of state.origin.found)) at m.at_source;
-    }
+    subst (λ (n : ℕ). HasFound (g.C.Criterion.rules c.args.asked.now.criterion) (g.S.ConnSource.timetable c.args.source.now)
+    (asked_from g.O.AtSource.sources (question c.args.asked.now.query) index) n (story_of g.O.AtSource.kept state index)
+    (g.O.AtSource.kept state.origin index).found) at (inv.matched index).at_source
+
+-- an index of a connection
+pub overflow_cast-place : goal.overflow_cast-place
+overflow_cast-place g c =
+    let test = c.loop-place-test.true in
+    let high = c.loop-place.invariant.high in
+    let in_range = c.requires.past.in_range in
+    let limit = (g.met.S.ConnSource.limits c.args.source.now).connections in
+    omega (arith, test, high, in_range, limit)

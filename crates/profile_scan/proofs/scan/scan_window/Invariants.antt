@@ -1,5 +1,5 @@
-use Rattle.std.proofs.Common.{◌≡◌, ◌-◌, ◌≤◌, ◌++◌}
-use Rattle.profile_scan.specs.Between.{question}
+use Rattle.std.proofs.Common.{◌≡◌, ◌-◌, ◌≤◌, ◌++◌, ℕ}
+use Rattle.profile_scan.specs.Between.{asked_from, question}
 use Rattle.profile_scan.specs.Matching.{MatchesFrom}
 use Rattle.profile_scan.specs.Story.{spelling_of}
 use Rattle.profile_scan.specs.Kept.{IsScan, kept_by, story_of}
@@ -14,9 +14,11 @@ invariant-loop-place g l =
       high : l.place ≤ l.fn.window.end;
       timetable : g.S.ConnSource.timetable l.source ≡ g.S.ConnSource.timetable l.fn.source;
       log : g.S.ConnSource.log l.source ≡ g.S.ConnSource.log l.fn.source ++ falling l.place (l.fn.window.end - l.place);
-      scan : IsScan g.C.Criterion.rules l.asked.criterion t l.place l.scan;
-      matched : MatchesFrom (g.C.Criterion.rules l.asked.criterion) t (question l.asked.query) (spelling_of t.footpaths (story_of l.scan.state)) l.place
-          (kept_by l.scan.state);
+      scan : IsScan g.C.Criterion.rules g.O.AtSource.IsUnder g.O.AtSource.kept l.asked.criterion t l.place l.scan;
+      matched : (index : ℕ) → MatchesFrom (g.C.Criterion.rules l.asked.criterion) t
+          (asked_from g.O.AtSource.sources (question l.asked.query) index)
+          (spelling_of t.footpaths (story_of g.O.AtSource.kept l.scan.state index)) l.place
+          (kept_by g.O.AtSource.kept l.scan.state index);
     }
 
 abbrev pub decreases-loop-place : goal.decreases-loop-place

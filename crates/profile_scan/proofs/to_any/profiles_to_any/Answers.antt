@@ -1,24 +1,21 @@
-use Rattle.std.proofs.Common.{◌≡◌, ◌<◌, ◌++◌, ℕ, List, None, Contains, get_or, length, reverse, take, slice_get, sym, ◌∙◌, ap, subst}
+use Rattle.std.proofs.Common.{◌++◌, ℕ, List, None, get_or, length, reverse, take, slice_get, sym, ◌∙◌, ap, subst}
 use Rattle.reasoning.proofs.OptionLemmas.{on_err}
-use Rattle.bags.specs.Bag.{points_of}
 use Rattle.sources.specs.FirstAt.{IsFirstAt}
 use Rattle.profile_scan.specs.Between.{BetweenValue, question}
 use Rattle.profile_scan.specs.LawStatements.{CanScan}
 use Rattle.profile_scan.specs.Window.{window_of}
-use Rattle.profile_scan.specs.Kept.{ways_of}
-use Rattle.profile_scan.specs.Origins.{AreUnder, found_from, from_stop}
-use Rattle.profile_scan.specs.Everywhere.{AreInOrder, points_in, story_from}
+use Rattle.profile_scan.specs.Kept.{story_of, ways_of}
+use Rattle.profile_scan.specs.Origins.{AreUnder, found_from, from_stop, kept_from}
+use Rattle.profile_scan.specs.Everywhere.{AreInOrder, points_in}
 use Rattle.profile_scan.proofs.Windows.{window_falls}
 use Rattle.profile_scan.proofs.EverywhereLemmas.{answered_from}
-use Rattle.profile_scan.proofs.OriginLemmas.{found_bag}
-use Rattle.profile_scan.proofs.Offers.{bag_under}
 use Rattle.profile_scan.proofs.PartLemmas.{firsts_rise}
 use Rattle.profile_scan.proofs.LogLemmas.{taken_all}
 use Rattle.profile_scan.proofs.WayLemmas.{nearest_direct, target_loop}
 use Rattle.profile_scan.proofs.to_any.profiles_to_any.Goals as goal
 
-pub scan_for_all-requires : goal.scan_for_all-requires
-scan_for_all-requires g c =
+pub scan_window-requires : goal.scan_window-requires
+scan_window-requires g c =
     let t = g.S.ConnSource.timetable c.args.source.now in
     let d = c.args.destinations.now in
     let same_by = ap (λ (b : BetweenValue). b.by) c.in_ok-asked.ensures.keeps.1 in
@@ -28,20 +25,20 @@ scan_for_all-requires g c =
       past = subst (λ (n : ℕ). IsFirstAt t n c.first_at-end.result) (sym same_by) c.first_at-end.ensures;
     }
 
-pub returns-in_err-state-clause-err : goal.returns-in_err-state-clause-err
-returns-in_err-state-clause-err g c =
+pub returns-in_err-scan-clause-err : goal.returns-in_err-scan-clause-err
+returns-in_err-scan-clause-err g c =
     let t = g.S.ConnSource.timetable c.args.source.now in
     let falls = window_falls t c.args.destinations.now.from c.args.destinations.now.by
     c.first_at-start.result c.first_at-end.result c.first_at-start.ensures c.first_at-end.ensures in
-    let read = c.in_err-state.ensures.err in
-    on_err c.from_residual-in_err-state.result _ (read.0, read.1 ∙ ap (λ (ks : List ℕ). g.S.ConnSource.log c.args.source.now ++ take read.0 ks) (sym falls))
+    let read = c.in_err-scan.ensures.err in
+    on_err c.from_residual-in_err-scan.result _ (read.0, read.1 ∙ ap (λ (ks : List ℕ). g.S.ConnSource.log c.args.source.now ++ take read.0 ks) (sym falls))
 
 pub returns-clause-log : goal.returns-clause-log
 returns-clause-log g c =
     let t = g.S.ConnSource.timetable c.args.source.now in
     let falls = window_falls t c.args.destinations.now.from c.args.destinations.now.by
     c.first_at-start.result c.first_at-end.result c.first_at-start.ensures c.first_at-end.ensures in
-    c.in_ok-state.ensures.log ∙ ap (λ (ks : List ℕ). g.S.ConnSource.log c.args.source.now ++ ks) (sym falls)
+    c.in_ok-scan.ensures.log ∙ ap (λ (ks : List ℕ). g.S.ConnSource.log c.args.source.now ++ ks) (sym falls)
 
 pub returns-in_err-lists-clause-err : goal.returns-in_err-lists-clause-err
 returns-in_err-lists-clause-err g c =
@@ -52,13 +49,13 @@ returns-in_err-lists-clause-err g c =
     on_err c.from_residual-in_err-lists.result _ (
       length read,
       taken_all (g.S.ConnSource.log c.args.source.now)
-          read (g.S.ConnSource.log c.scan_for_all.new.source)
-          (c.in_ok-state.ensures.log ∙ ap (λ (ks : List ℕ). g.S.ConnSource.log c.args.source.now ++ ks) (sym falls)),
+          read (g.S.ConnSource.log c.scan_window.new.source)
+          (c.in_ok-scan.ensures.log ∙ ap (λ (ks : List ℕ). g.S.ConnSource.log c.args.source.now ++ ks) (sym falls)),
     )
 
 pub lists_in_order-requires : goal.lists_in_order-requires
 lists_in_order-requires g c =
-    subst (λ k. AreUnder k c.in_ok-state.state.origins) c.in_ok-asked.ensures.keeps.0 c.in_ok-state.ensures.state.origins.under
+    subst (λ k. AreUnder k c.in_ok-scan.scan.state.origin) c.in_ok-asked.ensures.keeps.0 c.in_ok-scan.ensures.under.0.under
 
 pub returns-clause-keeps : goal.returns-clause-keeps
 returns-clause-keeps g c = (c.in_ok-asked.ensures.keeps.0, c.in_ok-asked.ensures.keeps.1)
@@ -71,10 +68,10 @@ returns-clause-answers g c =
     let laws = g.met.C.Criterion.laws c.in_ok-asked.asked.criterion in
     let t = g.S.ConnSource.timetable c.args.source.now in
     let b = question c.in_ok-asked.asked.query in
-    let state = c.in_ok-state.state in
+    let state = c.in_ok-scan.scan.state in
     let lists = c.in_ok-lists.lists.items in
     let start = c.first_at-start.result in
-    let origins = c.in_ok-state.ensures.state.origins in
+    let origins = c.in_ok-scan.ensures.under in
     let asked = c.in_ok-asked.ensures.asked in
     let same_from = ap (λ (x : BetweenValue). x.from) c.in_ok-asked.ensures.keeps.1 in
     record {
@@ -85,18 +82,16 @@ returns-clause-answers g c =
             limits = g.met.S.ConnSource.limits c.args.source.now;
             in_time = asked.by;
           } in
-          let bag = found_bag rules state.origins (λ k o at. bag_under g.C.Criterion.rules o.found.criterion criterion (points_of o.found)
-          (origins.under k o at) o.found.kept) stop in
-          let listed = subst (λ k. AreInOrder (g.C.Criterion.rules k) (found_from state.origins stop) (points_in (slice_get lists stop))) (sym same)
+          let listed = subst (λ k. AreInOrder (g.C.Criterion.rules k) (found_from state.origin stop) (points_in (slice_get lists stop))) (sym same)
           (c.in_ok-lists.ensures.lists stop) in
           let is = answered_from rules laws t q can start
           (subst (λ (n : ℕ). IsFirstAt t n start) (sym same_from) c.first_at-start.ensures)
-          (story_from state stop) (found_from state.origins stop)
-          (points_in (slice_get lists stop)) (c.in_ok-state.ensures.found stop) bag listed in
+          (story_of kept_from state stop) (found_from state.origin stop)
+          (points_in (slice_get lists stop)) (c.in_ok-scan.ensures.found stop) (origins.1 stop) listed in
           record { answer = is.0; attained = is.1 };
       direct = λ stop lt other. nearest_direct t b stop other (get_or (ways_of c.in_ok-asked.asked.ways) stop None) (asked.ways.each stop lt);
       loops = λ stop lt is. target_loop t b.targets stop is (get_or (ways_of c.in_ok-asked.asked.ways) stop None) (asked.ways.each stop lt);
-      long = c.in_ok-lists.ensures.long ∙ origins.long;
-      origins = origins;
+      long = c.in_ok-lists.ensures.long ∙ origins.0.long;
+      origins = origins.0;
       ways = asked.ways.long;
     }

@@ -1,23 +1,12 @@
-use Rattle.std.proofs.Common.{◌<◌, ◌+◌, ◌∙◌, ℕ, List, Contains, slice_index, arith, ap, sym, subst}
+use Rattle.std.proofs.Common.{◌<◌, ◌+◌, ℕ, List, Contains, arith, ap, sym, subst}
 use Rattle.criteria.specs.Laws.{Admits}
 use Rattle.timetable.specs.declared.network.Connection.{Connection}
-use Rattle.timetable.specs.Journeys.{connection_at}
-use Rattle.bags.specs.Bag.{points_of}
-use Rattle.fronts.specs.Lists.{entries_of, items_of, lists_criterion}
-use Rattle.fronts.proofs.Mapped.{list_admitted}
-use Rattle.profile_scan.specs.Between.{question}
-use Rattle.profile_scan.specs.Bound.{AreBounds, carried}
-use Rattle.profile_scan.specs.Matching.{from_to}
-use Rattle.profile_scan.specs.Steps.{TakesIn, leavings, boardings, settings_out}
-use Rattle.profile_scan.specs.Adding.{label_points, trip_points}
+use Rattle.profile_scan.specs.Between.{asked_from, question}
+use Rattle.profile_scan.specs.Bound.{AreBounds}
 use Rattle.profile_scan.specs.Story.{spelling_of}
-use Rattle.profile_scan.specs.Kept.{AreStops, IsWayTo, kept_by, points_at, story_of}
-use Rattle.profile_scan.proofs.Admitted.{AreAdmitted}
-use Rattle.profile_scan.proofs.Offers.{bag_under}
-use Rattle.profile_scan.proofs.BoundLemmas.{bounds_renewed, bounds_on, carried_by_bounds}
-use Rattle.profile_scan.proofs.StoryLemmas.{grows_none, grows_keeps}
+use Rattle.profile_scan.specs.Kept.{AreStops, IsWayTo, kept_by, story_of}
+use Rattle.profile_scan.proofs.BoundLemmas.{bounds_renewed, bounds_on}
 use Rattle.profile_scan.proofs.StepFacts.{begins_in, ends_in, step_idle_at, trip_in}
-use Rattle.profile_scan.proofs.LabelLemmas.{trip_admitted}
 use Rattle.profile_scan.proofs.scan.Scan.step.Given as given
 use Rattle.profile_scan.proofs.scan.Scan.step.Goals.{After-way_from-way, In_ok-renew, Start}
 use Rattle.profile_scan.proofs.scan.Scan.step.Goals as goal
@@ -68,48 +57,49 @@ is_idle-requires-clause-stop g c =
       stops = subst (λ (n : ℕ). AreStops g.C.Criterion.rules c.args.asked.now.criterion n c.args.self.now.state.stops) (sym stops.long) stops;
     }
 
-pub renew-requires-clause-found : goal.renew-requires-clause-found
-renew-requires-clause-found g c = c.requires.scan.state.found
+pub renew-requires-clause-under : goal.renew-requires-clause-under
+renew-requires-clause-under g c = ((g.S.ConnSource.timetable c.args.source.now).stops, c.requires.scan.state.origin)
 
 pub renew-requires-clause-values : goal.renew-requires-clause-values
-renew-requires-clause-values g c = c.requires.scan.bound.admitted
+renew-requires-clause-values g c = (c.requires.scan.bound 0).admitted
 
 pub returns-then-is_idle-clause-step : goal.returns-then-is_idle-clause-step
-returns-then-is_idle-clause-step g c =
+returns-then-is_idle-clause-step g c index =
     let t = g.S.ConnSource.timetable c.args.source.now in
     let state = c.args.self.now.state in
-    step_idle_at (g.C.Criterion.rules c.args.asked.now.criterion) t (question c.args.asked.now.query)
-    (spelling_of t.footpaths (story_of state)) c.args.place (kept_by state) _ c.args.connection.now c.requires.stands.is
-    (way_is g (goal.at.returns-then-is_idle-clause-step g c).After-way_from-way) (c.is_idle.ensures c.if-is_idle.true)
+    step_idle_at (g.C.Criterion.rules c.args.asked.now.criterion) t
+    (asked_from g.O.AtSource.sources (question c.args.asked.now.query) index)
+    (spelling_of t.footpaths (story_of g.O.AtSource.kept state index)) c.args.place (kept_by g.O.AtSource.kept state index) _
+    c.args.connection.now c.requires.stands.is (way_is g (goal.at.returns-then-is_idle-clause-step g c).After-way_from-way)
+    (c.is_idle.ensures c.if-is_idle.true)
 
 pub returns-then-is_idle-clause-scan : goal.returns-then-is_idle-clause-scan
 returns-then-is_idle-clause-scan g c =
     let scan = c.args.self.now in
-    let found = points_of scan.state.origin.found in
     record {
       state = c.requires.scan.state;
-      bound = bounds_on (g.C.Criterion.rules c.args.asked.now.criterion)
+      bound = λ index.
+          let found = (g.O.AtSource.kept scan.state.origin index).found in
+          bounds_on (g.C.Criterion.rules c.args.asked.now.criterion)
           (g.met.C.Criterion.laws c.args.asked.now.criterion) (g.S.ConnSource.timetable c.args.source.now) found found
           (c.args.place + 1) c.args.place scan.bound.values.items (omega arith) (λ d v a covers. covers)
-          c.requires.scan.bound;
+          (c.requires.scan.bound index);
     }
 
 -- the values of the bound, renewed
-renewed : (g : given.Over) (c : goal.In_ok-renew g)
+renewed : (g : given.Over) (c : goal.In_ok-renew g) (index : ℕ)
     → AreBounds (g.C.Criterion.rules c.args.asked.now.criterion) (g.S.ConnSource.timetable c.args.source.now)
-    (points_of c.args.self.now.state.origin.found) (c.args.place + 1) c.renew.new.self.values.items
-renewed g c =
-    let rules = g.C.Criterion.rules c.args.asked.now.criterion in
-    let laws = g.met.C.Criterion.laws c.args.asked.now.criterion in
+    (g.O.AtSource.kept c.args.self.now.state.origin index).found (c.args.place + 1) c.renew.new.bound.values.items
+renewed g c index =
+    let criterion = c.args.asked.now.criterion in
     let t = g.S.ConnSource.timetable c.args.source.now in
-    let legal = g.met.S.ConnSource.legal c.args.source.now in
     let scan = c.args.self.now in
-    let bag = scan.state.origin.found in
     let at = c.requires.stands in
-    let found = bag_under g.C.Criterion.rules bag.criterion c.args.asked.now.criterion (points_of bag) c.requires.scan.state.found bag.kept in
-    bounds_renewed rules laws t legal (points_of bag) found.admitted c.args.place c.args.connection.now.dep at.in_range
-    (ap (λ (x : Connection). x.dep) at.is) scan.bound.values.items c.renew.new.self.values.items
-    c.requires.scan.bound c.in_ok-renew.ensures.only
+    bounds_renewed (g.C.Criterion.rules c.args.asked.now.criterion) (g.met.C.Criterion.laws criterion) t (g.met.S.ConnSource.legal c.args.source.now)
+    (g.O.AtSource.kept scan.state.origin index).found
+    (g.met.O.AtSource.bags criterion t.stops scan.state.origin c.requires.scan.state.origin index).admitted c.args.place
+    c.args.connection.now.dep at.in_range (ap (λ (x : Connection). x.dep) at.is) scan.bound.values.items c.renew.new.bound.values.items
+    (c.requires.scan.bound index) (c.in_ok-renew.ensures index).only
 
 pub take-requires-clause-hop : goal.take-requires-clause-hop
 take-requires-clause-hop g c =
@@ -121,83 +111,23 @@ take-requires-clause-hop g c =
       way = way_is g (goal.at.take-requires-clause-hop g c).After-way_from-way;
       bound =
           subst (λ (values : List g.row.C-V.Denot). (b : g.row.C-V.Denot) → Contains values b → Admits rules b) (sym c.deref.ensures.value)
-          (renewed g (goal.at.take-requires-clause-hop g c).In_ok-renew).admitted;
+          (renewed g (goal.at.take-requires-clause-hop g c).In_ok-renew 0).admitted;
     }
+
+pub take-requires-clause-bound : goal.take-requires-clause-bound
+take-requires-clause-bound g c index =
+    subst (AreBounds (g.C.Criterion.rules c.args.asked.now.criterion) (g.S.ConnSource.timetable c.args.source.now)
+    (g.O.AtSource.kept c.args.self.now.state.origin index).found (c.args.place + 1)) (sym c.deref.ensures.value)
+    (renewed g (goal.at.take-requires-clause-bound g c).In_ok-renew index)
 
 pub returns-clause-scan : goal.returns-clause-scan
 returns-clause-scan g c =
-    let rules = g.C.Criterion.rules c.args.asked.now.criterion in
-    let laws = g.met.C.Criterion.laws c.args.asked.now.criterion in
-    let t = g.S.ConnSource.timetable c.args.source.now in
-    let now = c.take.new.self in
-    let taken = c.in_ok-take.ensures.takes in
+    let kept = g.O.AtSource.kept in
     record {
       state = c.in_ok-take.ensures.state;
-      bound =
-          bounds_on rules laws t (points_of c.args.self.now.state.origin.found) (points_of now.origin.found)
-          (c.args.place + 1) c.args.place c.renew.new.self.values.items (omega arith)
-          (taken.sets_out taken.between (story_of now) (grows_none taken.between) (grows_none (story_of now))).kept
-          (renewed g (goal.at.returns-clause-scan g c).In_ok-renew);
-    }
-
-pub returns-clause-step : goal.returns-clause-step
-returns-clause-step g c =
-    let rules = g.C.Criterion.rules c.args.asked.now.criterion in
-    let laws = g.met.C.Criterion.laws c.args.asked.now.criterion in
-    let t = g.S.ConnSource.timetable c.args.source.now in
-    let q = question c.args.asked.now.query in
-    let i = c.args.place in
-    let at = c.requires.stands.is in
-    let cn = c.args.connection.now in
-    let state = c.args.self.now.state in
-    let next = c.take.new.self in
-    let was = story_of state in
-    let now = story_of next in
-    let taken = c.in_ok-take.ensures.takes in
-    let mid = taken.between in
-    let values = c.renew.new.self.values.items in
-    let values_is = c.deref.ensures.value in
-    let first = from_to (spelling_of t.footpaths was) (spelling_of t.footpaths mid) in
-    let second = from_to (spelling_of t.footpaths mid) (spelling_of t.footpaths now) in
-    let old_found = points_of state.origin.found in
-    let new_found = points_of next.origin.found in
-    let sets_out = taken.sets_out mid now (grows_none mid) (grows_none now) in
-    let found = bag_under g.C.Criterion.rules state.origin.found.criterion c.args.asked.now.criterion old_found
-    c.requires.scan.state.found state.origin.found.kept in
-    let found_now = bag_under g.C.Criterion.rules next.origin.found.criterion c.args.asked.now.criterion new_found
-    c.in_ok-take.ensures.state.found next.origin.found.kept in
-    let bounds = renewed g (goal.at.returns-clause-step g c).In_ok-renew in
-    let new_bounds = bounds_on rules laws t old_found new_found (i + 1) (i + 1) values (omega arith) sets_out.kept bounds in
-    let bag = points_at state.stops (connection_at t i).to in
-    let at_stops = c.requires.scan.state.at_stops in
-    let lists = state.stops.lists in
-    let bag_admitted =
-    subst (λ k. AreAdmitted (g.C.Criterion.rules k) bag) at_stops.under
-    (list_admitted (g.C.Criterion.rules (lists_criterion lists)) (entries_of lists) (items_of lists) at_stops.sound
-    (slice_index state.stops.heads.items (connection_at t i).to)) in
-    let old = trip_points state.trips.labels in
-    let new = trip_points next.trips.labels in
-    let trip = (connection_at t i).trip in
-    record {
-      between = spelling_of t.footpaths mid;
-      kept_first = grows_keeps t.footpaths was mid taken.grows_first;
-      kept_then = grows_keeps t.footpaths mid now taken.grows_then;
-      changing = carried rules values bag;
-      changing_are = carried_by_bounds rules laws t old_found found.admitted i values bounds bag bag_admitted;
-      boarding = carried rules values (new trip);
-      boarding_are = carried_by_bounds rules laws t new_found found_now.admitted i values new_bounds (new trip)
-          (trip_admitted rules next.trips.labels taken.labels.labels trip);
-      leaves =
-          subst (λ (x : Connection). TakesIn rules (leavings rules t q first i (carried rules values bag)) (old x.trip) (new x.trip)) at
-          (subst (λ (vs : List g.row.C-V.Denot). TakesIn rules (leavings rules t q first i (carried rules vs bag)) (old cn.trip) (new cn.trip)) values_is
-          (taken.leaves was mid (grows_none was) (grows_none mid)));
-      other_trips = λ k other. ap label_points (taken.labels.same k (λ e. other (e ∙ ap (λ (x : Connection). x.trip) at)));
-      boards = λ stop lt.
-          subst (λ (x : Connection). TakesIn rules (boardings rules t second i stop (carried rules values (new x.trip)))
-          (points_at state.stops stop) (points_at next.stops stop)) at
-          (subst (λ (vs : List g.row.C-V.Denot). TakesIn rules
-          (boardings rules t second i stop (carried rules vs (new cn.trip))) (points_at state.stops stop)
-          (points_at next.stops stop)) values_is
-          (taken.boards stop mid now (grows_none mid) (grows_none now)));
-      sets_out = subst (λ (x : Connection). TakesIn rules (settings_out rules t q second i (new x.trip)) old_found new_found) at sets_out;
+      bound = λ index.
+          bounds_on (g.C.Criterion.rules c.args.asked.now.criterion) (g.met.C.Criterion.laws c.args.asked.now.criterion)
+          (g.S.ConnSource.timetable c.args.source.now) (kept c.args.self.now.state.origin index).found
+          (kept c.take.new.self.origin index).found (c.args.place + 1) c.args.place c.renew.new.bound.values.items (omega arith)
+          (c.in_ok-take.ensures.step index).sets_out.kept (renewed g (goal.at.returns-clause-scan g c).In_ok-renew index);
     }

@@ -5,5 +5,5 @@ returns-clause-state g c = record {
   at_stops = c.in_ok-stops.ensures.stops;
   long = c.in_ok-trips.ensures.long;
   labels = c.in_ok-trips.ensures.labels;
-  found = c.new-origin.ensures.criterion;
+  origin = c.in_ok-origin.ensures.under;
 }

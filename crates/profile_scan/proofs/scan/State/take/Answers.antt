@@ -1,34 +1,38 @@
-use Rattle.std.proofs.Common.{◌<◌, ℕ, List, Contains, length, sym, ◌∙◌, ap, subst}
+use Rattle.std.proofs.Common.{◌≡◌, ◌<◌, ℕ, List, Contains, length, slice_index, refl, sym, ◌∙◌, ap, subst}
 use Rattle.criteria.specs.Laws.{Admits}
-use Rattle.bags.specs.Bag.{points_of}
 use Rattle.bags.specs.declared.point.Point.{Point}
-use Rattle.timetable.specs.declared.network.Connection.{Connection}
+use Rattle.timetable.specs.Journeys.{connection_at}
 use Rattle.fronts.specs.declared.labels.Label.{Label}
-use Rattle.fronts.specs.Lists.{steps_of}
-use Rattle.profile_scan.specs.Between.{question}
-use Rattle.profile_scan.specs.Steps.{leavings, boardings, settings_out, TakesIn}
-use Rattle.profile_scan.specs.Adding.{label_points, trip_points}
+use Rattle.fronts.specs.Lists.{entries_of, items_of, lists_criterion}
+use Rattle.fronts.proofs.Mapped.{list_admitted}
+use Rattle.profile_scan.specs.Between.{asked_from, question}
+use Rattle.profile_scan.specs.Steps.{IsStep, boardings, settings_out}
 use Rattle.profile_scan.specs.Bound.{carried}
+use Rattle.profile_scan.specs.Adding.{label_points, trip_points}
 use Rattle.profile_scan.specs.Matching.{from_to}
-use Rattle.profile_scan.specs.Story.{story, spelling_of}
-use Rattle.profile_scan.specs.Kept.{AreStops, points_at}
-use Rattle.profile_scan.proofs.LabelLemmas.{no_trip_points, trip_admitted}
-use Rattle.profile_scan.proofs.BoundLemmas.{from_carried}
+use Rattle.profile_scan.specs.Story.{spelling_of}
+use Rattle.profile_scan.specs.Hops.{IsHop}
+use Rattle.profile_scan.specs.Kept.{AreStops, IsState, kept_by, points_at, story_of}
 use Rattle.profile_scan.specs.LawStatements.{CanScan}
-use Rattle.profile_scan.proofs.LeaveLemmas.{leavings_taken}
-use Rattle.profile_scan.proofs.PartLemmas.{hop_within}
+use Rattle.profile_scan.specs.Parts.{HasTrip, SourceTakes, StopTakes}
+use Rattle.profile_scan.specs.declared.scan.State.{State}
+use Rattle.profile_scan.specs.declared.trips.Trips.{Trips}
+use Rattle.profile_scan.proofs.Admitted.{AreAdmitted}
+use Rattle.profile_scan.proofs.LabelLemmas.{no_trip_points, trip_admitted}
+use Rattle.profile_scan.proofs.PartLemmas.{changes_on, hop_within, still_there}
 use Rattle.profile_scan.proofs.StepFacts.{ends_in, trip_in}
-use Rattle.profile_scan.proofs.StoryLemmas.{exits_grow, grows_none, grows_on, steps_grow, set_outs_grow}
-use Rattle.profile_scan.proofs.Offers.{takes_none}
+use Rattle.profile_scan.proofs.TakeLemmas.{HasBoarded, HasLeft, boarded_none, is_step, left_by, left_none}
+use Rattle.profile_scan.proofs.scan.State.take.Given as given
+use Rattle.profile_scan.proofs.scan.State.take.Goals.{After-labels_of-labels, Start, else-hop, then-hop+in_ok-end+in_ok-change}
 use Rattle.profile_scan.proofs.scan.State.take.Goals as goal
 
-pub alight-requires-clause-hop : goal.alight-requires-clause-hop
-alight-requires-clause-hop g c =
+within : (g : given.Over) (c : goal.Start g) → IsHop (g.C.Criterion.rules c.args.asked.now.criterion) (question c.args.asked.now.query) c.args.hop.now
+within g c =
     hop_within (g.C.Criterion.rules c.args.asked.now.criterion) (g.S.ConnSource.timetable c.args.source.now)
     (g.met.S.ConnSource.limits c.args.source.now) (question c.args.asked.now.query) c.args.hop.now c.requires.hop
 
-pub alight-requires-clause-trip : goal.alight-requires-clause-trip
-alight-requires-clause-trip g c =
+has_trip : (g : given.Over) (c : goal.Start g) → HasTrip (g.C.Criterion.rules c.args.asked.now.criterion) c.args.hop.now.connection.trip c.args.self.now.trips
+has_trip g c =
     let at = c.requires.hop.stands in
     record {
       there = subst (λ (n : ℕ). c.args.hop.now.connection.trip < n) (sym c.requires.state.long)
@@ -37,8 +41,22 @@ alight-requires-clause-trip g c =
       labels = c.requires.state.labels;
     }
 
-pub alight-requires-clause-stop : goal.alight-requires-clause-stop
-alight-requires-clause-stop g c =
+pub end-requires-clause-hop : goal.end-requires-clause-hop
+end-requires-clause-hop g c = within g (goal.at.end-requires-clause-hop g c).Start
+
+pub end-requires-clause-trip : goal.end-requires-clause-trip
+end-requires-clause-trip g c = has_trip g (goal.at.end-requires-clause-trip g c).Start
+
+pub change-requires-clause-hop : goal.change-requires-clause-hop
+change-requires-clause-hop g c = within g (goal.at.change-requires-clause-hop g c).Start
+
+pub change-requires-clause-trip : goal.change-requires-clause-trip
+change-requires-clause-trip g c =
+    still_there (g.C.Criterion.rules c.args.asked.now.criterion) c.args.hop.now.connection.trip c.args.self.now.trips
+    c.end.new.self (has_trip g (goal.at.change-requires-clause-trip g c).Start) c.in_ok-end.ensures.trip
+
+pub change-requires-clause-stop : goal.change-requires-clause-stop
+change-requires-clause-stop g c =
     let at = c.requires.hop.stands in
     let stops = c.requires.state.at_stops in
     record {
@@ -48,52 +66,109 @@ alight-requires-clause-stop g c =
       stops = subst (λ (n : ℕ). AreStops g.C.Criterion.rules c.args.asked.now.criterion n c.args.self.now.stops) (sym stops.long) stops;
     }
 
-pub labels_of-labels-requires-clause-trip : goal.labels_of-labels-requires-clause-trip
-labels_of-labels-requires-clause-trip g c =
-    let at = c.requires.hop.stands in
-    subst (λ (n : ℕ). c.args.hop.now.connection.trip < n)
-    (sym (c.in_ok-alight.ensures.trip.labels.long ∙ c.requires.state.long))
-    (trip_in (g.S.ConnSource.timetable c.args.source.now) (g.met.S.ConnSource.legal c.args.source.now)
-    c.args.hop.now.place at.in_range c.args.hop.now.connection at.is)
+pub labels_of-labels-requires : goal.labels_of-labels-requires
+labels_of-labels-requires g c =
+    let rules = g.C.Criterion.rules c.args.asked.now.criterion in
+    let trip = c.args.hop.now.connection.trip in
+    let has = has_trip g (goal.at.labels_of-labels-requires g c).Start in
+    let there : HasTrip rules trip c.if-hop.self.trips = elim c.if-hop.branch [
+      | then-hop+in_ok-end+in_ok-change w ↦ subst (λ (s : State g.row.C.Denot g.row.O.Denot g.row.C-V.Denot). HasTrip rules trip s.trips) (sym w.self-is)
+          (still_there rules trip c.args.self.now.trips w.change.new.self has
+          (changes_on rules trip c.args.self.now.trips w.end.new.self w.change.new.self w.in_ok-end.ensures.trip w.in_ok-change.ensures.trip))
+      | else-hop w ↦ subst (λ (s : State g.row.C.Denot g.row.O.Denot g.row.C-V.Denot). HasTrip rules trip s.trips) (sym w.self-is) has
+    ] in
+    record { trip = there.there; labels = there.labels }
 
-pub labels_of-labels-requires-clause-labels : goal.labels_of-labels-requires-clause-labels
-labels_of-labels-requires-clause-labels g c = c.in_ok-alight.ensures.trip.labels.labels
+-- the trip is left, and nothing else has changed
+left : (g : given.Over) (c : goal.After-labels_of-labels g)
+    → HasLeft (g.C.Criterion.rules c.args.asked.now.criterion) (question c.args.asked.now.query) c.args.hop.now c.args.self.now.stops
+    c.args.self.now.trips c.if-hop.self.trips
+    × (c.if-hop.self ≡ record { trips = c.if-hop.self.trips; stops = c.args.self.now.stops; origin = c.args.self.now.origin })
+left g c =
+    let rules = g.C.Criterion.rules c.args.asked.now.criterion in
+    let laws = g.met.C.Criterion.laws c.args.asked.now.criterion in
+    let q = question c.args.asked.now.query in
+    let hop = c.args.hop.now in
+    let old = c.args.self.now in
+    let Left : State g.row.C.Denot g.row.O.Denot g.row.C-V.Denot → Type 0 = λ s. HasLeft rules q hop old.stops old.trips s.trips
+    × (s ≡ record { trips = s.trips; stops = old.stops; origin = old.origin }) in
+    elim c.if-hop.branch [
+      | then-hop+in_ok-end+in_ok-change w ↦ subst Left (sym w.self-is) (
+        left_by rules laws q hop old.stops (within g (goal.at.After-labels_of-labels g c).Start) old.trips w.end.new.self w.change.new.self
+            w.if-hop.true w.in_ok-end.ensures.trip w.in_ok-end.ensures.takes w.in_ok-change.ensures.trip w.in_ok-change.ensures.takes,
+        refl,
+      )
+      | else-hop w ↦ subst Left (sym w.self-is) (
+        left_none rules laws q hop old.stops old.trips (has_trip g (goal.at.After-labels_of-labels g c).Start) w.if-hop.false,
+        refl,
+      )
+    ]
+
+-- its labels are of values that the laws speak of
+admits : (g : given.Over) (c : goal.After-labels_of-labels g) (p : Point g.row.C-V.Denot)
+    → Contains (label_points c.labels_of-labels.result.now) p → Admits (g.C.Criterion.rules c.args.asked.now.criterion) p.value
+admits g c =
+    let rules = g.C.Criterion.rules c.args.asked.now.criterion in
+    subst (λ (xs : List (Label g.row.C-V.Denot)). (p : Point g.row.C-V.Denot) → Contains (label_points xs) p → Admits rules p.value)
+    (sym c.labels_of-labels.ensures)
+    (trip_admitted rules c.if-hop.self.trips.labels (left g c).0.trip.labels.labels c.args.hop.now.connection.trip)
 
 pub set_out-requires-clause-labels : goal.set_out-requires-clause-labels
-set_out-requires-clause-labels g c =
-    let rules = g.C.Criterion.rules c.args.asked.now.criterion in
-    subst (λ (xs : List (Label g.row.C-V.Denot)). (p : Point g.row.C-V.Denot) → Contains (label_points xs) p → Admits rules p.value)
-    (sym c.labels_of-labels.ensures)
-    (trip_admitted rules c.alight.new.self.labels c.in_ok-alight.ensures.trip.labels.labels c.args.hop.now.connection.trip)
+set_out-requires-clause-labels g c = admits g (goal.at.set_out-requires-clause-labels g c).After-labels_of-labels
+
+pub set_out-requires-clause-under : goal.set_out-requires-clause-under
+set_out-requires-clause-under g c =
+    subst (λ (s : State g.row.C.Denot g.row.O.Denot g.row.C-V.Denot). g.O.AtSource.IsUnder c.args.asked.now.criterion
+    (g.S.ConnSource.timetable c.args.source.now).stops s.origin) (sym (left g (goal.at.set_out-requires-clause-under g c).After-labels_of-labels).1)
+    c.requires.state.origin
 
 pub board-requires-clause-labels : goal.board-requires-clause-labels
-board-requires-clause-labels g c =
-    let rules = g.C.Criterion.rules c.args.asked.now.criterion in
-    subst (λ (xs : List (Label g.row.C-V.Denot)). (p : Point g.row.C-V.Denot) → Contains (label_points xs) p → Admits rules p.value)
-    (sym c.labels_of-labels.ensures)
-    (trip_admitted rules c.alight.new.self.labels c.in_ok-alight.ensures.trip.labels.labels c.args.hop.now.connection.trip)
+board-requires-clause-labels g c = admits g (goal.at.board-requires-clause-labels g c).After-labels_of-labels
+
+pub board-requires-clause-stops : goal.board-requires-clause-stops
+board-requires-clause-stops g c =
+    subst (λ (s : State g.row.C.Denot g.row.O.Denot g.row.C-V.Denot). AreStops g.C.Criterion.rules c.args.asked.now.criterion
+    (g.S.ConnSource.timetable c.args.source.now).stops s.stops) (sym (left g (goal.at.board-requires-clause-stops g c).After-labels_of-labels).1)
+    c.requires.state.at_stops
 
 pub returns-clause-state : goal.returns-clause-state
-returns-clause-state g c = record {
-  at_stops = c.in_ok-board.ensures.stops.stops;
-  long = c.in_ok-alight.ensures.trip.labels.long ∙ c.requires.state.long;
-  labels = c.in_ok-alight.ensures.trip.labels.labels;
-  found = c.in_ok-set_out.ensures.origin.found;
-}
+returns-clause-state g c =
+    let is = (left g (goal.at.returns-clause-state g c).After-labels_of-labels).0 in
+    record {
+      at_stops = c.in_ok-board.ensures.stops.stops;
+      long = is.trip.labels.long ∙ c.requires.state.long;
+      labels = is.trip.labels.labels;
+      origin = c.in_ok-set_out.ensures.under;
+    }
 
 pub returns-then-labels-eq0-clause-state : goal.returns-then-labels-eq0-clause-state
-returns-then-labels-eq0-clause-state g c = record {
-  at_stops = c.requires.state.at_stops;
-  long = c.in_ok-alight.ensures.trip.labels.long ∙ c.requires.state.long;
-  labels = c.in_ok-alight.ensures.trip.labels.labels;
-  found = c.requires.state.found;
-}
+returns-then-labels-eq0-clause-state g c =
+    let is = left g (goal.at.returns-then-labels-eq0-clause-state g c).After-labels_of-labels in
+    subst (λ (s : State g.row.C.Denot g.row.O.Denot g.row.C-V.Denot). IsState g.C.Criterion.rules g.O.AtSource.IsUnder c.args.asked.now.criterion
+    (g.S.ConnSource.timetable c.args.source.now).stops (g.S.ConnSource.timetable c.args.source.now).trips s) (sym is.1) (record {
+      at_stops = c.requires.state.at_stops;
+      long = is.0.trip.labels.long ∙ c.requires.state.long;
+      labels = is.0.trip.labels.labels;
+      origin = c.requires.state.origin;
+    })
 
-pub returns-clause-takes : goal.returns-clause-takes
-returns-clause-takes g c =
+-- by the labels that the trip has now one sets out and boards
+stepped : (g : given.Over) (c : goal.After-labels_of-labels g) (new : State g.row.C.Denot g.row.O.Denot g.row.C-V.Denot)
+    → new.trips ≡ c.if-hop.self.trips
+    → g.O.AtSource.IsUnder c.args.asked.now.criterion (g.S.ConnSource.timetable c.args.source.now).stops new.origin
+    → HasBoarded (g.C.Criterion.rules c.args.asked.now.criterion) (g.S.ConnSource.timetable c.args.source.now) g.O.AtSource.sources
+    g.O.AtSource.kept (question c.args.asked.now.query) c.args.hop.now (trip_points new.trips.labels c.args.hop.now.connection.trip)
+    c.if-hop.self new
+    → (index : ℕ) → IsStep (g.C.Criterion.rules c.args.asked.now.criterion) (g.S.ConnSource.timetable c.args.source.now)
+    (asked_from g.O.AtSource.sources (question c.args.asked.now.query) index)
+    (from_to (spelling_of (g.S.ConnSource.timetable c.args.source.now).footpaths (story_of g.O.AtSource.kept c.args.self.now index))
+    (spelling_of (g.S.ConnSource.timetable c.args.source.now).footpaths (story_of g.O.AtSource.kept new index)))
+    c.args.hop.now.place (kept_by g.O.AtSource.kept c.args.self.now index) (kept_by g.O.AtSource.kept new index)
+stepped g c new same under boarded index =
+    let criterion = c.args.asked.now.criterion in
     let rules = g.C.Criterion.rules c.args.asked.now.criterion in
-    let t = g.S.ConnSource.timetable c.args.source.now in
     let laws = g.met.C.Criterion.laws c.args.asked.now.criterion in
+    let t = g.S.ConnSource.timetable c.args.source.now in
     let q = question c.args.asked.now.query in
     let can : CanScan (g.S.ConnSource.timetable c.args.source.now) (question c.args.asked.now.query) = record {
       legal = g.met.S.ConnSource.legal c.args.source.now;
@@ -101,89 +176,54 @@ returns-clause-takes g c =
       in_time = c.requires.hop.by;
     } in
     let hop = c.args.hop.now in
-    let at = c.requires.hop.stands in
-    let stops = c.args.self.now.stops in
-    let origin = c.args.self.now.origin in
-    let steps = steps_of stops.lists in
-    let now_steps = steps_of c.board.new.self.lists in
-    let outs = origin.set_outs.items in
-    let now_outs = c.set_out.new.self.set_outs.items in
-    let mid = c.alight.new.self.exits.items in
-    let old = trip_points c.args.self.now.trips.labels hop.connection.trip in
-    let new = trip_points c.alight.new.self.labels hop.connection.trip in
-    let between = story mid steps outs in
-    let set_out = story mid steps now_outs in
-    let after = story mid now_steps now_outs in
-    let out_grows = set_outs_grow mid steps outs now_outs c.in_ok-set_out.ensures.origin.set_outs in
-    let in_grows = steps_grow mid steps now_steps now_outs c.in_ok-board.ensures.stops.steps in
-    let bag = carried rules hop.bound.now (points_at stops hop.connection.to) in
-    let bag_is = ap (λ (x : Connection). carried rules hop.bound.now (points_at stops x.to)) at.is in
-    record {
-      between = between;
-      grows_first = exits_grow c.args.self.now.trips.exits.items mid steps outs c.in_ok-alight.ensures.trip.exits;
-      grows_then = grows_on between set_out after out_grows in_grows;
-      labels = c.in_ok-alight.ensures.trip.labels;
-      leaves = λ before all ext_before ext.
-          let tags = from_to (spelling_of t.footpaths before) (spelling_of t.footpaths all) in
-          subst (λ (points : List (Point g.row.C-V.Denot)). TakesIn rules (leavings rules t q tags hop.place points) old new) bag_is
-          (leavings_taken rules laws t q can tags hop.place hop.connection at.is hop.way c.requires.hop.way bag old new
-          (trip_admitted rules c.alight.new.self.labels c.in_ok-alight.ensures.trip.labels.labels hop.connection.trip)
-          (c.in_ok-alight.ensures.takes t.footpaths steps outs before all ext_before ext));
-      boards = λ stop before all ext_before ext.
-          subst (λ (xs : List (Label g.row.C-V.Denot)). TakesIn rules
-          (boardings rules t (from_to (spelling_of t.footpaths before) (spelling_of t.footpaths all)) hop.place stop
-          (carried rules hop.bound.now (label_points xs))) (points_at stops stop) (points_at c.board.new.self stop))
-          c.labels_of-labels.ensures
-          (c.in_ok-board.ensures.takes stop mid now_outs before all (grows_on before between set_out ext_before out_grows) ext);
-      sets_out = λ before all ext_before ext.
-          subst (λ (xs : List (Label g.row.C-V.Denot)). TakesIn rules
-          (settings_out rules t q (from_to (spelling_of t.footpaths before) (spelling_of t.footpaths all)) hop.place
-          (label_points xs)) (points_of origin.found) (points_of c.set_out.new.self.found)) c.labels_of-labels.ensures
-          (c.in_ok-set_out.ensures.takes mid steps before all ext_before (grows_on set_out after all in_grows ext));
-    }
+    let old = c.args.self.now in
+    let kept = g.O.AtSource.kept in
+    let sources = g.O.AtSource.sources in
+    let is = left g c in
+    let lists = old.stops.lists in
+    let at_stops = c.requires.state.at_stops in
+    let bag_admitted =
+    subst (λ k. AreAdmitted (g.C.Criterion.rules k) (points_at old.stops (connection_at t hop.place).to)) at_stops.under
+    (list_admitted (g.C.Criterion.rules (lists_criterion lists)) (entries_of lists) (items_of lists) at_stops.sound
+    (slice_index old.stops.heads.items (connection_at t hop.place).to)) in
+    let has_left = subst (HasLeft rules q hop old.stops old.trips) (sym same) is.0 in
+    let from_left = is.1 ∙ ap (λ (trips : Trips g.row.C.Denot g.row.C-V.Denot). record { trips = trips; stops = old.stops; origin = old.origin }) (sym same) in
+    is_step rules laws t q can sources kept hop c.requires.hop old new has_left
+    (subst (λ (s : State g.row.C.Denot g.row.O.Denot g.row.C-V.Denot). HasBoarded rules t sources kept q hop
+    (trip_points new.trips.labels hop.connection.trip) s new) from_left boarded)
+    index bag_admitted (g.met.O.AtSource.bags criterion t.stops old.origin c.requires.state.origin index).admitted
+    (g.met.O.AtSource.bags criterion t.stops new.origin under index).admitted (c.requires.bound index)
+
+pub returns-clause-step : goal.returns-clause-step
+returns-clause-step g c =
+    let rules = g.C.Criterion.rules c.args.asked.now.criterion in
+    let t = g.S.ConnSource.timetable c.args.source.now in
+    let q = question c.args.asked.now.query in
+    let hop = c.args.hop.now in
+    let kept = g.O.AtSource.kept in
+    let sources = g.O.AtSource.sources in
+    let mid = c.if-hop.self in
+    stepped g (goal.at.returns-clause-step g c).After-labels_of-labels
+    (record { trips = mid.trips; stops = c.board.new.self; origin = c.set_out.new.self }) refl c.in_ok-set_out.ensures.under (record {
+      set_outs = c.in_ok-set_out.ensures.set_outs;
+      sets_out = λ index. subst (λ (xs : List (Label g.row.C-V.Denot)). SourceTakes rules t.footpaths
+          (λ tags. settings_out rules t (asked_from sources q index) tags hop.place (label_points xs))
+          (kept mid.origin index) (kept c.set_out.new.self index)) c.labels_of-labels.ensures (c.in_ok-set_out.ensures.takes index);
+      steps = c.in_ok-board.ensures.stops.steps;
+      boards = λ stop. subst (λ (xs : List (Label g.row.C-V.Denot)). StopTakes rules t.footpaths stop
+          (λ tags. boardings rules t tags hop.place stop (carried rules hop.bound.now (label_points xs))) mid.stops c.board.new.self)
+          c.labels_of-labels.ensures (c.in_ok-board.ensures.takes stop);
+    })
 
 -- the trip has no labels
-pub returns-then-labels-eq0-clause-takes : goal.returns-then-labels-eq0-clause-takes
-returns-then-labels-eq0-clause-takes g c =
-    let rules = g.C.Criterion.rules c.args.asked.now.criterion in
-    let t = g.S.ConnSource.timetable c.args.source.now in
-    let laws = g.met.C.Criterion.laws c.args.asked.now.criterion in
-    let q = question c.args.asked.now.query in
-    let can : CanScan (g.S.ConnSource.timetable c.args.source.now) (question c.args.asked.now.query) = record {
-      legal = g.met.S.ConnSource.legal c.args.source.now;
-      limits = g.met.S.ConnSource.limits c.args.source.now;
-      in_time = c.requires.hop.by;
-    } in
-    let hop = c.args.hop.now in
-    let at = c.requires.hop.stands in
-    let stops = c.args.self.now.stops in
-    let origin = c.args.self.now.origin in
-    let steps = steps_of stops.lists in
-    let outs = origin.set_outs.items in
-    let mid = c.alight.new.self.exits.items in
-    let old = trip_points c.args.self.now.trips.labels hop.connection.trip in
-    let new = trip_points c.alight.new.self.labels hop.connection.trip in
-    let between = story mid steps outs in
-    let bag = carried rules hop.bound.now (points_at stops hop.connection.to) in
-    let bag_is = ap (λ (x : Connection). carried rules hop.bound.now (points_at stops x.to)) at.is in
-    let none = no_trip_points c.alight.new.self.labels hop.connection.trip (ap length (sym c.labels_of-labels.ensures) ∙ c.if-labels-eq0.true) in
-    record {
-      between = between;
-      grows_first = exits_grow c.args.self.now.trips.exits.items mid steps outs c.in_ok-alight.ensures.trip.exits;
-      grows_then = grows_none between;
-      labels = c.in_ok-alight.ensures.trip.labels;
-      leaves = λ before all ext_before ext.
-          let tags = from_to (spelling_of t.footpaths before) (spelling_of t.footpaths all) in
-          subst (λ (points : List (Point g.row.C-V.Denot)). TakesIn rules (leavings rules t q tags hop.place points) old new) bag_is
-          (leavings_taken rules laws t q can tags hop.place hop.connection at.is hop.way c.requires.hop.way bag old new
-          (trip_admitted rules c.alight.new.self.labels c.in_ok-alight.ensures.trip.labels.labels hop.connection.trip)
-          (c.in_ok-alight.ensures.takes t.footpaths steps outs before all ext_before ext));
-      boards = λ stop before all ext_before ext.
-          takes_none rules (boardings rules t (from_to (spelling_of t.footpaths before) (spelling_of t.footpaths all)) hop.place stop
-          (carried rules hop.bound.now new)) (points_at stops stop)
-          (λ way may. none way.label (from_carried rules hop.bound.now new way.label may.is_label).0);
-      sets_out = λ before all ext_before ext.
-          takes_none rules (settings_out rules t q (from_to (spelling_of t.footpaths before) (spelling_of t.footpaths all)) hop.place new)
-          (points_of origin.found)
-          (λ way may. none way.label may.is_label);
-    }
+pub returns-then-labels-eq0-clause-step : goal.returns-then-labels-eq0-clause-step
+returns-then-labels-eq0-clause-step g c =
+    let point = (goal.at.returns-then-labels-eq0-clause-step g c).After-labels_of-labels in
+    let mid = c.if-hop.self in
+    let trip = c.args.hop.now.connection.trip in
+    let under = subst (λ (s : State g.row.C.Denot g.row.O.Denot g.row.C-V.Denot). g.O.AtSource.IsUnder c.args.asked.now.criterion
+    (g.S.ConnSource.timetable c.args.source.now).stops s.origin) (sym (left g point).1) c.requires.state.origin in
+    stepped g point mid refl under
+    (boarded_none (g.C.Criterion.rules c.args.asked.now.criterion) (g.S.ConnSource.timetable c.args.source.now) g.O.AtSource.sources
+    g.O.AtSource.kept (question c.args.asked.now.query) c.args.hop.now (trip_points mid.trips.labels trip) mid
+    (no_trip_points mid.trips.labels trip (ap length (sym c.labels_of-labels.ensures) ∙ c.if-labels-eq0.true)))

@@ -18,7 +18,7 @@ use Rattle.profile_scan.proofs.to_any.ProfilesToAny.found_from.Goals as goal
 
 pub index-origin-requires : goal.index-origin-requires
 index-origin-requires g c =
-    let each = c.args.self.now.state.origins.each in
+    let each = c.args.self.now.state.origin.each in
     subst (λ (n : ℕ). c.args.stop < n) (sym (each.ok.0 ∙ c.requires.answered.origins.long)) c.requires.stop
 
 pub points-points-requires : goal.points-points-requires
@@ -28,9 +28,9 @@ pub walk_from-requires : goal.walk_from-requires
 walk_from-requires g c = subst (λ (n : ℕ). c.args.stop < n) (sym c.requires.answered.ways) c.requires.stop
 
 -- what was found from the stop is there
-at_stop : (g : given.Over) (c : goal.After-index-origin g) → slice_get c.args.self.now.state.origins.each.items c.args.stop ≡ Some c.index-origin.result.now
+at_stop : (g : given.Over) (c : goal.After-index-origin g) → slice_get c.args.self.now.state.origin.each.items c.args.stop ≡ Some c.index-origin.result.now
 at_stop g c =
-    let each = c.args.self.now.state.origins.each.items in
+    let each = c.args.self.now.state.origin.each.items in
     slice_get_read each (length each) c.args.stop c.index-origin.result.now refl
     (subst (λ (n : ℕ). c.args.stop < n) (sym c.requires.answered.origins.long) c.requires.stop) c.index-origin.ensures
 
@@ -49,7 +49,7 @@ tell_journeys-requires g c =
     (story exits steps c.index-origin.result.now.set_outs.items) p.tag) (sym c.points-points.ensures)
     (subst (λ (x : Option _). (p : Point g.row.C-V.Denot) → Contains listed p → IsJourneySpelled t.footpaths (story exits steps (set_outs_by x)) p.tag)
     (at_stop g (goal.at.tell_journeys-requires g c).After-index-origin)
-    (attained_spelled rules t q (story_from state c.args.stop) listed answers.attained))
+    (attained_spelled rules t q (story_from profiles c.args.stop) listed answers.attained))
 
 -- what was told answers the query
 made : (g : given.Over) (c : goal.After-of g) → IsAnsweredBetween (g.C.Criterion.rules (criterion_to_any c.args.self.now))
@@ -74,7 +74,7 @@ made g c =
     (subst (λ (ps : List (Point g.row.C-V.Denot)). (p : Point g.row.C-V.Denot) → Contains points p → IsSpelledAgain t.footpaths
     (story exits steps c.index-origin.result.now.set_outs.items) ps nodes p) c.points-points.ensures c.in_ok-spelled.ensures.says) in
     let way = subst (IsDirectWalk t q) (sym c.walk_from.ensures) (c.requires.answered.direct c.args.stop c.requires.stop c.requires.differ) in
-    answered_in_nodes rules t q (story_from state c.args.stop) nodes listed points c.walk_from.result answers.answer answers.attained same says way
+    answered_in_nodes rules t q (story_from profiles c.args.stop) nodes listed points c.walk_from.result answers.answer answers.attained same says way
 
 -- that it answers is kept with the timetable and the query that stand beside it
 pub invariant_of-result : goal.invariant_of-result

@@ -6,7 +6,7 @@ use Rattle.profile_scan.specs.Parts.{ChangesOrigin}
 use Rattle.profile_scan.specs.Story.{story}
 use Rattle.profile_scan.specs.Adding.{label_points, Takes, each_of, IsTried, settings_out_by}
 use Rattle.profile_scan.specs.declared.story.Exit.{Exit}
-use Rattle.profile_scan.proofs.origin.Origin.set_out.Given as goal
+use Rattle.profile_scan.proofs.origin.OriginAtSource.set_out.Given as goal
 
 abbrev pub invariant-loop-walk_index : goal.invariant-loop-walk_index
 invariant-loop-walk_index g l =

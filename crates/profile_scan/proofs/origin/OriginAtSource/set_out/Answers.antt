@@ -1,5 +1,4 @@
 use Rattle.std.proofs.Common.{◌≡◌, ◌<◌, ℕ, sym, subst, arith}
-use Rattle.reasoning.proofs.ListLemmas.{extends_none}
 use Rattle.bags.specs.Bag.{points_of}
 use Rattle.profile_scan.specs.Between.{question}
 use Rattle.profile_scan.specs.Matching.{from_to}
@@ -10,9 +9,9 @@ use Rattle.profile_scan.proofs.StoryLemmas.{grows_on, set_outs_grow}
 use Rattle.profile_scan.proofs.BoardLemmas.{starts_first, starts_next, settings_out_taken, alone_taken}
 use Rattle.profile_scan.proofs.PartLemmas.{origin_on}
 use Rattle.profile_scan.proofs.StepFacts.{begins_in}
-use Rattle.profile_scan.proofs.origin.Origin.set_out.Given as given
-use Rattle.profile_scan.proofs.origin.Origin.set_out.Goals.{Start}
-use Rattle.profile_scan.proofs.origin.Origin.set_out.Goals as goal
+use Rattle.profile_scan.proofs.origin.OriginAtSource.set_out.Given as given
+use Rattle.profile_scan.proofs.origin.OriginAtSource.set_out.Goals.{Start}
+use Rattle.profile_scan.proofs.origin.OriginAtSource.set_out.Goals as goal
 
 pub loop-walk_index-init : goal.loop-walk_index-init
 loop-walk_index-init g c =
@@ -58,7 +57,7 @@ loop-walk_index-preserved g c =
     }
 
 pub returns-clause-takes : goal.returns-clause-takes
-returns-clause-takes g c exits steps before all ext_before ext =
+returns-clause-takes g c index exits steps before all ext_before ext =
     let rules = g.C.Criterion.rules c.args.asked.now.criterion in
     let t = g.S.ConnSource.timetable c.args.source.now in
     let labels = label_points c.args.labels.now in
@@ -77,7 +76,7 @@ returns-clause-takes g c exits steps before all ext_before ext =
 
 -- no footpath leads there from a source
 pub returns-then-not-hop-2-clause-takes : goal.returns-then-not-hop-2-clause-takes
-returns-then-not-hop-2-clause-takes g c exits steps before all ext_before ext =
+returns-then-not-hop-2-clause-takes g c index exits steps before all ext_before ext =
     let t = g.S.ConnSource.timetable c.args.source.now in
     let hop = c.args.hop.now in
     alone_taken (g.C.Criterion.rules c.args.asked.now.criterion) t
@@ -95,9 +94,6 @@ begins g c =
 
 pub walks_into-begin-requires : goal.walks_into-begin-requires
 walks_into-begin-requires g c = begins g (goal.at.walks_into-begin-requires g c).Start
-
-pub returns-then-not-hop-clause-origin : goal.returns-then-not-hop-clause-origin
-returns-then-not-hop-clause-origin g c = record { found = c.requires.found; set_outs = extends_none c.args.self.now.set_outs.items }
 
 pub footpath_into-walk-requires-clause-stop : goal.footpath_into-walk-requires-clause-stop
 footpath_into-walk-requires-clause-stop g c = begins g (goal.at.footpath_into-walk-requires-clause-stop g c).Start

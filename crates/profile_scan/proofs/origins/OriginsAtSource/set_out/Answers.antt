@@ -1,4 +1,5 @@
 use Rattle.std.proofs.Common.{◌≡◌, ◌<◌, ℕ, sym, ◌∙◌, subst, arith}
+use Rattle.bags.specs.Bag.{points_of}
 use Rattle.profile_scan.specs.Between.{question}
 use Rattle.profile_scan.specs.Matching.{from_to}
 use Rattle.profile_scan.specs.Story.{story, spelling_of}
@@ -7,11 +8,12 @@ use Rattle.profile_scan.specs.Adding.{label_points, each_of, IsTried, settings_o
 use Rattle.profile_scan.specs.Origins.{found_from, from_stop, set_outs_from}
 use Rattle.profile_scan.proofs.StoryLemmas.{grows_on, set_outs_grow}
 use Rattle.profile_scan.proofs.BoardLemmas.{starts_first, starts_next, settings_out_taken}
-use Rattle.profile_scan.proofs.OriginLemmas.{origins_none, origins_on}
+use Rattle.profile_scan.proofs.Offers.{bag_under}
+use Rattle.profile_scan.proofs.OriginLemmas.{found_bag, origins_on}
 use Rattle.profile_scan.proofs.StepFacts.{begins_in}
-use Rattle.profile_scan.proofs.origins.Origins.set_out.Given as given
-use Rattle.profile_scan.proofs.origins.Origins.set_out.Goals.{Start}
-use Rattle.profile_scan.proofs.origins.Origins.set_out.Goals as goal
+use Rattle.profile_scan.proofs.origins.OriginsAtSource.set_out.Given as given
+use Rattle.profile_scan.proofs.origins.OriginsAtSource.set_out.Goals.{Start}
+use Rattle.profile_scan.proofs.origins.OriginsAtSource.set_out.Goals as goal
 
 -- the connection begins at a stop
 begins : (g : given.Over) (c : goal.Start g) → c.args.hop.now.connection.from < (g.S.ConnSource.timetable c.args.source.now).stops
@@ -28,18 +30,18 @@ footpath_into-walk-requires-clause-stop g c = begins g (goal.at.footpath_into-wa
 
 pub set_out_by-requires-clause-stop : goal.set_out_by-requires-clause-stop
 set_out_by-requires-clause-stop g c =
-    subst (λ (n : ℕ). c.args.hop.now.connection.from < n) (sym (c.args.self.now.each.ok.0 ∙ c.requires.origins.long))
+    subst (λ (n : ℕ). c.args.hop.now.connection.from < n) (sym (c.args.self.now.each.ok.0 ∙ c.requires.under.0.long))
     (begins g (goal.at.set_out_by-requires-clause-stop g c).Start)
 
 pub set_out_by-requires-clause-origins : goal.set_out_by-requires-clause-origins
-set_out_by-requires-clause-origins g c = c.requires.origins.under
+set_out_by-requires-clause-origins g c = c.requires.under.0.under
 
 pub set_out_by-requires-in-loop-walk_index-clause-stop : goal.set_out_by-requires-in-loop-walk_index-clause-stop
 set_out_by-requires-in-loop-walk_index-clause-stop g c =
     let from_in = ((g.met.S.ConnSource.legal c.args.source.now).ends_in_range c.loop-walk_index.walk_index c.footpath_into-walk.result
     c.footpath_into-walk.ensures).0 in
     subst (λ (n : ℕ). c.footpath_into-walk.result.from < n) (sym (c.loop-walk_index.self.each.ok.0 ∙ c.loop-walk_index.invariant.origins.long
-    ∙ c.requires.origins.long)) from_in
+    ∙ c.requires.under.0.long)) from_in
 
 pub set_out_by-requires-in-loop-walk_index-clause-origins : goal.set_out_by-requires-in-loop-walk_index-clause-origins
 set_out_by-requires-in-loop-walk_index-clause-origins g c = c.loop-walk_index.invariant.origins.under
@@ -106,5 +108,11 @@ returns-clause-takes g c stop exits steps before all ext_before ext =
     (settings_out_by rules tags c.args.hop.now.place c.args.hop.now.connection q labels)) old new) at_end
     (c.loop-walk_index.invariant.takes stop exits steps before all ext_before ext))
 
-pub returns-then-not-hop-clause-origins : goal.returns-then-not-hop-clause-origins
-returns-then-not-hop-clause-origins g c = origins_none c.args.asked.now.criterion c.args.self.now c.requires.origins.under
+-- of each stop the points found are a bag
+pub returns-clause-under : goal.returns-clause-under
+returns-clause-under g c =
+    let inv = c.loop-walk_index.invariant.origins in (
+      record { long = inv.long ∙ c.requires.under.0.long; under = inv.under },
+      found_bag (g.C.Criterion.rules c.args.asked.now.criterion) c.loop-walk_index.self
+          (λ k o at. bag_under g.C.Criterion.rules o.found.criterion c.args.asked.now.criterion (points_of o.found) (inv.under k o at) o.found.kept),
+    )

@@ -1,0 +1,77 @@
+//! Where the journeys of a scan set out, and what it keeps there.
+
+ghost use Rattle.std.specs.Prelude.{◌≡◌, [], ℕ, List, IfOk, OnOk, Contains};
+ghost use Rattle.criteria.specs.Laws.{Admits};
+ghost use Rattle.bags.specs.Dominance.{IsBag};
+ghost use Rattle.fronts.specs.Front.{Extends};
+ghost use Rattle.profile_scan.specs.Story.{SourceValue};
+ghost use Rattle.profile_scan.specs.Adding.{label_points};
+ghost use Rattle.profile_scan.specs.Steps.{settings_out};
+ghost use Rattle.profile_scan.specs.Bound.{IsRenewed};
+ghost use Rattle.profile_scan.specs.Hops.{IsHopOf};
+ghost use Rattle.profile_scan.specs.Starts.{AreStarts};
+ghost use Rattle.profile_scan.specs.Between.{asked_from, question};
+ghost use Rattle.profile_scan.specs.Parts.{AdmitsLabels, SourceTakes};
+
+use crate::bound::Bound;
+use crate::hop::{Hop, ScanQuery};
+use criteria::Criterion;
+use fronts::Label;
+use sources::ConnSource;
+use std::alloc::{AllocError, Global};
+
+/// What a scan keeps where journeys set out. It may answer several questions at once, which differ in their sources
+/// alone, and keeps the points found for each. `Origin` answers one question, from all sources that the query names; it
+/// has any index. `Origins` answers one from each stop, whose index is the stop.
+pub trait AtSource<C: Criterion>: Drop {
+    // what is kept for the question at an index
+    ghost kept: { Self → ℕ → SourceValue C.V };
+
+    // the sources of the question at an index, given those that the query names
+    ghost sources: { List ℕ → ℕ → List ℕ };
+
+    // it is under a criterion, in a timetable of so many stops
+    ghost IsUnder: { C → ℕ → Self → Type 0 };
+
+    /// Nothing found yet, in a timetable of `stops` stops.
+    fn new(alloc: Global, criterion: &C, stops: u32) -> Result<Self, AllocError>
+        ensures under { IfOk result (λ side. IsUnder criterion.now stops side) }
+        ensures none { IfOk result (λ side. (index : ℕ) → (kept side index).found ≡ []) };
+
+    /// Adds to a bound values of points that were found for every question and depart at `time` or later. What the
+    /// bound excluded stays excluded.
+    fn renew(&self, criterion: &C, time: u32, bound: &mut Bound<C>) -> Result<(), AllocError>
+        requires under { (stops : ℕ) × IsUnder criterion.now stops self.now }
+        requires values { (b : _) → Contains bound.old.values.items b → Admits (C.rules criterion.now) b }
+        ensures { OnOk result ((index : ℕ) → IsRenewed (C.rules criterion.now) (kept self.now index).found time
+            bound.old.values.items bound.new.values.items) };
+
+    /// Sets out for a connection, if passengers may get on there. For each question the starts are tried: none, if the
+    /// connection begins at one of its sources, and each footpath there from one of them, except a loop. If the
+    /// question allows the departure with a start, then each label of the connection's trip gives a point, which is
+    /// offered to the points found.
+    fn set_out<S: ConnSource>(
+        &mut self,
+        asked: &ScanQuery<C>,
+        source: &S,
+        hop: &Hop<C::V>,
+        labels: &[Label<C::V>],
+    ) -> Result<(), AllocError>
+        requires hop { IsHopOf (C.rules asked.now.criterion) (S.timetable source.now)
+            (question asked.now.query) hop.now }
+        requires starts { AreStarts (S.timetable source.now) (question asked.now.query).sources asked.now.starts }
+        requires under { IsUnder asked.now.criterion (S.timetable source.now).stops self.old }
+        requires labels { AdmitsLabels (C.rules asked.now.criterion) labels.now }
+        ensures under { OnOk result (IsUnder asked.now.criterion (S.timetable source.now).stops self.new) }
+        ensures set_outs { OnOk result ((index : ℕ)
+            → Extends (kept self.old index).set_outs (kept self.new index).set_outs) }
+        ensures takes { OnOk result ((index : ℕ)
+            → SourceTakes (C.rules asked.now.criterion) (S.timetable source.now).footpaths
+            (λ tags. settings_out (C.rules asked.now.criterion) (S.timetable source.now)
+            (asked_from sources (question asked.now.query) index) tags hop.now.place (label_points labels.now))
+            (kept self.old index) (kept self.new index)) };
+
+    // the points found are a bag
+    ghost bags: { (criterion : C) (stops : ℕ) (side : Self) → IsUnder criterion stops side → (index : ℕ)
+        → IsBag (C.rules criterion) (kept side index).found };
+}
