@@ -8,7 +8,7 @@ use Rattle.std.proofs.lemmas.List.Elements.{Contains-append_right}
 use Rattle.reasoning.proofs.ListLemmas.{contains_cases, contains_first, not_in_nil}
 use Rattle.image_layout.specs.Image.{ImageValue}
 use Rattle.matrix_rows.specs.Tables.{AreWithin, CanBeMade, HasWindow, IsTableBegun}
-use Rattle.matrix_rows.specs.declared.table.Table.{Table}
+use Rattle.matrix_rows.specs.declared.table.TravelTable.{TravelTable}
 use Rattle.command_requests.specs.declared.requests.MatrixRequest.{MatrixRequest}
 use Rattle.command_requests.specs.declared.statuses.TheConstants.{ACCEPTED, COMMAND_LINE, INPUT_OUTPUT, OUT_OF_MEMORY}
 use Rattle.csa_commands.specs.Ending.{Ends, IsBegun}
@@ -44,7 +44,7 @@ sources_within may_hold None image sets are =
 sources_within may_hold (Some path) image sets are = are.2.within
 
 -- a table can be made if its stops are those of the image, and its times make a window
-pub can_be_made : (table : Table) → AreWithin table.image.now table.targets.now → AreWithin table.image.now table.sources.now → HasWindow table
+pub can_be_made : (table : TravelTable) → AreWithin table.image.now table.targets.now → AreWithin table.image.now table.sources.now → HasWindow table
     → (targets : Vec ℕ) → Contains table.targets.now targets → CanBeMade table targets.items
 can_be_made table within sources window targets h = record {
   sources = sources;
@@ -59,7 +59,7 @@ can_be_made table within sources window targets h = record {
 }
 
 -- the table that was made is the one that is asked for
-pub table_asked : (may_hold : List ℕ → Option (List ℕ) → Type 0) (image : ImageValue) (request : MatrixRequest) (table : Table)
+pub table_asked : (may_hold : List ℕ → Option (List ℕ) → Type 0) (image : ImageValue) (request : MatrixRequest) (table : TravelTable)
     (targets sources : List (Vec ℕ)) → table.image.now ≡ image → table.targets.now ≡ targets → table.sources.now ≡ sources
     → (table.after ≡ request.after) × (table.until ≡ request.until) × (table.by ≡ request.by)
     → (table.criterion ≡ request.criterion) × (table.each ≡ request.each)
@@ -72,12 +72,12 @@ table_asked may_hold image request table targets sources is same_targets same_so
   form = form;
 }
 
-pub targets_are_within : (may_hold : List ℕ → Option (List ℕ) → Type 0) (image : ImageValue) (request : MatrixRequest) (table : Table)
+pub targets_are_within : (may_hold : List ℕ → Option (List ℕ) → Type 0) (image : ImageValue) (request : MatrixRequest) (table : TravelTable)
     → IsTableOf may_hold image request table → AreWithin table.image.now table.targets.now
 targets_are_within may_hold image request table of =
     subst (λ (i : ImageValue). AreWithin i table.targets.now) (sym of.image_is) of.targets.2.within
 
-pub sources_are_within : (may_hold : List ℕ → Option (List ℕ) → Type 0) (image : ImageValue) (request : MatrixRequest) (table : Table)
+pub sources_are_within : (may_hold : List ℕ → Option (List ℕ) → Type 0) (image : ImageValue) (request : MatrixRequest) (table : TravelTable)
     → IsTableOf may_hold image request table → AreWithin table.image.now table.sources.now
 sources_are_within may_hold image request table of =
     subst (λ (i : ImageValue). AreWithin i table.sources.now) (sym of.image_is)
@@ -91,7 +91,7 @@ bad_times_of after until by a u b before now same-a same-u same-b bad =
     (subst (λ (x : ℕ). IsBadWindow a x by before now) same-u
     (subst (λ (x : ℕ). IsBadWindow a u x before now) same-b bad))
 
-pub bad_window_of : (may_hold : List ℕ → Option (List ℕ) → Type 0) (image : ImageValue) (request : MatrixRequest) (table : Table)
+pub bad_window_of : (may_hold : List ℕ → Option (List ℕ) → Type 0) (image : ImageValue) (request : MatrixRequest) (table : TravelTable)
     (before now : Option (List ℕ)) → IsTableOf may_hold image request table
     → IsBadWindow table.after table.until table.by before now → IsBadWindow request.after request.until request.by before now
 bad_window_of may_hold image request table before now of bad =
@@ -157,12 +157,12 @@ unread_list may_hold path image status (inr is) = record {
 }
 
 -- what was printed of a table that was begun, or of a line for its times
-pub cut_table : (table : Table) (out : List ℕ) (before after : Option (List ℕ)) → HasWindow table
+pub cut_table : (table : TravelTable) (out : List ℕ) (before after : Option (List ℕ)) → HasWindow table
     → (after ≡ before) ⊎ IsShownInPart table out before after → IsCutShort table out before after
 cut_table table out before after window (inl same) = inl same
 cut_table table out before after window (inr part) = inr (inr (window, part))
 
-pub cut_refusal : (status : ℕ) (table : Table) (out : List ℕ) (before after : Option (List ℕ)) → AreBadTimes table.after table.until table.by
+pub cut_refusal : (status : ℕ) (table : TravelTable) (out : List ℕ) (before after : Option (List ℕ)) → AreBadTimes table.after table.until table.by
     → (status ≡ INPUT_OUTPUT → IsBegun before after (refusal_line (Query BadWindow))) → (status ≡ OUT_OF_MEMORY → after ≡ before)
     → (status ≡ INPUT_OUTPUT) ⊎ (status ≡ OUT_OF_MEMORY) → IsCutShort table out before after
 cut_refusal status table out before after bad begun silent (inl is) = inr (inl (bad, begun is))

@@ -13,9 +13,9 @@ use Rattle.timetable.specs.declared.query.Query.{Query}
 use Rattle.timetable.specs.declared.query.QueryFault.TheVariants.{BadWindow}
 use Rattle.matrix_rows.specs.Listed.{AreListed, HasStopTwice, IsLineTwice, IsUnknownLine}
 use Rattle.matrix_rows.specs.Tables.{AreWithin, HasWindow, IsTable, IsTableBegun}
-use Rattle.matrix_rows.specs.declared.lists.ListFault.{ListFault}
-use Rattle.matrix_rows.specs.declared.lists.ListFault.TheVariants.{Empty, LineTwice, OutOfMemory, StopTwice, UnknownStop}
-use Rattle.matrix_rows.specs.declared.table.Table.{Table}
+use Rattle.matrix_rows.specs.declared.lists.SetListFault.{SetListFault}
+use Rattle.matrix_rows.specs.declared.lists.SetListFault.TheVariants.{Empty, LineTwice, OutOfMemory, StopTwice, UnknownStop}
+use Rattle.matrix_rows.specs.declared.table.TravelTable.{TravelTable}
 use Rattle.command_requests.specs.declared.requests.MatrixRequest.{MatrixRequest}
 use Rattle.command_requests.specs.declared.statuses.TheConstants.{ACCEPTED, COMMAND_LINE, INPUT_OUTPUT, OUT_OF_MEMORY, REFUSED}
 use Rattle.csa_commands.specs.Ending.{Ends, EndsUndone, IsBegun}
@@ -59,7 +59,7 @@ abbrev pub HasUnknown : ImageValue → List ℕ → Type 0
 HasUnknown image list = (number : ℕ) × IsUnknownLine image.names (lines list) number
 
 -- the status for a list that doesn't say which stops are meant
-abbrev pub fault_status : ListFault → ℕ
+abbrev pub fault_status : SetListFault → ℕ
 fault_status (UnknownStop number) = REFUSED
 fault_status (StopTwice number) = COMMAND_LINE
 fault_status (LineTwice first second) = COMMAND_LINE
@@ -96,7 +96,7 @@ pub record IsUnasked (may_hold : List ℕ → Option (List ℕ) → Type 0) (req
   pub bad : status ≡ COMMAND_LINE → HoldsOfList may_hold request IsNoList
 
 -- a table is the one that is asked for
-pub record IsTableOf (may_hold : List ℕ → Option (List ℕ) → Type 0) (image : ImageValue) (request : MatrixRequest) (table : Table) : Type 0 where
+pub record IsTableOf (may_hold : List ℕ → Option (List ℕ) → Type 0) (image : ImageValue) (request : MatrixRequest) (table : TravelTable) : Type 0 where
   pub image_is : table.image.now ≡ image
   pub targets : AreOfList may_hold request.to.now image table.targets.now
   pub sources : AreSources may_hold request.from image table.sources.now
@@ -116,24 +116,24 @@ IsBadWindow after until by before now = AreBadTimes after until by × Appends be
 unfoldable pub counts_text : ℕ → ℕ → List ℕ
 counts_text targets sources = (codes "targets " ++ decimal targets) ++ (codes " sources " ++ decimal sources) ++ codes "\n"
 
-abbrev pub counts_of : Table → List ℕ
+abbrev pub counts_of : TravelTable → List ℕ
 counts_of table = counts_text (length table.targets.now) (length table.sources.now)
 
 -- a table was put at `out`, and its counts were printed; or it was printed itself, if that is `-`
-pub record IsTableShown (disk : OutFiles) (table : Table) (out : List ℕ) (before after : Option (List ℕ)) : Type 0 where
+pub record IsTableShown (disk : OutFiles) (table : TravelTable) (out : List ℕ) (before after : Option (List ℕ)) : Type 0 where
   pub shown : out ≡ codes "-" → (text : List ℕ) × IsTable table text × Appends before after text
   pub put : out ≢ codes "-" → (text : List ℕ) × IsTable table text × IsPut disk out text
   pub counted : out ≢ codes "-" → Appends before after (counts_of table)
 
 -- a first part of that
-pub record IsShownInPart (table : Table) (out : List ℕ) (before after : Option (List ℕ)) : Type 0 where
+pub record IsShownInPart (table : TravelTable) (out : List ℕ) (before after : Option (List ℕ)) : Type 0 where
   pub begun : out ≡ codes "-" → IsTableBegun table before after
   pub counted : out ≢ codes "-" → IsBegun before after (counts_of table)
 
 -- the table that is asked for, whose times make a window, was printed, or put at its path
 abbrev pub IsTablePrinted : (List ℕ → Option (List ℕ) → Type 0) → OutFiles → ImageValue → MatrixRequest → Option (List ℕ) → Option (List ℕ) → Type 0
 IsTablePrinted may_hold disk image request before after =
-    (table : Table) × IsTableOf may_hold image request table × HasWindow table × IsTableShown disk table request.out.now before after
+    (table : TravelTable) × IsTableOf may_hold image request table × HasWindow table × IsTableShown disk table request.out.now before after
 
 -- a table is refused for its times, whose line was printed; or for a line of a list that has what is no stop_id, and then nothing was printed
 abbrev pub IsTableRefused : (List ℕ → Option (List ℕ) → Type 0) → ImageValue → MatrixRequest → Option (List ℕ) → Option (List ℕ) → Type 0
@@ -147,7 +147,7 @@ IsTableUnlisted may_hold request before after = HoldsOfList may_hold request IsN
 
 -- what was printed of a table if a file or a line can't be written, or memory ran out: nothing, a first part of the line for bad times, or of what is
 -- printed of the table
-abbrev pub IsCutShort : Table → List ℕ → Option (List ℕ) → Option (List ℕ) → Type 0
+abbrev pub IsCutShort : TravelTable → List ℕ → Option (List ℕ) → Option (List ℕ) → Type 0
 IsCutShort table out before after =
     (after ≡ before)
     ⊎ (AreBadTimes table.after table.until table.by × IsBegun before after (refusal_line (OfQuery BadWindow)))
@@ -156,4 +156,4 @@ IsCutShort table out before after =
 -- the same of the table that is asked for; or nothing
 abbrev pub IsTableCutShort : (List ℕ → Option (List ℕ) → Type 0) → ImageValue → MatrixRequest → Option (List ℕ) → Option (List ℕ) → Type 0
 IsTableCutShort may_hold image request before after =
-    (after ≡ before) ⊎ ((table : Table) × IsTableOf may_hold image request table × IsCutShort table request.out.now before after)
+    (after ≡ before) ⊎ ((table : TravelTable) × IsTableOf may_hold image request table × IsCutShort table request.out.now before after)

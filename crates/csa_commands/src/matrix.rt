@@ -29,7 +29,7 @@ use command_requests::{MatrixRequest, TableWorkers};
 use feed_messages::explain;
 use image_files::{ImageDisk, OutDisk, new_file, settle};
 use image_verifier::Verified;
-use matrix_rows::{Reports, Table, write_table};
+use matrix_rows::{TableReports, TravelTable, write_table};
 use std::alloc::{AllocError, Global};
 use std::io;
 use std::io::{ErrorKind, Write};
@@ -41,7 +41,7 @@ use timetable::QueryFault;
 
 /// What goes to standard error besides explanations.
 #[derive(Clone, Copy, Drop)]
-pub struct Notes {
+pub struct TableNotes {
     /// Whether it is a terminal: then progress is shown, in one line that is rewritten.
     pub is_terminal: bool,
     /// Whether a window that goes beyond the image's connections is warned of.
@@ -63,7 +63,7 @@ pub fn run<
     request: MatrixRequest<'_>,
     output: &mut O,
     errors: &mut E,
-    notes: Notes,
+    notes: TableNotes,
 ) -> u8
     ensures status { EndsTable result }
     ensures printed { result ≡ ACCEPTED → IsTablePrinted (H.may_hold rt.now) (H.files rt.now) image.now
@@ -114,11 +114,11 @@ fn stops_asked<H: Files + ImageDisk<Image = H::File> + AllocGlobal, E: Write>(
 // Writes the table that is asked for, if its window is good.
 fn make_table<H: OutDisk + AllocGlobal + Clock + Threads + Sync, O: Write, E: Write>(
     rt: &H,
-    table: &Table<'_>,
+    table: &TravelTable<'_>,
     request: MatrixRequest<'_>,
     output: &mut O,
     errors: &mut E,
-    notes: Notes,
+    notes: TableNotes,
 ) -> u8
     requires targets { AreWithin table.now.image.now table.now.targets.now }
     requires sources { AreWithin table.now.image.now table.now.sources.now }
@@ -142,7 +142,7 @@ fn make_table<H: OutDisk + AllocGlobal + Clock + Threads + Sync, O: Write, E: Wr
     write_asked(rt, table, request, output, errors, notes.is_terminal)
 }
 
-fn warn_of_table<E: Write>(table: &Table<'_>, errors: &mut E) {
+fn warn_of_table<E: Write>(table: &TravelTable<'_>, errors: &mut E) {
     let departures = DepartureRange {
         first: table.after,
         last: table.until,
@@ -155,14 +155,14 @@ fn table_of<'a>(
     targets: &'a [Vec<u32>],
     sources: &'a [Vec<u32>],
     request: MatrixRequest<'_>,
-) -> Table<'a>
+) -> TravelTable<'a>
     ensures image { result.image.now ≡ image.now }
     ensures stops { (result.targets.now ≡ targets.now) × (result.sources.now ≡ sources.now) }
     ensures times { (result.after ≡ request.entry.after) × (result.until ≡ request.entry.until)
         × (result.by ≡ request.entry.by) }
     ensures form { (result.criterion ≡ request.entry.criterion) × (result.each ≡ request.entry.each) }
 {
-    Table {
+    TravelTable {
         image,
         targets,
         sources,
@@ -220,7 +220,7 @@ fn sources_asked<H: Files + ImageDisk<Image = H::File> + AllocGlobal, E: Write>(
 // Prints the refusal of a window, and says what is wrong.
 fn refuse_window<O: Write, E: Write>(
     alloc: Global,
-    table: &Table<'_>,
+    table: &TravelTable<'_>,
     output: &mut O,
     errors: &mut E,
 ) -> u8
@@ -243,7 +243,7 @@ fn refuse_window<O: Write, E: Write>(
 // Writes the table to where it is asked for, and says how that ended.
 fn write_asked<H: OutDisk + AllocGlobal + Clock + Threads + Sync, O: Write, E: Write>(
     rt: &H,
-    table: &Table<'_>,
+    table: &TravelTable<'_>,
     request: MatrixRequest<'_>,
     output: &mut O,
     errors: &mut E,
@@ -279,7 +279,7 @@ fn write_asked<H: OutDisk + AllocGlobal + Clock + Threads + Sync, O: Write, E: W
 // Writes the table to where it is asked for, and reports progress to `log`, if there is one.
 fn put_reported<'c, H: OutDisk + AllocGlobal + Clock + Threads + Sync, O: Write, E: Write>(
     rt: &'c H,
-    table: &Table<'_>,
+    table: &TravelTable<'_>,
     request: MatrixRequest<'_>,
     output: &mut O,
     log: Option<&'c mut E>,
@@ -303,9 +303,9 @@ fn put_reported<'c, H: OutDisk + AllocGlobal + Clock + Threads + Sync, O: Write,
 }
 
 // Writes the table to a path, or to `output` if that is `-`.
-fn put_table<H: OutDisk + AllocGlobal + Threads + Sync, O: Write, P: Reports>(
+fn put_table<H: OutDisk + AllocGlobal + Threads + Sync, O: Write, P: TableReports>(
     rt: &H,
-    table: &Table<'_>,
+    table: &TravelTable<'_>,
     workers: TableWorkers,
     path: &str,
     output: &mut O,
@@ -361,7 +361,7 @@ fn printed(outcome: io::Result<()>) -> u8
 }
 
 // Prints how many sets of stops a table has.
-fn print_counts<O: Write>(alloc: Global, table: &Table<'_>, output: &mut O) -> u8
+fn print_counts<O: Write>(alloc: Global, table: &TravelTable<'_>, output: &mut O) -> u8
     ensures status { EndsWritten result }
     ensures printed { result ≡ ACCEPTED
         → Appends (O.contents output.old) (O.contents output.new) (counts_of table.now) }

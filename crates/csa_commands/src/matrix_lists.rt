@@ -11,7 +11,7 @@ use crate::status;
 use feed_messages::{explain, quoted};
 use image_files::ImageDisk;
 use image_verifier::Verified;
-use matrix_rows::{ListFault, sets_listed};
+use matrix_rows::{SetListFault, sets_listed};
 use std::alloc::{AllocError, Global};
 use std::io::{ErrorKind, Write};
 use std::rt::Files;
@@ -64,33 +64,33 @@ fn refused<E: Write>(
     image: &Verified,
     option: ListOption<'_>,
     list: &str,
-    fault: ListFault,
+    fault: SetListFault,
     errors: &mut E,
 ) -> u8
     ensures { result ≡ fault_status fault }
 {
     match fault {
-        ListFault::UnknownStop(number) => {
+        SetListFault::UnknownStop(number) => {
             explain_unknown(alloc, image, option, list, number, errors);
             status::REFUSED
         }
-        ListFault::StopTwice(number) => {
+        SetListFault::StopTwice(number) => {
             let reason = "it has a stop_id twice";
             explain_at(alloc, option, list, number, reason, errors);
             status::COMMAND_LINE
         }
-        ListFault::LineTwice(first, second) => {
+        SetListFault::LineTwice(first, second) => {
             explain_twice(alloc, option, list, first, second, errors);
             status::COMMAND_LINE
         }
-        ListFault::Empty => {
+        SetListFault::Empty => {
             explain(
                 errors,
                 &["csa: ", option.name, " ", option.path, ": it has no line"],
             );
             status::COMMAND_LINE
         }
-        ListFault::OutOfMemory => status::OUT_OF_MEMORY,
+        SetListFault::OutOfMemory => status::OUT_OF_MEMORY,
     }
 }
 

@@ -1,7 +1,7 @@
 //! Reports of progress while a table of travel times is written.
 
 use crate::elapsed::StartInstant;
-use matrix_rows::Reports;
+use matrix_rows::TableReports;
 use std::alloc::Global;
 use std::io::Write;
 use std::time::Clock;
@@ -61,7 +61,7 @@ impl<'c, C: Clock, W: Write> TableProgress<'c, C, W> {
     }
 }
 
-impl<'c, C: Clock, W: Write> Reports for TableProgress<'c, C, W> {
+impl<'c, C: Clock, W: Write> TableReports for TableProgress<'c, C, W> {
     fn note_targets(&mut self, targets: usize) {
         self.done = self.done.saturating_add(targets as u64);
         let (done, all, left) = (self.done, self.targets, self.left());

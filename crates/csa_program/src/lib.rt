@@ -30,7 +30,7 @@ pub use crate::machine::Machine;
 pub use crate::watching::{Watched, WatchedWriter};
 use command_line::{NoCommand, wants_warnings};
 use command_requests::{CommandRequest, DeparturesRequest, MatrixRequest, ProfileRequest};
-use csa_commands::matrix::Notes;
+use csa_commands::matrix::TableNotes;
 use csa_commands::{
     ImageRequest, answer, build, days, explain, explain_zone, matrix, open_image, reason_of,
     stations, status, tables,
@@ -63,7 +63,7 @@ pub fn run<
         × IsEndOf (H.ImageDisk.may_hold rt.now) H.Disk.gives (H.OutDisk.files rt.now) (I.remaining input.old) asked
         result (O.Write.contents output.old) (O.Write.contents output.new) }
 {
-    let notes = Notes {
+    let notes = TableNotes {
         is_terminal,
         warnings: wants_warnings(words),
     };
@@ -126,7 +126,7 @@ fn run_read<
     input: &mut I,
     output: &mut O,
     errors: &mut E,
-    notes: Notes,
+    notes: TableNotes,
 ) -> u8
     ensures { IsEndOf (H.ImageDisk.may_hold rt.now) H.Disk.gives (H.OutDisk.files rt.now) (I.remaining input.old)
         asked.entry result (O.contents output.old) (O.contents output.new) }
@@ -155,7 +155,7 @@ fn run_request<
     input: &mut I,
     output: &mut O,
     errors: &mut E,
-    notes: Notes,
+    notes: TableNotes,
 ) -> u8
     ensures { IsEnd (H.ImageDisk.may_hold rt.now) H.Disk.gives (H.OutDisk.files rt.now) (I.remaining input.old)
         request.entry result (O.contents output.old) (O.contents output.new) }
@@ -256,7 +256,7 @@ fn matrix_over<
     input: &mut I,
     output: &mut O,
     errors: &mut E,
-    notes: Notes,
+    notes: TableNotes,
 ) -> u8
     ensures { IsTableEnd (H.ImageDisk.may_hold rt.now) (H.OutDisk.files rt.now) (I.remaining input.old) request.entry
         result (O.contents output.old) (O.contents output.new) }

@@ -21,7 +21,7 @@ use Rattle.travel_times.specs.Fields.{pair_fields}
 use Rattle.travel_times.specs.Figures.{AreInOrder}
 use Rattle.travel_times.specs.declared.spans.Span.{Span}
 use Rattle.matrix_rows.specs.Tables.{IsMeanFrom, destination, point_row, span_of, spans_of, waiting}
-use Rattle.matrix_rows.specs.declared.table.Table.{Table}
+use Rattle.matrix_rows.specs.declared.table.TravelTable.{TravelTable}
 
 -- the answer from a stop, under the criterion that was asked for
 pub answer_at : {K V : Type 0} {c : _} (rules_of : K → Rules V) (t : TimetableValue) (profiles : ProfilesToAny K V c) (criterion : K) (stop : ℕ)
@@ -65,13 +65,13 @@ waiting_asked stops b can = record {
 }
 
 -- if they may anyway, they are asked for
-abbrev asked_until : Table → List ℕ → ℕ → BetweenValue
+abbrev asked_until : TravelTable → List ℕ → ℕ → BetweenValue
 asked_until table targets until = record { sources = []; targets = targets; from = table.after; until = until; by = table.by }
 
-waits_as_asked : (table : Table) (targets : List ℕ) → table.until ≡ table.by → waiting (destination table targets) ≡ destination table targets
+waits_as_asked : (table : TravelTable) (targets : List ℕ) → table.until ≡ table.by → waiting (destination table targets) ≡ destination table targets
 waits_as_asked table targets same = ap (asked_until table targets) (sym same)
 
-module _ {V : Type 0} (figures : V → Figures) (rules : Rules V) (image : ImageValue) (table : Table) (targets : List ℕ) (sources : List (Vec ℕ))
+module _ {V : Type 0} (figures : V → Figures) (rules : Rules V) (image : ImageValue) (table : TravelTable) (targets : List ℕ) (sources : List (Vec ℕ))
     (means : List (Option ℕ)) where
   pub means_waited : (found : BetweenValue) → found ≡ destination table targets
       → AllZip (IsMeanFrom figures rules image (waiting (destination table targets)) table.after table.until) sources means

@@ -1,21 +1,16 @@
 -- Texts that several threads made, put together.
-use Rattle.std.proofs.Common.{◌≡◌, ◌<◌, ◌≤◌, ◌+◌, ◌-◌, ◌*◌, ◌/◌, ◌%◌, ℕ, min, suc, List, [], ◌∷◌, ◌++◌, Option, None, Some}
-use Rattle.std.proofs.Common.{Result, Ok, Err, Contains, IfOk, IfSome, OnErr, OnOk}
-use Rattle.std.proofs.Common.{length, take, drop, get_or, inl, inr, option_map, refl, sym, ◌∙◌, ap, subst, arith, append_assoc, append-nil}
+use Rattle.std.proofs.Common.{◌≡◌, ◌≤◌, ◌+◌, ◌-◌, ℕ, List, [], ◌++◌, Option, None, Some}
+use Rattle.std.proofs.Common.{Result, Ok, Err, Contains, OnErr, OnOk}
+use Rattle.std.proofs.Common.{length, take, drop, refl, sym, ◌∙◌, ap, subst, arith, append_assoc, append-nil}
 use Rattle.std.specs.Global.{Vec}
 use Rattle.std.specs.Io.KnownBytes.{Appends, Keeps}
 use Rattle.std.proofs.lemmas.List.Elements.{Contains-append_left, Contains-append_right}
-use Rattle.std.specs.declared.alloc.AllocError.{AllocError}
-use Rattle.std.proofs.lemmas.List.{drop-drop, drop_all, drop_more, length-drop, length-take-le, nil_from_length, take-append-drop, take_all, take_more}
+use Rattle.std.proofs.lemmas.List.{length-drop, length-take-le, take-append-drop, take_all}
 use Rattle.std.proofs.Math.Seq.{take-append-add}
-use Rattle.std.proofs.lemmas.Bool.{cases_lt}
-use Rattle.std.proofs.lemmas.Nat.{div-add-mod', mod_below}
-use Rattle.std.proofs.lemmas.Option.{none-some, same_Some}
-use native.Mathlib.Nat.{add-mul, one-mul, suc-mul, zero-mul}
 use Rattle.csv.specs.Writing.{default_writer, row_text}
 use Rattle.matrix_rows.specs.Tables.{AreRowsOf, IsBegun, IsRunBegun, IsTableBegun, names_of}
-use Rattle.matrix_rows.specs.declared.table.Table.{Table}
-use Rattle.matrix_rows.proofs.Targets.{no_targets, targets_joined}
+use Rattle.matrix_rows.specs.declared.table.TravelTable.{TravelTable}
+use Rattle.matrix_rows.proofs.Targets.{targets_joined}
 
 pub in_middle : {X : Type 0} (front part rest xs : List X) → front ++ (part ++ rest) ≡ xs → (x : X) → Contains part x → Contains xs x
 in_middle {X} front part rest xs is x h =
@@ -68,14 +63,6 @@ begun_after u v w front text first is = record {
   added = appended_in_turns u v w front is.written first is.added;
 }
 
-pub begun_before : (u v : Option (List ℕ)) (text more : List ℕ) → IsBegun u v text → IsBegun u v (text ++ more)
-begun_before u v text more is = record {
-  written = is.written;
-  left = is.left ++ more;
-  whole = sym (append_assoc is.written is.left more) ∙ ap (λ (t : List ℕ). t ++ more) is.whole;
-  added = is.added;
-}
-
 take_further : (done n : ℕ) (xs : List ℕ) → done ≤ length xs → take done xs ++ take n (drop done xs) ≡ take (done + n) xs
 take_further done n xs least =
     let split : take done xs ++ drop done xs ≡ xs = take-append-drop done xs in
@@ -98,30 +85,16 @@ appended_further u v w xs done n least x y =
 pub begun_at : (u v : Option (List ℕ)) (text : List ℕ) (done : ℕ) → Appends u v (take done text) → IsBegun u v text
 begun_at u v text done is = record { written = take done text; left = drop done text; whole = take-append-drop done text; added = is }
 
--- the next text of several was begun
-pub begun_next : (u v w : Option (List ℕ)) (done text more rest all : List ℕ) → Appends u v done → IsBegun v w text → text ++ more ≡ rest → done ++ rest ≡ all
-    → IsBegun u w all
-begun_next u v w done text more rest all first is next whole =
-    subst (IsBegun u w) (ap (λ (t : List ℕ). done ++ t) next ∙ whole)
-    (begun_after u v w done (text ++ more) first (begun_before v w text more is))
-
 -- the rows of a run were begun after those of other targets
-pub run_begun : (table : Table) (done run rest : List (Vec ℕ)) (rows : List ℕ) (u v w : Option (List ℕ)) → done ++ (run ++ rest) ≡ table.targets.now
+pub run_begun : (table : TravelTable) (done run rest : List (Vec ℕ)) (rows : List ℕ) (u v w : Option (List ℕ)) → done ++ (run ++ rest) ≡ table.targets.now
     → AreRowsOf table done rows → Appends u v (row_text default_writer (names_of table.each) ++ rows) → IsRunBegun table run v w → IsTableBegun table u w
-run_begun table done run rest rows u v w is are added (inl same) = record {
-  first = done;
-  others = run ++ rest;
-  rows = rows;
-  targets = is;
-  are = are;
-  begun = subst (λ (x : Option (List ℕ)). IsBegun u x (row_text default_writer (names_of table.each) ++ rows)) (sym same) (begun_by_all u v _ added);
-}
-run_begun table done run rest rows u v w is are added (inr more) = record {
-  first = done ++ run;
-  others = rest;
-  rows = rows ++ more.0;
-  targets = append_assoc done run rest ∙ is;
-  are = targets_joined table done run rows more.0 are more.1;
-  begun = subst (IsBegun u w) (append_assoc (row_text default_writer (names_of table.each)) rows more.0)
-      (begun_after u v w (row_text default_writer (names_of table.each) ++ rows) more.0 added more.2);
+run_begun table done run rest rows u v w is are added begun = record {
+  first = done ++ begun.first;
+  others = begun.others ++ rest;
+  rows = rows ++ begun.rows;
+  targets = append_assoc done begun.first (begun.others ++ rest)
+      ∙ ap (λ (t : List (Vec ℕ)). done ++ t) (sym (append_assoc begun.first begun.others rest) ∙ ap (λ (t : List (Vec ℕ)). t ++ rest) begun.targets) ∙ is;
+  are = targets_joined table done begun.first rows begun.rows are begun.are;
+  begun = subst (IsBegun u w) (append_assoc (row_text default_writer (names_of table.each)) rows begun.rows)
+      (begun_after u v w (row_text default_writer (names_of table.each) ++ rows) begun.rows added begun.begun);
 }

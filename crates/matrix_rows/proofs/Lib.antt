@@ -2,9 +2,9 @@ mod Answering
 mod Joins
 mod Merges
 mod Repeats
+mod Runs
 mod SetLemmas
 mod Sought
 mod Sources
 mod Targets
-mod Turns
 mod Walks

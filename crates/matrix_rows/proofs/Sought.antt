@@ -17,12 +17,12 @@ use Rattle.reasoning.proofs.ListLemmas.{contains_at, contains_cases, not_in_nil,
 use Rattle.timetable.specs.Legal.{At}
 use Rattle.timetable.specs.NamesValue.{NamesValue}
 use Rattle.answer_pictures.specs.Naming.{bytes_or_none, stop_bytes}
-use Rattle.matrix_rows.specs.Listed.{AreAllNamed, IsListFault, IsUnknownLine, IsUnnamed, ids_in}
+use Rattle.matrix_rows.specs.Listed.{AreAllNamed, IsUnknownLine, IsUnnamed, ids_in}
 use Rattle.journeys.specs.Questions.{IsNamed}
 use Rattle.matrix_rows.specs.Sought.{AreFound, AreFoundBelow, AreSought, IsFirstMissing, IsMissing, IsOneMissing, first_of, found_at, now_found}
 use Rattle.matrix_rows.specs.Sought.{stop_in}
-use Rattle.matrix_rows.specs.declared.lists.ListFault.{ListFault}
-use Rattle.matrix_rows.specs.declared.lists.ListFault.TheVariants.{Empty, LineTwice, OutOfMemory, StopTwice, UnknownStop}
+use Rattle.matrix_rows.specs.declared.lists.SetListFault.{SetListFault}
+use Rattle.matrix_rows.specs.declared.lists.SetListFault.TheVariants.{Empty, LineTwice, OutOfMemory, StopTwice, UnknownStop}
 
 -- no name is sought yet
 pub none_sought : (found : BTreeMap (Bor (List ℕ)) (Option ℕ)) → IsEmpty found → AreSought [] found
@@ -272,7 +272,7 @@ unknown_line names listed found number are first = record {
     by (Some None) e stop at = are.by_none first.missing.0 e stop (slice_get_within names.stops stop first.missing.0 at) at
     by (Some (Some n)) e stop at = none-some n (sym first.missing.2 ∙ ap stop_in e)
 
-pub unnamed : (names : NamesValue) (listed : List (List ℕ)) (found : BTreeMap (Bor (List ℕ)) (Option ℕ)) (fault : ListFault)
+pub unnamed : (names : NamesValue) (listed : List (List ℕ)) (found : BTreeMap (Bor (List ℕ)) (Option ℕ)) (fault : SetListFault)
     → AreFoundBelow names (flat_map ids_in listed) (length names.stops) found → IsMissing found listed fault → IsUnnamed names listed fault
 unnamed names listed found (UnknownStop number) are missing = unknown_line names listed found number are missing
 unnamed names listed found (StopTwice number) are missing = missing

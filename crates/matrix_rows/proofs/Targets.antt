@@ -6,15 +6,15 @@ use Rattle.std.proofs.lemmas.Grind.{flat_map-append}
 use Rattle.std.proofs.lemmas.List.{append-nil}
 use Rattle.std.proofs.lemmas.Slice.Zip.{all_zipped_more}
 use Rattle.matrix_rows.specs.Tables.{AreRowsBy, AreRowsOf}
-use Rattle.matrix_rows.specs.declared.table.Table.{Table}
+use Rattle.matrix_rows.specs.declared.table.TravelTable.{TravelTable}
 
-abbrev rows_by : Table → Vec ℕ → List ℕ → Type 0
+abbrev rows_by : TravelTable → Vec ℕ → List ℕ → Type 0
 rows_by table targets part = AreRowsBy table.criterion table targets.items part
 
-pub no_targets : (table : Table) (text : List ℕ) → text ≡ [] → AreRowsOf table [] text
+pub no_targets : (table : TravelTable) (text : List ℕ) → text ≡ [] → AreRowsOf table [] text
 no_targets table text none = record { parts = []; are = tt; text_is = none }
 
-pub target_added : (table : Table) (targets : List (Vec ℕ)) (text part more : List ℕ) (target : Vec ℕ) → AreRowsOf table targets text
+pub target_added : (table : TravelTable) (targets : List (Vec ℕ)) (text part more : List ℕ) (target : Vec ℕ) → AreRowsOf table targets text
     → AreRowsBy table.criterion table target.items part → more ≡ text ++ part → AreRowsOf table (targets ++ target ∷ []) more
 target_added table targets text part more target rows is added = record {
   parts = rows.parts ++ part ∷ [];
@@ -31,7 +31,7 @@ all_zipped_append R [] us (y ∷ ys) vs zipped more = absurd zipped
 all_zipped_append R (x ∷ xs) us [] vs zipped more = absurd zipped
 all_zipped_append R (x ∷ xs) us (y ∷ ys) vs zipped more = (zipped.0, all_zipped_append R xs us ys vs zipped.1 more)
 
-pub targets_joined : (table : Table) (targets others : List (Vec ℕ)) (text rest : List ℕ) → AreRowsOf table targets text → AreRowsOf table others rest
+pub targets_joined : (table : TravelTable) (targets others : List (Vec ℕ)) (text rest : List ℕ) → AreRowsOf table targets text → AreRowsOf table others rest
     → AreRowsOf table (targets ++ others) (text ++ rest)
 targets_joined table targets others text rest first second = record {
   parts = first.parts ++ second.parts;

@@ -1,5 +1,5 @@
 -- The shortest footpath from several stops.
-use Rattle.std.proofs.Common.{◌≡◌, ◌⊎◌, ◌≤◌, ◌∙◌, ℕ, min, List, [], ◌∷◌, ◌++◌, Option, None, Some, Contains, arith, inl, inr, refl, subst, sym}
+use Rattle.std.proofs.Common.{◌≡◌, ◌⊎◌, ◌≤◌, ℕ, min, List, [], ◌∷◌, ◌++◌, Option, None, Some, Contains, arith, inl, inr, refl, subst}
 use Rattle.std.proofs.lemmas.Bool.{cases_lt}
 use Rattle.std.proofs.lemmas.List.Elements.{Contains-append_left, Contains-append_right, Contains-push_cases}
 use Rattle.reasoning.proofs.ListLemmas.{at_contains, contains_at, contains_first, not_in_nil}

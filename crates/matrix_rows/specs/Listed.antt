@@ -4,8 +4,8 @@ use Rattle.std.specs.Global.{Vec}
 use Rattle.std.specs.List.{AllZip, slice_split}
 use Rattle.timetable.specs.NamesValue.{NamesValue}
 use Rattle.journeys.specs.Questions.{IsNamed, NamesNone}
-use Rattle.matrix_rows.specs.declared.lists.ListFault.{ListFault}
-use Rattle.matrix_rows.specs.declared.lists.ListFault.TheVariants.{Empty, LineTwice, OutOfMemory, StopTwice, UnknownStop}
+use Rattle.matrix_rows.specs.declared.lists.SetListFault.{SetListFault}
+use Rattle.matrix_rows.specs.declared.lists.SetListFault.TheVariants.{Empty, LineTwice, OutOfMemory, StopTwice, UnknownStop}
 
 -- the stop_ids of a line, between its tabs
 abbrev pub ids_in : List ℕ → List (List ℕ)
@@ -57,7 +57,7 @@ pub record IsLineTwice (listed : List (List ℕ)) (first second : ℕ) : Type 0 
   pub before : AreDifferent (take later listed)
 
 -- why it isn't known which stops are meant
-abbrev pub IsUnnamed : NamesValue → List (List ℕ) → ListFault → Type 0
+abbrev pub IsUnnamed : NamesValue → List (List ℕ) → SetListFault → Type 0
 IsUnnamed names listed (UnknownStop number) = IsUnknownLine names listed number
 IsUnnamed names listed (StopTwice number) = ⊥
 IsUnnamed names listed (LineTwice first second) = ⊥
@@ -65,7 +65,7 @@ IsUnnamed names listed Empty = ⊥
 IsUnnamed names listed OutOfMemory = Unit
 
 -- why a list doesn't say which sets of stops are meant
-abbrev pub IsListFault : NamesValue → List (List ℕ) → ListFault → Type 0
+abbrev pub IsListFault : NamesValue → List (List ℕ) → SetListFault → Type 0
 IsListFault names listed (UnknownStop number) = IsUnknownLine names listed number
 IsListFault names listed (StopTwice number) = AreAllNamed names listed × HasStopTwice listed number
 IsListFault names listed (LineTwice first second) = AreAllNamed names listed × IsLineTwice listed first second

@@ -9,8 +9,8 @@ use Rattle.std.specs.Ordering.{nat_cmp}
 use Rattle.timetable.specs.Legal.{At}
 use Rattle.timetable.specs.NamesValue.{NamesValue}
 use Rattle.journeys.specs.Questions.{IsNamed}
-use Rattle.matrix_rows.specs.declared.lists.ListFault.{ListFault}
-use Rattle.matrix_rows.specs.declared.lists.ListFault.TheVariants.{Empty, LineTwice, OutOfMemory, StopTwice, UnknownStop}
+use Rattle.matrix_rows.specs.declared.lists.SetListFault.{SetListFault}
+use Rattle.matrix_rows.specs.declared.lists.SetListFault.TheVariants.{Empty, LineTwice, OutOfMemory, StopTwice, UnknownStop}
 use Rattle.matrix_rows.specs.Listed.{ids_in}
 
 -- the stop that was found for a name, if one was; None if the list doesn't have the name
@@ -62,7 +62,7 @@ pub record IsFirstMissing (found : BTreeMap (Bor (List ℕ)) (Option ℕ)) (list
   pub before : AllZip (λ line set. AreFound found (ids_in line) set.items) (take index listed) sets
 
 -- why no stop was found for some stop_id
-abbrev pub IsMissing : BTreeMap (Bor (List ℕ)) (Option ℕ) → List (List ℕ) → ListFault → Type 0
+abbrev pub IsMissing : BTreeMap (Bor (List ℕ)) (Option ℕ) → List (List ℕ) → SetListFault → Type 0
 IsMissing found listed (UnknownStop number) = IsFirstMissing found listed number
 IsMissing found listed (StopTwice number) = ⊥
 IsMissing found listed (LineTwice first second) = ⊥

@@ -19,7 +19,7 @@ use Rattle.profile_scan.specs.Between.{BetweenValue, IsAnswerBetween, IsAskableB
 use Rattle.travel_times.specs.Fields.{pair_fields, pair_names, point_fields, point_names}
 use Rattle.travel_times.specs.Figures.{mean_wait}
 use Rattle.travel_times.specs.declared.spans.Span.{Span}
-use Rattle.matrix_rows.specs.declared.table.Table.{Table}
+use Rattle.matrix_rows.specs.declared.table.TravelTable.{TravelTable}
 
 -- the departures of points, with their arrivals
 abbrev pub span_of : {V : Type 0} → (V → Figures) → Point V → Span
@@ -29,7 +29,7 @@ abbrev pub spans_of : {V : Type 0} → (V → Figures) → List (Point V) → Li
 spans_of figures points = map (span_of figures) points
 
 -- what a table asks of every stop for a set of targets
-abbrev pub destination : Table → List ℕ → BetweenValue
+abbrev pub destination : TravelTable → List ℕ → BetweenValue
 destination table targets = record { sources = []; targets = targets; from = table.after; until = table.until; by = table.by }
 
 -- the same for those who may leave as late as they arrive
@@ -121,7 +121,7 @@ pub record AreRowsTo {V : Type 0} (figures : V → Figures) (rules : Rules V) (e
   pub text_is : text ≡ flat_map (λ part. part) parts
 
 -- the same under the criterion of a table
-abbrev pub AreRowsBy : CriterionName → Table → List ℕ → List ℕ → Type 0
+abbrev pub AreRowsBy : CriterionName → TravelTable → List ℕ → List ℕ → Type 0
 AreRowsBy CriterionName.Arrival table targets text =
     AreRowsTo arrival_figures by_arrival table.each table.image.now (destination table targets) table.sources.now text
 AreRowsBy CriterionName.ArrivalTrips table targets text =
@@ -130,7 +130,7 @@ AreRowsBy CriterionName.ArrivalTripsWalk table targets text =
     AreRowsTo walking_figures by_walking table.each table.image.now (destination table targets) table.sources.now text
 
 -- the rows of sets of targets, one after the other
-pub record AreRowsOf (table : Table) (targets : List (Vec ℕ)) (text : List ℕ) : Type 0 where
+pub record AreRowsOf (table : TravelTable) (targets : List (Vec ℕ)) (text : List ℕ) : Type 0 where
   pub parts : List (List ℕ)
   pub are : AllZip (λ set part. AreRowsBy table.criterion table set.items part) targets parts
   pub text_is : text ≡ flat_map (λ part. part) parts
@@ -141,7 +141,7 @@ names_of true = point_names
 names_of false = pair_names
 
 -- a table: its first row, and the rows of each set of targets
-pub record IsTable (table : Table) (text : List ℕ) : Type 0 where
+pub record IsTable (table : TravelTable) (text : List ℕ) : Type 0 where
   pub rows : List ℕ
   pub are : AreRowsOf table table.targets.now rows
   pub text_is : text ≡ row_text default_writer (names_of table.each) ++ rows
@@ -153,12 +153,22 @@ pub record IsBegun (before after : Option (List ℕ)) (text : List ℕ) : Type 0
   pub whole : written ++ left ≡ text
   pub added : Appends before after written
 
--- the same of the rows of some targets, or nothing was added
-abbrev pub IsRunBegun : Table → List (Vec ℕ) → Option (List ℕ) → Option (List ℕ) → Type 0
-IsRunBegun table targets before after = (after ≡ before) ⊎ ((rows : List ℕ) × AreRowsOf table targets rows × IsBegun before after rows)
+-- the same of the rows of a set of targets, or nothing was added
+abbrev pub IsTargetBegun : TravelTable → List ℕ → Option (List ℕ) → Option (List ℕ) → Type 0
+IsTargetBegun table targets before after =
+    (after ≡ before) ⊎ ((text : List ℕ) × AreRowsBy table.criterion table targets text × IsBegun before after text)
+
+-- the same of the rows of the first of some targets
+pub record IsRunBegun (table : TravelTable) (run : List (Vec ℕ)) (before after : Option (List ℕ)) : Type 0 where
+  pub first : List (Vec ℕ)
+  pub others : List (Vec ℕ)
+  pub rows : List ℕ
+  pub targets : first ++ others ≡ run
+  pub are : AreRowsOf table first rows
+  pub begun : IsBegun before after rows
 
 -- the same of the table to the first of the targets
-pub record IsTableBegun (table : Table) (before after : Option (List ℕ)) : Type 0 where
+pub record IsTableBegun (table : TravelTable) (before after : Option (List ℕ)) : Type 0 where
   pub first : List (Vec ℕ)
   pub others : List (Vec ℕ)
   pub rows : List ℕ
@@ -167,7 +177,7 @@ pub record IsTableBegun (table : Table) (before after : Option (List ℕ)) : Typ
   pub begun : IsBegun before after (row_text default_writer (names_of table.each) ++ rows)
 
 -- the times of a table make a window
-pub record HasWindow (table : Table) : Type 0 where
+pub record HasWindow (table : TravelTable) : Type 0 where
   pub window : table.after ≤ table.until
   pub in_time : table.after ≤ table.by
   pub small : (table.after < TIME_END) × (table.until < TIME_END) × (table.by < TIME_END)
@@ -177,6 +187,6 @@ abbrev pub AreWithin : ImageValue → List (Vec ℕ) → Type 0
 AreWithin image sets = (set : Vec ℕ) → Contains sets set → (stop : ℕ) → Contains set.items stop → stop < image.timetable.stops
 
 -- the sources are stops of the image, and so are the targets; and the window can be asked for
-pub record CanBeMade (table : Table) (targets : List ℕ) : Type 0 where
+pub record CanBeMade (table : TravelTable) (targets : List ℕ) : Type 0 where
   pub sources : AreWithin table.image.now table.sources.now
   pub asked : IsAskableBetween table.image.now.timetable.stops (destination table targets)

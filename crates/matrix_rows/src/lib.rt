@@ -9,8 +9,9 @@ mod repeated;
 mod set_names;
 mod table;
 mod target;
+mod turns;
 mod whole;
 
-pub use lists::{ListFault, sets_listed};
-pub use table::Table;
-pub use whole::{Reports, write_table};
+pub use lists::{SetListFault, sets_listed};
+pub use table::TravelTable;
+pub use whole::{TableReports, write_table};

@@ -16,7 +16,7 @@ use std::alloc::{AllocError, Global};
 
 /// Why a list doesn't say which sets of stops are meant. Lines are numbered from 1 on.
 #[derive(Drop)]
-pub enum ListFault {
+pub enum SetListFault {
     /// In the line with this number is what isn't a stop_id of the image.
     UnknownStop(usize),
     /// The line with this number has a stop_id twice.
@@ -28,21 +28,25 @@ pub enum ListFault {
     OutOfMemory,
 }
 
-impl From<AllocError> for ListFault {
+impl From<AllocError> for SetListFault {
     ghost use Rattle.std.specs.Prelude.{◌≡◌};
-    ghost use Rattle.matrix_rows.specs.declared.lists.ListFault.TheVariants.{OutOfMemory};
+    ghost use Rattle.matrix_rows.specs.declared.lists.SetListFault.TheVariants.{OutOfMemory};
 
     ghost from_gives = { λ _ fault. fault ≡ OutOfMemory };
 
-    fn from(_error: AllocError) -> ListFault {
-        ListFault::OutOfMemory
+    fn from(_error: AllocError) -> SetListFault {
+        SetListFault::OutOfMemory
     }
 }
 
 /// The sets of stops that a list names, in the order of its lines: of stops with the same stop_id, the lowest. The
 /// error is that it has no line, or the first line that has what isn't a stop_id of the image, or else the first that
 /// has a stop_id twice, or else the first that is there again; or that memory runs out.
-pub fn sets_listed(alloc: Global, image: &Verified, list: &str) -> Result<Vec<Vec<u32>>, ListFault>
+pub fn sets_listed(
+    alloc: Global,
+    image: &Verified,
+    list: &str,
+) -> Result<Vec<Vec<u32>>, SetListFault>
     ensures sets { IfOk result (λ sets. AreListed image.now.names (lines list.now) sets.items) }
     ensures within { IfOk result (λ sets. (set : Vec ℕ) → Contains sets.items set
         → (stop : ℕ) → Contains set.items stop → stop < image.now.timetable.stops) }
@@ -51,16 +55,16 @@ pub fn sets_listed(alloc: Global, image: &Verified, list: &str) -> Result<Vec<Ve
 {
     let listed = lines_of(alloc, list)?;
     if listed.len() == 0 {
-        return Err(ListFault::Empty);
+        return Err(SetListFault::Empty);
     }
     let sets = sets_of_lines(alloc, image, &listed)?;
     // The contract of this call says that the image has as many names of stops as it has stops.
     image.stops();
     if let Some(number) = stop_twice(alloc, &listed)? {
-        return Err(ListFault::StopTwice(number));
+        return Err(SetListFault::StopTwice(number));
     }
     match named_twice(alloc, &listed)? {
-        Some(places) => Err(ListFault::LineTwice(places.0 + 1, places.1 + 1)),
+        Some(places) => Err(SetListFault::LineTwice(places.0 + 1, places.1 + 1)),
         None => Ok(sets),
     }
 }
@@ -82,7 +86,7 @@ fn sets_of_lines(
     alloc: Global,
     image: &Verified,
     listed: &[&str],
-) -> Result<Vec<Vec<u32>>, ListFault>
+) -> Result<Vec<Vec<u32>>, SetListFault>
     ensures sets { IfOk result (λ sets. AllZip
         (λ line set. AllZip (IsNamed image.now.names) (ids_in line) set.items)
         (map (λ line. line.now) listed.now) sets.items) }
@@ -113,7 +117,7 @@ fn sets_found(
     alloc: Global,
     listed: &[&str],
     found: &FoundStops<'_>,
-) -> Result<Vec<Vec<u32>>, ListFault>
+) -> Result<Vec<Vec<u32>>, SetListFault>
     ensures sets { IfOk result (λ sets. AllZip (λ line set. AreFound found.now (ids_in line) set.items)
         (map (λ line. line.now) listed.now) sets.items) }
     ensures missing { IfErr result (IsMissing found.now (map (λ line. line.now) listed.now)) }
@@ -123,7 +127,7 @@ fn sets_found(
         let ids = ids_of(alloc, listed[index])?;
         match stops_found(alloc, &ids, found)? {
             Some(set) => push_set(&mut sets, set)?,
-            None => return Err(ListFault::UnknownStop(index + 1)),
+            None => return Err(SetListFault::UnknownStop(index + 1)),
         }
     }
     Ok(sets)

@@ -9,7 +9,7 @@ use timetable::limits::TIME_END;
 /// The image, the sets of stops where journeys end, and those where they begin; when, in seconds after the image's
 /// base; the criterion; and what has a row.
 #[derive(Clone, Copy)]
-pub struct Table<'a> {
+pub struct TravelTable<'a> {
     pub image: &'a Verified,
     pub targets: &'a [Vec<u32>],
     pub sources: &'a [Vec<u32>],
@@ -24,7 +24,7 @@ pub struct Table<'a> {
     pub each: bool,
 }
 
-impl Table<'_> {
+impl TravelTable<'_> {
     ghost use Rattle.std.specs.Prelude.{◌≡◌, [], IfOk, MatchBool};
     ghost use Rattle.profile_scan.specs.Destinations.{question_to_any};
     ghost use Rattle.matrix_rows.specs.Tables.{HasWindow, destination, waiting};

@@ -14,7 +14,7 @@ ghost use Rattle.matrix_rows.specs.Tables.{waiting};
 
 use crate::best::{best_points, least_walk, meet};
 use crate::set_names::set_name;
-use crate::table::Table;
+use crate::table::TravelTable;
 use bags::Point;
 use criteria::{Arrival, ArrivalTrips, ArrivalTripsWalk, CriterionName, ShowsFigures};
 use image_verifier::Verified;
@@ -24,7 +24,11 @@ use travel_times::{Pair, Rows, Span, mean_wait, put_pair, put_point};
 
 /// The rows of a set of targets: for each set of sources, in order, the row of the pair, or that of each departure;
 /// nothing if one of the sources is a target. The only error is that memory runs out.
-pub fn rows_to(alloc: Global, table: &Table<'_>, targets: &[u32]) -> Result<Vec<u8>, AllocError>
+pub fn rows_to(
+    alloc: Global,
+    table: &TravelTable<'_>,
+    targets: &[u32],
+) -> Result<Vec<u8>, AllocError>
     requires { CanBeMade table.now targets.now }
     ensures { IfOk result (λ text. AreRowsBy table.now.criterion table.now targets.now text.items) }
 {
@@ -38,7 +42,7 @@ pub fn rows_to(alloc: Global, table: &Table<'_>, targets: &[u32]) -> Result<Vec<
 // The same by a criterion.
 fn rows_by<C: ShowsFigures>(
     alloc: Global,
-    table: &Table<'_>,
+    table: &TravelTable<'_>,
     criterion: &C,
     targets: &[u32],
 ) -> Result<Vec<u8>, AllocError>
@@ -55,7 +59,7 @@ fn rows_by<C: ShowsFigures>(
 // The row of each pair.
 fn pair_rows<C: ShowsFigures>(
     alloc: Global,
-    table: &Table<'_>,
+    table: &TravelTable<'_>,
     criterion: &C,
     targets: &[u32],
 ) -> Result<Vec<u8>, AllocError>
@@ -72,7 +76,7 @@ fn pair_rows<C: ShowsFigures>(
 // The row of each pair, where one may leave as late as one arrives: the answers are also those for the means.
 fn pair_rows_of_one_scan<C: ShowsFigures>(
     alloc: Global,
-    table: &Table<'_>,
+    table: &TravelTable<'_>,
     criterion: &C,
     targets: &[u32],
 ) -> Result<Vec<u8>, AllocError>
@@ -90,7 +94,7 @@ fn pair_rows_of_one_scan<C: ShowsFigures>(
 // The row of each pair, with a scan of its own for the means.
 fn pair_rows_of_two_scans<C: ShowsFigures>(
     alloc: Global,
-    table: &Table<'_>,
+    table: &TravelTable<'_>,
     criterion: &C,
     targets: &[u32],
 ) -> Result<Vec<u8>, AllocError>
@@ -108,7 +112,7 @@ fn pair_rows_of_two_scans<C: ShowsFigures>(
 // The answers from all stops, by a scan of the image in place.
 fn answers<C: ShowsFigures>(
     alloc: Global,
-    table: &Table<'_>,
+    table: &TravelTable<'_>,
     criterion: &C,
     destinations: &Destinations,
 ) -> Result<ProfilesToAny<C>, AllocError>
@@ -124,7 +128,7 @@ fn answers<C: ShowsFigures>(
 // For each set of sources the mean wait, by a scan of its own, whose answers are freed.
 fn means_to<C: ShowsFigures>(
     alloc: Global,
-    table: &Table<'_>,
+    table: &TravelTable<'_>,
     criterion: &C,
     destinations: &Destinations,
 ) -> Result<Vec<Option<u64>>, AllocError>
@@ -141,7 +145,7 @@ fn means_to<C: ShowsFigures>(
 // For each set of sources the mean wait over the seconds of the window.
 fn means_of<C: ShowsFigures>(
     alloc: Global,
-    table: &Table<'_>,
+    table: &TravelTable<'_>,
     criterion: &C,
     profiles: &ProfilesToAny<C>,
 ) -> Result<Vec<Option<u64>>, AllocError>
@@ -163,7 +167,7 @@ fn means_of<C: ShowsFigures>(
 // The mean wait from a set of sources.
 fn mean_of<C: ShowsFigures>(
     alloc: Global,
-    table: &Table<'_>,
+    table: &TravelTable<'_>,
     criterion: &C,
     profiles: &ProfilesToAny<C>,
     sources: &[u32],
@@ -220,7 +224,7 @@ struct Answered<'a, C: ShowsFigures> {
 // The row of each pair, with these means.
 fn pair_rows_of<C: ShowsFigures>(
     alloc: Global,
-    table: &Table<'_>,
+    table: &TravelTable<'_>,
     criterion: &C,
     profiles: &ProfilesToAny<C>,
     means: &[Option<u64>],
@@ -309,7 +313,7 @@ fn put_pair_from<C: ShowsFigures>(
 // The row of each departure.
 fn point_rows<C: ShowsFigures>(
     alloc: Global,
-    table: &Table<'_>,
+    table: &TravelTable<'_>,
     criterion: &C,
     targets: &[u32],
 ) -> Result<Vec<u8>, AllocError>
@@ -325,7 +329,7 @@ fn point_rows<C: ShowsFigures>(
 // The row of each departure, with these answers.
 fn point_rows_of<C: ShowsFigures>(
     alloc: Global,
-    table: &Table<'_>,
+    table: &TravelTable<'_>,
     criterion: &C,
     profiles: &ProfilesToAny<C>,
 ) -> Result<Vec<u8>, AllocError>

@@ -1,40 +1,39 @@
 //! The rows of all targets, by several threads at once.
 
-ghost use Rattle.std.specs.Prelude.{◌≡◌, ◌≤◌, ℕ, List, Contains, IfOk, OnErr, OnOk, length, map};
+ghost use Rattle.std.specs.Prelude.{◌≡◌, ◌≤◌, ◌<◌, ℕ, List, Contains, IfOk, IfSome, OnErr, OnOk, length};
+ghost use denote.Param.Send.{IsSync};
 ghost use Rattle.std.specs.Global.{Vec};
 ghost use Rattle.std.specs.Io.KnownBytes.{Appends};
-ghost use Rattle.std.specs.List.{flat_map};
 ghost use Rattle.csv.specs.Writing.{default_writer, row_text};
 ghost use Rattle.travel_times.specs.Rows.{Adds, AreWhole};
-ghost use Rattle.matrix_rows.specs.Joining.{AreEvery, AreParts, AreRowsEach, HasText, IsTextAt};
-ghost use Rattle.matrix_rows.specs.Tables.{AreRowsOf, CanBeMade, IsBegun, IsRunBegun, IsTable, IsTableBegun, names_of};
+ghost use Rattle.matrix_rows.specs.Runs.{AreMade};
+ghost use Rattle.matrix_rows.specs.Tables.{AreRowsBy, AreRowsOf, CanBeMade, IsBegun, IsRunBegun, IsTable};
+ghost use Rattle.matrix_rows.specs.Tables.{IsTableBegun, IsTargetBegun, names_of};
 
-use crate::table::Table;
+use crate::table::TravelTable;
 use crate::target::rows_to;
+use crate::turns::{TargetRows, run_made, text_made};
 use std::alloc::{AllocError, Global};
+use std::io;
 use std::io::{ErrorKind, Write};
-use std::thread::Threads;
-use std::{io, thread};
+use std::thread::{Threads, join_mut};
 use travel_times::{Rows, put_pair_names, put_point_names};
 
 /// How many rows a thread makes in a run, about, if each pair has one: at some 64 bytes each they take 6 MiB.
 const ROWS_AT_ONCE: usize = 98_304;
 
-/// The texts of the targets that a thread has in a run, in order.
-type Part = Result<Vec<Vec<u8>>, AllocError>;
-
 /// What takes reports while a table is written.
-pub trait Reports {
-    /// Reports that the rows of so many more targets were written.
+pub trait TableReports {
+    /// Reports that the rows of so many more targets were made.
     fn note_targets(&mut self, targets: usize);
 }
 
 /// Writes the table: its first row, then the rows of each set of targets, in order, whatever the number of threads. As
-/// many sets are worked at at once, and nothing of an answer is kept but its rows, and those of one run. If that fails,
-/// a first part of the table was written.
-pub fn write_table<R: Threads + Sync + AllocGlobal, W: Write, P: Reports>(
+/// many sets are worked at at once, and nothing of an answer is kept but its rows, and those of one run, which are
+/// written and given up while the next run is worked on. If that fails, a first part of the table was written.
+pub fn write_table<R: Threads + Sync + AllocGlobal, W: Write, P: TableReports>(
     rt: &R,
-    table: &Table<'_>,
+    table: &TravelTable<'_>,
     workers: usize,
     out: &mut W,
     reports: &mut P,
@@ -47,13 +46,17 @@ pub fn write_table<R: Threads + Sync + AllocGlobal, W: Write, P: Reports>(
 {
     let names = first_row(rt.alloc(), table.each)?;
     write_bytes(out, &names)?;
-    for run in table
+    let mut run = &table.targets[..0];
+    let mut made = Vec::new(rt.alloc());
+    for next in table
         .targets
         .chunks(targets_in_run(workers, table.sources.len()))
     {
-        write_run(rt, table, run, workers, out)?;
+        made = write_beside(rt, table, run, made, out, next, workers)?;
+        run = next;
         reports.note_targets(run.len());
     }
+    write_run(rt.alloc(), table, run, &made, out)?;
     out.flush()
 }
 
@@ -71,6 +74,103 @@ fn targets_at_once(sources: usize) -> usize
     ensures { (1 ≤ result) × (result ≤ 64) }
 {
     (ROWS_AT_ONCE / sources.max(1)).clamp(2, 64)
+}
+
+// Writes the rows of a run, and gives them up, while those of the next are made. If it fails, nothing was written, or
+// the first of the rows.
+fn write_beside<R: Threads + Sync + AllocGlobal, W: Write>(
+    rt: &R,
+    table: &TravelTable<'_>,
+    run: &[Vec<u32>],
+    mut made: Vec<Vec<TargetRows>>,
+    out: &mut W,
+    next: &[Vec<u32>],
+    workers: usize,
+) -> io::Result<Vec<Vec<TargetRows>>>
+    requires can { (targets : Vec ℕ) → Contains run.now targets → CanBeMade table.now targets.items }
+    requires able { (targets : Vec ℕ) → Contains next.now targets → CanBeMade table.now targets.items }
+    requires rows { AreMade table.now run.now made.items }
+    ensures made { IfOk result (λ made. AreMade table.now next.now made.items) }
+    ensures written { OnOk result ((text : List ℕ) × AreRowsOf table.now run.now text
+        × Appends (W.contents out.old) (W.contents out.new) text) }
+    ensures begun { IsRunBegun table.now run.now (W.contents out.old) (W.contents out.new) }
+{
+    let alloc = rt.alloc();
+    let mut make = || -> Result<Vec<Vec<TargetRows>>, AllocError>
+        requires { IsSync R.row × ((targets : Vec ℕ) → Contains next.now targets → CanBeMade table.now targets.items) }
+        ensures { IfOk result (λ made. AreMade table.entry.now next.entry.now made.items) }
+    { run_made(rt, alloc, table, next, workers.min(next.len())) };
+    let mut write = || -> io::Result<()>
+        requires can { (targets : Vec ℕ) → Contains run.now targets → CanBeMade table.now targets.items }
+        requires rows { AreMade table.now run.now made.items }
+        ensures written { OnOk result ((text : List ℕ) × AreRowsOf table.entry.now run.entry.now text
+            × Appends (W.contents out.entry.now) (W.contents out.exit.now) text) }
+        ensures begun { IsRunBegun table.entry.now run.entry.now (W.contents out.entry.now) (W.contents out.exit.now) }
+    {
+        let outcome = write_run(alloc, table, run, &made, out);
+        made.clear();
+        outcome
+    };
+    let (more, outcome) = join_mut(rt, &mut make, &mut write);
+    outcome?;
+    Ok(more?)
+}
+
+// Writes the rows of a run's targets. If it fails, nothing was written, or the first of the rows.
+fn write_run<W: Write>(
+    alloc: Global,
+    table: &TravelTable<'_>,
+    run: &[Vec<u32>],
+    made: &[Vec<TargetRows>],
+    out: &mut W,
+) -> io::Result<()>
+    requires can { (targets : Vec ℕ) → Contains run.now targets → CanBeMade table.now targets.items }
+    requires rows { AreMade table.now run.now made.now }
+    ensures written { OnOk result ((text : List ℕ) × AreRowsOf table.now run.now text
+        × Appends (W.contents out.old) (W.contents out.new) text) }
+    ensures begun { IsRunBegun table.now run.now (W.contents out.old) (W.contents out.new) }
+{
+    for index in 0..run.len() {
+        write_target(alloc, table, &run[index], text_made(made, index), out)?;
+    }
+    Ok(())
+}
+
+// Writes the rows of a set of targets: these, or if there are none, those that are made now, which memory may allow
+// once no other thread needs any. If it fails, nothing was written, or a first part of the rows.
+fn write_target<W: Write>(
+    alloc: Global,
+    table: &TravelTable<'_>,
+    targets: &[u32],
+    made: Option<&[u8]>,
+    out: &mut W,
+) -> io::Result<()>
+    requires can { CanBeMade table.now targets.now }
+    requires rows { IfSome made (λ rows. AreRowsBy table.now.criterion table.now targets.now rows.now) }
+    ensures written { OnOk result ((text : List ℕ) × AreRowsBy table.now.criterion table.now targets.now text
+        × Appends (W.contents out.old) (W.contents out.new) text) }
+    ensures begun { OnErr result (IsTargetBegun table.now targets.now (W.contents out.old) (W.contents out.new)) }
+{
+    match made {
+        Some(rows) => write_bytes(out, rows),
+        None => write_anew(alloc, table, targets, out),
+    }
+}
+
+// Makes the rows of a set of targets, and writes them. If that fails, nothing was written, or a first part of the rows.
+fn write_anew<W: Write>(
+    alloc: Global,
+    table: &TravelTable<'_>,
+    targets: &[u32],
+    out: &mut W,
+) -> io::Result<()>
+    requires { CanBeMade table.now targets.now }
+    ensures written { OnOk result ((text : List ℕ) × AreRowsBy table.now.criterion table.now targets.now text
+        × Appends (W.contents out.old) (W.contents out.new) text) }
+    ensures begun { OnErr result (IsTargetBegun table.now targets.now (W.contents out.old) (W.contents out.new)) }
+{
+    let rows = rows_to(alloc, table, targets)?;
+    write_bytes(out, &rows)
 }
 
 // Writes the bytes. If it fails, a first part of them was written, possibly nothing or all of it.
@@ -113,106 +213,4 @@ fn put_names(rows: &mut Rows, each: bool) -> Result<(), AllocError>
     } else {
         put_pair_names(rows)
     }
-}
-
-// Writes the rows of the targets of a run. If it fails, nothing was written, or a first part of the rows.
-fn write_run<R: Threads + Sync + AllocGlobal, W: Write>(
-    rt: &R,
-    table: &Table<'_>,
-    run: &[Vec<u32>],
-    workers: usize,
-    out: &mut W,
-) -> io::Result<()>
-    requires workers { (1 ≤ workers) × (workers ≤ 64) }
-    requires can { (targets : Vec ℕ) → Contains run.now targets → CanBeMade table.now targets.items }
-    ensures written { OnOk result ((text : List ℕ) × AreRowsOf table.now run.now text
-        × Appends (W.contents out.old) (W.contents out.new) text) }
-    ensures begun { OnErr result (IsRunBegun table.now run.now (W.contents out.old) (W.contents out.new)) }
-{
-    let threads = workers.min(run.len()).max(1);
-    let parts = parts_of_run(rt, rt.alloc(), table, run, threads)?;
-    let texts = in_order(rt.alloc(), &parts, run.len())?;
-    write_texts(&texts, out)
-}
-
-// The rows of a run's targets, by so many threads. They take turns, target by target, since targets that are next to
-// each other in a list take about as long: so each thread takes about as long as the others.
-fn parts_of_run<R: Threads + Sync>(
-    rt: &R,
-    alloc: Global,
-    table: &Table<'_>,
-    run: &[Vec<u32>],
-    threads: usize,
-) -> Result<Vec<Part>, AllocError>
-    requires threads { (1 ≤ threads) × (threads ≤ 64) }
-    requires can { (targets : Vec ℕ) → Contains run.now targets → CanBeMade table.now targets.items }
-    ensures { IfOk result (λ parts. AreParts table.now run.now parts.items) }
-{
-    let rows_of_part = move |part: usize| -> Part
-        requires threads { (1 ≤ threads) × (threads ≤ 64) }
-        requires can { (targets : Vec ℕ) → Contains run.now targets → CanBeMade table.now targets.items }
-        ensures { IfOk result (λ texts. AreEvery table.entry.now run.entry.now threads part texts.items) }
-    { rows_of(alloc, table, run, part, threads) };
-    let parts = thread::map_indices(rt, alloc, threads, &rows_of_part)?;
-    Ok(parts)
-}
-
-// The rows of every so-manieth target of a run, from one on.
-fn rows_of(
-    alloc: Global,
-    table: &Table<'_>,
-    run: &[Vec<u32>],
-    first: usize,
-    step: usize,
-) -> Result<Vec<Vec<u8>>, AllocError>
-    requires step { (1 ≤ step) × (step ≤ 64) }
-    requires can { (targets : Vec ℕ) → Contains run.now targets → CanBeMade table.now targets.items }
-    ensures { IfOk result (λ texts. AreEvery table.now run.now step first texts.items) }
-{
-    let mut texts = Vec::new(alloc);
-    let mut index = first;
-    while index < run.len() {
-        let rows = rows_to(alloc, table, &run[index])?;
-        texts.push(rows)?;
-        index += step;
-    }
-    Ok(texts)
-}
-
-// The texts of a run's targets, in order, from the parts of the threads. The only error is that one ran out of memory,
-// or this does.
-fn in_order(alloc: Global, parts: &[Part], targets: usize) -> Result<Vec<&[u8]>, AllocError>
-    requires { (table : Table) × (run : List (Vec ℕ)) × AreParts table run parts.now × (length run ≡ targets) }
-    ensures { (table : Table) (run : List (Vec ℕ)) → AreParts table run parts.now → length run ≡ targets
-        → IfOk result (λ texts. AreRowsEach table run (map (λ text. text.now) texts.items)) }
-{
-    let mut texts = Vec::with_capacity(alloc, targets)?;
-    for index in 0..targets {
-        texts.push(text_at(parts, index)?)?;
-    }
-    Ok(texts)
-}
-
-// The text of the target with an index in a run.
-fn text_at(parts: &[Part], index: usize) -> Result<&[u8], AllocError>
-    requires { HasText parts.now index }
-    ensures { IfOk result (λ text. IsTextAt parts.now index text.now) }
-{
-    match &parts[index % parts.len()] {
-        Ok(texts) => Ok(&texts[index / parts.len()]),
-        Err(AllocError) => Err(AllocError),
-    }
-}
-
-// Writes texts one after the other. If it fails, a first part of them was written, possibly nothing or all of it.
-fn write_texts<W: Write>(texts: &[&[u8]], out: &mut W) -> io::Result<()>
-    ensures written { OnOk result
-        (Appends (W.contents out.old) (W.contents out.new) (flat_map (λ text. text.now) texts.now)) }
-    ensures begun { OnErr result
-        (IsBegun (W.contents out.old) (W.contents out.new) (flat_map (λ text. text.now) texts.now)) }
-{
-    for text in texts {
-        write_bytes(out, text)?;
-    }
-    Ok(())
 }

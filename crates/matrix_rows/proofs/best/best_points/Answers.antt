@@ -1,8 +1,7 @@
 use Rattle.std.proofs.Common.{◌∙◌, ◌<◌, [], ◌∷◌, ℕ, List, arith, get_or, length, subst, sym}
 use Rattle.std.proofs.lemmas.List.Elements.{Contains-get_or}
-use Rattle.bags.specs.declared.point.Point.{Point}
 use Rattle.profile_scan.specs.Between.{IsAnswerBetween}
-use Rattle.profile_scan.specs.Everywhere.{asked_to_any, listed_to_any}
+use Rattle.profile_scan.specs.Everywhere.{asked_to_any}
 use Rattle.matrix_rows.specs.Tables.{from_stops}
 use Rattle.matrix_rows.proofs.Answering.{answer_at, on_ok, one_stop}
 use Rattle.matrix_rows.proofs.best.best_points.Goals as goal

@@ -2,7 +2,7 @@ use Rattle.std.proofs.Common.{◌∙◌, Contains, IfOk, Result, Ok, Err, arith,
 use Rattle.std.proofs.lemmas.List.{take_all}
 use Rattle.std.proofs.lemmas.List.Elements.{Contains-get_or}
 use Rattle.criteria.specs.Laws.{Admits}
-use Rattle.bags.specs.Bag.{criterion_of, points_of}
+use Rattle.bags.specs.Bag.{points_of}
 use Rattle.bags.specs.Dominance.{IsBag}
 use Rattle.profile_scan.specs.Between.{IsAnswerBetween}
 use Rattle.profile_scan.specs.Everywhere.{asked_to_any, listed_to_any}

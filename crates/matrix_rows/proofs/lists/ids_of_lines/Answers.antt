@@ -1,6 +1,4 @@
-use Rattle.std.proofs.Common.{◌∙◌, [], ap, arith, map, sym, take}
-use Rattle.std.specs.List.{flat_map}
-use Rattle.matrix_rows.specs.Listed.{ids_in}
+use Rattle.std.proofs.Common.{◌∙◌, ap, map}
 use Rattle.matrix_rows.proofs.SetLemmas.{all_lines, next_ids}
 use Rattle.matrix_rows.proofs.lists.ids_of_lines.Goals as goal
 

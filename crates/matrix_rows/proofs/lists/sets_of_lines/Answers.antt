@@ -1,4 +1,4 @@
-use Rattle.std.proofs.Common.{◌∙◌, ℕ, List, Result, Ok, Err, IfOk, IfErr, ap, map, length, subst, sym}
+use Rattle.std.proofs.Common.{◌∙◌, ℕ, List, Result, Ok, Err, IfErr, ap, map, length, subst, sym}
 use Rattle.std.specs.List.{AllZip, flat_map}
 use Rattle.journeys.specs.Questions.{IsNamed}
 use Rattle.matrix_rows.specs.Listed.{IsUnnamed, ids_in}

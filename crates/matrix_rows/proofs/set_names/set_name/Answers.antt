@@ -1,7 +1,4 @@
-use Rattle.std.proofs.Common.{◌∙◌, ◌++◌, ap, arith, get_or, map, sym, take}
-use Rattle.answer_pictures.specs.Naming.{stop_bytes}
-use Rattle.matrix_rows.specs.Joining.{tab_before}
-use Rattle.matrix_rows.specs.Tables.{set_bytes, tabbed}
+use Rattle.std.proofs.Common.{◌∙◌, arith, sym}
 use Rattle.matrix_rows.proofs.SetLemmas.{all_names, name_more, no_name}
 use Rattle.matrix_rows.proofs.set_names.set_name.Goals as goal
 

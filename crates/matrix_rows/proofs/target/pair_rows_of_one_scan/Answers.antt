@@ -2,8 +2,8 @@ use Rattle.std.proofs.Common.{◌∙◌, List, Option, ℕ, IfOk, false, subst, 
 use Rattle.std.specs.List.{AllZip}
 use Rattle.profile_scan.specs.Between.{BetweenValue, IsAskableBetween}
 use Rattle.profile_scan.specs.Everywhere.{asked_to_any}
-use Rattle.matrix_rows.specs.Tables.{AreRowsTo, IsMeanFrom, destination, waiting}
-use Rattle.matrix_rows.proofs.Answering.{means_asked, means_of_waiting, means_waited, waiting_asked}
+use Rattle.matrix_rows.specs.Tables.{AreRowsTo, IsMeanFrom, waiting}
+use Rattle.matrix_rows.proofs.Answering.{means_asked}
 use Rattle.matrix_rows.proofs.target.pair_rows_of_one_scan.Goals as goal
 
 pub pair_rows_of-requires-clause-asked : goal.pair_rows_of-requires-clause-asked

@@ -1,9 +1,6 @@
-use Rattle.std.proofs.Common.{◌∙◌, List, Option, ℕ, IfOk, true, subst, sym}
-use Rattle.std.specs.List.{AllZip}
+use Rattle.std.proofs.Common.{◌∙◌, IfOk, true, subst, sym}
 use Rattle.profile_scan.specs.Between.{BetweenValue, IsAskableBetween}
-use Rattle.profile_scan.specs.Everywhere.{asked_to_any}
-use Rattle.matrix_rows.specs.Tables.{AreRowsTo, IsMeanFrom, destination, waiting}
-use Rattle.matrix_rows.proofs.Answering.{means_asked, means_of_waiting, means_waited, waiting_asked}
+use Rattle.matrix_rows.specs.Tables.{AreRowsTo}
 use Rattle.matrix_rows.proofs.target.point_rows.Goals as goal
 
 pub point_rows_of-requires-clause-asked : goal.point_rows_of-requires-clause-asked

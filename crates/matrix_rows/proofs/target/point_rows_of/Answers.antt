@@ -1,9 +1,7 @@
-use Rattle.std.proofs.Common.{◌<◌, ◌∙◌, ℕ, List, None, true, Contains, ap, arith, get_or, length, subst, sym, take}
+use Rattle.std.proofs.Common.{◌∙◌, ℕ, List, true, Contains, ap, arith, get_or, subst, sym, take}
 use Rattle.std.specs.Global.{Vec}
 use Rattle.std.proofs.lemmas.List.{take_all, take_more}
 use Rattle.std.proofs.lemmas.List.Elements.{Contains-get_or}
-use Rattle.std.proofs.lemmas.Option.{slice_get-get_or}
-use Rattle.std.proofs.lemmas.Slice.Zip.{AllZip-long}
 use Rattle.profile_scan.specs.Everywhere.{asked_to_any}
 use Rattle.travel_times.specs.Rows.{text_of}
 use Rattle.matrix_rows.specs.Tables.{AreRowsTo, set_bytes}

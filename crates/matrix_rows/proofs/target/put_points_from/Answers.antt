@@ -1,4 +1,4 @@
-use Rattle.std.proofs.Common.{◌∙◌, ap, subst, sym, true}
+use Rattle.std.proofs.Common.{◌∙◌, subst, sym, true}
 use Rattle.std.specs.List.{flat_map}
 use Rattle.profile_scan.specs.Everywhere.{asked_to_any}
 use Rattle.travel_times.specs.Rows.{text_of}

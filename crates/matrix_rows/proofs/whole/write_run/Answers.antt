@@ -1,43 +1,66 @@
-use Rattle.std.proofs.Common.{List, ℕ, inr, refl, subst, sym}
-use Rattle.std.specs.Borrow.{Bor}
-use Rattle.std.specs.List.{flat_map}
-use Rattle.matrix_rows.specs.Joining.{AreParts}
-use Rattle.matrix_rows.specs.Tables.{AreRowsOf}
-use Rattle.matrix_rows.proofs.Answering.{on_done}
-use Rattle.matrix_rows.proofs.Joins.{on_failed}
-use Rattle.matrix_rows.proofs.Turns.{rows_together}
+use Rattle.std.proofs.Common.{ℕ, List, [], ◌++◌, Contains, arith, length, refl, subst, sym}
+use Rattle.std.specs.Global.{Vec}
+use Rattle.std.proofs.lemmas.List.{take_all}
+use Rattle.std.proofs.lemmas.List.Elements.{Contains-get_or}
+use Rattle.std.proofs.lemmas.Option.{slice_get_read}
+use Rattle.matrix_rows.specs.Tables.{AreRowsBy, AreRowsOf, CanBeMade}
+use Rattle.matrix_rows.proofs.Joins.{appended_in_turns, nothing_appended}
+use Rattle.matrix_rows.proofs.Runs.{all_begun, on_some, rows_more, target_begun, text_rows}
+use Rattle.matrix_rows.proofs.Targets.{no_targets}
 use Rattle.matrix_rows.proofs.whole.write_run.Goals as goal
 
-pub in_order-requires : goal.in_order-requires
-in_order-requires g c =
-    (c.args.table.now, c.args.run.now, subst (AreParts c.args.table.now c.args.run.now) (sym c.deref.ensures.value) c.in_ok-parts.ensures, refl)
+pub loop-index-init : goal.loop-index-init
+loop-index-init g c = ([], no_targets c.args.table.now [] refl, nothing_appended _)
+
+pub write_target-requires-clause-can : goal.write_target-requires-clause-can
+write_target-requires-clause-can g c =
+    let run = c.args.run.now in
+    let target = c.index-run-index.result in
+    let there : Contains run target =
+    subst (λ (t : Vec ℕ). Contains run t) (sym c.index-run-index.is) (Contains-get_or run c.loop-index.index target c.loop-index-test.true) in
+    subst (CanBeMade c.args.table.now) (sym c.deref.ensures.value) (c.requires.can target there)
+
+pub write_target-requires-clause-rows : goal.write_target-requires-clause-rows
+write_target-requires-clause-rows g c =
+    let run = c.args.run.now in
+    let target = c.index-run-index.result in
+    on_some _ _ c.text_made.result
+    (λ text found. text_rows c.args.table.now run c.args.made.now c.loop-index.index target c.deref.result.now text.now c.requires.rows
+    (slice_get_read run (length run) c.loop-index.index target refl c.loop-index-test.true c.index-run-index.is) (sym c.deref.ensures.value) found)
+    c.text_made.ensures
+
+pub loop-index-preserved : goal.loop-index-preserved
+loop-index-preserved g c =
+    let table = c.args.table.now in
+    let target = c.index-run-index.result in
+    let was = c.loop-index.invariant in
+    let more = c.in_ok-write_target.ensures.written in (
+      was.0 ++ more.0,
+      rows_more table c.args.run.now c.loop-index.index target was.0 more.0 c.loop-index-test.true c.index-run-index.is was.1
+          (subst (λ (stops : List ℕ). AreRowsBy table.criterion table stops more.0) c.deref.ensures.value more.1),
+      appended_in_turns _ _ _ was.0 more.0 was.2 more.2,
+    )
 
 pub returns-clause-written : goal.returns-clause-written
 returns-clause-written g c =
-    let table = c.args.table.now in
     let run = c.args.run.now in
-    let now : Bor (List ℕ) → List ℕ = λ text. text.now in
-    let are = subst (AreParts table run) (sym c.deref.ensures.value) c.in_ok-parts.ensures in
-    let rows = rows_together table run now c.in_ok-texts.texts.items (c.in_ok-texts.ensures table run are refl) in
-    on_done c.write_texts.result
-    (λ added. (
-      flat_map now c.deref-2.result.now,
-      subst (λ (ts : List (Bor (List ℕ))). AreRowsOf table run (flat_map now ts)) (sym c.deref-2.ensures.value) rows,
-      added,
-    ))
-    c.write_texts.ensures.written
+    let was = c.loop-index.invariant in (
+      was.0,
+      subst (λ (sets : List (Vec ℕ)). AreRowsOf c.args.table.now sets was.0)
+          (take_all c.loop-index.index run (let over = c.loop-index-test.false in omega (arith, over))) was.1,
+      was.2,
+    )
 
 pub returns-clause-begun : goal.returns-clause-begun
 returns-clause-begun g c =
-    let table = c.args.table.now in
     let run = c.args.run.now in
-    let now : Bor (List ℕ) → List ℕ = λ text. text.now in
-    let are = subst (AreParts table run) (sym c.deref.ensures.value) c.in_ok-parts.ensures in
-    let rows = rows_together table run now c.in_ok-texts.texts.items (c.in_ok-texts.ensures table run are refl) in
-    on_failed c.write_texts.result
-    (λ begun. inr (
-      flat_map now c.deref-2.result.now,
-      subst (λ (ts : List (Bor (List ℕ))). AreRowsOf table run (flat_map now ts)) (sym c.deref-2.ensures.value) rows,
-      begun,
-    ))
-    c.write_texts.ensures.begun
+    let was = c.loop-index.invariant in
+    all_begun c.args.table.now run was.0 _ _
+    (subst (λ (sets : List (Vec ℕ)). AreRowsOf c.args.table.now sets was.0)
+    (take_all c.loop-index.index run (let over = c.loop-index-test.false in omega (arith, over))) was.1) was.2
+
+pub returns-in_err-write_target-clause-begun : goal.returns-in_err-write_target-clause-begun
+returns-in_err-write_target-clause-begun g c =
+    let was = c.loop-index.invariant in
+    target_begun c.args.table.now c.args.run.now c.loop-index.index c.index-run-index.result c.deref.result.now was.0 _ _ _ c.loop-index-test.true
+    c.index-run-index.is c.deref.ensures.value was.1 was.2 c.in_err-write_target.ensures.begun

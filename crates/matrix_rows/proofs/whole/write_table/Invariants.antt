@@ -3,14 +3,16 @@ use Rattle.std.specs.Global.{Vec}
 use Rattle.std.specs.Io.KnownBytes.{Appends}
 use Rattle.std.specs.Slice.Iter.{chunks_rest}
 use Rattle.csv.specs.Writing.{default_writer, row_text}
+use Rattle.matrix_rows.specs.Runs.{AreMade}
 use Rattle.matrix_rows.specs.Tables.{AreRowsOf, names_of}
 use Rattle.matrix_rows.proofs.whole.write_table.Given as goal
 
--- the rows of the targets before the rest are written
-abbrev pub invariant-loop-run : goal.invariant-loop-run
-invariant-loop-run g l =
-    (goal.iterator-loop-run g).can_next l.run-iterator
-    × (goal.iterator-loop-run g).is_finite l.run-iterator
+-- the rows of the targets before the run are written, and those of the run are made
+abbrev pub invariant-loop-next : goal.invariant-loop-next
+invariant-loop-next g l =
+    (goal.iterator-loop-next g).can_next l.next-iterator
+    × (goal.iterator-loop-next g).is_finite l.next-iterator
+    × AreMade l.table l.run l.made.items
     × ((done : List (Vec ℕ)) × (rows : List ℕ) × AreRowsOf l.table done rows
     × Appends (g.W.Write.contents l.fn.out) (g.W.Write.contents l.out) (row_text default_writer (names_of l.table.each) ++ rows)
-    × (done ++ chunks_rest l.run-iterator ≡ l.table.targets.now))
+    × (done ++ (l.run ++ chunks_rest l.next-iterator) ≡ l.table.targets.now))
