@@ -8,15 +8,15 @@ ghost use Rattle.feed_messages.specs.Asking.{AreAskedFor, IsAskedFor};
 
 use crate::file_faults::FileFaults;
 use crate::folders::explain_failed;
-use crate::known_ids::{Keys, Seen, Wanted};
+use crate::known_ids::{Keys, Wanted};
 use crate::table_fault::message;
 use crate::words::explain;
 use feed_files::{FeedFiles, FileFault, ReadFault};
 use gtfs_rows::{
-    FaultKind, IdHash, Key, Location, MAX_STOPS, MAX_TRIPS, StopTimes, Table, TableFault,
-    TableFile, TableRecords, TransferKind, location, transfer_kind,
+    FaultKind, IdHash, Key, Location, MAX_STOPS, MAX_TRIPS, Records, StopTimes, Table, TableFault,
+    TableFile, TransferKind, location, transfer_kind,
 };
-use gtfs_tables::time_faults;
+use gtfs_tables::{StopIdTarget, stop_fault, time_faults};
 use indexmap::{IndexMap, IndexSet};
 use std::alloc::{AllocError, Global};
 use std::io::Write;
@@ -131,9 +131,9 @@ impl FoundFaults {
     ) -> Option<()> {
         match answer {
             Ok(Some(bytes)) => {
-                let mut faults = FileFaults::none(self.alloc, &bytes, self.refused());
+                let mut faults = FileFaults::none(self.alloc, table, &bytes, self.refused());
                 let whole = self.judge(table, &bytes, &mut faults);
-                faults.tell(table, errors);
+                faults.tell(errors);
                 if let Some(kind) = whole? {
                     let fault = TableFault {
                         file: table,
@@ -203,9 +203,9 @@ impl FoundFaults {
         bytes: &[u8],
         faults: &mut FileFaults,
     ) -> Option<Option<FaultKind>> {
-        match TableRecords::open(self.alloc, table, bytes) {
+        match Records::of_table(self.alloc, table, bytes) {
             Ok(mut records) => {
-                let keys = self.judge_records(&mut records, faults)?;
+                let keys = self.judge_records(table, &mut records, faults)?;
                 if self.has_too_many(table, keys) {
                     return Some(Some(FaultKind::TooMany));
                 }
@@ -217,8 +217,8 @@ impl FoundFaults {
             return Some(None);
         }
         let late = self.judge_times(table, bytes)?;
-        let mut records = TableRecords::open(self.alloc, table, bytes).ok()?;
-        self.judge_ids(&mut records, faults, &late)?;
+        let mut records = Records::of_table(self.alloc, table, bytes).ok()?;
+        self.judge_ids(table, &mut records, faults, &late)?;
         Some(None)
     }
 
@@ -240,9 +240,31 @@ impl FoundFaults {
     fn late_rows(&self, times: &StopTimes) -> Option<Vec<TableFault>> {
         let numbers = self.trip_numbers(times)?;
         let count = self.trips.len().checked_add(numbers.len())?;
-        let mut late = time_faults(self.alloc, &times.rows, &numbers, count, self.strict).ok()?;
+        let stops = self.stops_named(times)?;
+        let mut late = time_faults(
+            self.alloc,
+            &times.rows,
+            numbers,
+            stops,
+            count,
+            self.strict,
+        ).ok()?;
         late.sort_by_key(|fault| fault.row).ok()?;
         Some(late)
+    }
+
+    /// The stop that each stop_id of `stop_times.txt` names. One that names none counts as a stop here, so that the
+    /// times of its trip are judged all the same.
+    fn stops_named(&self, times: &StopTimes) -> Option<Vec<Option<StopIdTarget>>> {
+        let mut stops = Vec::with_capacity(self.alloc, times.stops.len()).ok()?;
+        for id in &times.stops {
+            let stop = match self.places.find(id.as_str()) {
+                Some(seen) if stop_fault(Some(seen.target)).is_none() => seen.target,
+                _ => StopIdTarget::Stop(0),
+            };
+            stops.push(Some(stop)).ok()?;
+        }
+        Some(stops)
     }
 
     /// The number of the trip of each trip_id of `stop_times.txt`. Those that `trips.txt` lacks come behind its trips.
@@ -266,7 +288,8 @@ impl FoundFaults {
     /// Judges each record by itself, and its key, and returns the keys.
     fn judge_records(
         &mut self,
-        records: &mut TableRecords<'_>,
+        table: Table,
+        records: &mut Records<'_>,
         faults: &mut FileFaults,
     ) -> Option<Keys> {
         let mut keys = Keys::none(self.alloc, self.hash, true);
@@ -274,15 +297,15 @@ impl FoundFaults {
             if !records.advance().ok()? {
                 return Some(keys);
             }
-            let fault = records.fault();
+            let fault = records.fault(table);
             if fault != Some(FaultKind::RowLength) {
-                self.keep_flex(records)?;
+                self.keep_flex(table, records)?;
             }
             if let Some(kind) = fault {
                 keys.are_all = false;
                 let _ = faults.note(records, kind, None, None);
-            } else if let Some(key) = key_text(self.alloc, records).ok()? {
-                judge_key(key, &mut keys, records, faults)?;
+            } else if let Some(key) = key_text(self.alloc, table.key(), records).ok()? {
+                judge_key(table, key, &mut keys, records, faults)?;
             }
         }
         None
@@ -304,8 +327,8 @@ impl FoundFaults {
     }
 
     /// Keeps the trip_id of a record of `stop_times.txt` with a blank stop_id.
-    fn keep_flex(&mut self, records: &TableRecords<'_>) -> Option<()> {
-        if records.table() == Table::StopTimes && records.cells().get(3).is_empty() {
+    fn keep_flex(&mut self, table: Table, records: &Records<'_>) -> Option<()> {
+        if table == Table::StopTimes && records.get(3).is_empty() {
             let id = String::from_str(self.alloc, text_in(records, 0)).ok()?;
             self.flex.insert_full(id).ok()?;
         }
@@ -316,7 +339,8 @@ impl FoundFaults {
     /// records.
     fn judge_ids(
         &self,
-        records: &mut TableRecords<'_>,
+        table: Table,
+        records: &mut Records<'_>,
         faults: &mut FileFaults,
         late: &[TableFault],
     ) -> Option<()> {
@@ -327,12 +351,12 @@ impl FoundFaults {
             if !records.advance().ok()? {
                 return Some(());
             }
-            for (column, wanted) in ids_of(records.table()) {
-                if *wanted == Wanted::Trip {
-                    self.judge_id(records, faults, &mut trips, *column, *wanted)?;
-                } else {
-                    self.judge_id(records, faults, &mut places, *column, *wanted)?;
-                }
+            for (column, wanted) in ids_of(table) {
+                let unknown = match wanted {
+                    Wanted::Trip => &mut trips,
+                    _ => &mut places,
+                };
+                self.judge_id(table, records, faults, unknown, (*column, *wanted))?;
             }
             left = note_times(records, faults, left);
         }
@@ -342,11 +366,11 @@ impl FoundFaults {
     /// Judges an id of a record. One that isn't found is told once, with the number of further records that name it.
     fn judge_id(
         &self,
-        records: &mut TableRecords<'_>,
+        table: Table,
+        records: &mut Records<'_>,
         faults: &mut FileFaults,
         unknown: &mut UnknownIds,
-        column: usize,
-        wanted: Wanted,
+        (column, wanted): (usize, Wanted),
     ) -> Option<()> {
         let id = text_in(records, column);
         if column == 1 && id == text_in(records, 0) {
@@ -365,7 +389,7 @@ impl FoundFaults {
         let Some(kind) = home.fault_of(wanted, id) else {
             return Some(());
         };
-        if !self.is_judged(records, wanted) {
+        if !self.is_judged(table, records, wanted) {
             return Some(());
         }
         let id = String::from_str(self.alloc, id).ok()?;
@@ -377,18 +401,17 @@ impl FoundFaults {
     }
 
     /// Whether an id of a record must be found: nothing else is wrong with the record, and what it says isn't left out.
-    fn is_judged(&self, records: &TableRecords<'_>, wanted: Wanted) -> bool {
-        let cells = records.cells();
-        if records.fault().is_some() {
+    fn is_judged(&self, table: Table, records: &Records<'_>, wanted: Wanted) -> bool {
+        if records.fault(table).is_some() {
             return false;
         }
         match wanted {
             Wanted::Trip => true,
             Wanted::Parent => {
-                location(cells.get(1)) == Location::Stop && !cells.get(2).is_empty()
+                location(records.get(1)) == Location::Stop && !records.get(2).is_empty()
             }
             Wanted::Stop => self.flex.is_empty() || !self.flex.contains(text_in(records, 0)),
-            Wanted::End => transfer_kind(&cells) != TransferKind::Skipped,
+            Wanted::End => transfer_kind(records) != TransferKind::Skipped,
         }
     }
 }
@@ -406,7 +429,7 @@ fn ids_of(table: Table) -> &'static [(usize, Wanted)] {
 
 /// Notes what is wrong with the times of a trip in the record that was read last, and returns the faults behind it.
 fn note_times<'a>(
-    records: &mut TableRecords<'_>,
+    records: &mut Records<'_>,
     faults: &mut FileFaults,
     late: &'a [TableFault],
 ) -> &'a [TableFault] {
@@ -420,13 +443,13 @@ fn note_times<'a>(
 }
 
 /// A record's value in a column of its table. Its file is UTF-8, and so is each value.
-fn text_in<'a>(records: &'a TableRecords<'_>, column: usize) -> &'a str {
-    str::from_utf8(records.cells().get(column)).unwrap_or("")
+fn text_in<'a>(records: &'a Records<'_>, column: usize) -> &'a str {
+    str::from_utf8(records.get(column)).unwrap_or("")
 }
 
 /// What no two records may have in common, or what all must have; none if records may repeat each other.
-fn key_text(alloc: Global, records: &TableRecords<'_>) -> Result<Option<String>, AllocError> {
-    match records.table().key() {
+fn key_text(alloc: Global, key: Key, records: &Records<'_>) -> Result<Option<String>, AllocError> {
+    match key {
         Key::Nothing => Ok(None),
         Key::Column(column) | Key::Shared(column) => {
             let key = String::from_str(alloc, text_in(records, column))?;
@@ -442,12 +465,13 @@ fn key_text(alloc: Global, records: &TableRecords<'_>) -> Result<Option<String>,
 
 /// Judges the key of a record, and keeps it. `None` if memory runs out.
 fn judge_key(
+    table: Table,
     key: String,
     keys: &mut Keys,
-    records: &mut TableRecords<'_>,
+    records: &mut Records<'_>,
     faults: &mut FileFaults,
 ) -> Option<()> {
-    let is_shared = matches!(records.table().key(), Key::Shared(_));
+    let is_shared = matches!(table.key(), Key::Shared(_));
     match keys.find(key.as_str()) {
         Some(_) if is_shared => {}
         Some(there) => {
@@ -457,8 +481,8 @@ fn judge_key(
             let _ = faults.note(records, FaultKind::ZonesDiffer, None, None);
         }
         None => {
-            let (line, location) = (records.line(), location(records.cells().get(1)));
-            keys.add(key, Seen { line, location })?;
+            let line = records.reach().line;
+            keys.add(key, line, location(records.get(1)))?;
         }
     }
     Some(())

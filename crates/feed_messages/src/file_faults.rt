@@ -4,7 +4,7 @@ use crate::quotes::{is_long, lines_of, quote_at};
 use crate::suspects::suspects_of;
 use crate::wording::{further_text, lengths_text, twice_text, value_text};
 use crate::words::explain;
-use gtfs_rows::{FaultKind, Table, TableFault, TableRecords};
+use gtfs_rows::{FaultKind, Records, Table, TableFault};
 use std::alloc::Global;
 use std::io::Write;
 
@@ -41,6 +41,7 @@ struct FaultLine {
 #[derive(Drop)]
 pub struct FileFaults {
     alloc: Global,
+    table: Table,
     refused: Option<TableFault>,
     lines: Vec<FaultLine>,
     counts: [u64; 19],
@@ -48,10 +49,16 @@ pub struct FileFaults {
 }
 
 impl FileFaults {
-    /// No fault was found yet in a file with these bytes; the feed is refused for the given fault.
-    pub fn none(alloc: Global, bytes: &[u8], refused: Option<TableFault>) -> FileFaults {
+    /// No fault was found yet in the file of a table with these bytes; the feed is refused for the given fault.
+    pub fn none(
+        alloc: Global,
+        table: Table,
+        bytes: &[u8],
+        refused: Option<TableFault>,
+    ) -> FileFaults {
         FileFaults {
             alloc,
+            table,
             refused,
             lines: Vec::new(alloc),
             counts: [0; 19],
@@ -79,20 +86,20 @@ impl FileFaults {
     /// fault's line, if it has one to which further rows may be added.
     pub fn note(
         &mut self,
-        records: &mut TableRecords<'_>,
+        records: &mut Records<'_>,
         kind: FaultKind,
         column: Option<usize>,
         earlier: Option<u64>,
     ) -> Option<usize> {
         let fault = TableFault {
-            file: records.table(),
+            file: self.table,
             row: records.number(),
             kind,
         };
         if !self.has_line(fault) {
             return None;
         }
-        let (file, line) = (fault.file.file_name(), records.line());
+        let (file, line) = (fault.file.file_name(), records.reach().line);
         let mut text = format!(in self.alloc; "{file}, line {line}").ok()?;
         let is_long = self
             .describe(&mut text, records, &fault, column, earlier)
@@ -109,7 +116,7 @@ impl FileFaults {
     fn describe(
         &self,
         text: &mut String,
-        records: &TableRecords<'_>,
+        records: &Records<'_>,
         fault: &TableFault,
         column: Option<usize>,
         earlier: Option<u64>,
@@ -122,7 +129,7 @@ impl FileFaults {
         }
         let column = column.or(suspect_in(records, fault))?;
         let name = fault.file.columns().get(column)?;
-        let value = records.cells().get(column);
+        let value = records.get(column);
         let what = match earlier {
             Some(line) => twice_text(alloc, fault.file, name, value, line),
             None => value_text(alloc, fault, name, value),
@@ -132,7 +139,7 @@ impl FileFaults {
     }
 
     /// Appends that a double quote is the cause, if one opens a field of several lines.
-    fn append_quote(&self, text: &mut String, records: &TableRecords<'_>, line: u64) -> Option<()> {
+    fn append_quote(&self, text: &mut String, records: &Records<'_>, line: u64) -> Option<()> {
         if let Some(quote) = quote_at(self.alloc, records.last(), line, self.file_lines) {
             text.push_str(quote.as_str()).ok()?;
         }
@@ -149,18 +156,18 @@ impl FileFaults {
     }
 
     /// Writes the lines, and how many further faults of each kind there are.
-    pub fn tell<E: Write>(&self, table: Table, errors: &mut E) {
+    pub fn tell<E: Write>(&self, errors: &mut E) {
         for line in &self.lines {
             if let Ok(further) = further_text(self.alloc, line.further) {
                 explain(errors, &["csa: ", line.text.as_str(), further.as_str()]);
             }
         }
         for kind in &KINDS {
-            self.tell_further(table, *kind, errors);
+            self.tell_further(*kind, errors);
         }
     }
 
-    fn tell_further<E: Write>(&self, table: Table, kind: FaultKind, errors: &mut E) {
+    fn tell_further<E: Write>(&self, kind: FaultKind, errors: &mut E) {
         let count = self
             .counts
             .get(kind.number() as usize)
@@ -170,7 +177,7 @@ impl FileFaults {
         if further == 0 {
             return;
         }
-        let (file, number, name) = (table.file_name(), kind.number(), kind.name());
+        let (file, number, name) = (self.table.file_name(), kind.number(), kind.name());
         let line = format!(in self.alloc;
             "csa: {file}: {further} more faults of kind {number} {name}"
         );
@@ -181,7 +188,7 @@ impl FileFaults {
 }
 
 /// The first column of a record that can be at fault, and isn't as it must be.
-fn suspect_in(records: &TableRecords<'_>, fault: &TableFault) -> Option<usize> {
+fn suspect_in(records: &Records<'_>, fault: &TableFault) -> Option<usize> {
     let (names, form) = suspects_of(fault);
     for name in names {
         let column = fault
@@ -189,7 +196,7 @@ fn suspect_in(records: &TableRecords<'_>, fault: &TableFault) -> Option<usize> {
             .columns()
             .iter()
             .position(|column| *column == *name)?;
-        if form.is_missed_by(records.cells().get(column)) {
+        if form.is_missed_by(records.get(column)) {
             return Some(column);
         }
     }

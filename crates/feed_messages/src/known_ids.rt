@@ -1,20 +1,23 @@
 //! The keys of a file's records, among them the ids of `stops.txt` and `trips.txt`, which other files name.
 
 use gtfs_rows::{FaultKind, IdHash, Location};
+use gtfs_tables::{StopIdTarget, end_fault, parent_fault, stop_fault};
 use indexmap::IndexMap;
 use std::alloc::Global;
 
-/// Where a key is first: the line, and what a stop_id names there. Of other keys the location says nothing.
+/// Where a key is first: the line, and what a stop_id names there. Of other keys the target says nothing.
 #[derive(Clone, Copy, Drop)]
 pub struct Seen {
     pub line: u64,
-    pub location: Location,
+    pub target: StopIdTarget,
 }
 
 /// The keys of a file's records.
 #[derive(Drop)]
 pub struct Keys {
     seen: IndexMap<String, Seen, IdHash>,
+    /// How many keys are those of stops or platforms.
+    stops: usize,
     /// Whether these are the keys of all records of the file.
     pub are_all: bool,
 }
@@ -36,6 +39,7 @@ impl Keys {
     pub fn none(alloc: Global, hash: IdHash, are_all: bool) -> Keys {
         Keys {
             seen: IndexMap::with_hasher(alloc, hash),
+            stops: 0,
             are_all,
         }
     }
@@ -47,10 +51,7 @@ impl Keys {
 
     /// How many keys are those of stops or platforms.
     pub fn stops(&self) -> usize {
-        self.seen
-            .values()
-            .filter(|seen| seen.location == Location::Stop)
-            .count()
+        self.stops
     }
 
     /// Where a key is, if it is there.
@@ -64,9 +65,14 @@ impl Keys {
         Some(number)
     }
 
-    /// Adds a key that isn't there yet. `None` if memory runs out.
-    pub fn add(&mut self, key: String, here: Seen) -> Option<()> {
-        self.seen.insert(key, here).ok()?;
+    /// Adds a key that isn't there yet: that of a record in a line, which in `stops.txt` stands for this kind of place.
+    /// `None` if memory runs out.
+    pub fn add(&mut self, key: String, line: u64, location: Location) -> Option<()> {
+        let target = StopIdTarget::of(location, self.stops as u32, self.len() as u32);
+        if location == Location::Stop {
+            self.stops = self.stops.checked_add(1)?;
+        }
+        self.seen.insert(key, Seen { line, target }).ok()?;
         Some(())
     }
 
@@ -76,14 +82,13 @@ impl Keys {
         if !self.are_all {
             return None;
         }
-        let Some(seen) = self.find(id) else {
-            return Some(FaultKind::UnknownId);
-        };
-        match (wanted, seen.location) {
-            (Wanted::Trip, _) | (Wanted::Parent, Location::Station) => None,
-            (Wanted::Parent, _) => Some(FaultKind::UnknownId),
-            (_, Location::Stop) | (Wanted::End, Location::Station) => None,
-            _ => Some(FaultKind::NotAStop),
+        let named = self.find(id).map(|seen| seen.target);
+        match wanted {
+            Wanted::Trip if named.is_some() => None,
+            Wanted::Trip => Some(FaultKind::UnknownId),
+            Wanted::Parent => parent_fault(named),
+            Wanted::Stop => stop_fault(named),
+            Wanted::End => end_fault(named),
         }
     }
 }

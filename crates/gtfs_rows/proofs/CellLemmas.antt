@@ -1,13 +1,14 @@
 -- Facts on cells and columns.
-use Rattle.std.proofs.Common.{◌≡◌, ◌≢◌, ◌+◌, ◌<◌, ◌≤◌, ◌==◌, ◌&&◌, ◌∷◌, ◌++◌, ℕ, zero, suc, List, [], length, drop}
+use Rattle.std.proofs.Common.{◌≡◌, ◌≢◌, ◌+◌, ◌<◌, ◌≤◌, ◌==◌, ◌∷◌, ◌++◌, ℕ, zero, suc, List, [], length, drop}
 use Rattle.std.proofs.Common.{Option, Some, None, Bool, true, false, refl, ap, arith, slice_index_or, unwrap_or, map}
 use Rattle.std.proofs.Common.{Bor}
 use Rattle.std.specs.List.{position_from}
-use Rattle.std.specs.Str.{IsCharBoundary, IsUtf8, bytes_eq}
+use Rattle.std.specs.Str.{IsUtf8, bytes_eq}
 use Rattle.std.proofs.lemmas.Str.{IsCharBoundary-after_ascii, IsUtf8-drop, IsUtf8-nil, IsUtf8-take}
-use Rattle.std.proofs.lemmas.Bool.{eqb-true, ne_eqb}
-use Rattle.reasoning.proofs.BoolLemmas.{and-right}
+use Rattle.std.proofs.lemmas.Bool.{ne_eqb}
 use Rattle.csv.specs.Records.{AllText, field_at}
+use Rattle.std.proofs.lemmas.Grind.{common_steps}
+use Rattle.std.proofs.lemmas.Bool.Decides.{nat_tests}
 use Rattle.gtfs_rows.specs.Source.{AllRecordsText, Record}
 use Rattle.gtfs_rows.specs.Cells.{cell, column, kept_len, indices_of, trim_front, trim_spaces}
 
@@ -37,34 +38,20 @@ front_text (b ∷ rest) h = by (b == 32) refl (front_text rest)
   where
     by : (e : Bool) → (b == 32) ≡ e → (IsUtf8 rest → IsUtf8 (trim_front rest)) → IsUtf8 (trim_front (b ∷ rest))
     by true e go =
-        let space : b ≡ 32 = eqb-true b 32 e in
-        let boundary : IsCharBoundary (b ∷ rest) (0 + 1) = IsCharBoundary-after_ascii (b ∷ rest) 0 h (omega arith) (rw space (omega arith)) in
-        rw e (go (IsUtf8-drop (b ∷ rest) (0 + 1) h boundary))
+        let low : b < 128 = grind (arith, nat_tests) in
+        rw e (go (IsUtf8-drop (b ∷ rest) (0 + 1) h (IsCharBoundary-after_ascii (b ∷ rest) 0 h (omega arith) low)))
     by false e go = rw e h
 
 -- what is kept ends before a space
 kept_end : (bs : List ℕ) → (kept_len bs ≤ length bs) × (kept_len bs < length bs → slice_index_or bs (kept_len bs) 0 ≡ 32)
-kept_end [] = (omega arith, λ h. absurd (omega arith))
-kept_end (b ∷ rest) = by ((kept_len rest == 0) && (b == 32)) refl (kept_end rest)
-  where
-    by : (e : Bool) → ((kept_len rest == 0) && (b == 32)) ≡ e
-        → ((kept_len rest ≤ length rest) × (kept_len rest < length rest → slice_index_or rest (kept_len rest) 0 ≡ 32))
-        → (kept_len (b ∷ rest) ≤ length (b ∷ rest)) × (kept_len (b ∷ rest) < length (b ∷ rest) → slice_index_or (b ∷ rest) (kept_len (b ∷ rest)) 0 ≡ 32)
-    by true e go = rw e (omega arith, λ h. eqb-true b 32 (and-right (kept_len rest == 0) (b == 32) e))
-    by false e go =
-        let k : kept_len rest + 1 ≡ suc (kept_len rest) = omega arith in
-        rw (e, k) (omega arith, λ h. go.1 (omega arith))
+kept_end [] = grind arith
+kept_end (b ∷ rest) = let more = kept_end rest in grind (arith, nat_tests, common_steps, more)
 
 -- a text with no space at either end is text
 trim_text : (bs : List ℕ) → IsUtf8 bs → IsUtf8 (trim_spaces bs)
 trim_text bs h =
-    let front = front_text bs h in
     let (within, at) = kept_end (trim_front bs) in
-    IsUtf8-take (trim_front bs) (kept_len (trim_front bs)) front (
-      within,
-      λ less high. absurd (let space : slice_index_or (trim_front bs) (kept_len (trim_front bs)) 0 ≡ 32 =
-          at less in omega arith),
-    )
+    IsUtf8-take (trim_front bs) (kept_len (trim_front bs)) (front_text bs h) (within, λ less high. absurd (omega (arith, at less)))
 
 -- a field of a record of text is text
 field_text : (r : Record) (i : ℕ) → AllText r → IsUtf8 (unwrap_or (field_at r i) [])

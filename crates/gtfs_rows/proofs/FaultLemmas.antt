@@ -1,5 +1,6 @@
 -- Records taken one at a time.
-use Rattle.std.proofs.Common.{◌≡◌, ◌+◌, ◌<◌, ◌≤◌, ◌∷◌, ◌++◌, ℕ, zero, suc, List, [], length, take, drop, get_or, Some, None, refl, ap, arith}
+use Rattle.std.proofs.Common.{◌≡◌, ◌+◌, ◌<◌, ◌≤◌, ◌∷◌, ◌++◌, ℕ, zero, suc, List, [], length, take, drop, get_or, Some, None, arith}
+use Rattle.std.proofs.lemmas.Grind.{common_steps}
 use borrow.Author.Count.{below_more}
 use Rattle.gtfs_rows.specs.Source.{Record}
 use Rattle.gtfs_rows.specs.Faults.{IsFirstFault, Judge, fault_at}
@@ -10,29 +11,28 @@ pub opened : {A : Type 0} (d : A) (n : ℕ) (all rest : List A) (r : A) → drop
     → (n < length all) × (get_or all n d ≡ r) × (drop (n + 1) all ≡ rest) × (take (n + 1) all ≡ take n all ++ r ∷ [])
 opened d zero [] rest r e = cc
 opened d (suc n) [] rest r e = cc
-opened d zero (x ∷ xs) rest r e = let h : x ≡ r = cc in let t : xs ≡ rest = cc in (omega arith, h, t, ap (λ y. y ∷ []) h)
+opened d zero (x ∷ xs) rest r e = grind (arith, common_steps)
 opened d (suc n) (x ∷ xs) rest r e =
-    let (less, here, after, more) = opened d n xs rest r e in
+    let more = opened d n xs rest r e in
     let s : suc n + 1 ≡ suc (n + 1) = omega arith in
-    (omega arith, here, rw s after, rw s (ap (λ ys. x ∷ ys) more))
+    rw s (grind (arith, common_steps, more))
 
 -- nothing is left
 pub closed : {A : Type 0} (n : ℕ) (all : List A) → drop n all ≡ [] → (length all ≤ n) × (take n all ≡ all)
-closed zero [] e = (omega arith, refl)
-closed (suc n) [] e = (omega arith, refl)
+closed n [] e = grind (arith, common_steps)
 closed zero (x ∷ xs) e = cc
-closed (suc n) (x ∷ xs) e = let (short, whole) = closed n xs e in (omega arith, ap (λ ys. x ∷ ys) whole)
+closed (suc n) (x ∷ xs) e = let more = closed n xs e in grind (arith, more)
 
 -- one record more without a fault
 pub faultless_more : (judge : Judge) (all rest : List Record) (n : ℕ) (r : Record) → drop n all ≡ r ∷ rest → judge (take n all) r ≡ None
     → ((j : ℕ) → j < n → fault_at judge all j ≡ None) → (j : ℕ) → j < n + 1 → fault_at judge all j ≡ None
 faultless_more judge all rest n r e good earlier =
-    let here : get_or all n [] ≡ r = (opened [] n all rest r e).1 in
-    below_more (λ j. fault_at judge all j ≡ None) n earlier (rw here good)
+    let here = opened [] n all rest r e in
+    below_more (λ j. fault_at judge all j ≡ None) n earlier (rw here.1 good)
 
 -- the first record at fault
 pub first_fault : (judge : Judge) (all rest : List Record) (n : ℕ) (r : Record) (kind : FaultKind) → drop n all ≡ r ∷ rest → judge (take n all) r ≡ Some kind
     → ((j : ℕ) → j < n → fault_at judge all j ≡ None) → IsFirstFault judge all n kind
 first_fault judge all rest n r kind e bad earlier =
-    let here : get_or all n [] ≡ r = (opened [] n all rest r e).1 in
-    record { within = (opened [] n all rest r e).0; here = rw here bad; first = earlier }
+    let here = opened [] n all rest r e in
+    record { within = here.0; here = rw here.1 bad; first = earlier }

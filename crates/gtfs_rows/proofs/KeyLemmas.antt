@@ -1,5 +1,5 @@
 -- How keys change with one more record.
-use Rattle.std.proofs.Common.{◌≡◌, ◌∷◌, ◌++◌, ◌∙◌, ℕ, List, [], map, not, Option, Some, None, Bool, true, false}
+use Rattle.std.proofs.Common.{◌≤◌, ◌<◌, length, arith, ◌≡◌, ◌∷◌, ◌++◌, ◌∙◌, ℕ, List, [], map, not, Option, Some, None, Bool, true, false}
 use Rattle.std.proofs.Common.{refl, sym, ap, append_assoc, String, Global, string_bytes, option_map}
 use Rattle.std.specs.List.{find, list_any, slice_get}
 use Rattle.std.proofs.lemmas.Option.{slice_get-map}
@@ -9,7 +9,10 @@ use Rattle.std.specs.Str.{bytes_eq}
 use Rattle.gtfs_rows.specs.Source.{Record}
 use Rattle.gtfs_rows.specs.Faults.{fault_if, is_among, keys_of}
 use Rattle.gtfs_rows.specs.Cells.{ColumnIndices}
-use Rattle.gtfs_rows.specs.Rows.{AreKept, StandsAt, key_fault, value}
+use Rattle.gtfs_rows.specs.Rows.{StandsAt, is_shared, key_by, key_fault, texts_kept, value}
+use Rattle.gtfs_rows.specs.Ids.{seen_also}
+use Rattle.std.proofs.lemmas.Grind.{common_steps}
+use Rattle.gtfs_rows.specs.declared.columns.Key.{Key}
 use Rattle.gtfs_rows.specs.declared.columns.Key.TheVariants as keys
 use Rattle.gtfs_rows.specs.declared.fault.FaultKind.TheVariants as kinds
 
@@ -26,38 +29,48 @@ keys_more key [] r = by (key r)
     by (Some x) = refl
 keys_more key (b ∷ bs) r = rw (keys_more key bs r) (sym (append_assoc (option_to_list (key b)) (keys_of key bs) (option_to_list (key r))))
 
--- a key that no earlier record has
-pub key_new : (key : Record → Option (List ℕ)) (text : List ℕ) (before : List Record) (r : Record) (old new : List (String Global))
-    → key r ≡ Some text → map string_bytes old ≡ keys_of key before
-    → list_any (bytes_eq text) (map string_bytes old) ≡ false
-    → map string_bytes new ≡ map string_bytes old ++ text ∷ []
-    → (fault_if (is_among (key r) (keys_of key before)) kinds.IdTwice ≡ None) × (map string_bytes new ≡ keys_of key (before ++ r ∷ []))
-key_new key text before r old new is same fresh last =
-    let none : is_among (key r) (keys_of key before) ≡ false = rw (is, ← same) fresh in (
-      rw none refl,
-      last ∙ ap (λ (xs : List (List ℕ)). xs ++ text ∷ []) same
-          ∙ ap (λ (o : Option (List ℕ)). keys_of key before ++ option_to_list o) (sym is) ∙ sym (keys_more key before r),
-    )
+-- a key that no earlier record may have, and one more record
+unique_more : (key : Record → Option (List ℕ)) (text : List ℕ) (before : List Record) (r : Record) (old new : List (List ℕ)) (added : Bool)
+    → key r ≡ Some text → old ≡ keys_of key before → new ≡ seen_also old text → added ≡ not (list_any (bytes_eq text) old)
+    → (added ≡ true → (fault_if (is_among (key r) (keys_of key before)) kinds.IdTwice ≡ None) × (new ≡ keys_of key (before ++ r ∷ [])))
+    × (added ≡ false → fault_if (is_among (key r) (keys_of key before)) kinds.IdTwice ≡ Some kinds.IdTwice)
+unique_more key text before r old new added is held more fresh = grind (arith, common_steps, keys_more)
 
--- no record has a key
-pub no_keys : (before : List Record) (r : Record) → keys_of (λ x. None) before ≡ keys_of (λ x. None) (before ++ r ∷ [])
+no_keys : (before : List Record) (r : Record) → keys_of (λ x. None) before ≡ keys_of (λ x. None) (before ++ r ∷ [])
 no_keys [] r = refl
 no_keys (b ∷ bs) r = no_keys bs r
 
--- records are judged by the text of the first
-pub shared_with : (k : ℕ) (indices : ColumnIndices) (before : List Record) (r : Record) (old : List (String Global))
-    (s : String Global) → AreKept (keys.Shared k) indices before old
-    → slice_get old 0 ≡ Some s
-    → (key_fault (keys.Shared k) indices before r
-    ≡ fault_if (not (bytes_eq (string_bytes s) (value indices k r))) kinds.ZonesDiffer)
-    × AreKept (keys.Shared k) indices (before ++ r ∷ []) old
-shared_with k indices [] r [] s held there = cc
-shared_with k indices [] r (x ∷ xs) s held there = cc
-shared_with k indices (first ∷ rest) r [] s held there = cc
-shared_with k indices (first ∷ rest) r (x ∷ xs) s held there =
-    let is : x ≡ s = cc in
-    let same : string_bytes x ≡ value indices k first = cc in
-    (ap (λ (text : List ℕ). fault_if (not (bytes_eq text (value indices k r))) kinds.ZonesDiffer) (sym same ∙ ap string_bytes is), held)
+-- a record without a key, in a table that has none
+pub unkeyed_more : (key : Key) (indices : ColumnIndices) (before : List Record) (r : Record) (old : List (List ℕ)) → key_by key indices r ≡ None
+    → old ≡ texts_kept key indices before → (key_fault key indices before r ≡ None) × (old ≡ texts_kept key indices (before ++ r ∷ []))
+unkeyed_more keys.Nothing indices before r old none held = (refl, held ∙ no_keys before r)
+unkeyed_more (keys.Column k) indices before r old none held = cc
+unkeyed_more (keys.Columns j k) indices before r old none held = cc
+unkeyed_more (keys.Shared k) indices before r old none held = cc
+
+-- a text that all records must have, and one more record
+shared_more : (k : ℕ) (indices : ColumnIndices) (before : List Record) (r : Record) (old new : List (List ℕ))
+    → old ≡ texts_kept (keys.Shared k) indices before → new ≡ seen_also old (value indices k r)
+    → (length new ≤ 1 → (key_fault (keys.Shared k) indices before r ≡ None) × (new ≡ texts_kept (keys.Shared k) indices (before ++ r ∷ [])))
+    × (1 < length new → key_fault (keys.Shared k) indices before r ≡ Some kinds.ZonesDiffer)
+shared_more k indices [] r old new held more = grind (arith, common_steps)
+shared_more k indices (first ∷ rest) r old new held more = grind (arith, common_steps)
+
+-- the texts that are kept, and what is wrong with a key, with one more record
+pub kept_more : (key : Key) (indices : ColumnIndices) (before : List Record) (r : Record) (text : List ℕ) (old new : List (List ℕ)) (added : Bool)
+    → Some text ≡ key_by key indices r → old ≡ texts_kept key indices before → new ≡ seen_also old text → added ≡ not (list_any (bytes_eq text) old)
+    → (is_shared key ≡ true → (length new ≤ 1 → (key_fault key indices before r ≡ None) × (new ≡ texts_kept key indices (before ++ r ∷ [])))
+    × (1 < length new → key_fault key indices before r ≡ Some kinds.ZonesDiffer))
+    × (is_shared key ≡ false → (added ≡ true → (key_fault key indices before r ≡ None) × (new ≡ texts_kept key indices (before ++ r ∷ [])))
+    × (added ≡ false → key_fault key indices before r ≡ Some kinds.IdTwice))
+kept_more keys.Nothing indices before r text old new added is held more fresh = cc
+kept_more (keys.Column k) indices before r text old new added is held more fresh =
+    (λ no. cc, λ _. unique_more (key_by (keys.Column k) indices) text before r old new added (sym is) held more fresh)
+kept_more (keys.Columns j k) indices before r text old new added is held more fresh =
+    (λ no. cc, λ _. unique_more (key_by (keys.Columns j k) indices) text before r old new added (sym is) held more fresh)
+kept_more (keys.Shared k) indices before r text old new added is held more fresh =
+    let same : text ≡ value indices k r = cc in
+    (λ _. shared_more k indices before r old new held (rw same at more), λ no. cc)
 
 -- an id of a set at its place
 pub stands : (keys : List (String Global)) (i : ℕ) (k : String Global) (id : List ℕ) → slice_get keys i ≡ Some k

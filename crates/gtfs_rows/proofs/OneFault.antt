@@ -25,11 +25,8 @@ one_under : (found : Bool) (judge : Judge) (records : List Record) (n m : ℕ) (
     → MatchBool found ((k : ℕ) × (n ≡ k + 1) × IsFirstFault judge records k kind) ((n ≡ 0) × (kind ≡ kinds.MissingColumn))
     → MatchBool found ((k : ℕ) × (m ≡ k + 1) × IsFirstFault judge records k other) ((m ≡ 0) × (other ≡ kinds.MissingColumn))
     → (n ≡ m) × (kind ≡ other)
-one_under true judge records n m kind other (k, n_is, a) (l, m_is, b) =
-    let both : (k ≡ l) × (kind ≡ other) = one_first judge records k l kind other a b in
-    let same : k ≡ l = both.0 in
-    (omega (arith, n_is, m_is, same), both.1)
-one_under false judge records n m kind other a b = (a.0 ∙ sym b.0, a.1 ∙ sym b.1)
+one_under true judge records n m kind other (k, n_is, a) (l, m_is, b) = let both = one_first judge records k l kind other a b in grind (arith, both)
+one_under false judge records n m kind other a b = grind arith
 
 one_of_records : (s : Shape) (records : List Record) (n m : ℕ) (kind other : FaultKind)
     → IsFaultOfRecords s records n kind → IsFaultOfRecords s records m other → (n ≡ m) × (kind ≡ other)

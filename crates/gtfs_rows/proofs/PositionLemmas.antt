@@ -1,34 +1,26 @@
 -- Lines counted piece by piece.
-use Rattle.std.proofs.Common.{◌≡◌, ◌∙◌, ◌+◌, ◌-◌, ◌≤◌, ◌++◌, ◌∷◌, [], if◌then◌else◌, ℕ, List, Bool, true, false, length, take, drop}
-use Rattle.std.proofs.Common.{refl, ap, sym, arith, slice_range, length-drop, length-take, take_all, take-append-drop, take-take}
-use Rattle.gtfs_rows.specs.Positions.{begins_with_feed, ends_line, line_ends}
+use Rattle.std.proofs.Common.{◌≡◌, ◌+◌, ◌-◌, ◌≤◌, ◌∷◌, [], ℕ, zero, suc, List, length, drop, slice_range, refl, ap, ◌∙◌, arith, length-drop, take_all}
+use Rattle.std.proofs.lemmas.Grind.{common_steps}
+use Rattle.gtfs_rows.specs.Positions.{line_ends}
 
--- what is behind the end of a text doesn't matter unless it begins with LF
-begins_same : (xs ys : List ℕ) → begins_with_feed ys ≡ false → begins_with_feed (xs ++ ys) ≡ begins_with_feed xs
-begins_same [] ys bare = bare
-begins_same (x ∷ xs) ys bare = refl
+-- no line ends before the first byte
+pub no_lines : (text : List ℕ) → line_ends text 0 ≡ 0
+no_lines [] = refl
+no_lines (b ∷ rest) = refl
 
-one_more : (b : Bool) (m n : ℕ) → (if b then (m + n) + 1 else m + n) ≡ (if b then m + 1 else m) + n
-one_more true m n = omega arith
-one_more false m n = refl
-
--- the lines that end in two pieces
-lines_behind : (xs ys : List ℕ) → begins_with_feed ys ≡ false → line_ends (xs ++ ys) ≡ line_ends xs + line_ends ys
-lines_behind [] ys bare = omega arith
-lines_behind (x ∷ xs) ys bare =
-    rw (begins_same xs ys bare, lines_behind xs ys bare) (one_more (ends_line x xs) (line_ends xs) (line_ends ys))
+lines_behind : (text : List ℕ) (m n : ℕ) → line_ends text (m + n) ≡ line_ends text m + line_ends (drop m text) n
+lines_behind [] m n = grind (arith, common_steps)
+lines_behind (b ∷ rest) zero n = let e : 0 + n ≡ n = omega arith in rw e (omega arith)
+lines_behind (b ∷ rest) (suc m) n =
+    let e : suc m + n ≡ suc (m + n) = omega arith in
+    let more = lines_behind rest m n in
+    rw e (grind (arith, more))
 
 -- the lines that end before a byte, counted on from an earlier one
-pub lines_further : (bytes text : List ℕ) (from byte : ℕ) → text ≡ take byte bytes → from ≤ length text
-    → begins_with_feed (slice_range text from (length text)) ≡ false
-    → line_ends (take byte bytes) ≡ line_ends (take from bytes) + line_ends (slice_range text from (length text))
-lines_further bytes text from byte e h bare =
-    let len : length text ≡ length (take byte bytes) = ap length e in
-    let within : from ≤ byte = omega (arith, h, len, length-take byte bytes) in
-    let front : take from text ≡ take from bytes = ap (take from) e ∙ take-take from byte bytes within in
-    let whole : take byte bytes ≡ take from text ++ drop from text = sym e ∙ sym (take-append-drop from text) in
-    let rest : slice_range text from (length text) ≡ drop from text =
-    take_all (length text - from) (drop from text) (omega (arith, length-drop from text)) in
-    ap line_ends whole ∙ lines_behind (take from text) (drop from text) (ap begins_with_feed (sym rest) ∙ bare)
-    ∙ ap (λ (t : List ℕ). line_ends t + line_ends (drop from text)) front
-    ∙ ap (λ (t : List ℕ). line_ends (take from bytes) + line_ends t) (sym rest)
+pub lines_further : (bytes : List ℕ) (from byte : ℕ) → from ≤ byte → from ≤ length bytes
+    → line_ends bytes byte ≡ line_ends bytes from + line_ends (slice_range bytes from (length bytes)) (byte - from)
+lines_further bytes from byte h within =
+    let whole : byte ≡ from + (byte - from) = omega arith in
+    let rest : slice_range bytes from (length bytes) ≡ drop from bytes =
+    take_all (length bytes - from) (drop from bytes) (omega (arith, length-drop from bytes)) in
+    ap (line_ends bytes) whole ∙ (rw rest (lines_behind bytes from (byte - from)))

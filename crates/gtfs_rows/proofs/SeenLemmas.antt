@@ -1,15 +1,14 @@
 -- How ids in first-seen order change with one more text.
-use Rattle.std.proofs.Common.{◌≡◌, ◌∷◌, ◌++◌, if◌then◌else◌, ℕ, zero, suc, List, [], map, fold, Option, Some, None, Bool}
-use Rattle.std.proofs.Common.{true, false, refl, sym, String, Global, string_bytes}
-use Rattle.std.specs.List.{AllZip, list_any}
-use Rattle.std.specs.Str.{bytes_eq}
+use Rattle.std.proofs.Common.{◌≡◌, ◌∷◌, ◌++◌, ℕ, zero, suc, List, [], map, fold, Option, Some, None}
+use Rattle.std.proofs.Common.{arith, sym, String, Global, string_bytes}
+use Rattle.std.specs.List.{AllZip}
 use Rattle.std.specs.String.{string_eq}
-use Rattle.std.proofs.Math.Bool.{or-true}
 use Rattle.std.proofs.lemmas.List.{map-append}
 use Rattle.std.proofs.lemmas.List.Sums.{fold-append}
 use Rattle.std.proofs.lemmas.Slice.Eq.{bytes_eq-Decides}
 use Rattle.reasoning.proofs.ListLemmas.{all_zip-push, slice_get-append}
 use Rattle.indexmap.specs.IndexSet.{insert_key}
+use Rattle.std.proofs.lemmas.Grind.{common_steps}
 use Rattle.gtfs_rows.specs.Source.{Record}
 use Rattle.gtfs_rows.specs.Cells.{ColumnIndices}
 use Rattle.gtfs_rows.specs.Ids.{given_also, seen_also}
@@ -28,30 +27,18 @@ ids_more also k indices before r ids new held e =
 
 -- a text that stands somewhere is among the texts
 pub stands_among : (texts : List (List ℕ)) (k : ℕ) (text : List ℕ) → StandsAt texts k text → texts ≡ seen_also texts text
-stands_among texts k text h = rw (by texts k h) refl
-  where
-    by : (xs : List (List ℕ)) (k : ℕ) → StandsAt xs k text → list_any (bytes_eq text) xs ≡ true
-    by [] k h = cc
-    by (x ∷ xs) zero h = let e : x ≡ text = cc in rw (e, (bytes_eq-Decides text text).1 refl) refl
-    by (x ∷ xs) (suc k) h = rw (by xs k h) (or-true (bytes_eq text x))
+stands_among [] k text h = cc
+stands_among (x ∷ xs) zero text h = let same = bytes_eq-Decides text text in grind (arith, common_steps, same)
+stands_among (x ∷ xs) (suc k) text h = let more = stands_among xs k text h in let same = bytes_eq-Decides text x in grind (arith, common_steps, more, same)
 
 -- a set with one more id
 pub seen_insert : (keys new : List (String Global)) (k : String Global) → new ≡ insert_key string_eq keys k
     → map string_bytes new ≡ seen_also (map string_bytes keys) (string_bytes k)
-seen_insert keys new k e = rw (e, any-map (bytes_eq (string_bytes k)) string_bytes keys) (by (list_any (string_eq k) keys))
-  where
-    by : (b : Bool) → map string_bytes (if b then keys else keys ++ k ∷ [])
-        ≡ (if b then map string_bytes keys else map string_bytes keys ++ string_bytes k ∷ [])
-    by true = refl
-    by false = map-append string_bytes keys (k ∷ [])
+seen_insert keys new k e = grind (arith, common_steps, any-map)
 
 -- ids stay at their places as one more is seen
 pub stands_also : (texts : List (List ℕ)) (new : List ℕ) (k : ℕ) (text : List ℕ) → StandsAt texts k text → StandsAt (seen_also texts new) k text
-stands_also texts new k text h = by (list_any (bytes_eq new) texts) refl
-  where
-    by : (b : Bool) → list_any (bytes_eq new) texts ≡ b → StandsAt (seen_also texts new) k text
-    by true e = rw e h
-    by false e = rw e (slice_get-append texts (new ∷ []) k text h)
+stands_also texts new k text h = let more = slice_get-append texts (new ∷ []) k text h in grind (arith, common_steps, more)
 
 pub stands_given : (texts : List (List ℕ)) (new : List ℕ) (k : ℕ) (text : List ℕ) → StandsAt texts k text → StandsAt (given_also texts new) k text
 stands_given texts [] k text h = h

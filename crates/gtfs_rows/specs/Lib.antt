@@ -1,7 +1,6 @@
 pub mod Cells
 pub mod Faults
 pub mod Ids
-pub mod Judging
 pub mod Positions
 pub mod Rows
 pub mod Source

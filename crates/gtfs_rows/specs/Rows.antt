@@ -5,8 +5,7 @@ use Rattle.std.specs.List.{AllZip, slice_get}
 use Rattle.std.specs.Str.{bytes_eq}
 use Rattle.std.specs.String.{string_bytes}
 use Rattle.std.specs.declared.alloc.Global.{Global}
-use Rattle.csv.specs.Records.{fields_of}
-use Rattle.gtfs_rows.specs.Source.{Record}
+use Rattle.gtfs_rows.specs.Source.{Record, last_of}
 use Rattle.gtfs_rows.specs.Cells.{ColumnIndices, cell}
 use Rattle.gtfs_rows.specs.Faults.{Judge, fault_if, fault_unless, is_among, keys_of, or_fault}
 use Rattle.gtfs_rows.specs.Ids.{first_given, first_seen}
@@ -15,9 +14,9 @@ use Rattle.gtfs_rows.specs.declared.fault.FaultKind.{FaultKind}
 use Rattle.gtfs_rows.specs.declared.fault.FaultKind.TheVariants as kinds
 use Rattle.gtfs_rows.specs.declared.fault.Table.{Table}
 use Rattle.gtfs_rows.specs.declared.fault.Table.TheVariants as tables
-use Rattle.gtfs_rows.specs.declared.cells.Cells.{Cells}
 use Rattle.gtfs_rows.specs.declared.columns.Key.{Key}
 use Rattle.gtfs_rows.specs.declared.columns.Key.TheVariants as keys
+use Rattle.gtfs_rows.specs.declared.records.Records.{Records}
 use Rattle.gtfs_rows.specs.declared.rows.AgencyRow.{AgencyRow}
 use Rattle.gtfs_rows.specs.declared.rows.CalendarDateRow.{CalendarDateRow}
 use Rattle.gtfs_rows.specs.declared.rows.CalendarRow.{CalendarRow}
@@ -38,28 +37,34 @@ use Rattle.gtfs_rows.specs.declared.stop_times.StopTimes.{StopTimes}
 abbrev pub value : ColumnIndices → ℕ → Record → List ℕ
 value indices k r = cell (slice_index_or indices k None) r
 
--- the fields of the record
-abbrev pub row_of : Cells → Record
-row_of cells = fields_of cells.fields.now
+-- what is said of the record that was read last
+abbrev pub of_last : {X : Type 0} → (ColumnIndices → Record → X) → Records → X
+of_last said records = said records.indices.items (last_of records)
 
--- the record's value in the k-th of its table's columns
-abbrev pub shown : Cells → ℕ → List ℕ
-shown cells k = value cells.indices.now k (row_of cells)
+-- the value of the record that was read last in the k-th of its table's columns
+abbrev pub shown : Records → ℕ → List ℕ
+shown records k = value records.indices.items k (last_of records)
 
 -- nothing is wrong with any values
 abbrev pub no_fault : ColumnIndices → Record → Option FaultKind
 no_fault indices r = None
 
--- a record's key, if the table has one: the text of its key column, or the texts of both joined
+-- a record's key, if the table has one: the text of its key column, or the texts of both joined; or the text that all share
 abbrev pub key_by : Key → ColumnIndices → Record → Option (List ℕ)
 key_by (keys.Column k) indices = λ r. Some (value indices k r)
+key_by (keys.Shared k) indices = λ r. Some (value indices k r)
 key_by (keys.Columns j k) indices = λ r. Some (value indices j r ++ value indices k r)
 key_by _ indices = λ r. None
+
+-- all records have the same text
+abbrev pub is_shared : Key → Bool
+is_shared (keys.Shared k) = true
+is_shared _ = false
 
 -- what is wrong with a record's key: an earlier record has it, or the text that all share differs from the first record's
 abbrev pub key_fault : Key → ColumnIndices → Judge
 key_fault (keys.Shared k) indices [] r = None
-key_fault (keys.Shared k) indices (first ∷ rest) r = fault_if (not (bytes_eq (value indices k first) (value indices k r))) kinds.ZonesDiffer
+key_fault (keys.Shared k) indices (first ∷ rest) r = fault_if (not (bytes_eq (value indices k r) (value indices k first))) kinds.ZonesDiffer
 key_fault key indices before r = fault_if (is_among (key_by key indices r) (keys_of (key_by key indices) before)) kinds.IdTwice
 
 -- the keys of the records, or the text that they all share

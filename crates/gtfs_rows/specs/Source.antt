@@ -53,6 +53,12 @@ pub record IsReading (r : Records) : Type 0 where
   pub ready : Ready r.reader
   pub source : IsSome (source_of known r.reader)
 
+-- the columns that were looked for, the header's width and the file's bytes stay as they are
+pub record IsSame (old new : Records) : Type 0 where
+  pub indices : new.indices.items ≡ old.indices.items
+  pub width : new.width ≡ old.width
+  pub lines : new.lines ≡ old.lines
+
 -- each field of each record is UTF-8
 abbrev pub AllRecordsText : List Record → Type 0
 AllRecordsText [] = ⊤

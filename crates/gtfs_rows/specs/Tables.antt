@@ -1,15 +1,18 @@
 -- The eight files of a feed, each with its columns, and the rows that their bytes hold.
-use Rattle.std.specs.Prelude.{◌≡◌, ◌<◌, ◌≤◌, ◌⊎◌, List, [], ◌∷◌, ℕ, Bool, true, false, codes, length, count_by}
-use Rattle.gtfs_rows.specs.Cells.{ColumnIndices}
+use Rattle.std.specs.Prelude.{◌≡◌, ◌≢◌, ◌<◌, ◌≤◌, ◌⊎◌, List, [], ◌∷◌, ℕ, Bool, true, false, codes, length, count_by, IsUtf8}
+use Rattle.gtfs_rows.specs.Cells.{ColumnIndices, has_required, indices_of}
 use Rattle.gtfs_rows.specs.Faults.{HoldsFile, HoldsRows, IsFaultOf, Judge, Shape, or_fault}
 use Rattle.gtfs_rows.specs.Rows.{AreStopTimes, SpellsAgency, SpellsCalendar, SpellsCalendarDate, SpellsFrequency}
 use Rattle.gtfs_rows.specs.Rows.{SpellsStop, SpellsTransfer, SpellsTrip, key_fault, values_of}
+use Rattle.gtfs_rows.specs.Source.{IsReading, last_of, left_of, table_records}
 use Rattle.gtfs_rows.specs.declared.columns.Key.{Key}
 use Rattle.gtfs_rows.specs.declared.columns.Key.TheVariants as keys
 use Rattle.gtfs_rows.specs.declared.fault.FaultKind.{FaultKind}
 use Rattle.gtfs_rows.specs.declared.fault.FaultKind.TheVariants as kinds
 use Rattle.gtfs_rows.specs.declared.fault.Table.{Table}
 use Rattle.gtfs_rows.specs.declared.fault.Table.TheVariants as tables
+use Rattle.gtfs_rows.specs.declared.fault.TableFault.{TableFault}
+use Rattle.gtfs_rows.specs.declared.records.Records.{Records}
 use Rattle.gtfs_rows.specs.declared.rows.AgencyRow.{AgencyRow}
 use Rattle.gtfs_rows.specs.declared.rows.CalendarDateRow.{CalendarDateRow}
 use Rattle.gtfs_rows.specs.declared.rows.CalendarRow.{CalendarRow}
@@ -63,6 +66,21 @@ judge_of table indices before r = or_fault (values_of table indices r) (key_faul
 -- how each file is read
 abbrev pub shape_of : Table → Shape
 shape_of table = record { names = columns_of table; required = required_of table; judge = judge_of table }
+
+-- the fault is that of the bytes of the table's file, unless memory ran out
+abbrev pub IsRefusal : Table → List ℕ → TableFault → Type 0
+IsRefusal table bytes fault = (fault.file ≡ table) × (fault.kind ≢ kinds.OutOfMemory → IsFaultOf (shape_of table) bytes fault.row fault.kind)
+
+-- the bytes are UTF-8, their header was read last, as the only record, and has the required columns; its records are left
+pub record IsOpened (table : Table) (bytes : List ℕ) (r : Records) : Type 0 where
+  pub text : IsUtf8 bytes
+  pub reading : IsReading r
+  pub records : table_records bytes ≡ last_of r ∷ left_of r
+  pub indices : r.indices.items ≡ indices_of (columns_of table) (last_of r)
+  pub there : has_required (required_of table) r.indices.items ≡ true
+  pub width : r.width ≡ length (last_of r)
+  pub count : r.count ≡ 1
+  pub lines : r.lines ≡ bytes
 
 -- the bytes of agency.txt have no fault, and their records spell these rows, in order
 abbrev pub HoldsAgencies : List ℕ → List AgencyRow → Type 0

@@ -1,16 +1,11 @@
 //! The columns of a table, and the values that a record has in them.
 
-ghost use Rattle.std.specs.Prelude.{◌≡◌, ◌≤◌, length, map, IfErr, IfOk, IsUtf8, None, Some, true, false};
+ghost use Rattle.std.specs.Prelude.{◌≡◌, ◌≤◌, length, map, IfOk, IsUtf8, true, false};
 ghost use Rattle.std.specs.String.{string_bytes};
-ghost use Rattle.csv.specs.Records.{AllText, fields_of};
+ghost use Rattle.csv.specs.Records.{fields_of};
 ghost use Rattle.gtfs_rows.specs.Cells.{cell as cell_of, column as column_of, has_required as are_there, indices_of};
 ghost use Rattle.gtfs_rows.specs.Cells.{trim_front, trim_spaces};
-ghost use Rattle.gtfs_rows.specs.Faults.{fault_unless};
-ghost use Rattle.gtfs_rows.specs.Rows.{row_of, shown};
-ghost use Rattle.gtfs_rows.specs.Values.{time_of};
 
-use crate::fault::FaultKind;
-use crate::values::Time;
 use csv::ByteRecord;
 use std::alloc::{AllocError, Global};
 
@@ -100,50 +95,11 @@ pub(crate) fn is_text(bytes: &[u8]) -> bool
 }
 
 // Copies bytes that are known to be UTF-8 into a string.
-fn text_of(alloc: Global, bytes: &[u8]) -> Result<String, AllocError>
+pub(crate) fn text_of(alloc: Global, bytes: &[u8]) -> Result<String, AllocError>
     requires { IsUtf8 bytes.now }
     ensures { IfOk result (λ s. string_bytes s ≡ bytes.now) }
 {
     // the whole file was found to be UTF-8, so a cell isn't checked again
     let text = unsafe { str::from_utf8_unchecked(bytes) };
     String::from_str(alloc, text)
-}
-
-/// The fields of a record, and the index in the header of each of the table's columns.
-#[derive(Clone, Copy)]
-pub struct Cells<'a> {
-    pub(crate) indices: &'a [ColumnIndex],
-    pub(crate) fields: &'a ByteRecord,
-}
-
-impl<'a> Cells<'a> {
-    /// Returns the record's value in the table's column of this index; blank if the column is absent.
-    pub fn get(&self, column: usize) -> &'a [u8]
-        ensures { result.now ≡ shown self.entry.now column }
-    {
-        let index = if column < self.indices.len() {
-            self.indices[column]
-        } else {
-            None
-        };
-        cell(self.fields, index)
-    }
-
-    // Returns the same value as a string.
-    pub(crate) fn text(&self, alloc: Global, column: usize) -> Result<String, FaultKind>
-        requires { AllText (row_of self.now) }
-        ensures ok { IfOk result (λ s. string_bytes s ≡ shown self.now column) }
-        ensures err { IfErr result (λ kind. kind ≡ FaultKind.OutOfMemory) }
-    {
-        text_of(alloc, self.get(column)).map_err(|_| FaultKind::OutOfMemory)
-    }
-
-    // Returns the time in a column, in seconds after the start of the service day. Blank is `BadTime` too.
-    pub(crate) fn time(&self, column: usize) -> Result<u32, FaultKind>
-        ensures ok { IfOk result (λ t. time_of (shown self.now column) ≡ Some t) }
-        ensures err { IfErr result (λ kind. fault_unless (time_of (shown self.now column)) FaultKind.BadTime
-            ≡ Some kind) }
-    {
-        Time::parse(self.get(column)).map_err(|_| FaultKind::BadTime)
-    }
 }

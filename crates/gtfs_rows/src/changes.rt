@@ -1,14 +1,15 @@
 //! transfers.txt and frequencies.txt: where passengers change, and when trips repeat.
 
-ghost use Rattle.std.specs.Prelude.{◌≡◌, None, Some, IfOk, IfErr};
+ghost use Rattle.std.specs.Prelude.{◌≡◌, Some, IfOk};
+ghost use Rattle.std.specs.Result.{result_err};
 ghost use Rattle.gtfs_rows.specs.Rows.{SpellsFrequency, SpellsTransfer, frequency_row_fault, headway_fault};
-ghost use Rattle.gtfs_rows.specs.Rows.{row_of, shown, transfer_of, typed_transfer};
+ghost use Rattle.gtfs_rows.specs.Rows.{of_last, shown, transfer_of, typed_transfer};
 ghost use Rattle.gtfs_rows.specs.Values.{number_of, time_of};
 ghost use Rattle.gtfs_rows.specs.declared.fault.Table.TheVariants as files;
 
-use crate::cells::Cells;
 use crate::fault::{FaultKind, Table};
-use crate::keyed::{Row, UnlimitedRow};
+use crate::keyed::Row;
+use crate::records::Records;
 use crate::rows::{FrequencyRow, TransferKind, TransferRow};
 use crate::values::number;
 use std::alloc::Global;
@@ -30,15 +31,15 @@ fn typed(text: &[u8]) -> TransferKind
 }
 
 /// Returns the kind of transfer of a record of `transfers.txt`: `Skipped` if it names a route or a trip.
-pub fn transfer_kind(cells: &Cells) -> TransferKind
-    ensures { result ≡ transfer_of cells.now.indices.now (row_of cells.now) }
+pub fn transfer_kind(records: &Records<'_>) -> TransferKind
+    ensures { result ≡ of_last transfer_of records.now }
 {
-    let of_stops = cells.get(4).is_empty()
-        && cells.get(5).is_empty()
-        && cells.get(6).is_empty()
-        && cells.get(7).is_empty();
+    let of_stops = records.get(4).is_empty()
+        && records.get(5).is_empty()
+        && records.get(6).is_empty()
+        && records.get(7).is_empty();
     if of_stops {
-        typed(cells.get(2))
+        typed(records.get(2))
     } else {
         TransferKind::Skipped
     }
@@ -51,25 +52,22 @@ impl Row for TransferRow {
 
     const TABLE: Table = Table::Transfers;
 
-    fn read(alloc: Global, cells: &Cells) -> Result<Self, FaultKind> {
-        let kind = transfer_kind(cells);
-        let seconds = number(cells.get(3));
+    fn read(alloc: Global, records: &Records<'_>) -> Result<Self, FaultKind> {
+        let kind = transfer_kind(records);
+        let seconds = number(records.get(3));
         Ok(TransferRow {
-            from: cells.text(alloc, 0)?,
-            to: cells.text(alloc, 1)?,
+            from: records.text(alloc, 0)?,
+            to: records.text(alloc, 1)?,
             kind,
             seconds,
         })
     }
 }
 
-impl UnlimitedRow for TransferRow {}
-
 // Parses a headway in seconds: `BadNumber` if the text isn't a number, `BadHeadway` if it is 0.
 fn headway(text: &[u8]) -> Result<u32, FaultKind>
-    ensures fine { IfOk result (λ n. headway_fault (number_of text.now) ≡ None) }
     ensures ok { IfOk result (λ n. number_of text.now ≡ Some n) }
-    ensures err { IfErr result (λ kind. headway_fault (number_of text.now) ≡ Some kind) }
+    ensures fault { result_err result ≡ headway_fault (number_of text.now) }
 {
     match number(text) {
         None => Err(FaultKind::BadNumber),
@@ -79,16 +77,15 @@ fn headway(text: &[u8]) -> Result<u32, FaultKind>
 }
 
 // Returns the start, the end and the headway of a record, or what is wrong with them.
-pub(crate) fn repeated(cells: &Cells) -> Result<(u32, u32, u32), FaultKind>
-    ensures fine { IfOk result (λ v. frequency_row_fault cells.now.indices.now (row_of cells.now) ≡ None) }
-    ensures start { IfOk result (λ v. time_of (shown cells.now 1) ≡ Some v.0) }
-    ensures end { IfOk result (λ v. time_of (shown cells.now 2) ≡ Some v.1) }
-    ensures headway { IfOk result (λ v. number_of (shown cells.now 3) ≡ Some v.2) }
-    ensures err { IfErr result (λ kind. frequency_row_fault cells.now.indices.now (row_of cells.now) ≡ Some kind) }
+pub(crate) fn repeated(records: &Records<'_>) -> Result<(u32, u32, u32), FaultKind>
+    ensures start { IfOk result (λ v. time_of (shown records.now 1) ≡ Some v.0) }
+    ensures end { IfOk result (λ v. time_of (shown records.now 2) ≡ Some v.1) }
+    ensures headway { IfOk result (λ v. number_of (shown records.now 3) ≡ Some v.2) }
+    ensures fault { result_err result ≡ of_last frequency_row_fault records.now }
 {
-    let start = cells.time(1)?;
-    let end = cells.time(2)?;
-    let headway = headway(cells.get(3))?;
+    let start = records.time(1)?;
+    let end = records.time(2)?;
+    let headway = headway(records.get(3))?;
     Ok((start, end, headway))
 }
 
@@ -99,9 +96,9 @@ impl Row for FrequencyRow {
 
     const TABLE: Table = Table::Frequencies;
 
-    fn read(alloc: Global, cells: &Cells) -> Result<Self, FaultKind> {
-        let (start, end, headway) = repeated(cells)?;
-        let trip = cells.text(alloc, 0)?;
+    fn read(alloc: Global, records: &Records<'_>) -> Result<Self, FaultKind> {
+        let (start, end, headway) = repeated(records)?;
+        let trip = records.text(alloc, 0)?;
         Ok(FrequencyRow {
             trip,
             start,
@@ -110,5 +107,3 @@ impl Row for FrequencyRow {
         })
     }
 }
-
-impl UnlimitedRow for FrequencyRow {}

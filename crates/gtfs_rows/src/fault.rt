@@ -5,8 +5,8 @@ ghost use Rattle.std.specs.Prelude.{◌≡◌};
 ghost use Rattle.gtfs_rows.specs.FaultNumber.{numbered_fault, file_name as name_of_file};
 
 use reasoning::variant_name;
-use std::error::Error;
 use std::fmt;
+use thiserror::Error;
 
 /// The files of a feed that are read, in the order in which they are read.
 #[derive(Clone, Copy, Debug, PartialEq, Eq)]
@@ -22,52 +22,71 @@ pub enum Table {
 }
 
 /// What is wrong with a table. Columns are named as in the GTFS Schedule Reference.
-#[derive(Clone, Copy, Debug, PartialEq, Eq)]
+#[derive(Clone, Copy, Debug, PartialEq, Eq, Error)]
 pub enum FaultKind {
     /// A required file is missing, or both `calendar.txt` and `calendar_dates.txt` are.
+    #[error("the file is missing")]
     MissingFile = 1,
     /// The file lacks a required column, or has no header at all.
+    #[error("a required column is missing")]
     MissingColumn = 2,
     /// The file isn't UTF-8.
+    #[error("the file isn't UTF-8")]
     BadUtf8 = 3,
     /// The record has more or fewer fields than the header.
+    #[error("the record has more or fewer fields than the header")]
     RowLength = 4,
     /// A field isn't a time: `H:MM:SS` or `HH:MM:SS`, minutes and seconds below 60. In `stop_times.txt` it may
     /// be blank.
+    #[error("a field isn't a time")]
     BadTime = 5,
     /// A field isn't a date: `YYYYMMDD`, of the years 1 to 9999.
+    #[error("a field isn't a date")]
     BadDate = 6,
     /// A `stop_sequence`, a weekday, an `exception_type` or a `headway_secs` isn't a number of at most nine digits,
     /// or is one that isn't allowed there.
+    #[error("a field isn't a number, or isn't one that is allowed")]
     BadNumber = 7,
     /// An earlier record has the same id, or in `calendar_dates.txt` the same service and date.
+    #[error("an earlier record has the same id")]
     IdTwice = 8,
     /// No trip or place has the id that the record names, or a `parent_station` names a place that isn't a station.
+    #[error("no record has the id")]
     UnknownId = 9,
     /// The `agency_timezone` differs from that of the first agency.
+    #[error("the time zone differs from that of the first agency")]
     ZonesDiffer = 10,
     /// Two rows of a trip have the same `stop_sequence`.
+    #[error("the trip has the stop_sequence twice")]
     SequenceTwice = 11,
     /// The first or the last row of a trip has no time.
+    #[error("the trip begins or ends without a time")]
     EndWithoutTime = 12,
     /// A trip arrives at a stop before the last departure given earlier in the trip, or after it departs from there.
+    #[error("the times of the trip go back")]
     TimeGoesBack = 13,
     /// A trip, once its blank rows have times, arrives at a stop no later than it departed from the previous one.
     /// This is a fault only if tables are joined strictly.
+    #[error("an arrival isn't after the departure before it")]
     HopWithoutDuration = 14,
     /// The record names a place that isn't a stop; in `transfers.txt`, one that is neither a stop nor a station.
+    #[error("the place isn't a stop")]
     NotAStop = 15,
     /// There are more of something than are allowed, such as stops in `stops.txt` or trips in `trips.txt`.
+    #[error("there are too many")]
     TooMany = 16,
     /// Memory ran out.
+    #[error("out of memory")]
     OutOfMemory = 17,
     /// The `headway_secs` is 0.
+    #[error("the headway is 0")]
     BadHeadway = 18,
 }
 
 /// A fault of a feed: the file, the record's number and what is wrong. The first record after the header is 1; 0 is
 /// the file as a whole.
-#[derive(Clone, Copy, Debug, PartialEq, Eq)]
+#[derive(Clone, Copy, Debug, PartialEq, Eq, Error)]
+#[error("{file}, record {row}: {kind}")]
 pub struct TableFault {
     pub file: Table,
     pub row: u64,
@@ -93,39 +112,7 @@ impl FaultKind {
             NotAStop, TooMany, OutOfMemory, BadHeadway
         )
     }
-
-    // Returns what is wrong, in words.
-    fn message(self) -> &'static str {
-        match self {
-            FaultKind::MissingFile => "the file is missing",
-            FaultKind::MissingColumn => "a required column is missing",
-            FaultKind::BadUtf8 => "the file isn't UTF-8",
-            FaultKind::RowLength => "the record has more or fewer fields than the header",
-            FaultKind::BadTime => "a field isn't a time",
-            FaultKind::BadDate => "a field isn't a date",
-            FaultKind::BadNumber => "a field isn't a number, or isn't one that is allowed",
-            FaultKind::IdTwice => "an earlier record has the same id",
-            FaultKind::UnknownId => "no record has the id",
-            FaultKind::ZonesDiffer => "the time zone differs from that of the first agency",
-            FaultKind::SequenceTwice => "the trip has the stop_sequence twice",
-            FaultKind::EndWithoutTime => "the trip begins or ends without a time",
-            FaultKind::TimeGoesBack => "the times of the trip go back",
-            FaultKind::HopWithoutDuration => "an arrival isn't after the departure before it",
-            FaultKind::NotAStop => "the place isn't a stop",
-            FaultKind::TooMany => "there are too many",
-            FaultKind::OutOfMemory => "out of memory",
-            FaultKind::BadHeadway => "the headway is 0",
-        }
-    }
 }
-
-impl fmt::Display for FaultKind {
-    fn fmt<W: fmt::Write>(&self, f: &mut fmt::Formatter<W>) -> fmt::Result {
-        f.write_str(self.message())
-    }
-}
-
-impl Error for FaultKind {}
 
 impl Table {
     /// Returns the name of the table's file, such as `agency.txt`.
@@ -165,14 +152,6 @@ impl Table {
     {
         self.fault(0, FaultKind::MissingFile)
     }
-
-    // Returns the fault that memory ran out at this table.
-    pub(crate) fn out_of_memory(self) -> TableFault
-        ensures file { result.file ≡ self }
-        ensures kind { result.kind ≡ FaultKind.OutOfMemory }
-    {
-        self.fault(0, FaultKind::OutOfMemory)
-    }
 }
 
 impl fmt::Display for Table {
@@ -180,13 +159,3 @@ impl fmt::Display for Table {
         f.write_str(self.file_name())
     }
 }
-
-impl Error for Table {}
-
-impl fmt::Display for TableFault {
-    fn fmt<W: fmt::Write>(&self, f: &mut fmt::Formatter<W>) -> fmt::Result {
-        write!(f, "{}, record {}: {}", self.file, self.row, self.kind)
-    }
-}
-
-impl Error for TableFault {}

@@ -1,6 +1,6 @@
 //! Sets of ids, in the order in which they were first seen.
 
-ghost use Rattle.std.specs.Prelude.{◌≡◌, ◌≢◌, ◌++◌, ◌∷◌, [], map, true, false, IfErr, IfOk, IfSome, IsUtf8, OnOk};
+ghost use Rattle.std.specs.Prelude.{◌≡◌, map, not, IfErr, IfOk, IfSome, IsUtf8, OnOk};
 ghost use Rattle.std.specs.String.{string_bytes};
 ghost use Rattle.std.specs.List.{list_any};
 ghost use Rattle.std.specs.Str.{bytes_eq};
@@ -16,24 +16,21 @@ use std::alloc::Global;
 // Distinct texts, in the order in which they were added.
 pub(crate) type Ids = IndexSet<String, IdHash>;
 
-// Adds a key at the end: `IdTwice` if it is already there.
-pub(crate) fn add_key(keys: &mut Ids, key: String) -> Result<(), FaultKind>
-    ensures new { OnOk result (list_any (bytes_eq (string_bytes key)) (map string_bytes keys.old.keys) ≡ false) }
-    ensures last { OnOk result (map string_bytes keys.new.keys ≡ map string_bytes keys.old.keys ++ string_bytes key
-        ∷ []) }
-    ensures err { IfErr result (λ kind. kind ≢ FaultKind.OutOfMemory
-        → (kind ≡ FaultKind.IdTwice) × (list_any (bytes_eq (string_bytes key)) (map string_bytes keys.old.keys)
-        ≡ true)) }
+// Returns the index of a key, and whether it is new; it is added at the end then. Memory may run out.
+#[tactic(auto, using(crate::proofs::KeyLemmas::stands, crate::proofs::SeenLemmas::seen_insert))]
+pub(crate) fn add_key(keys: &mut Ids, key: String) -> Result<(usize, bool), FaultKind>
+    ensures more { OnOk result (map string_bytes keys.new.keys
+        ≡ seen_also (map string_bytes keys.old.keys) (string_bytes key)) }
+    ensures new { IfOk result (λ added. added.1 ≡ not (list_any (bytes_eq (string_bytes key))
+        (map string_bytes keys.old.keys))) }
+    ensures index { IfOk result (λ added. StandsAt (map string_bytes keys.new.keys) added.0 (string_bytes key)) }
+    ensures err { IfErr result (λ kind. kind ≡ FaultKind.OutOfMemory) }
     ensures hash { OnOk result (hasher_of keys.new ≡ hasher_of keys.old) }
 {
-    let Ok((_, added)) = keys.insert_full(key) else {
+    let Ok((index, is_new)) = keys.insert_full(key) else {
         return Err(FaultKind::OutOfMemory);
     };
-    if added {
-        Ok(())
-    } else {
-        Err(FaultKind::IdTwice)
-    }
+    Ok((index, is_new))
 }
 
 // Returns the index of an id, which is added at the end if it isn't there yet. The likely index is tried first.
@@ -62,7 +59,7 @@ pub(crate) fn index_of(
     let Ok(owned) = String::from_str(alloc, text) else {
         return Err(FaultKind::OutOfMemory);
     };
-    let index = add_id(ids, owned)?;
+    let (index, _) = add_key(ids, owned)?;
     as_index(index)
 }
 
@@ -87,21 +84,6 @@ fn find_id(ids: &Ids, id: &str) -> Option<usize>
 {
     let (index, _) = ids.get_full(id)?;
     Some(index)
-}
-
-// Returns the index of an id, which is added at the end if it isn't there yet. Memory may run out.
-#[tactic(auto, using(crate::proofs::KeyLemmas::stands, crate::proofs::SeenLemmas::seen_insert))]
-fn add_id(ids: &mut Ids, id: String) -> Result<usize, FaultKind>
-    ensures more { OnOk result (map string_bytes ids.new.keys
-        ≡ seen_also (map string_bytes ids.old.keys) (string_bytes id)) }
-    ensures ok { IfOk result (λ index. StandsAt (map string_bytes ids.new.keys) index (string_bytes id)) }
-    ensures err { IfErr result (λ kind. kind ≡ FaultKind.OutOfMemory) }
-    ensures hash { OnOk result (hasher_of ids.new ≡ hasher_of ids.old) }
-{
-    let Ok((index, _)) = ids.insert_full(id) else {
-        return Err(FaultKind::OutOfMemory);
-    };
-    Ok(index)
 }
 
 // Returns an index as rows keep it: `OutOfMemory` if it has more than 32 bits.

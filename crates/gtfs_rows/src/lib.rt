@@ -3,7 +3,6 @@
 //! The files and their columns are those of the GTFS Schedule Reference.
 #![tactic(auto)]
 
-mod agencies;
 mod cells;
 mod changes;
 mod columns;
@@ -22,14 +21,14 @@ mod services;
 mod stop_times;
 mod stops;
 mod table_file;
-mod table_records;
 pub mod values;
 
-pub use cells::{Cells, cell, column};
+pub use cells::{cell, column};
 pub use changes::transfer_kind;
 pub use columns::Key;
 pub use fault::{FaultKind, Table, TableFault};
 pub use id_hash::IdHash;
+pub use keyed::Row;
 pub use limited::{LimitedRow, RowsWithinLimit, rows_up_to};
 pub use position::Position;
 pub use read::{
@@ -44,5 +43,4 @@ pub use rows::{
 pub use stop_times::StopTimes;
 pub use stops::location;
 pub use table_file::TableFile;
-pub use table_records::TableRecords;
 pub use values::{DateFault, Day, Time, TimeFault};

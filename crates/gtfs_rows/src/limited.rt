@@ -6,7 +6,7 @@ ghost use Rattle.gtfs_rows.specs.Tables.{HoldsWithin, IsFaultWithin, shape_of};
 
 use crate::fault::{FaultKind, Table, TableFault};
 use crate::id_hash::IdHash;
-use crate::keyed::{Row, every_row};
+use crate::keyed::Row;
 use crate::table_file::TableFile;
 use std::alloc::Global;
 
@@ -50,7 +50,7 @@ pub fn rows_up_to<R: LimitedRow>(
         → IsFaultWithin (shape_of R.TABLE) (HoldsRows (shape_of R.TABLE) R.spells) R.count limit bytes.now fault.row
         fault.kind) }
 {
-    let read: Result<Vec<R>, TableFault> = every_row(alloc, hash, bytes);
+    let read: Result<Vec<R>, TableFault> = TableFile::read(alloc, hash, bytes);
     match read {
         Ok(rows) if R::count(&rows) > limit => Err(R::TABLE.fault(0, FaultKind::TooMany)),
         Ok(rows) => Ok(rows),

@@ -1,7 +1,7 @@
 //! Where a record begins in its file.
 
-ghost use Rattle.std.specs.Prelude.{◌≡◌, ◌≤◌, ◌+◌, ℕ, List, length, take};
-ghost use Rattle.gtfs_rows.specs.Positions.{begins_with_feed as feed_first, ends_line as line_end, line_at, line_ends};
+ghost use Rattle.std.specs.Prelude.{◌≡◌, ◌≤◌, ℕ, List, length};
+ghost use Rattle.gtfs_rows.specs.Positions.{ends_line as line_end, line_at, line_ends};
 
 use std::marker::Model;
 
@@ -16,31 +16,27 @@ pub struct Position {
     pub byte: u64,
 }
 
-// Returns whether a text begins with LF.
-fn begins_with_feed(text: &[u8]) -> bool
-    ensures { result ≡ feed_first text.now }
-{
-    match text {
-        [] => false,
-        [first, ..] => *first == b'\n',
-    }
-}
-
 // Returns whether a byte ends a line: LF does, and CR unless LF follows.
 fn ends_line(byte: u8, behind: &[u8]) -> bool
     ensures { result ≡ line_end byte behind.now }
 {
-    byte == b'\n' || (byte == b'\r' && !begins_with_feed(behind))
+    match behind {
+        [next, ..] if byte == b'\r' => *next != b'\n',
+        _ => byte == b'\n' || byte == b'\r',
+    }
 }
 
-// Returns how many lines end in a text.
-fn lines_in(text: &[u8]) -> u64
-    ensures lines { result ≡ line_ends text.now }
+// Returns how many lines end in the first so many bytes of a text.
+fn lines_in(count: usize, text: &[u8]) -> u64
+    ensures lines { result ≡ line_ends text.now count }
     ensures within { result ≤ length text.now }
 {
     let mut lines = 0;
     let mut rest = text;
-    while let [first, behind @ ..] = rest {
+    for passed in 0..count {
+        let [first, behind @ ..] = rest else {
+            return lines;
+        };
         if ends_line(*first, behind) {
             lines += 1;
         }
@@ -49,25 +45,11 @@ fn lines_in(text: &[u8]) -> u64
     lines
 }
 
-/// Returns the number of the line in which a byte of a file stands; the first line is 1.
-pub(crate) fn line_of(bytes: &[u8], byte: usize) -> u64
-    ensures { result ≡ line_at bytes.now byte }
-{
-    lines_in(&bytes[..byte.min(bytes.len())]) + 1
-}
-
-// Returns the bytes of a file before one of them.
-fn text_before(bytes: &[u8], byte: usize) -> &[u8]
-    ensures { result.now ≡ take byte bytes.entry.now }
-{
-    &bytes[..byte.min(bytes.len())]
-}
-
-// Finds the lines in which the bytes of a file stand, one byte after another.
+// The lines of a file, counted as far as they were asked for.
 #[derive(Drop)]
 pub(crate) struct LineCount<'a> {
-    bytes: &'a [u8],
-    // the byte that was looked for last, and the number of its line
+    pub(crate) bytes: &'a [u8],
+    // a byte of the file, and the number of its line
     byte: usize,
     line: u64,
 }
@@ -81,6 +63,7 @@ impl<'a> Model for LineCount<'a> {
 }
 
 impl<'a> LineCount<'a> {
+    #[tactic(auto, using(crate::proofs::PositionLemmas::no_lines))]
     pub(crate) fn new(bytes: &'a [u8]) -> LineCount<'a>
         ensures { result ≡ bytes.entry.now }
     {
@@ -91,33 +74,29 @@ impl<'a> LineCount<'a> {
         }
     }
 
-    // Returns the number of the line in which a byte stands. The lines before the byte of the last call aren't counted
-    // again if this byte comes later.
-    pub(crate) fn line_of(&mut self, byte: usize) -> u64
-        ensures line { result ≡ line_at self.old byte }
-        ensures bytes { self.new ≡ self.old }
-    {
-        let line = self.counted_on(byte);
-        self.byte = byte;
-        self.line = line;
-        line
-    }
-
-    // Returns the number of the line in which a byte stands, counted on from the byte of the last call if it can be.
-    fn counted_on(&self, byte: usize) -> u64
+    // Returns the number of the line in which a byte stands, counted on from the byte that was noted if it comes later.
+    #[tactic(auto, using(crate::proofs::PositionLemmas::lines_further))]
+    pub(crate) fn line_of(&self, byte: usize) -> u64
         ensures { result ≡ line_at self.now byte }
     {
-        let text = text_before(self.bytes, byte);
-        if self.byte > text.len() {
-            return line_of(self.bytes, byte);
+        if self.byte > byte || self.byte > self.bytes.len() {
+            return lines_in(byte, self.bytes) + 1;
         }
-        let piece = &text[self.byte..];
-        if begins_with_feed(piece) {
-            return line_of(self.bytes, byte);
-        }
-        match self.line.checked_add(lines_in(piece)) {
+        match self
+            .line
+            .checked_add(lines_in(byte - self.byte, &self.bytes[self.byte..]))
+        {
             Some(line) => line,
-            None => line_of(self.bytes, byte),
+            None => lines_in(byte, self.bytes) + 1,
         }
+    }
+
+    // Notes the line in which a byte stands, so that lines before it aren't counted again.
+    pub(crate) fn note(&mut self, byte: usize, line: u64)
+        requires { line ≡ line_at self.old byte }
+        ensures { self.new ≡ self.old }
+    {
+        self.byte = byte;
+        self.line = line;
     }
 }

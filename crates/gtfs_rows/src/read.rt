@@ -1,10 +1,9 @@
 //! A function to read each of the eight files, with a hash whose key others may know.
 
 ghost use Rattle.std.specs.Prelude.{◌≡◌, ◌≢◌, ◌≤◌, IfOk, IfErr, length, count_by};
-ghost use Rattle.gtfs_rows.specs.Faults.{IsFaultOf};
 ghost use Rattle.gtfs_rows.specs.Tables.{HoldsAgencies, HoldsCalendar, HoldsCalendarDates, HoldsFrequencies};
-ghost use Rattle.gtfs_rows.specs.Tables.{HoldsStopTimes, HoldsStops, HoldsTransfers, HoldsTrips, IsStopsFault};
-ghost use Rattle.gtfs_rows.specs.Tables.{IsTripsFault, is_stop, shape_of};
+ghost use Rattle.gtfs_rows.specs.Tables.{HoldsStopTimes, HoldsStops, HoldsTransfers, HoldsTrips, IsRefusal};
+ghost use Rattle.gtfs_rows.specs.Tables.{IsStopsFault, IsTripsFault, is_stop};
 
 use crate::fault::{FaultKind, Table, TableFault};
 use crate::id_hash::IdHash;
@@ -30,9 +29,7 @@ fn known_key() -> IdHash {
 /// Returns the agencies in the bytes of `agency.txt`, or the first fault of the file.
 pub fn read_agency(alloc: Global, bytes: &[u8]) -> Result<Vec<AgencyRow>, TableFault>
     ensures ok { IfOk result (λ rows. HoldsAgencies bytes.now rows.items) }
-    ensures file { IfErr result (λ fault. fault.file ≡ Table.Agency) }
-    ensures err { IfErr result (λ fault. fault.kind ≢ FaultKind.OutOfMemory
-        → IsFaultOf (shape_of Table.Agency) bytes.now fault.row fault.kind) }
+    ensures err { IfErr result (IsRefusal Table.Agency bytes.now) }
 {
     TableFile::read(alloc, known_key(), bytes)
 }
@@ -40,9 +37,7 @@ pub fn read_agency(alloc: Global, bytes: &[u8]) -> Result<Vec<AgencyRow>, TableF
 /// Returns the stop times in the bytes of `stop_times.txt`, or the first fault of the file.
 pub fn read_stop_times(alloc: Global, bytes: &[u8]) -> Result<StopTimes, TableFault>
     ensures ok { IfOk result (λ t. HoldsStopTimes bytes.now t) }
-    ensures file { IfErr result (λ fault. fault.file ≡ Table.StopTimes) }
-    ensures err { IfErr result (λ fault. fault.kind ≢ FaultKind.OutOfMemory
-        → IsFaultOf (shape_of Table.StopTimes) bytes.now fault.row fault.kind) }
+    ensures err { IfErr result (IsRefusal Table.StopTimes bytes.now) }
 {
     TableFile::read(alloc, known_key(), bytes)
 }
@@ -50,9 +45,7 @@ pub fn read_stop_times(alloc: Global, bytes: &[u8]) -> Result<StopTimes, TableFa
 /// Returns the weekly services in the bytes of `calendar.txt`, or the first fault of the file.
 pub fn read_calendar(alloc: Global, bytes: &[u8]) -> Result<Vec<CalendarRow>, TableFault>
     ensures ok { IfOk result (λ rows. HoldsCalendar bytes.now rows.items) }
-    ensures file { IfErr result (λ fault. fault.file ≡ Table.Calendar) }
-    ensures err { IfErr result (λ fault. fault.kind ≢ FaultKind.OutOfMemory
-        → IsFaultOf (shape_of Table.Calendar) bytes.now fault.row fault.kind) }
+    ensures err { IfErr result (IsRefusal Table.Calendar bytes.now) }
 {
     TableFile::read(alloc, known_key(), bytes)
 }
@@ -60,9 +53,7 @@ pub fn read_calendar(alloc: Global, bytes: &[u8]) -> Result<Vec<CalendarRow>, Ta
 /// Returns the added and removed days in the bytes of `calendar_dates.txt`, or the first fault of the file.
 pub fn read_calendar_dates(alloc: Global, bytes: &[u8]) -> Result<Vec<CalendarDateRow>, TableFault>
     ensures ok { IfOk result (λ rows. HoldsCalendarDates bytes.now rows.items) }
-    ensures file { IfErr result (λ fault. fault.file ≡ Table.CalendarDates) }
-    ensures err { IfErr result (λ fault. fault.kind ≢ FaultKind.OutOfMemory
-        → IsFaultOf (shape_of Table.CalendarDates) bytes.now fault.row fault.kind) }
+    ensures err { IfErr result (IsRefusal Table.CalendarDates bytes.now) }
 {
     TableFile::read(alloc, known_key(), bytes)
 }
@@ -70,9 +61,7 @@ pub fn read_calendar_dates(alloc: Global, bytes: &[u8]) -> Result<Vec<CalendarDa
 /// Returns the rows in the bytes of `transfers.txt`, or the first fault of the file.
 pub fn read_transfers(alloc: Global, bytes: &[u8]) -> Result<Vec<TransferRow>, TableFault>
     ensures ok { IfOk result (λ rows. HoldsTransfers bytes.now rows.items) }
-    ensures file { IfErr result (λ fault. fault.file ≡ Table.Transfers) }
-    ensures err { IfErr result (λ fault. fault.kind ≢ FaultKind.OutOfMemory
-        → IsFaultOf (shape_of Table.Transfers) bytes.now fault.row fault.kind) }
+    ensures err { IfErr result (IsRefusal Table.Transfers bytes.now) }
 {
     TableFile::read(alloc, known_key(), bytes)
 }
@@ -80,9 +69,7 @@ pub fn read_transfers(alloc: Global, bytes: &[u8]) -> Result<Vec<TransferRow>, T
 /// Returns the rows in the bytes of `frequencies.txt`, or the first fault of the file.
 pub fn read_frequencies(alloc: Global, bytes: &[u8]) -> Result<Vec<FrequencyRow>, TableFault>
     ensures ok { IfOk result (λ rows. HoldsFrequencies bytes.now rows.items) }
-    ensures file { IfErr result (λ fault. fault.file ≡ Table.Frequencies) }
-    ensures err { IfErr result (λ fault. fault.kind ≢ FaultKind.OutOfMemory
-        → IsFaultOf (shape_of Table.Frequencies) bytes.now fault.row fault.kind) }
+    ensures err { IfErr result (IsRefusal Table.Frequencies bytes.now) }
 {
     TableFile::read(alloc, known_key(), bytes)
 }

@@ -1,23 +1,39 @@
 //! Reads the records of a file's bytes, one at a time, by the crate `csv`.
 
-ghost use Rattle.std.specs.Prelude.{◌≡◌, ◌≤◌, ◌+◌, ◌-◌, ◌∷◌, [], drop, length, true, IfOk, OnOk, MatchOption};
-ghost use Rattle.std.specs.Bool.{MatchBool};
-ghost use Rattle.csv.specs.Records.{fields_of};
+ghost use Rattle.std.specs.Prelude.{◌≡◌, ◌≢◌, ◌≤◌, ◌+◌, ◌-◌, ◌==◌, ◌∷◌, [], if◌then◌else◌, length, map};
+ghost use Rattle.std.specs.Prelude.{IfErr, IfOk, MatchBool, MatchOption, None, OnOk, Some};
+ghost use Rattle.std.specs.Result.{result_err};
+ghost use Rattle.std.specs.String.{string_bytes};
+ghost use Rattle.csv.specs.Records.{AllText, fields_of};
+ghost use Rattle.gtfs_rows.specs.Cells.{indices_of};
+ghost use Rattle.gtfs_rows.specs.Faults.{IsFaultOf, fault_unless};
 ghost use Rattle.gtfs_rows.specs.Positions.{line_at};
-ghost use Rattle.gtfs_rows.specs.Source.{IsFound, IsReading, from_last, last_of, left_of, table_records};
+ghost use Rattle.gtfs_rows.specs.Rows.{of_last, shown, values_of};
+ghost use Rattle.gtfs_rows.specs.Source.{IsFound, IsReading, IsSame, last_of, left_of, table_records};
+ghost use Rattle.gtfs_rows.specs.Tables.{IsOpened, shape_of};
+ghost use Rattle.gtfs_rows.specs.Values.{time_of};
 
-use crate::position::{Position, line_of};
+use crate::cells::{ColumnIndex, cell, has_required, indices, is_text, text_of};
+use crate::changes::repeated;
+use crate::fault::{FaultKind, Table};
+use crate::position::{LineCount, Position};
+use crate::services::{dated, weekly};
+use crate::stop_times::stop_time;
+use crate::values::Time;
 use csv::{ByteRecord, Reader, ReaderBuilder};
 use std::alloc::{AllocError, Global};
 
 /// The records of a file's bytes, the header first. One record is filled again and again.
 #[derive(Drop)]
 pub struct Records<'a> {
-    bytes: &'a [u8],
     reader: Reader<&'a [u8]>,
     record: ByteRecord,
     // how many records were read
     count: u64,
+    lines: LineCount<'a>,
+    // the index in the header of each column that was looked for there, and how many fields the header has
+    indices: Vec<ColumnIndex>,
+    width: usize,
 }
 
 impl<'a> Records<'a> {
@@ -26,18 +42,58 @@ impl<'a> Records<'a> {
         ensures reading { IsReading result }
         ensures left { left_of result ≡ table_records bytes.entry.now }
         ensures count { result.count ≡ 0 }
-        ensures bytes { result.bytes ≡ bytes.entry }
+        ensures lines { result.lines ≡ bytes.entry.now }
     {
         let reader = ReaderBuilder::new()
             .has_headers(false)
             .flexible(true)
             .from_reader(alloc, bytes);
         Records {
-            bytes,
             reader,
             record: ByteRecord::new(alloc),
             count: 0,
+            lines: LineCount::new(bytes),
+            indices: Vec::new(alloc),
+            width: 0,
         }
+    }
+
+    /// Returns the records of a table's file behind its header, or what is wrong with the file as a whole: `BadUtf8`,
+    /// or `MissingColumn` if the header isn't there or lacks a required column.
+    pub fn of_table(alloc: Global, table: Table, bytes: &'a [u8]) -> Result<Records<'a>, FaultKind>
+        ensures ok { IfOk result (IsOpened table bytes.entry.now) }
+        ensures err { IfErr result (λ kind. kind ≢ FaultKind.OutOfMemory
+            → IsFaultOf (shape_of table) bytes.entry.now 0 kind) }
+    {
+        if !is_text(bytes) {
+            return Err(FaultKind::BadUtf8);
+        }
+        let mut records = Records::open(alloc, bytes);
+        match records.advance() {
+            Err(_) => return Err(FaultKind::OutOfMemory),
+            Ok(false) => return Err(FaultKind::MissingColumn),
+            Ok(true) => {}
+        }
+        if records.find_columns(alloc, table.columns()).is_err() {
+            return Err(FaultKind::OutOfMemory);
+        }
+        if !has_required(&records.indices, table.required()) {
+            return Err(FaultKind::MissingColumn);
+        }
+        Ok(records)
+    }
+
+    /// Finds the columns of these names in the record that was read last, the header, so that values can be asked for
+    /// by their indices. Memory may run out.
+    pub fn find_columns(&mut self, alloc: Global, names: &[&str]) -> Result<(), AllocError>
+        ensures indices { OnOk result (self.new.indices.items ≡ indices_of (map (λ name. name.now) names.now)
+            (last_of self.old)) }
+        ensures width { OnOk result (self.new.width ≡ length (last_of self.old)) }
+        ensures rest { OnOk result (self.new ≡ record self.old { indices = self.new.indices; width = self.new.width }) }
+    {
+        self.indices = indices(alloc, &self.record, names)?;
+        self.width = self.record.len();
+        Ok(())
     }
 
     /// Reads the next record and returns true, or returns false if no record is left. Memory may run out; there are no
@@ -48,7 +104,7 @@ impl<'a> Records<'a> {
         ensures reading { IsReading self.old → OnOk result (IsReading self.new) }
         ensures count { IfOk result (λ found. MatchBool found (self.new.count ≡ self.old.count + 1)
             (self.new.count ≡ self.old.count)) }
-        ensures bytes { self.new.bytes ≡ self.old.bytes }
+        ensures same { IsSame self.old self.new }
     {
         let Ok(found) = self.reader.read_byte_record(&mut self.record) else {
             return Err(AllocError);
@@ -70,31 +126,98 @@ impl<'a> Records<'a> {
         &self.record
     }
 
-    /// Returns where the record that was read last begins. No clause says which byte that is: it is the one that `csv`
-    /// names, without the ends of lines before the record.
-    pub fn position(&self) -> Position
-        ensures number { result.«record» ≡ self.now.count - 1 }
-        ensures line { result.line ≡ line_at self.now.bytes.now result.byte }
+    /// Returns how many fields the header has.
+    pub fn width(&self) -> usize
+        ensures { result ≡ self.now.width }
     {
-        let byte = self.begin();
-        Position {
-            record: self.number(),
-            line: line_of(self.bytes, byte),
-            byte: byte as u64,
+        self.width
+    }
+
+    /// Returns the last record's value in the column of this index among those that were looked for, without spaces
+    /// around it; blank if the column is absent.
+    pub fn get(&self, column: usize) -> &[u8]
+        ensures { result.now ≡ shown self.now column }
+    {
+        let index = if column < self.indices.len() {
+            self.indices[column]
+        } else {
+            None
+        };
+        cell(&self.record, index)
+    }
+
+    // Returns the same value as a string.
+    pub(crate) fn text(&self, alloc: Global, column: usize) -> Result<String, FaultKind>
+        requires { AllText (last_of self.now) }
+        ensures ok { IfOk result (λ s. string_bytes s ≡ shown self.now column) }
+        ensures err { IfErr result (λ kind. kind ≡ FaultKind.OutOfMemory) }
+    {
+        text_of(alloc, self.get(column)).map_err(|_| FaultKind::OutOfMemory)
+    }
+
+    // Returns the time in a column, in seconds after the start of the service day. Blank is `BadTime` too.
+    pub(crate) fn time(&self, column: usize) -> Result<u32, FaultKind>
+        ensures ok { IfOk result (λ t. time_of (shown self.now column) ≡ Some t) }
+        ensures fault { result_err result ≡ fault_unless (time_of (shown self.now column)) FaultKind.BadTime }
+    {
+        Time::parse(self.get(column)).map_err(|_| FaultKind::BadTime)
+    }
+
+    /// Returns what is wrong with the record that was read last by itself, if anything is: `RowLength` if it hasn't as
+    /// many fields as the header; otherwise what is wrong with its values, as a record of this table. Its key and its
+    /// ids aren't looked up.
+    pub fn fault(&self, table: Table) -> Option<FaultKind>
+        ensures { result ≡ (if length (last_of self.now) == self.now.width
+            then of_last (values_of table) self.now else Some FaultKind.RowLength) }
+    {
+        if self.record.len() != self.width {
+            return Some(FaultKind::RowLength);
+        }
+        match table {
+            Table::StopTimes => stop_time(self).err(),
+            Table::Calendar => weekly(self).err(),
+            Table::CalendarDates => dated(self).err(),
+            Table::Frequencies => repeated(self).err(),
+            Table::Agency | Table::Stops | Table::Trips | Table::Transfers => None,
         }
     }
 
-    // Returns the number of the record that was read last; 0 is the header.
-    pub(crate) fn number(&self) -> u64
+    /// Returns the number of the record that was read last; 0 is the header.
+    pub fn number(&self) -> u64
         ensures { result ≡ self.now.count - 1 }
     {
         self.count.saturating_sub(1)
     }
 
+    /// Returns where the record that was read last begins. No clause says which byte that is: it is the one that `csv`
+    /// names, without the ends of lines before the record.
+    pub fn position(&self) -> Position
+        ensures number { result.«record» ≡ self.now.count - 1 }
+        ensures line { result.line ≡ line_at self.now.lines result.byte }
+    {
+        let byte = self.begin();
+        Position {
+            record: self.number(),
+            line: self.lines.line_of(byte),
+            byte: byte as u64,
+        }
+    }
+
+    /// Returns the same. The lines before this record aren't counted again for those behind it.
+    pub fn reach(&mut self) -> Position
+        ensures number { result.«record» ≡ self.old.count - 1 }
+        ensures line { result.line ≡ line_at self.old.lines result.byte }
+        ensures rest { self.new ≡ self.old }
+    {
+        let position = self.position();
+        self.lines.note(position.byte as usize, position.line);
+        position
+    }
+
     // Returns how many bytes of the file come before the record that was read last: before the byte that `csv` names,
     // and the byte order mark and the ends of lines there.
-    pub(crate) fn begin(&self) -> usize {
-        let bytes = self.bytes;
+    fn begin(&self) -> usize {
+        let bytes = self.lines.bytes;
         let from = match self.record.position() {
             Some(position) => position.byte as usize,
             None => 0,
@@ -104,19 +227,14 @@ impl<'a> Records<'a> {
             [0xEF, 0xBB, 0xBF, text @ ..] if from == 0 => text,
             _ => rest,
         };
-        bytes.len() - at_record(text).len()
+        match text
+            .iter()
+            .position(|byte| *byte != b'\r' && *byte != b'\n')
+        {
+            Some(blank) => bytes.len() - text.len() + blank,
+            None => bytes.len(),
+        }
     }
-}
-
-// Returns a text without the ends of lines at its start.
-fn at_record(text: &[u8]) -> &[u8]
-    ensures { length result.now ≤ length text.entry.now }
-{
-    let mut rest = text;
-    while let [b'\r' | b'\n', more @ ..] = rest {
-        rest = more;
-    }
-    rest
 }
 
 /// The header of a file and one of its records.
@@ -140,14 +258,14 @@ pub fn find_record(
         (IsFound bytes.now number)) }
 {
     let mut records = Records::open(alloc, bytes);
-    let found = records.advance()?;
-    if !found {
+    if !records.advance()? {
         return Ok(None);
     }
     let header = records.last().clone()?;
-    let whole = skip(&mut records, number)?;
-    if !whole {
-        return Ok(None);
+    for taken in 0..number {
+        if !records.advance()? {
+            return Ok(None);
+        }
     }
     let record = records.last().clone()?;
     Ok(Some(FoundRecord {
@@ -155,21 +273,4 @@ pub fn find_record(
         record,
         position: records.position(),
     }))
-}
-
-// Reads so many further records and returns true, or returns false if there are fewer.
-fn skip(records: &mut Records<'_>, count: u64) -> Result<bool, AllocError>
-    requires { IsReading records.old }
-    ensures reads { IfOk result (λ whole. MatchBool whole (drop count (from_last records.old) ≡ from_last records.new)
-        (length (from_last records.old) ≤ count)) }
-    ensures count { IfOk result (λ whole. whole ≡ true → records.new.count ≡ records.old.count + count) }
-    ensures bytes { records.new.bytes ≡ records.old.bytes }
-{
-    for taken in 0..count {
-        let found = records.advance()?;
-        if !found {
-            return Ok(false);
-        }
-    }
-    Ok(true)
 }

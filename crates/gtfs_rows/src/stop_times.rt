@@ -2,23 +2,24 @@
 
 ghost use Rattle.std.specs.Prelude.{◌≡◌, ◌≢◌, ◌<◌, ◌++◌, ◌∷◌, [], List, length, map, IfOk, IfErr, OnOk, IsUtf8};
 ghost use Rattle.std.specs.Prelude.{None, Some};
+ghost use Rattle.std.specs.Result.{result_err};
 ghost use Rattle.std.specs.String.{string_bytes};
 ghost use Rattle.csv.specs.Records.{AllText};
 ghost use Rattle.gtfs_rows.specs.Faults.{IsFaultOf, fault_unless};
 ghost use Rattle.gtfs_rows.specs.Ids.{given_also};
 ghost use Rattle.indexmap.specs.IndexSet.{hasher_of};
-ghost use Rattle.gtfs_rows.specs.Source.{Record};
+ghost use Rattle.gtfs_rows.specs.Source.{Record, last_of};
 ghost use Rattle.gtfs_rows.specs.Rows.{AreStopTimes, IsStopId, given_time, is_available, stop_time_fault};
-ghost use Rattle.gtfs_rows.specs.Rows.{row_of, shown, time_fault};
+ghost use Rattle.gtfs_rows.specs.Rows.{of_last, shown, time_fault};
 ghost use Rattle.gtfs_rows.specs.Tables.{HoldsStopTimes, shape_of};
 ghost use Rattle.gtfs_rows.specs.Values.{number_of};
 ghost use Rattle.gtfs_rows.specs.declared.fault.Table.TheVariants as files;
 
-use crate::cells::Cells;
 use crate::fault::{FaultKind, Table, TableFault};
 use crate::id_hash::IdHash;
 use crate::ids::{Ids, index_of};
 use crate::reader::{TableRows, add_row, read_table};
+use crate::records::Records;
 use crate::rows::StopTimeRow;
 use crate::table_file::TableFile;
 use crate::values::{Time, number};
@@ -35,12 +36,11 @@ pub struct StopTimes {
 }
 
 // Returns the time in a column, in seconds after the start of the service day; none if it is blank.
-fn time_in(cells: &Cells, column: usize) -> Result<Option<u32>, FaultKind>
-    ensures fine { IfOk result (λ t. time_fault (shown cells.now column) ≡ None) }
-    ensures ok { IfOk result (λ t. t ≡ given_time (shown cells.now column)) }
-    ensures err { IfErr result (λ kind. time_fault (shown cells.now column) ≡ Some kind) }
+fn time_in(records: &Records<'_>, column: usize) -> Result<Option<u32>, FaultKind>
+    ensures ok { IfOk result (λ t. t ≡ given_time (shown records.now column)) }
+    ensures fault { result_err result ≡ time_fault (shown records.now column) }
 {
-    let text = cells.get(column);
+    let text = records.get(column);
     if text.is_empty() {
         return Ok(None);
     }
@@ -51,12 +51,11 @@ fn time_in(cells: &Cells, column: usize) -> Result<Option<u32>, FaultKind>
 }
 
 // Returns the number in a column: `BadNumber` if it isn't one.
-fn number_in(cells: &Cells, column: usize) -> Result<u32, FaultKind>
-    ensures ok { IfOk result (λ n. number_of (shown cells.now column) ≡ Some n) }
-    ensures err { IfErr result (λ kind. fault_unless (number_of (shown cells.now column)) FaultKind.BadNumber
-        ≡ Some kind) }
+fn number_in(records: &Records<'_>, column: usize) -> Result<u32, FaultKind>
+    ensures ok { IfOk result (λ n. number_of (shown records.now column) ≡ Some n) }
+    ensures fault { result_err result ≡ fault_unless (number_of (shown records.now column)) FaultKind.BadNumber }
 {
-    number(cells.get(column)).ok_or(FaultKind::BadNumber)
+    number(records.get(column)).ok_or(FaultKind::BadNumber)
 }
 
 // Returns whether a pickup_type or a drop_off_type lets passengers board or alight: any but 1 does.
@@ -91,16 +90,15 @@ fn stop_index(
 }
 
 // Returns the arrival, the departure and the stop_sequence of a record, or what is wrong with them.
-pub(crate) fn stop_time(cells: &Cells) -> Result<(Option<u32>, Option<u32>, u32), FaultKind>
-    ensures fine { IfOk result (λ v. stop_time_fault cells.now.indices.now (row_of cells.now) ≡ None) }
-    ensures arrival { IfOk result (λ v. v.0 ≡ given_time (shown cells.now 1)) }
-    ensures departure { IfOk result (λ v. v.1 ≡ given_time (shown cells.now 2)) }
-    ensures sequence { IfOk result (λ v. number_of (shown cells.now 4) ≡ Some v.2) }
-    ensures err { IfErr result (λ kind. stop_time_fault cells.now.indices.now (row_of cells.now) ≡ Some kind) }
+pub(crate) fn stop_time(records: &Records<'_>) -> Result<(Option<u32>, Option<u32>, u32), FaultKind>
+    ensures arrival { IfOk result (λ v. v.0 ≡ given_time (shown records.now 1)) }
+    ensures departure { IfOk result (λ v. v.1 ≡ given_time (shown records.now 2)) }
+    ensures sequence { IfOk result (λ v. number_of (shown records.now 4) ≡ Some v.2) }
+    ensures fault { result_err result ≡ of_last stop_time_fault records.now }
 {
-    let arrival = time_in(cells, 1)?;
-    let departure = time_in(cells, 2)?;
-    let sequence = number_in(cells, 4)?;
+    let arrival = time_in(records, 1)?;
+    let departure = time_in(records, 2)?;
+    let sequence = number_in(records, 4)?;
     Ok((arrival, departure, sequence))
 }
 
@@ -110,29 +108,29 @@ fn add_stop_time(
     times: &mut StopTimes,
     alloc: Global,
     likely: Option<u32>,
-    cells: &Cells,
+    records: &Records<'_>,
 ) -> Result<Option<u32>, FaultKind>
-    requires { AllText (row_of cells.now) }
-    ensures ok { (before : List Record) → AreStopTimes cells.now.indices.now before times.old → OnOk result
-        ((stop_time_fault cells.now.indices.now (row_of cells.now) ≡ None)
-        × AreStopTimes cells.now.indices.now (before ++ row_of cells.now ∷ []) times.new) }
+    requires { AllText (last_of records.now) }
+    ensures ok { (before : List Record) → AreStopTimes records.now.indices.items before times.old → OnOk result
+        ((stop_time_fault records.now.indices.items (last_of records.now) ≡ None)
+        × AreStopTimes records.now.indices.items (before ++ last_of records.now ∷ []) times.new) }
     ensures err { IfErr result (λ kind. kind ≢ FaultKind.OutOfMemory
-        → stop_time_fault cells.now.indices.now (row_of cells.now) ≡ Some kind) }
+        → stop_time_fault records.now.indices.items (last_of records.now) ≡ Some kind) }
     ensures trips { OnOk result (hasher_of times.new.trips ≡ hasher_of times.old.trips) }
     ensures stops { OnOk result (hasher_of times.new.stops ≡ hasher_of times.old.stops) }
 {
-    let time = stop_time(cells)?;
+    let time = stop_time(records)?;
     let before = times.rows.last().map(|row| row.trip);
-    let trip = index_of(alloc, &mut times.trips, before, cells.get(0))?;
-    let stop = stop_index(alloc, &mut times.stops, likely, cells.get(3))?;
+    let trip = index_of(alloc, &mut times.trips, before, records.get(0))?;
+    let stop = stop_index(alloc, &mut times.stops, likely, records.get(3))?;
     let row = StopTimeRow {
         trip,
         arrival: time.0,
         departure: time.1,
         stop,
         sequence: time.2,
-        board: available(cells.get(5)),
-        alight: available(cells.get(6)),
+        board: available(records.get(5)),
+        alight: available(records.get(6)),
     };
     add_row(&mut times.rows, row)?;
     Ok(stop)
@@ -147,11 +145,6 @@ struct StopTimesRead {
     last: u32,
     // for the index of each stop_id, the index of the stop_id that followed it last
     followers: Vec<u32>,
-}
-
-// Returns the index that followed this one last, if any did.
-fn follower(followers: &[u32], index: u32) -> Option<u32> {
-    followers.get(index as usize).copied()
 }
 
 // Notes which index followed this one. Each index but the newest has an entry, so a missing one is added at the end.
@@ -175,9 +168,9 @@ impl TableRows for StopTimesRead {
 
     const TABLE: Table = Table::StopTimes;
 
-    fn add(&mut self, alloc: Global, cells: &Cells) -> Result<(), FaultKind> {
-        let likely = follower(&self.followers, self.last);
-        let stop = add_stop_time(&mut self.times, alloc, likely, cells)?;
+    fn add(&mut self, alloc: Global, records: &Records<'_>) -> Result<(), FaultKind> {
+        let likely = self.followers.get(self.last as usize).copied();
+        let stop = add_stop_time(&mut self.times, alloc, likely, records)?;
         let Some(stop) = stop else {
             return Ok(());
         };

@@ -1,20 +1,32 @@
-//! stops.txt and trips.txt: each record has an id.
+//! agency.txt, stops.txt and trips.txt: what runs, and between which places.
 
 ghost use Rattle.std.specs.Prelude.{◌≡◌, count_by, length};
-ghost use Rattle.gtfs_rows.specs.Rows.{SpellsStop, SpellsTrip, location_of};
+ghost use Rattle.gtfs_rows.specs.Rows.{SpellsAgency, SpellsStop, SpellsTrip, location_of};
 ghost use Rattle.gtfs_rows.specs.Tables.{is_stop};
 ghost use Rattle.gtfs_rows.specs.Values.{number_of};
 ghost use Rattle.gtfs_rows.specs.declared.fault.Table.TheVariants as files;
 ghost use Rattle.gtfs_rows.specs.declared.read.TheConstants.{MAX_STOPS, MAX_TRIPS};
 
-use crate::cells::Cells;
 use crate::fault::{FaultKind, Table};
 use crate::keyed::Row;
 use crate::limited::LimitedRow;
 use crate::read::{MAX_STOPS, MAX_TRIPS};
-use crate::rows::{Location, StopRow, TripRow};
+use crate::records::Records;
+use crate::rows::{AgencyRow, Location, StopRow, TripRow};
 use crate::values::number;
 use std::alloc::Global;
+
+impl Row for AgencyRow {
+    ghost TABLE = { files.Agency };
+
+    ghost spells = { SpellsAgency };
+
+    const TABLE: Table = Table::Agency;
+
+    fn read(alloc: Global, records: &Records<'_>) -> Result<Self, FaultKind> {
+        records.text(alloc, 0).map(|zone| AgencyRow { zone })
+    }
+}
 
 /// Returns the kind of place that a location_type of `stops.txt` stands for.
 pub fn location(text: &[u8]) -> Location
@@ -36,11 +48,11 @@ impl Row for StopRow {
 
     const TABLE: Table = Table::Stops;
 
-    fn read(alloc: Global, cells: &Cells) -> Result<Self, FaultKind> {
+    fn read(alloc: Global, records: &Records<'_>) -> Result<Self, FaultKind> {
         Ok(StopRow {
-            id: cells.text(alloc, 0)?,
-            location: location(cells.get(1)),
-            parent: cells.text(alloc, 2)?,
+            id: records.text(alloc, 0)?,
+            location: location(records.get(1)),
+            parent: records.text(alloc, 2)?,
         })
     }
 }
@@ -66,9 +78,9 @@ impl Row for TripRow {
 
     const TABLE: Table = Table::Trips;
 
-    fn read(alloc: Global, cells: &Cells) -> Result<Self, FaultKind> {
-        let service = cells.text(alloc, 0)?;
-        let id = cells.text(alloc, 1)?;
+    fn read(alloc: Global, records: &Records<'_>) -> Result<Self, FaultKind> {
+        let service = records.text(alloc, 0)?;
+        let id = records.text(alloc, 1)?;
         Ok(TripRow { service, id })
     }
 }

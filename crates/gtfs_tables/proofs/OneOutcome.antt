@@ -1,15 +1,16 @@
 -- Tables have at most one feed, at most one first fault, and never both.
-use Rattle.std.proofs.Common.{◌≡◌, ◌∙◌, ℕ, List, [], ◌∷◌, Option, Some, None, Bool, refl, sym, ap}
+use Rattle.std.proofs.Common.{◌≡◌, ◌∙◌, ℕ, List, [], ◌∷◌, Option, Some, None, Bool, length, refl, sym, ap}
 use Rattle.std.specs.Prelude.{filter}
-use Rattle.std.specs.List.{AllZip}
+use Rattle.std.specs.List.{AllZip, slice_get}
 use Rattle.std.specs.String.{string_bytes}
 use Rattle.std.proofs.lemmas.Option.{none-some, same_Some}
 use Rattle.gtfs_rows.specs.declared.fault.TableFault.{TableFault}
 use Rattle.gtfs_rows.specs.declared.rows.TransferRow.{TransferRow}
 use Rattle.gtfs_tables.specs.Names.{stop_named, trip_named}
-use Rattle.gtfs_tables.specs.Feeds.{IsFirstFault, IsJoined, first_fault, trips_by}
+use Rattle.gtfs_tables.specs.Feeds.{IsFirstFault, IsJoined, first_fault, naming_fault, stops_by, trips_by}
 use Rattle.gtfs_tables.specs.Rows.{IsTransferOf, is_kept, named_by}
 use Rattle.gtfs_tables.specs.Outcome.{IsSameFeed}
+use Rattle.gtfs_tables.specs.TimeFaults.{AreTimeFaults}
 use Rattle.gtfs_tables.specs.declared.names.StopIdTarget.{StopIdTarget}
 use Rattle.gtfs_tables.specs.declared.names.StopIdTarget.TheVariants as names
 use Rattle.gtfs_tables.specs.declared.order.SortKey.{SortKey}
@@ -18,6 +19,8 @@ use Rattle.gtfs_tables.specs.declared.tables.TransferEnd.{TransferEnd}
 use Rattle.gtfs_tables.specs.declared.tables.TransferEnd.TheVariants as indices
 use Rattle.gtfs_tables.specs.declared.tables.Tables.{Tables}
 use Rattle.gtfs_tables.specs.declared.tables.Transfer.{Transfer}
+use Rattle.gtfs_tables.proofs.FirstLemmas.{first_of_all}
+use Rattle.gtfs_tables.proofs.JoinLemmas.{of_two}
 use Rattle.gtfs_tables.proofs.OneOrder.{one_order}
 
 -- the tables' first fault by the turns of the one and of the other
@@ -39,6 +42,17 @@ no_fault strict t feed x a b =
     let none : found strict t a.turns ≡ None = a.faultless in
     let first : found strict t b.turns ≡ Some x = b.first in
     none-some x (sym none ∙ ap (found strict t) turns ∙ first)
+
+-- the first of all faults in the times of trips is the tables', if no id is at fault
+pub first_time_fault : (strict : Bool) (t : Tables) (faults : List TableFault) (fault : TableFault)
+    → naming_fault (stop_named t.stops.items) (trip_named t.trips.items) t ≡ None
+    → AreTimeFaults (trips_by (trip_named t.trips.items) t) (stops_by (stop_named t.stops.items) t) t.stop_times.rows.items
+    (length t.trips.items) strict faults → slice_get faults 0 ≡ Some fault → IsFirstFault strict t fault
+first_time_fault strict t faults fault fine are first = record {
+  turns = are.turns;
+  in_order = are.in_order;
+  first = of_two _ _ _ fault fine (sym (first_of_all _ (length t.trips.items)) ∙ ap (λ (all : List TableFault). slice_get all 0) (sym are.faults_are) ∙ first);
+}
 
 -- what stands at an end is known by its name
 abbrev index_of : Option StopIdTarget → TransferEnd

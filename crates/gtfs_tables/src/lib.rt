@@ -23,6 +23,7 @@ pub use gtfs_rows::{
     read_transfers, read_trips,
 };
 pub use joining::join;
+pub use names::{StopIdTarget, end_fault, parent_fault, stop_fault};
 pub use spreading::spread;
 pub use tables::{Feed, Frequency, Stop, Tables, Transfer, TransferEnd, Trip};
 pub use trip_faults::time_faults;

@@ -8,10 +8,10 @@ ghost use Rattle.gtfs_tables.specs.Names.{held_at, named_at};
 ghost use Rattle.gtfs_tables.specs.Order.{row_of, turns_in};
 ghost use Rattle.gtfs_tables.specs.Rows.{IsTransferOf, ends_fault, end_fault, frequency_fault, frequency_of};
 ghost use Rattle.gtfs_tables.specs.Rows.{is_flex_id, is_kept, is_repeated, linked_fault, linked_row, named_by};
-ghost use Rattle.gtfs_tables.specs.Rows.{parent_fault, station_of, stop_fault, stop_number, stop_of};
+ghost use Rattle.gtfs_tables.specs.Rows.{parent_fault, station_of, stop_number, stop_of};
 ghost use Rattle.gtfs_tables.specs.Rows.{transfer_fault};
 
-use crate::names::StopIdTarget;
+use crate::names::{StopIdTarget, stop_fault};
 use crate::order::{RowOrder, SortKey};
 use crate::tables::{Frequency, Transfer, TransferEnd};
 use gtfs_rows::{
@@ -185,11 +185,7 @@ fn wrong_link(
     if flex {
         return None;
     }
-    match stop_at(stops, row) {
-        None => Some(FaultKind::UnknownId),
-        Some(StopIdTarget::Stop(_)) => None,
-        Some(StopIdTarget::Station(_)) | Some(StopIdTarget::Elsewhere) => Some(FaultKind::NotAStop),
-    }
+    stop_fault(stop_at(stops, row))
 }
 
 // Returns a row with the index of its trip and the number of its stop; rows of flex trips get no stop.
@@ -259,8 +255,9 @@ fn linked_marked(row: &StopTimeRow, names: &RowNames) -> StopTimeRow
     linked(row, &names.trips, &names.stops, flex)
 }
 
-// Copies the rows into a new list, in the order of their turns.
-fn linked_by_turns(
+// Copies the rows into a new list, in the order of their turns, each with the index of its trip and the number of its
+// stop.
+pub(crate) fn linked_by_turns(
     alloc: Global,
     rows: &[StopTimeRow],
     turns: &[SortKey],
@@ -280,7 +277,7 @@ fn linked_by_turns(
 }
 
 // Returns the row of the record of this number, or a row without stop and times if there is none.
-pub(crate) fn row_numbered(rows: &[StopTimeRow], number: u64) -> StopTimeRow
+fn row_numbered(rows: &[StopTimeRow], number: u64) -> StopTimeRow
     ensures { result ≡ row_of rows.now number }
 {
     let index = number.saturating_sub(1) as usize;

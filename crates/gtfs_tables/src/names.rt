@@ -4,9 +4,11 @@ ghost use Rattle.std.specs.Prelude.{◌≡◌, ◌≤◌, ◌<◌, ℕ, List, le
 ghost use Rattle.std.specs.Option.{option_or};
 ghost use Rattle.std.specs.Str.{bytes_eq};
 ghost use Rattle.std.specs.String.{string_bytes};
+ghost use Rattle.gtfs_rows.specs.Faults.{fault_unless, or_fault};
+ghost use Rattle.gtfs_tables.specs.Rows.{end_fault as fault_of_end, station_index, stop_fault as fault_of_stop};
 ghost use Rattle.gtfs_tables.specs.Names.{held_at, named_as as name_of, stop_named, trip_named};
 
-use gtfs_rows::{IdHash, Location, StopRow, TripRow};
+use gtfs_rows::{FaultKind, IdHash, Location, StopRow, TripRow};
 use indexmap::{IndexMap, IndexSet};
 use std::alloc::{AllocError, Global};
 
@@ -21,6 +23,54 @@ pub enum StopIdTarget {
     Elsewhere,
 }
 
+impl StopIdTarget {
+    /// Returns what a row of `stops.txt` stands for, given how many stops (`number`) and how many rows (`index`) come
+    /// before it.
+    pub fn of(location: Location, number: u32, index: u32) -> StopIdTarget
+        ensures { result ≡ name_of location number index }
+    {
+        match location {
+            Location::Stop => StopIdTarget::Stop(number),
+            Location::Station => StopIdTarget::Station(index),
+            Location::Entrance | Location::Node | Location::BoardingArea => StopIdTarget::Elsewhere,
+        }
+    }
+}
+
+/// Returns what is wrong with a parent_station that names this, or nothing: it must name a station.
+pub fn parent_fault(named: Option<StopIdTarget>) -> Option<FaultKind>
+    ensures { result ≡ fault_unless (station_index named) FaultKind.UnknownId }
+{
+    match named {
+        Some(StopIdTarget::Station(_)) => None,
+        Some(StopIdTarget::Stop(_)) | Some(StopIdTarget::Elsewhere) | None => {
+            Some(FaultKind::UnknownId)
+        }
+    }
+}
+
+/// Returns what is wrong with a stop_id of `stop_times.txt` that names this, or nothing: it must name a stop.
+pub fn stop_fault(named: Option<StopIdTarget>) -> Option<FaultKind>
+    ensures { result ≡ fault_of_stop named }
+{
+    match named {
+        None => Some(FaultKind::UnknownId),
+        Some(StopIdTarget::Stop(_)) => None,
+        Some(StopIdTarget::Station(_)) | Some(StopIdTarget::Elsewhere) => Some(FaultKind::NotAStop),
+    }
+}
+
+/// Returns what is wrong with one end of a transfer that names this, or nothing: it must name a stop or a station.
+pub fn end_fault(named: Option<StopIdTarget>) -> Option<FaultKind>
+    ensures { result ≡ or_fault (fault_unless named FaultKind.UnknownId) (fault_of_end named) }
+{
+    match named {
+        None => Some(FaultKind::UnknownId),
+        Some(StopIdTarget::Stop(_)) | Some(StopIdTarget::Station(_)) => None,
+        Some(StopIdTarget::Elsewhere) => Some(FaultKind::NotAStop),
+    }
+}
+
 // What each id names. Memory may run out.
 type ById<'a, T> = Result<IndexMap<&'a str, T, IdHash>, AllocError>;
 
@@ -32,25 +82,13 @@ pub(crate) fn stops_by_id(alloc: Global, hash: IdHash, stops: &[StopRow]) -> ByI
     let mut names = IndexMap::with_capacity_and_hasher(alloc, stops.len(), hash)?;
     let mut number = 0;
     for (index, row) in stops.iter().enumerate() {
-        let name = named_as(row.location, number, index as u32);
+        let name = StopIdTarget::of(row.location, number, index as u32);
         if row.location == Location::Stop {
             number += 1;
         }
         add_first(&mut names, row.id.as_str(), name)?;
     }
     Ok(names)
-}
-
-// Returns what a row of stops.txt stands for, given how many stops (`number`) and how many rows (`index`) come
-// before it.
-fn named_as(location: Location, number: u32, index: u32) -> StopIdTarget
-    ensures { result ≡ name_of location number index }
-{
-    match location {
-        Location::Stop => StopIdTarget::Stop(number),
-        Location::Station => StopIdTarget::Station(index),
-        Location::Entrance | Location::Node | Location::BoardingArea => StopIdTarget::Elsewhere,
-    }
 }
 
 // Returns the index of the row of each id of trips.txt.

@@ -1,53 +1,42 @@
 //! All faults in the times of trips.
 
-ghost use Rattle.std.specs.Prelude.{◌≡◌, ◌≤◌, ◌++◌, length, map, option_map, IfOk, IsSortedBy, OnOk};
+ghost use Rattle.std.specs.Prelude.{◌≡◌, ◌≤◌, ◌++◌, length, option_map, IfOk, IsSortedBy, OnOk};
 ghost use Rattle.std.specs.List.{slice_range};
 ghost use Rattle.std.specs.Option.{option_to_list};
 ghost use Rattle.gtfs_tables.specs.Feeds.{fault_of_row, trip_fault};
 ghost use Rattle.gtfs_tables.specs.First.{all_below};
 ghost use Rattle.gtfs_tables.specs.Order.{comes_before, turns_by};
-ghost use Rattle.gtfs_tables.specs.TimeFaults.{AreTimeFaults, rows_in};
+ghost use Rattle.gtfs_tables.specs.TimeFaults.{AreTimeFaults};
 ghost use Rattle.gtfs_tables.specs.Times.{first_wrong as wrong_first};
 
 use crate::joining::{end_of_trip, fault_at_row};
-use crate::links::row_numbered;
-use crate::order::{RowOrder, SortKey, sorted_turns};
+use crate::links::{RowNames, flex_ids, linked_by_turns};
+use crate::names::StopIdTarget;
+use crate::order::{RowOrder, sorted_turns};
 use crate::times::first_wrong;
 use gtfs_rows::{StopTimeRow, TableFault};
 use std::alloc::{AllocError, Global};
 
 /// Returns the first fault in the times of each trip that has one, in the order of the trips: `SequenceTwice`,
-/// `EndWithoutTime`, `TimeGoesBack`, and if `strict`, `HopWithoutDuration`. A row's trip is the number in `trips` at
-/// the index of its trip_id, 0 if there is none; trips with a number of `count` or more aren't judged. Memory may run
-/// out.
+/// `EndWithoutTime`, `TimeGoesBack`, and if `strict`, `HopWithoutDuration`. `trips` and `stops` say what the trip_ids
+/// and the stop_ids name: a row's trip is the number that is named, 0 if there is none; trips with a number of `count`
+/// or more aren't judged, nor those with a row whose stop_id names no stop. Memory may run out.
 pub fn time_faults(
     alloc: Global,
     rows: &[StopTimeRow],
-    trips: &[Option<u32>],
+    trips: Vec<Option<u32>>,
+    stops: Vec<Option<StopIdTarget>>,
     count: usize,
     strict: bool,
 ) -> Result<Vec<TableFault>, AllocError>
-    ensures { IfOk result (λ faults. AreTimeFaults trips.now rows.now count strict faults.items) }
+    ensures { IfOk result (λ faults. AreTimeFaults trips.items stops.items rows.now count strict faults.items) }
 {
-    let turns = sorted_turns(alloc, rows, trips)?;
-    let ordered = rows_by_turns(alloc, rows, &turns)?;
+    let flex = flex_ids(alloc, rows, trips.len())?;
+    let turns = sorted_turns(alloc, rows, &trips)?;
+    let names = RowNames { trips, stops, flex };
+    let ordered = linked_by_turns(alloc, rows, &turns, &names)?;
     let order = RowOrder::ByTurns(turns);
     faults_of_trips(alloc, &ordered, &order, count, strict)
-}
-
-// Copies the rows into a new list, in the order of their turns.
-fn rows_by_turns(
-    alloc: Global,
-    rows: &[StopTimeRow],
-    turns: &[SortKey],
-) -> Result<Vec<StopTimeRow>, AllocError>
-    ensures { IfOk result (λ ordered. ordered.items ≡ rows_in rows.now turns.now) }
-{
-    let mut ordered = Vec::with_capacity(alloc, turns.len())?;
-    for turn in turns {
-        ordered.push(row_numbered(rows, turn.number))?;
-    }
-    Ok(ordered)
 }
 
 // Returns the first fault of each trip that has one; the rows are in order.

@@ -1,5 +1,5 @@
 use Rattle.std.proofs.Common.{◌≡◌, ◌<◌, ℕ, None, drop, take}
-use Rattle.gtfs_rows.specs.Source.{AllRecordsText, IsReading, left_of}
+use Rattle.gtfs_rows.specs.Source.{AllRecordsText, IsReading, IsSame, left_of}
 use Rattle.gtfs_rows.specs.Faults.{fault_at, length_first}
 use Rattle.gtfs_rows.specs.Tables.{judge_of}
 use Rattle.gtfs_rows.proofs.reader.add_records.Given as goal
@@ -9,7 +9,9 @@ invariant-loop-taken g l = record {
   reading : IsReading l.records;
   text : AllRecordsText (left_of l.records);
   left : drop l.taken (left_of l.initial.records) ≡ left_of l.records;
-  good : (j : ℕ) → j < l.taken → fault_at (length_first l.width (judge_of g.T.TableRows.TABLE l.indices)) (left_of l.initial.records) j ≡ None;
-  held : g.T.TableRows.holds l.indices (take l.taken (left_of l.initial.records)) l.rows;
+  same : IsSame l.initial.records l.records;
+  good : (j : ℕ) → j < l.taken
+      → fault_at (length_first l.initial.records.width (judge_of g.T.TableRows.TABLE l.initial.records.indices.items)) (left_of l.initial.records) j ≡ None;
+  held : g.T.TableRows.holds l.initial.records.indices.items (take l.taken (left_of l.initial.records)) l.rows;
   hashes : g.T.TableRows.hashes l.rows ≡ g.T.TableRows.hashes l.initial.rows;
 }

@@ -37,6 +37,6 @@ loop-index-preserved c = record {
       let step = stop_named-more c.args.stops.now c.loop-index.index c.index-stops-index.result id (omega arith) c.index-stops-index.is in
       let put = c.in_ok-add_first.ensures id in
       let text = c.as_str.ensures.value in
-      let name = c.named_as-name.ensures in
+      let name = c.of-name.ensures in
       cc;
 }
