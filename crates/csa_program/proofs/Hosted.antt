@@ -6,7 +6,7 @@ use Rattle.load_orders.specs.Asking.{OrderRoute, WorkerOrdersValue}
 use Rattle.session.specs.declared.reply_form.ReplyForm.{ReplyForm}
 use Rattle.workers.specs.Ends.{Session}
 use Rattle.workers.specs.Sessions.{AreAllServed, AreServedSince, posts_at, work_of}
-use Rattle.workers.specs.Shelves.{shelf_seats}
+use Rattle.epochs.specs.ShelfWords.{shelf_seats}
 use Rattle.workers.specs.Words.{ClientWords, sessions_of}
 
 module _ {C R W : Type 0} (clients : ClientWords C R W) (unread : R → Option (List ℕ)) (written : W → Option (List ℕ)) where

@@ -9,9 +9,9 @@ ghost use Rattle.command_requests.specs.declared.statuses.TheConstants.{ACCEPTED
 ghost use Rattle.shelf_steps.specs.Handed.{handed};
 ghost use Rattle.shelf_steps.specs.declared.views.View.{View};
 ghost use Rattle.epochs.specs.ShelfSeats.{SeatsHanded};
-ghost use Rattle.workers.specs.Headline.{AllLoaded, AllServed, AreReadyAt, IsLeft, house_of};
+ghost use Rattle.workers.specs.Headline.{AllLoaded, AllServed, AreReadyAt, IsLeftAt, house_of};
 ghost use Rattle.workers.specs.Sessions.{MayClose};
-ghost use Rattle.workers.specs.Shelves.{shelf_loader, shelf_seats};
+ghost use Rattle.epochs.specs.ShelfWords.{shelf_loader, shelf_seats};
 ghost use Rattle.workers.specs.Words.{files_of, loads_of, outcomes_of, sessions_of};
 ghost use Rattle.csa_program.specs.Door.{AreAsMany, AreCountedOff};
 ghost use Rattle.csa_program.specs.Hosting.{AreHosted, AreSessionsOf};
@@ -356,8 +356,7 @@ fn serve_all<
     requires closes { MayClose (sessions_of form C.words C.Reader.remaining C.Writer.contents shelf_seats) made.0 }
     ensures many { IfOk result (λ ran. K.words.came clients ≡ [] → length ran.served ≡ length
         (K.words.came ran.clients)) }
-    ensures left { IfOk result (IsLeft shelf_seats shelf_loader K.words
-        (house_of clients made.0 made.2.items made.1 folders.now)) }
+    ensures left { IfOk result (IsLeftAt K.words (house_of clients made.0 made.2.items made.1 folders.now)) }
     ensures served { IfOk result (AllServed (sessions_of form C.words C.Reader.remaining C.Writer.contents shelf_seats)
         K.words ⟦<Folders<'f, H> as Feeds>⟧.words (house_of clients made.0 made.2.items made.1 folders.now)) }
     ensures loaded { IfOk result (AllLoaded (loads_of ⟦<Folders<'f, H> as Feeds>⟧.words

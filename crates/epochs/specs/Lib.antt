@@ -9,3 +9,5 @@ pub mod SeatLaws
 pub mod ShelfSeats
 pub mod ShelfLoads
 pub mod Pinned
+pub mod Words
+pub mod ShelfWords

@@ -12,6 +12,7 @@ ghost use Rattle.epochs.specs.Seats.{KnowsItsSeats};
 ghost use Rattle.epochs.specs.ShelfSeats.{PinsBySteps, ReleasesBySteps, JoinsByStep, ShowsWhatItKnows};
 ghost use Rattle.epochs.specs.ShelfLoads.{CollectsBySteps, MakesRoomBySteps, PublishesWithNotice, RefusesBySteps};
 ghost use Rattle.epochs.specs.ShelfLoads.{IsSpentAt};
+ghost use Rattle.epochs.specs.ShelfWords.{shelf_loader, shelf_seats};
 ghost use Rattle.epochs.specs.declared.faults.PublishFault.{PublishFault};
 
 use crate::collected::Collected;
@@ -211,16 +212,7 @@ impl<B: ShelvesName, K> Versions for NamedShelves<B, K> {
 
     type Notice = NamedNotice<B>;
 
-    // The seat is of these shelves.
-    ghost fits = { λ shelves seat. seat.table ≡ shelves };
-
-    ghost value = { λ seat. seat.shown };
-
-    ghost number = { λ seat. seat.number };
-
-    ghost known = { λ seat. known_of seat.view };
-
-    ghost noted = { λ notice. notice.version };
+    ghost words = { shelf_seats };
 
     fn pin(&self, seat: &mut NamedSeat<B>) -> Result<(), PinFault>
         ensures fits { seat.new.table ≡ self.now }
@@ -270,14 +262,7 @@ impl<B: ShelvesName, K> Versions for NamedShelves<B, K> {
 impl<B: ShelvesName, K> Loads for NamedShelves<B, K> {
     type Loader = NamedLoader<B>;
 
-    // The loader's seat is of these shelves.
-    ghost loads = { λ shelves loader. loader.table ≡ shelves };
-
-    ghost answers = { λ loader. loader.answers };
-
-    ghost current = { λ loader. loader.current };
-
-    ghost learned = { λ loader. known_of loader.view };
+    ghost words = { shelf_loader };
 
     fn publish(
         &self,

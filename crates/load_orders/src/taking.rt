@@ -55,7 +55,7 @@ impl<'a, R: Wait, N: Drop, T: Versions<Notice = N>, P: OrderRule<N>> Model
           s.heard;
     } };
 
-    ghost invariant = { λ s. HasAsked P.Protocol.holds T.noted (record {
+    ghost invariant = { λ s. HasAsked P.Protocol.holds T.words.version (record {
       names = map string_bytes s.names.now;
       end = s.end;
       asked = s.asked;
@@ -109,7 +109,7 @@ impl<'a, R: Wait, N: Drop, T: Versions<Notice = N>, P: OrderRule<N>> WorkerOrder
     /// Asks for no more. This end of the queue is dropped; contracts still see what was asked for.
     pub fn into_used(self) -> UsedOrders<N>
         ensures same { result ≡ self.entry }
-        ensures asked { HasAsked P.Protocol.holds T.noted result }
+        ensures asked { HasAsked P.Protocol.holds T.words.version result }
     {
         let names = GhostValue::at(&self.names, &());
         let WorkerOrders {
@@ -156,7 +156,7 @@ fn wait_for<R: Wait, N: Drop, T: Versions<Notice = N>, P: OrderRule<N>>(
     heard: &mut Notes<UsedWay<N>>,
 ) -> Result<(u64, N), OrderFault>
     ensures queue { end.new.queue ≡ end.old.queue }
-    ensures notice { IfOk result (λ r. T.noted r.1 ≡ r.0) }
+    ensures notice { IfOk result (λ r. T.words.version r.1 ≡ r.0) }
     ensures heard { IfOk result (λ r. Hears feed.now (Some (LoadAnswer.Published r.1))
         (unasked (map string_bytes names.now) end.old heard.old)
         (unasked (map string_bytes names.now) end.new heard.new)) }
@@ -209,7 +209,7 @@ fn put_awaited<R: Wait, N: Drop, P: OrderRule<N>>(
 fn version_or_fault<N: Drop, T: Versions<Notice = N>>(
     answer: Option<LoadAnswer<N>>,
 ) -> Result<(u64, N), OrderFault>
-    ensures notice { IfOk result (λ r. (T.noted r.1 ≡ r.0) × (answer ≡ Some (LoadAnswer.Published r.1))) }
+    ensures notice { IfOk result (λ r. (T.words.version r.1 ≡ r.0) × (answer ≡ Some (LoadAnswer.Published r.1))) }
     ensures fault { IfErr result (λ fault. fault_of_answer answer ≡ Some fault) }
 {
     match answer {
@@ -230,7 +230,7 @@ impl<'a, R: Wait, N: Drop, T: Versions<Notice = N>, P: OrderRule<N>> Orders
 
     ghost asked = { λ orders. orders.asked };
 
-    ghost notice_version = { T.noted };
+    ghost notice_version = { T.words.version };
 
     /// Puts an order of the first feed of that name: `UnknownFeed` exactly where there is none,
     /// `OrdersFull` where four orders waited in the queue at one moment of the call.
@@ -262,7 +262,7 @@ impl<'a, R: Wait, N: Drop, T: Versions<Notice = N>, P: OrderRule<N>> Orders
     /// memory to wait, and nothing was put; or none for a notice of the version that was published.
     fn order_wait(&mut self, feed: &str) -> Result<(u64, N), OrderFault>
         ensures asked { self.new.asked ≡ self.old.asked ++ waited_value feed.now (version_alone result) ∷ [] }
-        ensures notice { IfOk result (λ r. T.noted r.1 ≡ r.0) }
+        ensures notice { IfOk result (λ r. T.words.version r.1 ≡ r.0) }
         ensures route { route_of self.new ≡ route_of self.old }
         ensures heard { IfOk result (λ r. Hears feed.now (Some (LoadAnswer.Published r.1)) self.old self.new) }
         ensures refused { IfErr result (λ fault. RefusesVersion P.Protocol.holds feed.now fault self.old self.new) }

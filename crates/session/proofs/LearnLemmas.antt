@@ -8,6 +8,7 @@ use Rattle.epochs.specs.declared.seats.SeatAnswer.{SeatAnswer}
 use Rattle.epochs.specs.declared.faults.PinFault.{PinFault}
 use Rattle.epochs.specs.SeatHistory.{Grows, HoldsAsKnown, HoldsIn, IsPublished}
 use Rattle.epochs.specs.Seats.{SeatValue, PinStep, ReleaseStep, JoinStep}
+use Rattle.epochs.specs.Words.{SeatWords}
 use Rattle.epochs.proofs.GrowthLemmas.{grows_same, growths_join, published_stay}
 use Rattle.orders.specs.Ordering.{OrderValue}
 use Rattle.session_texts.specs.Requests.{AskValue, pin, release, profile, load}
@@ -15,8 +16,8 @@ use Rattle.session.specs.declared.reply_form.ReplyForm.{ReplyForm}
 use Rattle.session.specs.Lines.{Asked, too_long, no_json, no_request, asks, IsAsked, memory_line}
 use Rattle.session.specs.SeatSteps.{Follows, SeatMove, answered, joined, answers_in}
 use Rattle.session.specs.Sessions.{AreTurns, LastRelease, moves_of}
-use Rattle.session.specs.Turns.{DeskState, Meets, ProfileIsMet, Turn, WantsMemory, desk_state}
-use Rattle.session.specs.Learning.{AreFromPublished, ArePublished, IsFromPublished, IsPublishedIfHeld, Learns, LearningTells}
+use Rattle.session.specs.Turns.{Deed, DeskState, Meets, ProfileIsMet, Turn, WantsMemory, deed_of, desk_state}
+use Rattle.session.specs.Learning.{AreFromPublished, ArePublished, GoesOn, IsFromPublished, IsPublishedIfHeld, Learns, LearningTells}
 use Rattle.session.proofs.SeatLemmas.{answers_grow, step_grows}
 use Rattle.session.proofs.TurnLemmas.{moves_follow}
 
@@ -56,6 +57,15 @@ learns_on k a l m n b p q = record {
   answers_are = q.answers_are ∙ ap (λ (xs : List SeatAnswer). xs ++ q.answers) p.answers_are ∙ append_assoc a.answers p.answers q.answers;
   published = published_all n p.answers q.answers (published_later l n p.answers q.grows p.published) q.published;
 }
+
+-- a seat at which nothing was done, and calls one behind the other
+pub goes_on_same : {T S N : Type 0} (words : SeatWords T S N) (shelves : T) (s : S) → words.fits shelves s → GoesOn words shelves s s
+goes_on_same words shelves s fits = record { fits = fits; number = refl; learns = learns_same _ _ }
+
+pub goes_on : {T S N : Type 0} (words : SeatWords T S N) (shelves : T) (a m b : S) → GoesOn words shelves a m → GoesOn words shelves m b
+    → GoesOn words shelves a b
+goes_on words shelves a m b p q =
+    record { fits = q.fits; number = q.number ∙ p.number; learns = learns_on _ _ _ _ _ _ p.learns q.learns }
 
 -- one answer
 learns_answer : (k l : KnownHistory) (a b : SeatValue) (answer : SeatAnswer) → Grows k l → b.answers ≡ a.answers ++ answer ∷ [] → ArePublished l (answer ∷ [])
@@ -151,16 +161,15 @@ profile_from k form None ask moves reply (inl met) held are =
     inl (met.version, met.image, subst (λ (i : ImageValue). IsPublished k met.version i) met.once.image_is once.0, met.replied)
 profile_from k form None ask moves reply (inr refused) held are = inr (refused.fault, refused.reply_is)
 
-request_from : (k : KnownHistory) (form : ReplyForm) (held : Option (ℕ × ImageValue)) (asked : Asked) (moves : List SeatMove) (orders : List OrderValue)
-    (reply : List ℕ) → Meets form held asked moves orders reply → IsPublishedIfHeld k held
-    → ArePublished k (answers_in moves) → IsFromPublished k form asked reply
-request_from k form held too_long moves orders reply met is are = tt
-request_from k form held no_json moves orders reply met is are = tt
-request_from k form held no_request moves orders reply met is are = tt
-request_from k form held (asks pin) moves orders reply met is are = tt
-request_from k form held (asks release) moves orders reply met is are = tt
-request_from k form held (asks (load feed waits)) moves orders reply met is are = tt
-request_from k form held (asks (profile ask)) moves orders reply met is are = profile_from k form held ask moves reply met.1 is are
+request_from : (k : KnownHistory) (form : ReplyForm) (held : Option (ℕ × ImageValue)) (asked : Asked) (d : Deed) → Meets form held asked d
+    → IsPublishedIfHeld k held → ArePublished k (answers_in d.moves) → IsFromPublished k form asked d.reply
+request_from k form held too_long d met is are = tt
+request_from k form held no_json d met is are = tt
+request_from k form held no_request d met is are = tt
+request_from k form held (asks pin) d met is are = tt
+request_from k form held (asks release) d met is are = tt
+request_from k form held (asks (load feed waits)) d met is are = tt
+request_from k form held (asks (profile ask)) d met is are = profile_from k form held ask d.moves d.reply met.1 is are
 
 answers_in-append : (xs ys : List SeatMove) → answers_in (xs ++ ys) ≡ answers_in xs ++ answers_in ys
 answers_in-append [] ys = refl
@@ -168,12 +177,12 @@ answers_in-append (answered answer ∷ xs) ys = ap (λ (zs : List SeatAnswer). a
 answers_in-append (joined version ∷ xs) ys = answers_in-append xs ys
 
 asked_from : (k : KnownHistory) (form : ReplyForm) (held : Option (ℕ × ImageValue)) (asked : Asked) (t : Turn) → IsAsked form.sets t.line asked
-    → WantsMemory asked t.moves t.orders t.reply ⊎ Meets form held asked t.moves t.orders t.reply
+    → WantsMemory asked (deed_of t.moves t.orders t.reply) ⊎ Meets form held asked (deed_of t.moves t.orders t.reply)
     → IsPublishedIfHeld k held → ArePublished k (answers_in t.moves)
     → (t.reply ≡ memory_line) ⊎ ((asked : Asked) × IsAsked form.sets t.line asked × IsFromPublished k form asked t.reply)
 asked_from k form held asked t is (inl memory) published are = inl memory.0
 asked_from k form held asked t is (inr met) published are =
-    inr (asked, is, request_from k form held asked t.moves t.orders t.reply met published are)
+    inr (asked, is, request_from k form held asked (deed_of t.moves t.orders t.reply) met published are)
 
 turns_from : (k : KnownHistory) (form : ReplyForm) (number : ℕ) (a b : DeskState) (turns : List Turn)
     → AreTurns form number a turns b → IsPublishedIfHeld k a.seat.held → ArePublished k (answers_in (moves_of turns))

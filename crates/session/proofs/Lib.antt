@@ -5,6 +5,5 @@ mod AskedLemmas
 pub mod TurnLemmas
 mod LineLemmas
 mod LoadLemmas
-mod FeedLemmas
 pub mod SideLemmas
 mod OneLemmas

@@ -11,13 +11,13 @@ use Rattle.session.specs.declared.reply_form.ReplyForm.{ReplyForm}
 use Rattle.session.specs.Lines.{Asked, asks, memory_line, pin_fault_line}
 use Rattle.session.specs.Profiles.{IsProfileReply}
 use Rattle.session.specs.SeatSteps.{answered}
-use Rattle.session.specs.Turns.{IsMet, MayPin, ProfileIsMet, ProfileIsMetOnce, PinIsMet, PinIsRefused, ReleaseIsRefused}
+use Rattle.session.specs.Turns.{IsMet, MayPin, PinIsMet, PinIsRefused, ProfileIsMet, ProfileIsMetOnce, ReleaseIsRefused, replied_to}
 use Rattle.session.proofs.SeatLemmas.{is_pinned, is_released, pins_once, some_is_held}
 
 -- a pin is told
 pub pin_met : {form : ReplyForm} (number : ℕ) (a m : SeatValue) (v : ℕ) (image : ImageValue) (reply : List ℕ) → PinStep a (Ok tt) m
     → HoldsInSome number m.held → m.held ≡ Some (v, image)
-    → reply ≡ pin_text image.names.base v ++ 10 ∷ [] → IsMet form number a (asks pin) reply m
+    → reply ≡ pin_text image.names.base v ++ 10 ∷ [] → IsMet form number a (replied_to (asks pin) reply) m
 pin_met {form} number a m v image reply step known held fact =
     let pinned = is_pinned number a m v image step known held in
     let met : PinIsMet (answered (SeatAnswer.Pinned v pinned.shown) ∷ []) reply = record {
@@ -29,7 +29,7 @@ pin_met {form} number a m v image reply step known held fact =
     record { moves = answered (SeatAnswer.Pinned v pinned.shown) ∷ []; meets = inr (refl, inl met); seat = (m, pinned.step, refl) }
 
 pub pin_refused : {form : ReplyForm} (number : ℕ) (a b : SeatValue) (fault : PinFault) (reply : List ℕ) → PinStep a (Err fault) b → reply ≡ pin_fault_line fault
-    → IsMet form number a (asks pin) reply b
+    → IsMet form number a (replied_to (asks pin) reply) b
 pin_refused {form} number a b fault reply step fact =
     let met : PinIsRefused (answered (SeatAnswer.PinRefused fault) ∷ []) reply = record { fault = fault; moves_are = refl; reply_is = fact } in
     record { moves = answered (SeatAnswer.PinRefused fault) ∷ []; meets = inr (refl, inr met); seat = (b, step, refl) }
@@ -37,7 +37,7 @@ pin_refused {form} number a b fault reply step fact =
 -- where memory is wanting, what was pinned is given back
 given_back : {form : ReplyForm} (number : ℕ) (asked : Asked) → MayPin asked → (a m b : SeatValue) (v : ℕ) (image : ImageValue)
     (r : Result (Unit {0}) PinFault) (reply : List ℕ) → PinStep a (Ok tt) m → HoldsInSome number m.held → m.held ≡ Some (v, image)
-    → ReleaseStep m r b → reply ≡ memory_line → IsMet form number a asked reply b
+    → ReleaseStep m r b → reply ≡ memory_line → IsMet form number a (replied_to asked reply) b
 given_back {form} number asked may a m b v image r reply step known held back fact =
     let pinned = is_pinned number a m v image step known held in
     let released = is_released number m b r (some_is_held v image m.held held) back in
@@ -51,11 +51,11 @@ given_back {form} number asked may a m b v image r reply step known held back fa
 -- a pin that can't be told
 pub pin_given_back : {form : ReplyForm} (number : ℕ) (a m b : SeatValue) (v : ℕ) (image : ImageValue) (r : Result (Unit {0}) PinFault) (reply : List ℕ)
     → PinStep a (Ok tt) m → HoldsInSome number m.held → m.held ≡ Some (v, image)
-    → ReleaseStep m r b → reply ≡ memory_line → IsMet form number a (asks pin) reply b
+    → ReleaseStep m r b → reply ≡ memory_line → IsMet form number a (replied_to (asks pin) reply) b
 pin_given_back {form} number a m b v image r reply step known held back fact = given_back number (asks pin) tt a m b v image r reply step known held back fact
 
 pub release_met : {form : ReplyForm} (number : ℕ) (a b : SeatValue) (reply : List ℕ) → ReleaseStep a (Ok tt) b → reply ≡ release_text
-    → IsMet form number a (asks release) reply b
+    → IsMet form number a (replied_to (asks release) reply) b
 release_met {form} number a b reply step fact = record {
   moves = answered SeatAnswer.Released ∷ [];
   meets = inr (refl, inl (refl, fact));
@@ -64,14 +64,14 @@ release_met {form} number a b reply step fact = record {
 }
 
 pub release_refused : {form : ReplyForm} (number : ℕ) (a b : SeatValue) (fault : PinFault) (reply : List ℕ) → ReleaseStep a (Err fault) b
-    → reply ≡ pin_fault_line fault → IsMet form number a (asks release) reply b
+    → reply ≡ pin_fault_line fault → IsMet form number a (replied_to (asks release) reply) b
 release_refused {form} number a b fault reply step fact =
     let met : ReleaseIsRefused (answered (SeatAnswer.ReleaseRefused fault) ∷ []) reply = record { fault = fault; moves_are = refl; reply_is = fact } in
     record { moves = answered (SeatAnswer.ReleaseRefused fault) ∷ []; meets = inr (refl, inr met); seat = (b, step, refl) }
 
 -- a profile for which no version can be pinned
 pub profile_refused : {form : ReplyForm} (number : ℕ) (a b : SeatValue) (fault : PinFault) (ask : AskValue) (reply : List ℕ) → a.held ≡ None
-    → PinStep a (Err fault) b → reply ≡ pin_fault_line fault → IsMet form number a (asks (profile ask)) reply b
+    → PinStep a (Err fault) b → reply ≡ pin_fault_line fault → IsMet form number a (replied_to (asks (profile ask)) reply) b
 profile_refused {form} number a b fault ask reply empty step fact =
     let refused : PinIsRefused (answered (SeatAnswer.PinRefused fault) ∷ []) reply = record { fault = fault; moves_are = refl; reply_is = fact } in
     let met : ProfileIsMet form a.held ask (answered (SeatAnswer.PinRefused fault) ∷ []) reply =
@@ -82,7 +82,7 @@ profile_refused {form} number a b fault ask reply empty step fact =
 pub profile_met_once : {form : ReplyForm} (number : ℕ) (a m b : SeatValue) (v : ℕ) (image : ImageValue) (r : Result (Unit {0}) PinFault) (ask : AskValue)
     (reply : List ℕ) → PinStep a (Ok tt) m → HoldsInSome number m.held
     → m.held ≡ Some (v, image) → ReleaseStep m r b → (IsProfileReply form image v ask reply ⊎ (reply ≡ memory_line))
-    → IsMet form number a (asks (profile ask)) reply b
+    → IsMet form number a (replied_to (asks (profile ask)) reply) b
 profile_met_once {form} number a m b v image r ask reply step known held back (inl fact) =
     let pinned = is_pinned number a m v image step known held in
     let released = is_released number m b r (some_is_held v image m.held held) back in

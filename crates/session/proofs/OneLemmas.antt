@@ -13,11 +13,10 @@ use Rattle.journeys.specs.Questions.{Asks, IsNamed, IsRefused, NamesNone}
 use Rattle.journeys.specs.declared.question.Window.{Window}
 use Rattle.station_answers.specs.Asking.{IsFirstFault}
 use Rattle.station_answers.specs.Naming.{AsksBetween, IsFaultBetween, SomeUnknown}
-use Rattle.session_texts.specs.Requests.{AskValue}
 use Rattle.answer_replies.specs.Replying.{IsAnsweredBy}
 use Rattle.answer_replies.specs.Valuing.{by_arrival}
 use Rattle.answer_replies.specs.OneStop.{IsAnsweredOneBy}
-use Rattle.session.specs.OneStop.{AnswersOne, IsFromOne, IsRefusedOne, IsTooLongOne, TellsOfOne}
+use Rattle.session.specs.OneStop.{AnswersOne, IsRefusedOne, IsTooLongOne, OneAsk, TellsOfOne}
 use Rattle.session.specs.Profiles.{AnswersQuery, IsNoQuery, IsTooLong, window_of}
 use Rattle.session.specs.declared.reply_form.ReplyForm.{ReplyForm}
 
@@ -89,22 +88,23 @@ refused_one image from to window QueryFault.BadWindow (b, asks, first) =
           (subst (λ (x : BetweenValue). IsFirstFault image.timetable.stops x QueryFault.BadWindow) one.is first),
     )
 
-module _ (form : ReplyForm) (image : ImageValue) (version : ℕ) (ask : AskValue) (from to reply : List ℕ) (one : IsFromOne ask from to) where
-  asks_of_one : (b : BetweenValue) → AsksBetween image.names ask.from ask.to (window_of ask) b → IsOne image.names from to (window_of ask) b
-  asks_of_one b asks = one_question image.names from to (window_of ask) b
-      (subst (λ (xs : List (List ℕ)). AsksBetween image.names xs (to ∷ []) (window_of ask) b) one.from_one
-      (subst (λ (ys : List (List ℕ)). AsksBetween image.names ask.from ys (window_of ask) b) one.to_one asks))
+module _ (form : ReplyForm) (image : ImageValue) (version : ℕ) (one : OneAsk) (reply : List ℕ) where
+  asks_of_one : (b : BetweenValue) → AsksBetween image.names one.ask.from one.ask.to (window_of one.ask) b
+      → IsOne image.names one.from one.to (window_of one.ask) b
+  asks_of_one b asks = one_question image.names one.from one.to (window_of one.ask) b
+      (subst (λ (xs : List (List ℕ)). AsksBetween image.names xs (one.to ∷ []) (window_of one.ask) b) one.from_one
+      (subst (λ (ys : List (List ℕ)). AsksBetween image.names one.ask.from ys (window_of one.ask) b) one.to_one asks))
 
-  none_of_one : IsNoQuery image ask reply → IsRefusedOne image ask from to reply
+  none_of_one : IsNoQuery image one.ask reply → IsRefusedOne image one reply
   none_of_one refused = record {
     fault = refused.fault;
-    refused = refused_one image from to (window_of ask) refused.fault
-        (subst (λ (xs : List (List ℕ)). IsFaultBetween image xs (to ∷ []) (window_of ask) refused.fault) one.from_one
-        (subst (λ (ys : List (List ℕ)). IsFaultBetween image ask.from ys (window_of ask) refused.fault) one.to_one refused.refused));
+    refused = refused_one image one.from one.to (window_of one.ask) refused.fault
+        (subst (λ (xs : List (List ℕ)). IsFaultBetween image xs (one.to ∷ []) (window_of one.ask) refused.fault) one.from_one
+        (subst (λ (ys : List (List ℕ)). IsFaultBetween image one.ask.from ys (window_of one.ask) refused.fault) one.to_one refused.refused));
     reply_is = refused.reply_is;
   }
 
-  too_long_of_one : IsTooLong form image ask reply → IsTooLongOne form image ask from to reply
+  too_long_of_one : IsTooLong form image one.ask reply → IsTooLongOne form image one reply
   too_long_of_one long =
       let asked = asks_of_one long.query long.asked in
       let q = asked.query in
@@ -117,7 +117,7 @@ module _ (form : ReplyForm) (image : ImageValue) (version : ℕ) (ask : AskValue
         reply_is = long.reply_is;
       }
 
-  answers_of_one : OneIsAnswered → AnswersQuery form image version ask reply → AnswersOne form image version ask from to reply
+  answers_of_one : OneIsAnswered → AnswersQuery form image version one.ask reply → AnswersOne form image version one reply
   answers_of_one law answers =
       let asked = asks_of_one answers.query answers.asked in
       let q = asked.query in
@@ -127,9 +127,9 @@ module _ (form : ReplyForm) (image : ImageValue) (version : ℕ) (ask : AskValue
             (subst (IsAskableBetween image.timetable.stops) asked.is answers.can_be);
         asked = asked.asked;
         short = answers.short;
-        answered = law form.points ask.criterion image version q reply
-            (subst (λ (x : BetweenValue). IsAnsweredBy form.points ask.criterion image version x reply) asked.is answers.answered);
+        answered = law form.points one.ask.criterion image version q reply
+            (subst (λ (x : BetweenValue). IsAnsweredBy form.points one.ask.criterion image version x reply) asked.is answers.answered);
       }
 
-  pub tells_of_one : OneIsAnswered → TellsOfOne form image version ask from to reply
+  pub tells_of_one : OneIsAnswered → TellsOfOne form image version one reply
   tells_of_one law = record { none = none_of_one; too_long = too_long_of_one; answers = answers_of_one law }

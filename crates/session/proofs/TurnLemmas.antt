@@ -14,7 +14,7 @@ use Rattle.session.specs.declared.reply_form.ReplyForm.{ReplyForm}
 use Rattle.session.specs.Lines.{Asked, too_long, no_json, no_request, asks, IsAsked, memory_line, refusal_line}
 use Rattle.session.specs.SeatSteps.{Follows, SeatMove}
 use Rattle.session.specs.Sessions.{AreTurns, moves_of, lines_in, orders_of, text_of}
-use Rattle.session.specs.Turns.{DeskState, IsLoaded, IsMet, IsTurn, OrderIsMet, Turn, TurnsTo, desk_state}
+use Rattle.session.specs.Turns.{Deed, DeskState, IsLoaded, IsMet, IsTurn, OrderIsMet, Turn, TurnsTo, desk_state, replied_to}
 use Rattle.session.proofs.SeatLemmas.{Follows-append}
 
 -- there is such a turn of this line and this reply
@@ -75,13 +75,13 @@ waits_not sets d feed waits is asks_it = subst (λ (b : Bool). Asks sets d (load
 
 -- a request of the seat is met
 meets_turn : {form : ReplyForm} (number : ℕ) (a b : SeatValue) (what : Asked) (line reply : List ℕ) → IsAsked form.sets line what
-    → (met : IsMet form number a what reply b)
+    → (met : IsMet form number a (replied_to what reply) b)
     → IsTurn form a.held (turn_of line met.moves [] reply)
 meets_turn {form} number a b what line reply is met = inr (what, is, met.meets)
 
 pub seat_turn : {form : ReplyForm} (number : ℕ) (a b : SeatValue) (asked : List OrderValue) (bytes line reply : List ℕ) (d : Data) (request : RequestValue)
     → (bytes ≡ line) × (length line ≤ 65_536) → IsJson bytes d → Asks form.sets d request
-    → IsMet form number a (asks request) reply b → HasTurn form number line reply a asked b asked
+    → IsMet form number a (replied_to (asks request) reply) b → HasTurn form number line reply a asked b asked
 seat_turn {form} number a b asked bytes line reply d request here json asks_it met =
     let is : IsAsked form.sets line (asks request) = (here.1, (d, subst (λ (xs : List ℕ). IsJson xs d) here.0 json, asks_it)) in
     has_turn number a b asked asked (turn_of line met.moves [] reply) (meets_turn number a b (asks request) line reply is met) met.seat (sym (append-nil asked))
@@ -98,13 +98,14 @@ order_turn {form} number a asked asked_then put bytes line reply feed d here jso
     has_turn number a a asked asked_then (turn_of line [] put reply) (inl (memory.1, memory.0, refl)) refl grown
 
 -- and is waited for
-pub load_turn : {form : ReplyForm} (number : ℕ) (a b : SeatValue) (asked asked_then put : List OrderValue) (bytes line reply feed : List ℕ) (d : Data)
-    → (bytes ≡ line)
-    × (length line ≤ 65_536) → IsJson bytes d → Asks form.sets d (load feed true)
-    → asked_then ≡ asked ++ put → IsLoaded number a feed put reply b → HasTurn form number line reply a asked b asked_then
-load_turn {form} number a b asked asked_then put bytes line reply feed d here json asks_it grown loaded =
+pub load_turn : {form : ReplyForm} (number : ℕ) (a b : SeatValue) (asked asked_then : List OrderValue) (deed : Deed) (bytes line reply feed : List ℕ)
+    (d : Data) → (bytes ≡ line) × (length line ≤ 65_536) → IsJson bytes d → Asks form.sets d (load feed true)
+    → deed.reply ≡ reply → asked_then ≡ asked ++ deed.orders → IsLoaded number a feed deed b → HasTurn form number line reply a asked b asked_then
+load_turn {form} number a b asked asked_then deed bytes line reply feed d here json asks_it same grown loaded =
     let is : IsAsked form.sets line (asks (load feed true)) = (here.1, (d, subst (λ (xs : List ℕ). IsJson xs d) here.0 json, asks_it)) in
-    has_turn number a b asked asked_then (turn_of line loaded.moves put reply) (inr (asks (load feed true), is, inr loaded.meets)) loaded.seat grown
+    let turn = has_turn number a b asked asked_then (turn_of line deed.moves deed.orders deed.reply)
+    (inr (asks (load feed true), is, inr loaded.meets)) loaded.seat grown in
+    (turn.0, turn.1, turn.2 ∙ same, turn.3)
 
 -- turns, and one more
 pub lines_in-more : (turns : List Turn) (t : Turn) → lines_in (turns ++ t ∷ []) ≡ lines_in turns ++ t.line ∷ []

@@ -6,6 +6,7 @@ use Rattle.epochs.specs.declared.faults.PinFault.{PinFault}
 use Rattle.epochs.specs.declared.seats.SeatAnswer.{SeatAnswer}
 use Rattle.epochs.specs.SeatHistory.{Grows, IsPublished}
 use Rattle.epochs.specs.Seats.{SeatValue}
+use Rattle.epochs.specs.Words.{SeatWords}
 use Rattle.orders.specs.Ordering.{OrderValue}
 use Rattle.session_texts.specs.Requests.{profile}
 use Rattle.session.specs.declared.reply_form.ReplyForm.{ReplyForm}
@@ -33,6 +34,12 @@ pub record Learns (known : KnownHistory) (a : SeatValue) (known_then : KnownHist
   pub answers : List SeatAnswer
   pub answers_are : b.answers ≡ a.answers ++ answers
   pub published : ArePublished known_then answers
+
+-- what every call leaves of a worker's seat: it may still be used at these shelves, it has the same worker's number, and it learned so
+pub record GoesOn {T S N : Type 0} (words : SeatWords T S N) (shelves : T) (a b : S) : Type 0 where
+  pub fits : words.fits shelves b
+  pub number : words.number b ≡ words.number a
+  pub learns : Learns (words.known a) (words.shown a) (words.known b) (words.shown b)
 
 -- a profile is answered over the image that this history published as the version that the reply names; or no version could be pinned
 abbrev pub IsFromPublished : KnownHistory → ReplyForm → Asked → List ℕ → Type 0

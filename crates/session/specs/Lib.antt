@@ -5,6 +5,5 @@ pub mod Profiles
 pub mod Turns
 pub mod Sessions
 pub mod Learning
-pub mod Feeds
 pub mod Forms
 pub mod OneStop

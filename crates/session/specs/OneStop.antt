@@ -12,35 +12,38 @@ use Rattle.session.specs.Lines.{query_fault_line}
 use Rattle.session.specs.Profiles.{AnswersQuery, IsNoQuery, IsTooLong, window_of}
 use Rattle.session.specs.declared.reply_form.ReplyForm.{ReplyForm}
 
--- the request is from the stop of one name to that of one other
-pub record IsFromOne (ask : AskValue) (from to : List ℕ) : Type 0 where
+-- a request from the stop of one name to that of one other
+pub record OneAsk : Type 0 where
+  pub ask : AskValue
+  pub from : List ℕ
+  pub to : List ℕ
   pub from_one : ask.from ≡ from ∷ []
   pub to_one : ask.to ≡ to ∷ []
 
 -- the plain query between these stops is refused, and the reply says why
-pub record IsRefusedOne (image : ImageValue) (ask : AskValue) (from to reply : List ℕ) : Type 0 where
+pub record IsRefusedOne (image : ImageValue) (one : OneAsk) (reply : List ℕ) : Type 0 where
   pub fault : QueryFault
-  pub refused : IsRefused image from to (window_of ask) fault
+  pub refused : IsRefused image one.from one.to (window_of one.ask) fault
   pub reply_is : reply ≡ query_fault_line fault
 
 -- the plain query can be asked, but its window is longer than windows may be
-pub record IsTooLongOne (form : ReplyForm) (image : ImageValue) (ask : AskValue) (from to reply : List ℕ) : Type 0 where
+pub record IsTooLongOne (form : ReplyForm) (image : ImageValue) (one : OneAsk) (reply : List ℕ) : Type 0 where
   pub query : Query
   pub can_be : IsAskable image.timetable.stops query
-  pub asked : Asks image.names from to (window_of ask) query
-  pub longer : IsLonger form.longest (ask.by - ask.after)
+  pub asked : Asks image.names one.from one.to (window_of one.ask) query
+  pub longer : IsLonger form.longest (one.ask.by - one.ask.after)
   pub reply_is : reply ≡ query_fault_line QueryFault.BadWindow
 
 -- the window isn't too long, and the reply answers the plain query
-pub record AnswersOne (form : ReplyForm) (image : ImageValue) (version : ℕ) (ask : AskValue) (from to reply : List ℕ) : Type 0 where
+pub record AnswersOne (form : ReplyForm) (image : ImageValue) (version : ℕ) (one : OneAsk) (reply : List ℕ) : Type 0 where
   pub query : Query
   pub can_be : IsAskable image.timetable.stops query
-  pub asked : Asks image.names from to (window_of ask) query
-  pub short : ¬ (IsLonger form.longest (ask.by - ask.after))
-  pub answered : IsAnsweredOneBy form.points ask.criterion image version query reply
+  pub asked : Asks image.names one.from one.to (window_of one.ask) query
+  pub short : ¬ (IsLonger form.longest (one.ask.by - one.ask.after))
+  pub answered : IsAnsweredOneBy form.points one.ask.criterion image version query reply
 
 -- what the reply tells of the request between sets, it tells of the plain query
-pub record TellsOfOne (form : ReplyForm) (image : ImageValue) (version : ℕ) (ask : AskValue) (from to reply : List ℕ) : Type 0 where
-  pub none : IsNoQuery image ask reply → IsRefusedOne image ask from to reply
-  pub too_long : IsTooLong form image ask reply → IsTooLongOne form image ask from to reply
-  pub answers : AnswersQuery form image version ask reply → AnswersOne form image version ask from to reply
+pub record TellsOfOne (form : ReplyForm) (image : ImageValue) (version : ℕ) (one : OneAsk) (reply : List ℕ) : Type 0 where
+  pub none : IsNoQuery image one.ask reply → IsRefusedOne image one reply
+  pub too_long : IsTooLong form image one.ask reply → IsTooLongOne form image one reply
+  pub answers : AnswersQuery form image version one.ask reply → AnswersOne form image version one reply

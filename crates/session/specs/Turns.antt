@@ -21,6 +21,15 @@ pub record Turn : Type 0 where
   pub orders : List OrderValue  -- that were asked for in this turn
   pub reply : List ℕ  -- with its LF
 
+-- what is done for a line: the moves at the seat, the orders that are asked for, and the reply
+pub record Deed : Type 0 where
+  pub moves : List SeatMove
+  pub orders : List OrderValue
+  pub reply : List ℕ
+
+abbrev pub deed_of : List SeatMove → List OrderValue → List ℕ → Deed
+deed_of moves orders reply = record { moves = moves; orders = orders; reply = reply }
+
 -- a pin is refused
 pub record PinIsRefused (moves : List SeatMove) (reply : List ℕ) : Type 0 where
   pub fault : PinFault
@@ -77,19 +86,19 @@ ProfileIsMet form (Some held) ask moves reply = (moves ≡ []) × IsProfileReply
 ProfileIsMet form None ask moves reply = ProfileIsMetOnce form ask moves reply ⊎ PinIsRefused moves reply
 
 -- nothing was done, and the refusal is reported
-abbrev pub IsRefused : Refusal → List SeatMove → List OrderValue → List ℕ → Type 0
-IsRefused refusal moves orders reply = (moves ≡ []) × (orders ≡ []) × (reply ≡ refusal_line refusal)
+abbrev pub IsRefused : Refusal → Deed → Type 0
+IsRefused refusal d = (d.moves ≡ []) × (d.orders ≡ []) × (d.reply ≡ refusal_line refusal)
 
--- what was asked, at a seat that holds this, is met by these moves and orders, with this reply
-abbrev pub Meets : ReplyForm → Option (ℕ × ImageValue) → Asked → List SeatMove → List OrderValue → List ℕ → Type 0
-Meets form held too_long moves orders reply = IsRefused Refusal.LineTooLong moves orders reply
-Meets form held no_json moves orders reply = IsRefused Refusal.BadJson moves orders reply
-Meets form held no_request moves orders reply = IsRefused Refusal.BadRequest moves orders reply
-Meets form held (asks pin) moves orders reply = (orders ≡ []) × (PinIsMet moves reply ⊎ PinIsRefused moves reply)
-Meets form held (asks release) moves orders reply =
-    (orders ≡ []) × (((moves ≡ answered SeatAnswer.Released ∷ []) × (reply ≡ release_text)) ⊎ ReleaseIsRefused moves reply)
-Meets form held (asks (load feed waits)) moves orders reply = LoadIsMet waits feed moves orders reply
-Meets form held (asks (profile ask)) moves orders reply = (orders ≡ []) × ProfileIsMet form held ask moves reply
+-- what was asked, at a seat that holds this, is met by this deed
+abbrev pub Meets : ReplyForm → Option (ℕ × ImageValue) → Asked → Deed → Type 0
+Meets form held too_long d = IsRefused Refusal.LineTooLong d
+Meets form held no_json d = IsRefused Refusal.BadJson d
+Meets form held no_request d = IsRefused Refusal.BadRequest d
+Meets form held (asks pin) d = (d.orders ≡ []) × (PinIsMet d.moves d.reply ⊎ PinIsRefused d.moves d.reply)
+Meets form held (asks release) d =
+    (d.orders ≡ []) × (((d.moves ≡ answered SeatAnswer.Released ∷ []) × (d.reply ≡ release_text)) ⊎ ReleaseIsRefused d.moves d.reply)
+Meets form held (asks (load feed waits)) d = LoadIsMet waits feed d.moves d.orders d.reply
+Meets form held (asks (profile ask)) d = (d.orders ≡ []) × ProfileIsMet form held ask d.moves d.reply
 
 -- requests for which a version may be pinned and given back when memory is wanting
 abbrev pub MayPin : Asked → Type 0
@@ -98,22 +107,29 @@ MayPin (asks (profile ask)) = Unit {0}
 MayPin _ = ⊥
 
 -- there was no memory: nothing is ordered, and nothing is done at the seat; or, if the request may pin, a version is pinned and given back
-abbrev pub WantsMemory : Asked → List SeatMove → List OrderValue → List ℕ → Type 0
-WantsMemory asked moves orders reply =
-    (reply ≡ memory_line) × (orders ≡ [])
-    × ((moves ≡ []) ⊎ (MayPin asked × ((version : ℕ) × (image : ImageValue) × PinsOnce moves version image)))
+abbrev pub WantsMemory : Asked → Deed → Type 0
+WantsMemory asked d =
+    (d.reply ≡ memory_line) × (d.orders ≡ [])
+    × ((d.moves ≡ []) ⊎ (MayPin asked × ((version : ℕ) × (image : ImageValue) × PinsOnce d.moves version image)))
+
+-- what was asked, and the reply
+pub record Replied : Type 0 where
+  pub asked : Asked
+  pub reply : List ℕ
+
+abbrev pub replied_to : Asked → List ℕ → Replied
+replied_to asked reply = record { asked = asked; reply = reply }
 
 -- what was asked is met without an order, with this reply, or the reply says that memory ran out; the moves that this takes lead the seat from `a` to `b`
-pub record IsMet (form : ReplyForm) (number : ℕ) (a : SeatValue) (asked : Asked) (reply : List ℕ) (b : SeatValue) : Type 0 where
+pub record IsMet (form : ReplyForm) (number : ℕ) (a : SeatValue) (replied : Replied) (b : SeatValue) : Type 0 where
   pub moves : List SeatMove
-  pub meets : WantsMemory asked moves [] reply ⊎ Meets form a.held asked moves [] reply
+  pub meets : WantsMemory replied.asked (deed_of moves [] replied.reply) ⊎ Meets form a.held replied.asked (deed_of moves [] replied.reply)
   pub seat : Follows number a moves b
 
--- a load that was waited for is met by these orders, with this reply; the moves that this takes lead the seat from `a` to `b`
-pub record IsLoaded (number : ℕ) (a : SeatValue) (feed : List ℕ) (put : List OrderValue) (reply : List ℕ) (b : SeatValue) : Type 0 where
-  pub moves : List SeatMove
-  pub meets : LoadIsMet true feed moves put reply
-  pub seat : Follows number a moves b
+-- a load of this feed that was waited for is met by this deed, whose moves lead the seat from `a` to `b`
+pub record IsLoaded (number : ℕ) (a : SeatValue) (feed : List ℕ) (d : Deed) (b : SeatValue) : Type 0 where
+  pub meets : LoadIsMet true feed d.moves d.orders d.reply
+  pub seat : Follows number a d.moves b
 
 -- both functions give the same version for each notice
 abbrev pub AgreeOnNotices : {N : Type 0} → (N → ℕ) → (N → ℕ) → Type 0
@@ -124,7 +140,7 @@ abbrev pub IsTurn : ReplyForm → Option (ℕ × ImageValue) → Turn → Type 0
 IsTurn form held t =
     ((t.reply ≡ memory_line) × (t.orders ≡ []) × (t.moves ≡ []))
     ⊎ ((asked : Asked) × IsAsked form.sets t.line asked
-    × (WantsMemory asked t.moves t.orders t.reply ⊎ Meets form held asked t.moves t.orders t.reply))
+    × (WantsMemory asked (deed_of t.moves t.orders t.reply) ⊎ Meets form held asked (deed_of t.moves t.orders t.reply)))
 
 -- what turns change: the seat, and the orders that were asked for
 pub record DeskState : Type 0 where

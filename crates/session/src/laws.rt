@@ -4,9 +4,8 @@ ghost use Rattle.std.specs.Prelude.{◌≡◌, ◌++◌, ℕ, Bool, List};
 ghost use Rattle.epochs.specs.Seats.{SeatValue};
 ghost use Rattle.session.specs.Learning.{LearningTells};
 ghost use Rattle.image_layout.specs.Image.{ImageValue};
-ghost use Rattle.session_texts.specs.Requests.{AskValue};
 ghost use Rattle.session.specs.Lines.{Asked, IsAsked};
-ghost use Rattle.session.specs.OneStop.{IsFromOne, TellsOfOne};
+ghost use Rattle.session.specs.OneStop.{OneAsk, TellsOfOne};
 ghost use Rattle.session.specs.declared.reply_form.ReplyForm.{ReplyForm};
 ghost use Rattle.session.specs.SeatSteps.{Follows, NeverFalls, SeatMove, answers_in};
 ghost use Rattle.session.specs.Sessions.{AreTurns, moves_of, orders_of};
@@ -52,8 +51,8 @@ pub fn profiles_are_from_published()
 /// What the reply to a profile from one stop to one other tells, it tells of the plain query from the one to the other:
 /// that this is refused, that its window is too long, or its answer.
 pub fn one_stop_is_asked_plainly()
-    ensures { (form : ReplyForm) (image : ImageValue) (version : ℕ) (ask : AskValue) (from to reply : List ℕ)
-        → IsFromOne ask from to → TellsOfOne form image version ask from to reply }
+    ensures { (form : ReplyForm) (image : ImageValue) (version : ℕ) (one : OneAsk) (reply : List ℕ)
+        → TellsOfOne form image version one reply }
 {
     one_stop_is_plain();
 }

@@ -10,7 +10,6 @@ mod profiles;
 mod reply;
 mod reply_form;
 mod serving;
-mod solo_orders;
 mod turns;
 
 pub use answer_replies::PointForm;
@@ -20,4 +19,3 @@ pub use lines::Counted;
 pub use orders::{Gate, OpenGate, OrderFault, Orders};
 pub use reply_form::ReplyForm;
 pub use serving::{MOST_REQUESTS, serve};
-pub use solo_orders::{FeedImage, SoloOrders};

@@ -3,9 +3,9 @@
 ghost use Rattle.std.specs.Prelude.{◌≡◌, ◌++◌, ◌⊎◌, List, []};
 ghost use Rattle.epochs.specs.Seats.{JoinStep};
 ghost use Rattle.orders.specs.Ordering.{OrderValue};
-ghost use Rattle.session.specs.Learning.{Learns};
+ghost use Rattle.session.specs.Learning.{GoesOn};
 ghost use Rattle.session.specs.Lines.{memory_line, text_of_reply};
-ghost use Rattle.session.specs.Turns.{AgreeOnNotices, IsLoaded, OrderIsMet};
+ghost use Rattle.session.specs.Turns.{AgreeOnNotices, Deed, IsLoaded, OrderIsMet};
 
 use crate::desk::Desk;
 use crate::reply::SessionReply;
@@ -38,14 +38,13 @@ impl<'a, N: Drop, T: Versions<Notice = N>, G> Desk<'a, T, G> {
         orders: &mut O,
         feed: &str,
     ) -> SessionReply
-        requires fits { T.fits self.now.shelves.now seat.old }
-        requires notices { AgreeOnNotices O.notice_version T.noted }
-        ensures fits { T.fits self.now.shelves.now seat.new }
-        ensures number { T.number seat.new ≡ T.number seat.old }
+        requires fits { T.words.fits self.now.shelves.now seat.old }
+        requires notices { AgreeOnNotices O.notice_version T.words.version }
+        ensures seat { GoesOn T.words self.now.shelves.now seat.old seat.new }
         ensures route { O.route orders.new ≡ O.route orders.old }
-        ensures learns { Learns (T.known seat.old) (T.value seat.old) (T.known seat.new) (T.value seat.new) }
-        ensures met { (put : List OrderValue) × (O.asked orders.new ≡ O.asked orders.old ++ put)
-            × IsLoaded (T.number seat.old) (T.value seat.old) feed.now put (text_of_reply result) (T.value seat.new) }
+        ensures met { (d : Deed) × (d.reply ≡ text_of_reply result)
+            × (O.asked orders.new ≡ O.asked orders.old ++ d.orders)
+            × IsLoaded (T.words.number seat.old) (T.words.shown seat.old) feed.now d (T.words.shown seat.new) }
     {
         match orders.order_wait(feed) {
             Ok((version, notice)) => {
@@ -61,11 +60,9 @@ impl<'a, N: Drop, T: Versions<Notice = N>, G> Desk<'a, T, G> {
 
     // The seat learns of the notice's version.
     fn take_notice(&self, seat: &mut T::Seat, notice: N)
-        requires { T.fits self.now.shelves.now seat.old }
-        ensures fits { T.fits self.now.shelves.now seat.new }
-        ensures number { T.number seat.new ≡ T.number seat.old }
-        ensures learns { Learns (T.known seat.old) (T.value seat.old) (T.known seat.new) (T.value seat.new) }
-        ensures joined { JoinStep (T.value seat.old) (T.noted notice) (T.value seat.new) }
+        requires { T.words.fits self.now.shelves.now seat.old }
+        ensures seat { GoesOn T.words self.now.shelves.now seat.old seat.new }
+        ensures joined { JoinStep (T.words.shown seat.old) (T.words.version notice) (T.words.shown seat.new) }
     {
         self.shelves.join(seat, notice);
     }

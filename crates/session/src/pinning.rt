@@ -2,9 +2,9 @@
 
 ghost use Rattle.std.specs.Prelude.{◌≡◌};
 ghost use Rattle.session_texts.specs.Requests.{pin, release};
-ghost use Rattle.session.specs.Learning.{Learns};
+ghost use Rattle.session.specs.Learning.{GoesOn};
 ghost use Rattle.session.specs.Lines.{asks, text_of_reply};
-ghost use Rattle.session.specs.Turns.{IsMet};
+ghost use Rattle.session.specs.Turns.{IsMet, replied_to};
 
 use crate::desk::Desk;
 use crate::reply::SessionReply;
@@ -15,12 +15,10 @@ impl<'a, T: Versions, G> Desk<'a, T, G> {
     /// Pins the current version, and names it in the reply. If there is no memory for the reply, the version is given
     /// back.
     pub(crate) fn pin(&self, seat: &mut T::Seat) -> SessionReply
-        requires { T.fits self.now.shelves.now seat.old }
-        ensures fits { T.fits self.now.shelves.now seat.new }
-        ensures number { T.number seat.new ≡ T.number seat.old }
-        ensures learns { Learns (T.known seat.old) (T.value seat.old) (T.known seat.new) (T.value seat.new) }
-        ensures met { IsMet self.now.form (T.number seat.old) (T.value seat.old) (asks pin) (text_of_reply result)
-            (T.value seat.new) }
+        requires { T.words.fits self.now.shelves.now seat.old }
+        ensures seat { GoesOn T.words self.now.shelves.now seat.old seat.new }
+        ensures met { IsMet self.now.form (T.words.number seat.old) (T.words.shown seat.old)
+            (replied_to (asks pin) (text_of_reply result)) (T.words.shown seat.new) }
     {
         if let Err(fault) = self.shelves.pin(seat) {
             return SessionReply::pin_fault(fault);
@@ -40,12 +38,10 @@ impl<'a, T: Versions, G> Desk<'a, T, G> {
 
     /// Gives back what the seat holds.
     pub(crate) fn release(&self, seat: &mut T::Seat) -> SessionReply
-        requires { T.fits self.now.shelves.now seat.old }
-        ensures fits { T.fits self.now.shelves.now seat.new }
-        ensures number { T.number seat.new ≡ T.number seat.old }
-        ensures learns { Learns (T.known seat.old) (T.value seat.old) (T.known seat.new) (T.value seat.new) }
-        ensures met { IsMet self.now.form (T.number seat.old) (T.value seat.old) (asks release)
-            (text_of_reply result) (T.value seat.new) }
+        requires { T.words.fits self.now.shelves.now seat.old }
+        ensures seat { GoesOn T.words self.now.shelves.now seat.old seat.new }
+        ensures met { IsMet self.now.form (T.words.number seat.old) (T.words.shown seat.old)
+            (replied_to (asks release) (text_of_reply result)) (T.words.shown seat.new) }
     {
         match self.shelves.release(seat) {
             Ok(()) => SessionReply::fixed(release_line()),

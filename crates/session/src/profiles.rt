@@ -5,10 +5,10 @@ ghost use Rattle.std.specs.Arc.{arc_value};
 ghost use Rattle.profile_scan.specs.Between.{IsAskableBetween, question};
 ghost use Rattle.station_answers.specs.Naming.{AsksBetween, IsNoQuestion};
 ghost use Rattle.session_texts.specs.Requests.{ask_value, profile};
-ghost use Rattle.session.specs.Learning.{Learns};
+ghost use Rattle.session.specs.Learning.{GoesOn};
 ghost use Rattle.session.specs.Lines.{asks, memory_line, text_of_reply};
 ghost use Rattle.session.specs.Profiles.{IsProfileReply, window_of};
-ghost use Rattle.session.specs.Turns.{IsMet};
+ghost use Rattle.session.specs.Turns.{IsMet, replied_to};
 
 use crate::desk::Desk;
 use crate::reply::SessionReply;
@@ -28,12 +28,10 @@ impl<'a, T: Versions, G: Gate> Desk<'a, T, G> {
     /// Answers from the version that the seat holds. If it holds none, the current one is pinned for this answer, and
     /// released after it.
     pub(crate) fn answer_profile(&self, seat: &mut T::Seat, ask: &Ask<'_>) -> SessionReply
-        requires { T.fits self.now.shelves.now seat.old }
-        ensures fits { T.fits self.now.shelves.now seat.new }
-        ensures number { T.number seat.new ≡ T.number seat.old }
-        ensures learns { Learns (T.known seat.old) (T.value seat.old) (T.known seat.new) (T.value seat.new) }
-        ensures met { IsMet self.now.form (T.number seat.old) (T.value seat.old)
-            (asks (profile (ask_value ask.now))) (text_of_reply result) (T.value seat.new) }
+        requires { T.words.fits self.now.shelves.now seat.old }
+        ensures seat { GoesOn T.words self.now.shelves.now seat.old seat.new }
+        ensures met { IsMet self.now.form (T.words.number seat.old) (T.words.shown seat.old)
+            (replied_to (asks (profile (ask_value ask.now))) (text_of_reply result)) (T.words.shown seat.new) }
     {
         if let Some(edition) = T::edition(seat) {
             return answer_from(self.alloc, self.form, edition, self.gate, ask);
@@ -43,13 +41,11 @@ impl<'a, T: Versions, G: Gate> Desk<'a, T, G> {
 
     // Answers from the current version, which is pinned for this answer, and released after it.
     fn answer_once(&self, seat: &mut T::Seat, ask: &Ask<'_>) -> SessionReply
-        requires fits { T.fits self.now.shelves.now seat.old }
-        requires idle { (T.value seat.old).held ≡ None }
-        ensures fits { T.fits self.now.shelves.now seat.new }
-        ensures number { T.number seat.new ≡ T.number seat.old }
-        ensures learns { Learns (T.known seat.old) (T.value seat.old) (T.known seat.new) (T.value seat.new) }
-        ensures met { IsMet self.now.form (T.number seat.old) (T.value seat.old)
-            (asks (profile (ask_value ask.now))) (text_of_reply result) (T.value seat.new) }
+        requires fits { T.words.fits self.now.shelves.now seat.old }
+        requires idle { (T.words.shown seat.old).held ≡ None }
+        ensures seat { GoesOn T.words self.now.shelves.now seat.old seat.new }
+        ensures met { IsMet self.now.form (T.words.number seat.old) (T.words.shown seat.old)
+            (replied_to (asks (profile (ask_value ask.now))) (text_of_reply result)) (T.words.shown seat.new) }
     {
         if let Err(fault) = self.shelves.pin(seat) {
             return SessionReply::pin_fault(fault);

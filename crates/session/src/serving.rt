@@ -6,7 +6,7 @@ ghost use Rattle.lines.specs.Counting.{HasFailed, StopsAtFailure, failures_of, i
 ghost use Rattle.lines.specs.Showing.{ShowsLine};
 ghost use Rattle.epochs.specs.Seats.{SeatValue};
 ghost use Rattle.session.specs.Forms.{bare};
-ghost use Rattle.session.specs.Learning.{Learns, TellPublished};
+ghost use Rattle.session.specs.Learning.{GoesOn, TellPublished};
 ghost use Rattle.session.specs.Sessions.{LastRelease, Serves, state_of};
 ghost use Rattle.session.specs.Turns.{AgreeOnNotices, Turn, TurnsTo, desk_state};
 
@@ -39,19 +39,18 @@ pub fn serve<
     orders: &mut O,
     gate: &G,
 ) -> Result<Ended, SessionFault>
-    requires fits { T.fits shelves.now seat.old }
-    requires notices { AgreeOnNotices O.notice_version T.noted }
+    requires fits { T.words.fits shelves.now seat.old }
+    requires notices { AgreeOnNotices O.notice_version T.words.version }
     requires reads { failures_of reader.old < 2 ^ 64 - 1 }
     requires writes { failures_of writer.old < 2 ^ 64 - 1 }
-    ensures fits { T.fits shelves.now seat.new }
-    ensures number { T.number seat.new ≡ T.number seat.old }
+    ensures seat { GoesOn T.words shelves.now seat.old seat.new }
     ensures route { O.route orders.new ≡ O.route orders.old }
-    ensures learns { Learns (T.known seat.old) (T.value seat.old) (T.known seat.new) (T.value seat.new) }
-    ensures profiles { TellPublished (T.known seat.new) (T.value seat.old) (T.value seat.new) }
-    ensures released { (T.value seat.new).held ≡ None }
-    ensures session { (last : SeatValue) × LastRelease (T.number seat.old) last (T.value seat.new)
-        × Serves bare (T.number seat.old) result
-        (state_of In.remaining Out.contents reader.old writer.old (desk_state (T.value seat.old) (O.asked orders.old)))
+    ensures profiles { TellPublished (T.words.known seat.new) (T.words.shown seat.old) (T.words.shown seat.new) }
+    ensures released { (T.words.shown seat.new).held ≡ None }
+    ensures session { (last : SeatValue) × LastRelease (T.words.number seat.old) last (T.words.shown seat.new)
+        × Serves bare (T.words.number seat.old) result
+        (state_of In.remaining Out.contents reader.old writer.old
+        (desk_state (T.words.shown seat.old) (O.asked orders.old)))
         (state_of In.remaining Out.contents reader.new writer.new (desk_state last (O.asked orders.new))) }
     ensures stops { StopsAtFailure reader.old reader.new × StopsAtFailure writer.old writer.new }
 {
@@ -70,20 +69,18 @@ impl<'a, N: Drop, T: Versions<Notice = N>, G: Gate> Desk<'a, T, G> {
         seat: &mut T::Seat,
         orders: &mut O,
     ) -> Result<Ended, SessionFault>
-        requires fits { T.fits self.now.shelves.now seat.old }
-        requires notices { AgreeOnNotices O.notice_version T.noted }
+        requires fits { T.words.fits self.now.shelves.now seat.old }
+        requires notices { AgreeOnNotices O.notice_version T.words.version }
         requires reads { failures_of streams.old.reader < 2 ^ 64 - 1 }
         requires writes { failures_of streams.old.writer < 2 ^ 64 - 1 }
-        ensures fits { T.fits self.now.shelves.now seat.new }
-        ensures number { T.number seat.new ≡ T.number seat.old }
+        ensures seat { GoesOn T.words self.now.shelves.now seat.old seat.new }
         ensures route { O.route orders.new ≡ O.route orders.old }
-        ensures learns { Learns (T.known seat.old) (T.value seat.old) (T.known seat.new) (T.value seat.new) }
-        ensures profiles { TellPublished (T.known seat.new) (T.value seat.old) (T.value seat.new) }
-        ensures released { (T.value seat.new).held ≡ None }
-        ensures session { (last : SeatValue) × LastRelease (T.number seat.old) last (T.value seat.new)
-            × Serves self.now.form (T.number seat.old) result
+        ensures profiles { TellPublished (T.words.known seat.new) (T.words.shown seat.old) (T.words.shown seat.new) }
+        ensures released { (T.words.shown seat.new).held ≡ None }
+        ensures session { (last : SeatValue) × LastRelease (T.words.number seat.old) last (T.words.shown seat.new)
+            × Serves self.now.form (T.words.number seat.old) result
             (state_of In.remaining Out.contents streams.old.reader streams.old.writer
-            (desk_state (T.value seat.old) (O.asked orders.old)))
+            (desk_state (T.words.shown seat.old) (O.asked orders.old)))
             (state_of In.remaining Out.contents streams.new.reader streams.new.writer
             (desk_state last (O.asked orders.new))) }
         ensures stops { StopsAtFailure streams.old.reader streams.new.reader
@@ -96,12 +93,10 @@ impl<'a, N: Drop, T: Versions<Notice = N>, G: Gate> Desk<'a, T, G> {
 
     // Gives back what the seat holds, if anything. If the seat turns out to be lost, nobody is told.
     fn release_last(&self, seat: &mut T::Seat)
-        requires { T.fits self.now.shelves.now seat.old }
-        ensures fits { T.fits self.now.shelves.now seat.new }
-        ensures number { T.number seat.new ≡ T.number seat.old }
-        ensures learns { Learns (T.known seat.old) (T.value seat.old) (T.known seat.new) (T.value seat.new) }
-        ensures released { (T.value seat.new).held ≡ None }
-        ensures last { LastRelease (T.number seat.old) (T.value seat.old) (T.value seat.new) }
+        requires { T.words.fits self.now.shelves.now seat.old }
+        ensures seat { GoesOn T.words self.now.shelves.now seat.old seat.new }
+        ensures released { (T.words.shown seat.new).held ≡ None }
+        ensures last { LastRelease (T.words.number seat.old) (T.words.shown seat.old) (T.words.shown seat.new) }
     {
         if T::edition(seat).is_some() {
             let _ = self.shelves.release(seat);
@@ -116,18 +111,16 @@ impl<'a, N: Drop, T: Versions<Notice = N>, G: Gate> Desk<'a, T, G> {
         seat: &mut T::Seat,
         orders: &mut O,
     ) -> Result<Ended, SessionFault>
-        requires fits { T.fits self.now.shelves.now seat.old }
-        requires notices { AgreeOnNotices O.notice_version T.noted }
+        requires fits { T.words.fits self.now.shelves.now seat.old }
+        requires notices { AgreeOnNotices O.notice_version T.words.version }
         requires counts { (failures_of reader.old < 2 ^ 64 - 1) × (failures_of writer.old < 2 ^ 64 - 1) }
-        ensures fits { T.fits self.now.shelves.now seat.new }
-        ensures number { T.number seat.new ≡ T.number seat.old }
+        ensures seat { GoesOn T.words self.now.shelves.now seat.old seat.new }
         ensures route { O.route orders.new ≡ O.route orders.old }
-        ensures learns { Learns (T.known seat.old) (T.value seat.old) (T.known seat.new) (T.value seat.new) }
-        ensures session { Serves self.now.form (T.number seat.old) result
+        ensures session { Serves self.now.form (T.words.number seat.old) result
             (state_of In.remaining Out.contents reader.old writer.old
-            (desk_state (T.value seat.old) (O.asked orders.old)))
+            (desk_state (T.words.shown seat.old) (O.asked orders.old)))
             (state_of In.remaining Out.contents reader.new writer.new
-            (desk_state (T.value seat.new) (O.asked orders.new))) }
+            (desk_state (T.words.shown seat.new) (O.asked orders.new))) }
         ensures stops { StopsAtFailure reader.old reader.new × StopsAtFailure writer.old writer.new }
     {
         let mut lines = LineReader::new(self.alloc);
@@ -166,18 +159,17 @@ impl<'a, N: Drop, T: Versions<Notice = N>, G: Gate> Desk<'a, T, G> {
         seat: &mut T::Seat,
         orders: &mut O,
     ) -> Result<(), WriteFailed>
-        requires fits { T.fits self.now.shelves.now seat.old }
-        requires notices { AgreeOnNotices O.notice_version T.noted }
-        ensures fits { T.fits self.now.shelves.now seat.new }
-        ensures number { T.number seat.new ≡ T.number seat.old }
+        requires fits { T.words.fits self.now.shelves.now seat.old }
+        requires notices { AgreeOnNotices O.notice_version T.words.version }
+        ensures seat { GoesOn T.words self.now.shelves.now seat.old seat.new }
         ensures route { O.route orders.new ≡ O.route orders.old }
-        ensures learns { Learns (T.known seat.old) (T.value seat.old) (T.known seat.new) (T.value seat.new) }
         ensures failures { MatchResult result
             (λ _. failures_of writer.new ≡ failures_of writer.old)
             (λ _. HasFailed writer.old writer.new) }
         ensures turn { (l : List ℕ) → ShowsLine line.entry l
-            → (t : Turn) × (t.line ≡ l) × TurnsTo self.now.form (T.number seat.old)
-            (desk_state (T.value seat.old) (O.asked orders.old)) t (desk_state (T.value seat.new) (O.asked orders.new))
+            → (t : Turn) × (t.line ≡ l) × TurnsTo self.now.form (T.words.number seat.old)
+            (desk_state (T.words.shown seat.old) (O.asked orders.old)) t
+            (desk_state (T.words.shown seat.new) (O.asked orders.new))
             × MatchResult result
             (λ _. Appends (Out.contents (inner_of writer.old)) (Out.contents (inner_of writer.new)) t.reply)
             (λ _. (n : ℕ) × Appends (Out.contents (inner_of writer.old)) (Out.contents (inner_of writer.new))

@@ -2,7 +2,7 @@
 
 ghost use Rattle.std.specs.Prelude.{◌≡◌, ℕ, List};
 ghost use Rattle.lines.specs.Showing.{ShowsLine};
-ghost use Rattle.session.specs.Learning.{Learns};
+ghost use Rattle.session.specs.Learning.{GoesOn};
 ghost use Rattle.session.specs.Lines.{text_of_reply};
 ghost use Rattle.session.specs.Turns.{AgreeOnNotices, Turn, TurnsTo, desk_state};
 
@@ -21,16 +21,15 @@ impl<'a, N: Drop, T: Versions<Notice = N>, G: Gate> Desk<'a, T, G> {
         seat: &mut T::Seat,
         orders: &mut O,
     ) -> SessionReply
-        requires fits { T.fits self.now.shelves.now seat.old }
-        requires notices { AgreeOnNotices O.notice_version T.noted }
-        ensures fits { T.fits self.now.shelves.now seat.new }
-        ensures number { T.number seat.new ≡ T.number seat.old }
+        requires fits { T.words.fits self.now.shelves.now seat.old }
+        requires notices { AgreeOnNotices O.notice_version T.words.version }
+        ensures seat { GoesOn T.words self.now.shelves.now seat.old seat.new }
         ensures route { O.route orders.new ≡ O.route orders.old }
-        ensures learns { Learns (T.known seat.old) (T.value seat.old) (T.known seat.new) (T.value seat.new) }
         ensures turn { (l : List ℕ) → ShowsLine line.entry l
-            → (t : Turn) × (t.line ≡ l) × (t.reply ≡ text_of_reply result) × TurnsTo self.now.form (T.number seat.old)
-            (desk_state (T.value seat.old) (O.asked orders.old)) t
-            (desk_state (T.value seat.new) (O.asked orders.new)) }
+            → (t : Turn) × (t.line ≡ l) × (t.reply ≡ text_of_reply result) × TurnsTo self.now.form
+            (T.words.number seat.old)
+            (desk_state (T.words.shown seat.old) (O.asked orders.old)) t
+            (desk_state (T.words.shown seat.new) (O.asked orders.new)) }
     {
         let bytes = match line {
             Line::Whole(bytes) => bytes,

@@ -9,9 +9,7 @@ use epochs::{ShelfLoader, ShelfSeat, Shelves, ShelvesName, SoloShelves};
 use image_layout::sample_words;
 use image_verifier::{Verified, verify};
 use orders::{Gate, OrderFault, OrderRecord, Orders};
-use session::{
-    Counted, Desk, Ended, FeedImage, OpenGate, SessionFault, SoloOrders, Streams, serve,
-};
+use session::{Counted, Desk, Ended, OpenGate, SessionFault, Streams, serve};
 use std::alloc::{AllocError, Global};
 use std::cell::Cell;
 use std::io;
@@ -365,7 +363,10 @@ const BY_WALKING: &str =
     "{\"do\":\"profile\",\"from\":\"A\",\"to\":\"C\",\"after\":\"07:00:00\",\"until\":\"09:00:00\",\"by\":\"10:00:00\",\"criterion\":\"arrival+trips+walk\"}";
 
 const WALKED_REPLIES: &str =
-    "{\"ok\":\"profile\",\"points\":[{\"arr\":\"08:20:00\",\"dep\":\"08:00:00\",\"journey\":\"ride 0 0 walk 1 1 0 ride 2 2\",\"trips\":2,\"walked\":0},{\"arr\":\"08:25:00\",\"dep\":\"08:00:00\",\"journey\":\"ride 0 0 walk 1 2 900\",\"trips\":1,\"walked\":900},{\"arr\":\"08:30:00\",\"dep\":\"08:00:00\",\"journey\":\"ride 0 1\",\"trips\":1,\"walked\":0}],\"version\":1,\"walk\":null}\n{\"feed\":\"slow\",\"ok\":\"load\"}\n{\"ok\":\"profile\",\"points\":[{\"arr\":\"08:20:00\",\"dep\":\"08:00:00\",\"journey\":\"ride 0 0 walk 1 1 60 ride 2 2\",\"trips\":2,\"walked\":60},{\"arr\":\"08:30:00\",\"dep\":\"08:00:00\",\"journey\":\"ride 0 1\",\"trips\":1,\"walked\":0}],\"version\":2,\"walk\":null}\n";
+    "{\"ok\":\"profile\",\"points\":[{\"arr\":\"08:20:00\",\"dep\":\"08:00:00\",\"journey\":\"ride 0 0 walk 1 1 0 ride
+    2 2\",\"trips\":2,\"walked\":0},{\"arr\":\"08:25:00\",\"dep\":\"08:00:00\",\"journey\":\"ride 0 0 walk 1 2
+    900\",\"trips\":1,\"walked\":900},{\"arr\":\"08:30:00\",\"dep\":\"08:00:00\",\"journey\":\"ride 0
+    1\",\"trips\":1,\"walked\":0}],\"version\":1,\"walk\":null}\n{\"feed\":\"slow\",\"ok\":\"load\"}\n{\"ok\":\"profile\",\"points\":[{\"arr\":\"08:20:00\",\"dep\":\"08:00:00\",\"journey\":\"ride 0 0 walk 1 1 60 ride 2 2\",\"trips\":2,\"walked\":60},{\"arr\":\"08:30:00\",\"dep\":\"08:00:00\",\"journey\":\"ride 0 1\",\"trips\":1,\"walked\":0}],\"version\":2,\"walk\":null}\n";
 
 // Serves these bytes over an image where one may walk from B to C; the feed has one where a change at B takes a minute.
 fn walked(alloc: Global, bytes: &[u8]) -> Result<(Result<Ended, SessionFault>, Vec<u8>), Fail> {

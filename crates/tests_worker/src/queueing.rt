@@ -36,15 +36,13 @@ impl<'a, R: Wait> Versions for Numbers<'a, R> {
 
     ghost use Rattle.std.specs.Prelude.{[], None};
 
-    ghost fits = { λ shelves seat. Unit {0} };
-
-    ghost value = { λ seat. record { answers = seat.answers; held = None; seen = seat.seen } };
-
-    ghost number = { λ seat. 0 };
-
-    ghost known = { λ seat. record { events = []; replies = []; images = [] } };
-
-    ghost noted = { λ notice. notice };
+    ghost words = { record {
+      fits = λ shelves seat. Unit {0};
+      number = λ seat. 0;
+      shown = λ seat. record { answers = seat.answers; held = None; seen = seat.seen };
+      known = λ seat. record { events = []; replies = []; images = [] };
+      version = λ notice. notice;
+    } };
 
     // Nobody pins here.
     fn pin(&self, _seat: &mut Listener) -> Result<(), PinFault> {

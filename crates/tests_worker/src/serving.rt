@@ -7,7 +7,7 @@ mod spending;
 
 ghost use Rattle.std.specs.Prelude.{◌≡◌, ◌≤◌, [], All, length, IfOk};
 ghost use Rattle.workers.specs.Sessions.{MayClose};
-ghost use Rattle.workers.specs.Shelves.{shelf_seats};
+ghost use Rattle.epochs.specs.ShelfWords.{shelf_seats};
 ghost use Rattle.workers.specs.Words.{sessions_of};
 
 use epochs::{PublishFault, ShelfLoader, ShelfSeat, Shelves, ShelvesName};
@@ -61,7 +61,8 @@ const PROFILE: &str =
 
 /// The reply to that profile, with legs.
 const WITH_LEGS: &str =
-    "{\"ok\":\"profile\",\"points\":[{\"arr\":\"08:20:00\",\"dep\":\"08:00:00\",\"journey\":\"ride 0 0 walk 1 1 0 ride 2 2\",\"legs\":[{\"arr\":\"08:10:00\",\"day\":20240115,\"dep\":\"08:00:00\",\"from\":\"A\",\"to\":\"B\",\"trip\":\"T1\"},{\"from\":\"B\",\"secs\":0,\"to\":\"B\"},{\"arr\":\"08:20:00\",\"day\":20240115,\"dep\":\"08:12:00\",\"from\":\"B\",\"to\":\"C\",\"trip\":\"T2\"}]}],\"version\":1,\"walk\":null}\n";
+    "{\"ok\":\"profile\",\"points\":[{\"arr\":\"08:20:00\",\"dep\":\"08:00:00\",\"journey\":\"ride 0 0 walk 1 1 0 ride
+    2 2\",\"legs\":[{\"arr\":\"08:10:00\",\"day\":20240115,\"dep\":\"08:00:00\",\"from\":\"A\",\"to\":\"B\",\"trip\":\"T1\"},{\"from\":\"B\",\"secs\":0,\"to\":\"B\"},{\"arr\":\"08:20:00\",\"day\":20240115,\"dep\":\"08:12:00\",\"from\":\"B\",\"to\":\"C\",\"trip\":\"T2\"}]}],\"version\":1,\"walk\":null}\n";
 
 /// The requests of a session that orders a load, and the replies.
 const LOADING: (&str, &str) = (

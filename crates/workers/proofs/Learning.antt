@@ -4,11 +4,12 @@ use Rattle.image_layout.specs.Image.{ImageValue}
 use Rattle.shelf_steps.specs.declared.views.KnownHistory.{KnownHistory}
 use Rattle.epochs.specs.SeatHistory.{Grows, IsPublished}
 use Rattle.epochs.specs.Seats.{CollectStep, PublishStep, RefuseStep}
+use Rattle.epochs.specs.Words.{LoaderWords}
 use Rattle.epochs.specs.declared.collected.Collected.{Collected}
 use Rattle.epochs.specs.declared.faults.PublishFault.{PublishFault}
 use Rattle.epochs.specs.declared.seats.LoaderAnswer.{LoaderAnswer}
 use Rattle.epochs.proofs.GrowthLemmas.{grows_same, growths_join, published_stay}
-use Rattle.workers.specs.Learned.{LoaderLearns, WerePublished}
+use Rattle.workers.specs.Learned.{LoaderGoesOn, LoaderLearns, WerePublished}
 
 -- what was published stays so
 published_later : (k later : KnownHistory) (answers : List LoaderAnswer) → Grows k later → WerePublished k answers → WerePublished later answers
@@ -25,11 +26,14 @@ published_all k (LoaderAnswer.PublishRefused fault ∷ xs) ys p q = published_al
 published_all k (LoaderAnswer.Collected found ∷ xs) ys p q = published_all k xs ys p q
 
 -- nothing was done
-pub loader_same : (k : KnownHistory) (answers : List LoaderAnswer) → LoaderLearns k answers k answers
+loader_same : (k : KnownHistory) (answers : List LoaderAnswer) → LoaderLearns k answers k answers
 loader_same k answers = record { grows = grows_same k; answers = []; answers_are = sym (append-nil answers); published = tt }
 
+pub loader_goes_same : {T L : Type 0} (words : LoaderWords T L) (shelves : T) (s : L) → words.fits shelves s → LoaderGoesOn words shelves s s
+loader_goes_same words shelves s fits = record { fits = fits; learns = loader_same _ _ }
+
 -- one call behind the other
-pub loader_on : (k l n : KnownHistory) (before between after : List LoaderAnswer) → LoaderLearns k before l between → LoaderLearns l between n after
+loader_on : (k l n : KnownHistory) (before between after : List LoaderAnswer) → LoaderLearns k before l between → LoaderLearns l between n after
     → LoaderLearns k before n after
 loader_on k l n before between after p q = record {
   grows = growths_join k l n p.grows q.grows;
@@ -37,6 +41,10 @@ loader_on k l n before between after p q = record {
   answers_are = q.answers_are ∙ ap (λ (xs : List LoaderAnswer). xs ++ q.answers) p.answers_are ∙ append_assoc before p.answers q.answers;
   published = published_all n p.answers q.answers (published_later l n p.answers q.grows p.published) q.published;
 }
+
+pub loader_goes_on : {T L : Type 0} (words : LoaderWords T L) (shelves : T) (a m b : L) → LoaderGoesOn words shelves a m → LoaderGoesOn words shelves m b
+    → LoaderGoesOn words shelves a b
+loader_goes_on words shelves a m b p q = record { fits = q.fits; learns = loader_on _ _ _ _ _ _ p.learns q.learns }
 
 -- a publish
 published_learns : (k l : KnownHistory) (before after : List LoaderAnswer) (image : ImageValue) (version : ℕ) → PublishStep before image version after

@@ -1,13 +1,21 @@
 -- What a server did, from what it was started with to what is left.
-use Rattle.std.specs.Prelude.{◌≡◌, ◌≤◌, List, All, length}
+use Rattle.std.specs.Prelude.{◌≡◌, ◌≤◌, ℕ, List, All, length}
+use mathlib.Core.Option.{some}
+use lib.ListN.{get_elem?}
 use Rattle.atomic_table.specs.Seated.{TableId}
+use Rattle.epochs.specs.SeatHistory.{Grows}
 use Rattle.epochs.specs.ShelfLoads.{ShelfLoaderValue}
-use Rattle.epochs.specs.ShelfSeats.{ShelfSeatValue}
+use Rattle.epochs.specs.ShelfSeats.{NoticeValue, ShelfSeatValue}
+use Rattle.epochs.specs.ShelfWords.{shelf_loader, shelf_seats}
+use Rattle.epochs.specs.Words.{LoaderWords, SeatWords}
+use Rattle.shelf_steps.specs.Course.{all_of}
+use Rattle.shelf_steps.specs.Events.{known_of}
+use Rattle.shelf_steps.specs.Laws.{Shelved}
+use Rattle.shelf_steps.specs.Ruled.{Ruled}
 use Rattle.workers.specs.Carrying.{AreLoaded, depot_of, loads_value}
 use Rattle.workers.specs.Ordering.{AreAllTaken, route_to}
 use Rattle.workers.specs.Sessions.{AreServedSince, posts_at, work_of}
-use Rattle.workers.specs.Shelves.{shelf_loader, shelf_seats}
-use Rattle.workers.specs.Words.{FeedWords, LoadWords, LoaderWords, SeatWords, SessionWords, SourceWords}
+use Rattle.workers.specs.Words.{FeedWords, LoadWords, SessionWords, SourceWords}
 use Rattle.workers.specs.declared.outcome.ServingOutcome.{ServingOutcome}
 
 -- what a server is started with
@@ -46,6 +54,18 @@ module _ {C R W K T S L N F D : Type 0} where
   abbrev pub AllServed : SessionWords C R W T S N → SourceWords K C → FeedWords F D → House K T S L F → ServingOutcome R W K S L N D → Type 0
   AllServed words source feeds house left = AreServedSince words (source.came house.clients) (source.came left.clients)
       (posts_at house.seats (route_to (feeds.named house.feeds) left.orders.queue)) (work_of left.served left.seats.items left.asked)
+
+-- what this worker's seat knows of its shelves and what the loader's seat knows are beginnings of one history, at each moment between two steps at
+-- which both are at one table as they are here
+abbrev pub KnowOneHistory : ShelfLoaderValue → ShelfSeatValue → Type 0
+KnowOneHistory loader seat =
+    (table : Shelved) (i j : ℕ) (r : Ruled table) → get_elem? table.views i ≡ some seat.view → get_elem? table.views j ≡ some loader.view
+    → Grows (known_of seat.view) (all_of r.course) × Grows (known_of loader.view) (all_of r.course)
+
+-- as `IsLeft`, at shelves without a lock; and the histories by which the sessions' profiles are exact and that of what the loader published are one
+abbrev pub IsLeftAt : {C R W K F D : Type 0} → SourceWords K C → House K TableId ShelfSeatValue ShelfLoaderValue F
+    → ServingOutcome R W K ShelfSeatValue ShelfLoaderValue NoticeValue D → Type 0
+IsLeftAt source house left = IsLeft shelf_seats shelf_loader source house left × All (KnowOneHistory left.loader) left.seats.items
 
 -- the loader took exactly the orders that the sessions put, each once, and carried out each
 pub record AllLoaded {R W K T S L N F D : Type 0} (words : LoadWords F D T L N) (house : House K T S L F) (left : ServingOutcome R W K S L N D)

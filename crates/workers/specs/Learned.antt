@@ -2,6 +2,7 @@
 use Rattle.std.specs.Prelude.{◌≡◌, List, [], ◌∷◌, ◌++◌}
 use Rattle.shelf_steps.specs.declared.views.KnownHistory.{KnownHistory}
 use Rattle.epochs.specs.SeatHistory.{Grows, IsPublished}
+use Rattle.epochs.specs.Words.{LoaderWords}
 use Rattle.epochs.specs.declared.seats.LoaderAnswer.{LoaderAnswer}
 
 -- each version that was answered as published was published with that image in this history
@@ -17,3 +18,8 @@ pub record LoaderLearns (known : KnownHistory) (before : List LoaderAnswer) (kno
   pub answers : List LoaderAnswer
   pub answers_are : after ≡ before ++ answers
   pub published : WerePublished known_then answers
+
+-- what every call leaves of the loader's seat: it may still be used at these shelves, and it learned so
+pub record LoaderGoesOn {T L : Type 0} (words : LoaderWords T L) (shelves : T) (a b : L) : Type 0 where
+  pub fits : words.fits shelves b
+  pub learns : LoaderLearns (words.known a) (words.answers a) (words.known b) (words.answers b)

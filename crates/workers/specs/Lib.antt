@@ -1,5 +1,4 @@
 pub mod Words
-pub mod Shelves
 pub mod Ends
 pub mod Sessions
 pub mod Dealing

@@ -1,12 +1,10 @@
--- What contracts say of clients, of feeds and of shelves: one record of words for each.
+-- What contracts say of clients, of feeds and of a server as a whole: one record of words for each.
 use Rattle.std.specs.Prelude.{ℕ, List, Option, Result, String}
 use Rattle.std.specs.Global.{Global}
-use Rattle.epochs.specs.Seats.{SeatValue}
-use Rattle.epochs.specs.declared.seats.LoaderAnswer.{LoaderAnswer}
+use Rattle.epochs.specs.Words.{LoaderWords, SeatWords}
 use Rattle.feed_files.specs.Files.{FileRead}
 use Rattle.feed_loader.specs.declared.plan.Plan.{Plan}
 use Rattle.session.specs.declared.reply_form.ReplyForm.{ReplyForm}
-use Rattle.shelf_steps.specs.declared.views.KnownHistory.{KnownHistory}
 use Rattle.workers.specs.declared.clients.ConnFault.{ConnFault}
 use Rattle.workers.specs.declared.served.SessionEnd.{SessionEnd}
 
@@ -23,7 +21,7 @@ pub record SourceWords (K C : Type 0) : Type 1 where
   pub Fact : Type 0
   pub holds : K → Fact → Type 0
 
--- feeds: their names, by place; whether these are the files of the feed at a place; and whether a feed may be loaded by this plan
+-- feeds: their names, by index; whether these are the files of the feed at an index; and whether a feed may be loaded by this plan
 pub record FeedWords (F D : Type 0) : Type 1 where
   pub named : F → List (String Global)
   pub are_files : F → ℕ → D → Type 0
@@ -39,21 +37,6 @@ pub record FileWords (D : Type 0) : Type 1 where
   pub reads : D → List FileRead
   pub failures : D → ℕ
   pub failed : D → List (List ℕ)
-
--- workers' seats: whether one may be used at these shelves; its worker's number; its answers so far, what it holds and what it has seen; what it
--- knows of its shelves' one history; and the version that a notice is of
-pub record SeatWords (T S N : Type 0) : Type 1 where
-  pub fits : T → S → Type 0
-  pub number : S → ℕ
-  pub shown : S → SeatValue
-  pub known : S → KnownHistory
-  pub version : N → ℕ
-
--- the loader's seat: whether it may be used at these shelves, its answers so far, and what it knows of their one history
-pub record LoaderWords (T L : Type 0) : Type 1 where
-  pub fits : T → L → Type 0
-  pub answers : L → List LoaderAnswer
-  pub known : L → KnownHistory
 
 -- sessions: the form of their replies, their clients, what is to be read and what was written, if that is known, and the seats at which they are
 -- served
@@ -77,12 +60,6 @@ pub record LoadWords (F D T L N : Type 0) : Type 1 where
 
 abbrev pub files_of : {D : Type 0} → (D → Holds) → (D → List FileRead) → (D → ℕ) → (D → List (List ℕ)) → FileWords D
 files_of holds reads failures failed = record { holds = holds; reads = reads; failures = failures; failed = failed }
-
-abbrev pub seats_of : {T S N : Type 0} → (T → S → Type 0) → (S → ℕ) → (S → SeatValue) → (S → KnownHistory) → (N → ℕ) → SeatWords T S N
-seats_of fits number shown known version = record { fits = fits; number = number; shown = shown; known = known; version = version }
-
-abbrev pub loader_of : {T L : Type 0} → (T → L → Type 0) → (L → List LoaderAnswer) → (L → KnownHistory) → LoaderWords T L
-loader_of fits answers known = record { fits = fits; answers = answers; known = known }
 
 abbrev pub sessions_of : {C R W T S N : Type 0} → ReplyForm → ClientWords C R W → (R → Option (List ℕ)) → (W → Option (List ℕ)) → SeatWords T S N
     → SessionWords C R W T S N

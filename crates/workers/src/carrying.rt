@@ -6,10 +6,10 @@ ghost use Rattle.feed_loader.specs.declared.plan.Plan.{Plan};
 ghost use Rattle.load_orders.specs.Telling.{AnsweredValue};
 ghost use Rattle.workers.specs.Carrying.{AreLoaded, FailedAsReported, IsCarriedOut, IsLoadOf};
 ghost use Rattle.workers.specs.Carrying.{depot_of, errand_of, load_value, loads_value};
-ghost use Rattle.workers.specs.Learned.{LoaderLearns};
+ghost use Rattle.workers.specs.Learned.{LoaderGoesOn};
 ghost use Rattle.workers.specs.Lines.{outcome_line};
 ghost use Rattle.workers.specs.Loading.{IsOutcome, load_answer, load_state};
-ghost use Rattle.workers.specs.Words.{files_of, loader_of, loads_of, outcomes_of};
+ghost use Rattle.workers.specs.Words.{files_of, loads_of, outcomes_of};
 ghost use Rattle.workers.specs.declared.drawing.DrawnFiles.{DrawnFiles};
 
 use crate::drawing::{DrawnFiles, UsedFiles};
@@ -45,13 +45,13 @@ impl<'a, R: Wait, N: Drop, T: Versions<Notice = N> + Loads, F: Feeds> LoadContex
         mut used: UsedFiles<F::Files, N>,
         mut errors: E,
     ) -> (LoaderOrders<N>, T::Loader, UsedFiles<F::Files, N>, E)
-        requires loads { T.Loads.loads self.now.shelves.now seat }
+        requires loads { T.Loads.words.fits self.now.shelves.now seat }
         requires none { (orders.taken ≡ []) × (orders.answered ≡ []) × (used ≡ []) }
-        ensures loads { T.Loads.loads self.now.shelves.now result.1 }
+        ensures loads { T.Loads.words.fits self.now.shelves.now result.1 }
         ensures queue { result.0.queue ≡ orders.queue }
-        ensures loaded { AreLoaded (depot_of (loads_of F.words (outcomes_of
-            (files_of F.Files.holds F.Files.reads F.Files.failures F.Files.failed)
-            (loader_of T.Loads.loads T.Loads.answers T.Loads.learned) T.Versions.noted))
+        ensures loaded { AreLoaded (depot_of (loads_of F.words
+            (outcomes_of (files_of F.Files.holds F.Files.reads F.Files.failures F.Files.failed) T.Loads.words
+            T.Versions.words.version))
             self.now.feeds.now result.0.queue) seat (loads_value result.0 result.2) result.1 }
     {
         for _ in self.rt.forever() {
@@ -75,17 +75,15 @@ impl<'a, R: Wait, N: Drop, T: Versions<Notice = N> + Loads, F: Feeds> LoadContex
         used: &mut UsedFiles<F::Files, N>,
         errors: &mut E,
     )
-        requires { T.Loads.loads self.now.shelves.now seat.old }
-        ensures loads { T.Loads.loads self.now.shelves.now seat.new }
-        ensures learns { LoaderLearns (T.Loads.learned seat.old) (T.Loads.answers seat.old)
-            (T.Loads.learned seat.new) (T.Loads.answers seat.new) }
+        requires { T.Loads.words.fits self.now.shelves.now seat.old }
+        ensures seat { LoaderGoesOn T.Loads.words self.now.shelves.now seat.old seat.new }
         ensures queue { orders.new.queue ≡ orders.old.queue }
         ensures taken { orders.new.taken ≡ orders.old.taken }
         ensures carried { (answer : AnsweredValue N) × (files : Option (DrawnFiles F.Files N))
             × (orders.new.answered ≡ orders.old.answered ++ answer ∷ []) × (used.new ≡ used.old ++ files ∷ [])
-            × IsCarriedOut (depot_of (loads_of F.words (outcomes_of
-            (files_of F.Files.holds F.Files.reads F.Files.failures F.Files.failed)
-            (loader_of T.Loads.loads T.Loads.answers T.Loads.learned) T.Versions.noted))
+            × IsCarriedOut (depot_of (loads_of F.words
+            (outcomes_of (files_of F.Files.holds F.Files.reads F.Files.failures F.Files.failed) T.Loads.words
+            T.Versions.words.version))
             self.now.feeds.now orders.old.queue) (errand_of order orders.old.taken files answer) seat.old seat.new }
     {
         let (answer, files) = self.load_at(order.feed, orders, seat, errors);
@@ -102,13 +100,11 @@ impl<'a, R: Wait, N: Drop, T: Versions<Notice = N> + Loads, F: Feeds> LoadContex
         seat: &mut T::Loader,
         errors: &mut E,
     ) -> (LoadAnswer<N>, Option<DrawnFiles<F::Files, N>>)
-        requires { T.Loads.loads self.now.shelves.now seat.old }
-        ensures loads { T.Loads.loads self.now.shelves.now seat.new }
-        ensures learns { LoaderLearns (T.Loads.learned seat.old) (T.Loads.answers seat.old)
-            (T.Loads.learned seat.new) (T.Loads.answers seat.new) }
-        ensures load { IsLoadOf (depot_of (loads_of F.words (outcomes_of
-            (files_of F.Files.holds F.Files.reads F.Files.failures F.Files.failed)
-            (loader_of T.Loads.loads T.Loads.answers T.Loads.learned) T.Versions.noted))
+        requires { T.Loads.words.fits self.now.shelves.now seat.old }
+        ensures seat { LoaderGoesOn T.Loads.words self.now.shelves.now seat.old seat.new }
+        ensures load { IsLoadOf (depot_of (loads_of F.words
+            (outcomes_of (files_of F.Files.holds F.Files.reads F.Files.failures F.Files.failed) T.Loads.words
+            T.Versions.words.version))
             self.now.feeds.now orders.now.queue) (load_value index orders.now.taken result.1
             result.0) seat.old seat.new }
     {
@@ -141,17 +137,15 @@ impl<'a, R: Wait, N: Drop, T: Versions<Notice = N> + Loads, F: Feeds> LoadContex
         files: &mut DrawnFiles<F::Files, N>,
         seat: &mut T::Loader,
     ) -> Result<(LoadedVersion, Option<N>), LoadRefusal>
-        requires loads { T.Loads.loads self.now.shelves.now seat.old }
+        requires loads { T.Loads.words.fits self.now.shelves.now seat.old }
         requires new { files.old.files ≡ files.old.first.value }
         requires failures { F.Files.failures files.old.files ≡ 0 }
-        ensures loads { T.Loads.loads self.now.shelves.now seat.new }
-        ensures learns { LoaderLearns (T.Loads.learned seat.old) (T.Loads.answers seat.old)
-            (T.Loads.learned seat.new) (T.Loads.answers seat.new) }
+        ensures seat { LoaderGoesOn T.Loads.words self.now.shelves.now seat.old seat.new }
         ensures first { files.new.first ≡ files.old.first }
         ensures end { files.new.end ≡ files.old.end }
         ensures outcome { (plan : Plan) × F.words.is_plan self.now.feeds.now plan
             × IsOutcome (outcomes_of (files_of F.Files.holds F.Files.reads F.Files.failures F.Files.failed)
-            (loader_of T.Loads.loads T.Loads.answers T.Loads.learned) T.Versions.noted)
+            T.Loads.words T.Versions.words.version)
             plan (load_state files.new.first.value seat.old) result (load_state files.new.files seat.new)
             × FailedAsReported F.Files.failures F.Files.failed files.new.first.value files.new.files result }
     {

@@ -4,9 +4,9 @@ ghost use Rattle.std.specs.Prelude.{◌≡◌, ◌<◌, ◌≤◌, ◌-◌, ◌^
 ghost use Rattle.connections.specs.declared.days.TheConstants.{MAX_DAYS};
 ghost use Rattle.workers.specs.Carrying.{FailedAsReported};
 ghost use Rattle.workers.specs.Drawing.{IsDrawnAt};
-ghost use Rattle.workers.specs.Learned.{LoaderLearns};
+ghost use Rattle.workers.specs.Learned.{LoaderGoesOn};
 ghost use Rattle.workers.specs.Loading.{IsOutcome, load_state};
-ghost use Rattle.workers.specs.Words.{files_of, loader_of, outcomes_of};
+ghost use Rattle.workers.specs.Words.{files_of, outcomes_of};
 
 use crate::feeds::Feeds;
 use crate::loading::{LoadedVersion, load_one};
@@ -61,18 +61,16 @@ impl<D: FeedFiles, N: Drop> DrawnFiles<D, N> {
         shelves: &T,
         loader: &mut T::Loader,
     ) -> Result<(LoadedVersion, Option<N>), LoadRefusal>
-        requires loads { T.Loads.loads shelves.now loader.old }
+        requires loads { T.Loads.words.fits shelves.now loader.old }
         requires new { self.old.files ≡ self.old.first.value }
         requires failures { D.failures self.old.files < 2 ^ 64 - 1 }
         requires some { 1 ≤ plan.now.days }
         requires few { plan.now.days ≤ MAX_DAYS }
-        ensures loads { T.Loads.loads shelves.now loader.new }
-        ensures learns { LoaderLearns (T.Loads.learned loader.old) (T.Loads.answers loader.old)
-            (T.Loads.learned loader.new) (T.Loads.answers loader.new) }
+        ensures seat { LoaderGoesOn T.Loads.words shelves.now loader.old loader.new }
         ensures first { self.new.first ≡ self.old.first }
         ensures end { self.new.end ≡ self.old.end }
-        ensures outcome { IsOutcome (outcomes_of (files_of D.holds D.reads D.failures D.failed)
-            (loader_of T.Loads.loads T.Loads.answers T.Loads.learned) T.Versions.noted)
+        ensures outcome { IsOutcome (outcomes_of
+            (files_of D.holds D.reads D.failures D.failed) T.Loads.words T.Versions.words.version)
             plan.now (load_state self.new.first.value loader.old) result (load_state self.new.files loader.new) }
         ensures failed_so { FailedAsReported D.failures D.failed self.new.first.value self.new.files result }
     {

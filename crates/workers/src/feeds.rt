@@ -34,7 +34,8 @@ pub trait Feeds {
 
     /// The files of the feed at the index, of which no read has failed yet. None only where there is no such feed.
     fn files(&self, index: usize) -> Option<Self::Files>
-        ensures { MatchOption result (length (words.named self.now) ≤ index) (λ files. (Self.Files.failures files ≡ 0)
+        ensures { MatchOption result (length (words.named self.now) ≤ index)
+            (λ files. (Self.Files.failures files ≡ 0)
             × words.are_files self.now index files) };
 
     /// Called before the feed at the index is loaded. Returns the instant at which that is, for `finish`, or none.

@@ -2,16 +2,16 @@
 
 ghost use Rattle.std.specs.Prelude.{◌≡◌, [], All, IfOk};
 ghost use Rattle.epochs.specs.Pinned.{PinnedAreLeftAlone};
-ghost use Rattle.workers.specs.Headline.{AllLoaded, AllServed, AreReadyAt, IsLeft, house_of};
+ghost use Rattle.workers.specs.Headline.{AllLoaded, AllServed, AreReadyAt, IsLeftAt, KnowOneHistory, house_of};
 ghost use Rattle.workers.specs.Sessions.{MayClose};
-ghost use Rattle.workers.specs.Shelves.{shelf_loader, shelf_seats};
+ghost use Rattle.epochs.specs.ShelfWords.{shelf_loader, shelf_seats};
 ghost use Rattle.workers.specs.Words.{files_of, loads_of, outcomes_of, sessions_of};
 
 use crate::clients::{Client, Clients};
 use crate::feeds::Feeds;
 use crate::outcome::ServingOutcome;
 use crate::running::{WorkersFault, run_workers};
-use epochs::laws::pinned_images_are_left_alone;
+use epochs::laws::{pinned_images_are_left_alone, seats_know_one_history};
 use epochs::{
     NamedLoader, NamedNotice, NamedSeat, NamedShelves, ShelfLoader, ShelfSeat, Shelves, ShelvesName,
 };
@@ -30,7 +30,8 @@ use std::thread::Threads;
 ///
 /// - `ready`: 1 to 16 seats and the loader's are of these shelves.
 /// - `closes`: a client's reader and writer may be closed after whatever session may be served over them.
-/// - `left`: no further client comes, and what held of their source holds still; the seats are of these shelves.
+/// - `left`: no further client comes, and what held of their source holds still; the seats are of these shelves, and
+///   the histories that `served` and `loaded` speak of are one.
 /// - `served`: each client who came was dealt to exactly one worker and had one session at its seat. Each line that was
 ///   read has its reply, up to where the session ended; and each profile is answered exactly, over the image that was
 ///   published as the version that the reply names.
@@ -62,13 +63,12 @@ pub fn run_shelves<
 >
     requires ready { AreReadyAt B.table (house_of clients shelves seats.items loader feeds.now) }
     requires closes { MayClose (sessions_of form C.words C.Reader.remaining C.Writer.contents shelf_seats) shelves }
-    ensures left { IfOk result (IsLeft shelf_seats shelf_loader K.words
-        (house_of clients shelves seats.items loader feeds.now)) }
+    ensures left { IfOk result (IsLeftAt K.words (house_of clients shelves seats.items loader feeds.now)) }
     ensures served { IfOk result (AllServed (sessions_of form C.words C.Reader.remaining C.Writer.contents shelf_seats)
         K.words F.words (house_of clients shelves seats.items loader feeds.now)) }
     ensures loaded { IfOk result (AllLoaded (loads_of F.words
-        (outcomes_of
-        (files_of F.Files.holds F.Files.reads F.Files.failures F.Files.failed) shelf_loader shelf_seats.version))
+        (outcomes_of (files_of F.Files.holds F.Files.reads F.Files.failures F.Files.failed) shelf_loader
+        shelf_seats.version))
         (house_of clients shelves seats.items loader feeds.now)) }
     ensures pinned { PinnedAreLeftAlone }
 {
@@ -80,15 +80,25 @@ pub fn run_shelves<
     let ran = run_workers(
         rt, alloc, clients, &shelves, seats, loader, feeds, gate, form, errors,
     )?;
+    let seats = unnamed_seats(ran.seats, room)?;
+    let loader = ran.loader.into_inner();
+    know_one_history(&seats, &loader);
     Ok(ServingOutcome {
         served: ran.served,
         clients: ran.clients,
-        seats: unnamed_seats(ran.seats, room)?,
+        seats,
         orders: ran.orders,
-        loader: ran.loader.into_inner(),
+        loader,
         asked: ran.asked,
         used: ran.used,
     })
+}
+
+// Does nothing: its contract is the law that what the seats know are beginnings of one history.
+fn know_one_history(seats: &Vec<ShelfSeat>, loader: &ShelfLoader)
+    ensures { All (KnowOneHistory loader.now) seats.now.items }
+{
+    seats_know_one_history();
 }
 
 // The seats, under their shelves' name.

@@ -7,10 +7,10 @@ ghost use Rattle.feed_files.specs.Reading.{Content};
 ghost use Rattle.feed_files.specs.Reads.{AllWereRead, SomeWereRead};
 ghost use Rattle.feed_loader.specs.Faults.{failed_by, failed_in};
 ghost use Rattle.epochs.specs.Seats.{RefuseStep};
-ghost use Rattle.workers.specs.Learned.{LoaderLearns};
+ghost use Rattle.workers.specs.Learned.{LoaderGoesOn};
 ghost use Rattle.workers.specs.Loading.{ShowsContent, reading};
 ghost use Rattle.workers.specs.Loading.{IsEarly, IsImageOf, IsOutcome, IsPublished, IsRefusalOf, load_state};
-ghost use Rattle.workers.specs.Words.{files_of, loader_of, outcomes_of};
+ghost use Rattle.workers.specs.Words.{files_of, outcomes_of};
 
 use crate::refusal::LoadRefusal;
 use epochs::{Loads, PublishFault, Versions};
@@ -35,18 +35,16 @@ pub fn load_one<F: FeedFiles, N, T: Versions<Notice = N> + Loads>(
     shelves: &T,
     loader: &mut T::Loader,
 ) -> Result<(LoadedVersion, Option<N>), LoadRefusal>
-    requires loads { T.Loads.loads shelves.now loader.old }
+    requires loads { T.Loads.words.fits shelves.now loader.old }
     requires failures { F.failures files.old < 2 ^ 64 - 1 }
     requires some { 1 ≤ plan.now.days }
     requires few { plan.now.days ≤ MAX_DAYS }
-    ensures loads { T.Loads.loads shelves.now loader.new }
+    ensures seat { LoaderGoesOn T.Loads.words shelves.now loader.old loader.new }
     ensures same { F.holds files.new ≡ F.holds files.old }
     ensures failures { F.failures files.new ≡ F.failures files.old + failed_in (reading result) }
     ensures failed { F.failed files.new ≡ failed_by (F.failed files.old) (reading result) }
-    ensures learns { LoaderLearns (T.Loads.learned loader.old) (T.Loads.answers loader.old)
-        (T.Loads.learned loader.new) (T.Loads.answers loader.new) }
-    ensures outcome { IsOutcome (outcomes_of (files_of F.holds F.reads F.failures F.failed)
-        (loader_of T.Loads.loads T.Loads.answers T.Loads.learned) T.Versions.noted)
+    ensures outcome { IsOutcome (outcomes_of (files_of F.holds F.reads F.failures F.failed) T.Loads.words
+        T.Versions.words.version)
         plan.now (load_state files.old loader.old) result (load_state files.new loader.new) }
 {
     match shared_image(alloc, files, plan) {
@@ -72,7 +70,8 @@ fn shared_image<F: FeedFiles>(
     ensures failed { F.failed files.new ≡ failed_by (F.failed files.old) (reading result) }
     ensures all_read { OnOk result (AllWereRead (F.reads files.old) (F.reads files.new)) }
     ensures first_read { SomeWereRead (F.reads files.old) (F.reads files.new) }
-    ensures ok { (content : Content) → ShowsContent (F.holds files.old) (F.reads files.old) (F.reads files.new) content
+    ensures ok { (content : Content) → ShowsContent (F.holds files.old) (F.reads files.old)
+        (F.reads files.new) content
         → IfOk result (λ made. IsImageOf content plan.now (arc_value made.0) made.1) }
     ensures err { IfErr result
         (IsRefusalOf (F.holds files.old) (F.reads files.old) (F.reads files.new) plan.now) }
@@ -94,14 +93,14 @@ fn publish_image<N, T: Versions<Notice = N> + Loads>(
     loader: &mut T::Loader,
     image: Arc<Verified, Global>,
 ) -> Result<(u64, Option<N>), PublishFault>
-    requires { T.Loads.loads shelves.now loader.old }
-    ensures loads { T.Loads.loads shelves.now loader.new }
+    requires { T.Loads.words.fits shelves.now loader.old }
+    ensures seat { LoaderGoesOn T.Loads.words shelves.now loader.old loader.new }
     ensures published { MatchResult result
-        (λ loaded. IsPublished (T.Loads.answers loader.old) (arc_value image) loaded.0 (T.Loads.answers loader.new))
-        (λ fault. RefuseStep (T.Loads.answers loader.old) fault (T.Loads.answers loader.new)) }
-    ensures learns { LoaderLearns (T.Loads.learned loader.old) (T.Loads.answers loader.old)
-        (T.Loads.learned loader.new) (T.Loads.answers loader.new) }
-    ensures notice { IfOk result (λ loaded. MatchOption loaded.1 ⊥ (λ notice. T.Versions.noted notice ≡ loaded.0)) }
+        (λ loaded. IsPublished (T.Loads.words.answers loader.old) (arc_value image) loaded.0
+        (T.Loads.words.answers loader.new))
+        (λ fault. RefuseStep (T.Loads.words.answers loader.old) fault (T.Loads.words.answers loader.new)) }
+    ensures notice { IfOk result (λ loaded. MatchOption loaded.1 ⊥
+        (λ notice. T.Versions.words.version notice ≡ loaded.0)) }
 {
     match shelves.publish(loader, image) {
         Ok(loaded) => {

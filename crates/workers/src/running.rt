@@ -6,7 +6,7 @@ ghost use Rattle.workers.specs.Carrying.{AreLoaded, depot_of, loads_value};
 ghost use Rattle.workers.specs.Headline.{AllLoaded, AllServed, AreReady, IsLeft, house_of};
 ghost use Rattle.workers.specs.Ordering.{route_to};
 ghost use Rattle.workers.specs.Sessions.{IsShare, MayClose, post_at, share_of};
-ghost use Rattle.workers.specs.Words.{files_of, loader_of, loads_of, outcomes_of, seats_of, sessions_of};
+ghost use Rattle.workers.specs.Words.{files_of, loads_of, outcomes_of, sessions_of};
 
 use crate::carrying::LoadContext;
 use crate::clients::{Client, Clients};
@@ -71,21 +71,19 @@ where
     T::Loader: Send + Drop,
     T::Notice: Send + Drop,
     requires ready { AreReady
-        (seats_of T.Versions.fits T.Versions.number T.Versions.value T.Versions.known T.Versions.noted)
-        (loader_of T.Loads.loads T.Loads.answers T.Loads.learned)
+        T.Versions.words T.Loads.words
         (house_of clients shelves.now seats.items loader feeds.now) }
-    requires closes { MayClose (sessions_of form C.words C.Reader.remaining C.Writer.contents
-        (seats_of T.Versions.fits T.Versions.number T.Versions.value T.Versions.known T.Versions.noted)) shelves.now }
+    requires closes { MayClose (sessions_of form C.words C.Reader.remaining C.Writer.contents T.Versions.words)
+        shelves.now }
     ensures left { IfOk result (IsLeft
-        (seats_of T.Versions.fits T.Versions.number T.Versions.value T.Versions.known T.Versions.noted)
-        (loader_of T.Loads.loads T.Loads.answers T.Loads.learned) K.words
+        T.Versions.words T.Loads.words K.words
         (house_of clients shelves.now seats.items loader feeds.now)) }
     ensures served { IfOk result (AllServed (sessions_of form C.words C.Reader.remaining C.Writer.contents
-        (seats_of T.Versions.fits T.Versions.number T.Versions.value T.Versions.known T.Versions.noted)) K.words F.words
+        T.Versions.words) K.words F.words
         (house_of clients shelves.now seats.items loader feeds.now)) }
-    ensures loaded { IfOk result (AllLoaded (loads_of F.words (outcomes_of
-        (files_of F.Files.holds F.Files.reads F.Files.failures F.Files.failed)
-        (loader_of T.Loads.loads T.Loads.answers T.Loads.learned) T.Versions.noted))
+    ensures loaded { IfOk result (AllLoaded (loads_of F.words
+        (outcomes_of (files_of F.Files.holds F.Files.reads F.Files.failures F.Files.failed) T.Loads.words
+        T.Versions.words.version))
         (house_of clients shelves.now seats.items loader feeds.now)) }
 {
     thread::scope(
@@ -100,23 +98,21 @@ where
                 × IsSend T.Notice.row × IsSend C.row × IsSend C.Reader.row × IsSend C.Writer.row
                 × IsSend F.Files.row × IsSend E.row
                 × AreReady
-                (seats_of T.Versions.fits T.Versions.number T.Versions.value T.Versions.known T.Versions.noted)
-                (loader_of T.Loads.loads T.Loads.answers T.Loads.learned)
+                T.Versions.words T.Loads.words
                 (house_of clients shelves.now seats.items loader feeds.now)
-                × MayClose (sessions_of form C.words C.Reader.remaining C.Writer.contents
-                (seats_of T.Versions.fits T.Versions.number T.Versions.value T.Versions.known T.Versions.noted))
+                × MayClose (sessions_of form C.words C.Reader.remaining C.Writer.contents T.Versions.words)
                 shelves.now }
             ensures left { IfOk result (IsLeft
-                (seats_of T.Versions.fits T.Versions.number T.Versions.value T.Versions.known T.Versions.noted)
-                (loader_of T.Loads.loads T.Loads.answers T.Loads.learned) K.words
+                T.Versions.words T.Loads.words K.words
                 (house_of clients shelves.entry.now seats.items loader feeds.entry.now)) }
-            ensures served { IfOk result (AllServed (sessions_of form C.words C.Reader.remaining C.Writer.contents
-                (seats_of T.Versions.fits T.Versions.number T.Versions.value T.Versions.known T.Versions.noted))
+            ensures served { IfOk result (AllServed
+                (sessions_of form C.words C.Reader.remaining C.Writer.contents T.Versions.words)
                 K.words F.words
                 (house_of clients shelves.entry.now seats.items loader feeds.entry.now)) }
-            ensures loaded { IfOk result (AllLoaded (loads_of F.words (outcomes_of
-                (files_of F.Files.holds F.Files.reads F.Files.failures F.Files.failed)
-                (loader_of T.Loads.loads T.Loads.answers T.Loads.learned) T.Versions.noted))
+            ensures loaded { IfOk result (AllLoaded
+                (loads_of F.words (outcomes_of
+                (files_of F.Files.holds F.Files.reads F.Files.failures F.Files.failed) T.Loads.words
+                T.Versions.words.version))
                 (house_of clients shelves.entry.now seats.items loader feeds.entry.now)) }
         {
             let mut dealer = client_queue(alloc)?;
@@ -134,12 +130,12 @@ where
                     T::Loader,
                     UsedFiles<F::Files, T::Notice>,
                 )
-                    requires { T.Loads.loads shelves.now loader_seat × (orders.taken ≡ []) × (orders.answered ≡ [])
+                    requires { T.Loads.words.fits shelves.now loader_seat × (orders.taken ≡ []) × (orders.answered ≡ [])
                         × (unused ≡ []) }
-                    ensures { T.Loads.loads shelves.entry.now result.1 × (result.0.queue ≡ orders.queue)
-                        × AreLoaded (depot_of (loads_of F.words (outcomes_of
-                        (files_of F.Files.holds F.Files.reads F.Files.failures F.Files.failed)
-                        (loader_of T.Loads.loads T.Loads.answers T.Loads.learned) T.Versions.noted))
+                    ensures { T.Loads.words.fits shelves.entry.now result.1 × (result.0.queue ≡ orders.queue)
+                        × AreLoaded (depot_of (loads_of F.words
+                        (outcomes_of (files_of F.Files.holds F.Files.reads F.Files.failures F.Files.failed)
+                        T.Loads.words T.Versions.words.version))
                         feeds.entry.now result.0.queue) loader_seat (loads_value result.0 result.2) result.1 }
                 {
                     let loading = LoadContext {
@@ -170,16 +166,13 @@ where
                 let begun = scope.spawn_with(
                     ShareAt::<C, T::Notice, T, F>::of(shelves, &taker, &seat, form, way),
                     move || -> (Share<C, T::Seat>, UsedOrders<T::Notice>)
-                        requires { T.Versions.fits shelves.now seat × (taker.taken ≡ []) × (nobody_yet ≡ [])
+                        requires { T.Versions.words.fits shelves.now seat × (taker.taken ≡ []) × (nobody_yet ≡ [])
                             × (end.items ≡ [])
-                            × MayClose (sessions_of form C.words C.Reader.remaining C.Writer.contents
-                            (seats_of T.Versions.fits T.Versions.number T.Versions.value T.Versions.known
-                            T.Versions.noted)) shelves.now }
+                            × MayClose (sessions_of form C.words C.Reader.remaining C.Writer.contents T.Versions.words)
+                            shelves.now }
                         ensures { (result.0.taker.queue ≡ taker.queue)
-                            × T.Versions.fits shelves.entry.now result.0.seat
-                            × IsShare (sessions_of form C.words C.Reader.remaining C.Writer.contents
-                            (seats_of T.Versions.fits T.Versions.number T.Versions.value T.Versions.known
-                            T.Versions.noted))
+                            × T.Versions.words.fits shelves.entry.now result.0.seat
+                            × IsShare (sessions_of form C.words C.Reader.remaining C.Writer.contents T.Versions.words)
                             (post_at seat (route_to (F.words.named feeds.entry.now) end.queue))
                             result.0.taker.taken (share_of result.0.served result.0.seat result.1) }
                     {

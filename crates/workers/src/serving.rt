@@ -4,7 +4,7 @@ ghost use Rattle.std.specs.Prelude.{◌≡◌, ◌∷◌, ◌++◌, [], None, If
 ghost use Rattle.lines.specs.Counting.{inner_of};
 ghost use Rattle.session.specs.Turns.{AgreeOnNotices};
 ghost use Rattle.workers.specs.Sessions.{AreExact, AreServed, IsServedAt, MayClose, standing};
-ghost use Rattle.workers.specs.Words.{seats_of, sessions_of};
+ghost use Rattle.workers.specs.Words.{sessions_of};
 
 use crate::clients::{Client, ConnFault};
 use crate::served::{Served, SessionEnd, end_of};
@@ -33,13 +33,13 @@ impl<'a, R: Wait, N: Drop, T: Versions<Notice = N>, G: Gate> DeskWorker<'a, R, T
         orders: &mut O,
         served: &mut Served<C::Reader, C::Writer>,
     ) -> (Option<Streams<C::Reader, C::Writer>>, SessionEnd)
-        requires fits { T.fits self.now.desk.shelves.now seat.old }
-        requires notices { AgreeOnNotices O.notice_version T.noted }
-        ensures fits { T.fits self.now.desk.shelves.now seat.new }
+        requires fits { T.words.fits self.now.desk.shelves.now seat.old }
+        requires notices { AgreeOnNotices O.notice_version T.words.version }
+        ensures fits { T.words.fits self.now.desk.shelves.now seat.new }
         ensures route { O.route orders.new ≡ O.route orders.old }
         ensures served { served.new ≡ served.old ++ result ∷ [] }
         ensures session { IsServedAt (sessions_of self.now.desk.form C.words C.Reader.remaining C.Writer.contents
-            (seats_of T.fits T.number T.value T.known T.noted))
+            T.words)
             client result (standing seat.old (O.asked orders.old)) (standing seat.new (O.asked orders.new)) }
     {
         match client.open() {
@@ -68,22 +68,19 @@ impl<'a, R: Wait, N: Drop, T: Versions<Notice = N>, G: Gate> DeskWorker<'a, R, T
         mut orders: O,
         mut served: Served<C::Reader, C::Writer>,
     ) -> (Share<C, T::Seat>, O)
-        requires fits { T.fits self.now.desk.shelves.now seat }
-        requires notices { AgreeOnNotices O.notice_version T.noted }
+        requires fits { T.words.fits self.now.desk.shelves.now seat }
+        requires notices { AgreeOnNotices O.notice_version T.words.version }
         requires none { (taker.taken ≡ []) × (served ≡ []) }
-        requires closes { MayClose (sessions_of self.now.desk.form C.words C.Reader.remaining C.Writer.contents
-            (seats_of T.fits T.number T.value T.known T.noted))
+        requires closes { MayClose (sessions_of self.now.desk.form C.words C.Reader.remaining C.Writer.contents T.words)
             self.now.desk.shelves.now }
-        ensures fits { T.fits self.now.desk.shelves.now result.0.seat }
+        ensures fits { T.words.fits self.now.desk.shelves.now result.0.seat }
         ensures queue { result.0.taker.queue ≡ taker.queue }
         ensures route { O.route result.1 ≡ O.route orders }
-        ensures served { AreServed (sessions_of self.now.desk.form C.words C.Reader.remaining C.Writer.contents
-            (seats_of T.fits T.number T.value T.known T.noted))
+        ensures served { AreServed (sessions_of self.now.desk.form C.words C.Reader.remaining C.Writer.contents T.words)
             result.0.taker.taken result.0.served
             (standing seat (O.asked orders)) (standing result.0.seat (O.asked result.1)) }
-        ensures exact { (T.value seat).held ≡ None → AreExact
-            (sessions_of self.now.desk.form C.words C.Reader.remaining C.Writer.contents
-            (seats_of T.fits T.number T.value T.known T.noted))
+        ensures exact { (T.words.shown seat).held ≡ None → AreExact
+            (sessions_of self.now.desk.form C.words C.Reader.remaining C.Writer.contents T.words)
             result.0.taker.taken result.0.served
             (standing seat (O.asked orders)) (standing result.0.seat (O.asked result.1)) }
     {

@@ -5,7 +5,7 @@ ghost use Rattle.client_queue.specs.Ends.{nothing_put};
 ghost use Rattle.workers.specs.Carrying.{AreLoaded, depot_of, loads_value};
 ghost use Rattle.workers.specs.Ordering.{GoesBy, IsKeeperOf, put_by, route_to};
 ghost use Rattle.workers.specs.Sessions.{AreAllServed, AreServedSince, IsReadyToJoin, posts_at, work_of};
-ghost use Rattle.workers.specs.Words.{files_of, loader_of, loads_of, outcomes_of, seats_of, sessions_of};
+ghost use Rattle.workers.specs.Words.{files_of, loads_of, outcomes_of, sessions_of};
 
 use crate::clients::{Client, Clients};
 use crate::dealing::deal_all;
@@ -93,12 +93,11 @@ impl<C: Client + Drop, S, N: Drop, T: Versions<Seat = S, Notice = N>, F: Feeds> 
     ghost use Rattle.std.specs.Prelude.{◌≡◌};
     ghost use Rattle.workers.specs.Ordering.{route_to};
     ghost use Rattle.workers.specs.Sessions.{IsShare, post_at, share_of};
-    ghost use Rattle.workers.specs.Words.{seats_of, sessions_of};
+    ghost use Rattle.workers.specs.Words.{sessions_of};
 
     ghost kept_by = { λ promise done. (done.0.taker.queue ≡ promise.taker.value.queue)
-        × T.fits promise.shelves.value done.0.seat
-        × IsShare (sessions_of promise.form C.words C.Reader.remaining C.Writer.contents
-        (seats_of T.fits T.number T.value T.known T.noted))
+        × T.words.fits promise.shelves.value done.0.seat
+        × IsShare (sessions_of promise.form C.words C.Reader.remaining C.Writer.contents T.words)
         (post_at promise.seat.value
         (route_to (F.words.named promise.route.feeds.value) promise.route.end.value.queue))
         done.0.taker.taken (share_of done.0.served done.0.seat done.1) };
@@ -145,12 +144,12 @@ impl<
 > Promise<(LoaderOrders<N>, L, UsedFiles<D, N>)> for LoadsAt<T, F, N> {
     ghost use Rattle.std.specs.Prelude.{◌≡◌};
     ghost use Rattle.workers.specs.Carrying.{AreLoaded, depot_of, loads_value};
-    ghost use Rattle.workers.specs.Words.{files_of, loader_of, loads_of, outcomes_of};
+    ghost use Rattle.workers.specs.Words.{files_of, loads_of, outcomes_of};
 
-    ghost kept_by = { λ promise done. T.Loads.loads promise.shelves.value done.1
+    ghost kept_by = { λ promise done. T.Loads.words.fits promise.shelves.value done.1
         × (done.0.queue ≡ promise.orders.value.queue)
-        × AreLoaded (depot_of (loads_of F.words (outcomes_of (files_of D.holds D.reads D.failures D.failed)
-        (loader_of T.Loads.loads T.Loads.answers T.Loads.learned) T.Versions.noted))
+        × AreLoaded (depot_of (loads_of F.words
+        (outcomes_of (files_of D.holds D.reads D.failures D.failed) T.Loads.words T.Versions.words.version))
         promise.feeds.value done.0.queue) promise.seat.value (loads_value done.0 done.2) done.1 };
 }
 
@@ -195,9 +194,10 @@ pub(crate) fn deal_and_join<
     ensures back { IfOk result (λ ran. IsKeeperOf route.end.value.queue (put_by ran.3) 0 asks.new) }
     ensures none_left { IfOk result (λ ran. K.words.none_left ran.0) }
     ensures holds { IfOk result (λ ran. (fact : K.words.Fact) → K.words.holds clients fact → K.words.holds ran.0 fact) }
-    ensures fits { IfOk result (λ ran. All (T.fits shelves.now) ran.2.items) }
-    ensures served { IfOk result (λ ran. AreServedSince (sessions_of form C.words C.Reader.remaining C.Writer.contents
-        (seats_of T.fits T.number T.value T.known T.noted)) (K.words.came clients) (K.words.came ran.0)
+    ensures fits { IfOk result (λ ran. All (T.words.fits shelves.now) ran.2.items) }
+    ensures served { IfOk result (λ ran. AreServedSince
+        (sessions_of form C.words C.Reader.remaining C.Writer.contents T.words) (K.words.came clients)
+        (K.words.came ran.0)
         (posts_at (map (λ worker. worker.promise.seat.value) workers.items)
         (route_to (F.words.named route.feeds.value) route.end.value.queue)) (work_of ran.1 ran.2.items ran.3)) }
 {
@@ -236,9 +236,9 @@ fn join_workers<
     requires room { room.items ≡ [] }
     requires keeper { IsKeeperOf route.end.value.queue [] (length workers.items) asks.old }
     ensures back { IfOk result (λ joined. IsKeeperOf route.end.value.queue (put_by joined.2) 0 asks.new) }
-    ensures fits { IfOk result (λ joined. All (T.fits shelves.now) joined.1.items) }
-    ensures served { IfOk result (λ joined. AreAllServed (sessions_of form C.words C.Reader.remaining C.Writer.contents
-        (seats_of T.fits T.number T.value T.known T.noted)) dealer.view.sent
+    ensures fits { IfOk result (λ joined. All (T.words.fits shelves.now) joined.1.items) }
+    ensures served { IfOk result (λ joined. AreAllServed
+        (sessions_of form C.words C.Reader.remaining C.Writer.contents T.words) dealer.view.sent
         (posts_at (map (λ worker. worker.promise.seat.value) workers.items)
         (route_to (F.words.named route.feeds.value) route.end.value.queue))
         (work_of joined.0 joined.1.items joined.2)) }
@@ -289,10 +289,9 @@ pub(crate) fn close_and_join<
     requires back { asks.out ≡ 0 }
     ensures all { IfSome result (λ done. IsPermutation asks.put done.0.taken) }
     ensures queue { IfSome result (λ done. done.0.queue ≡ asks.queue) }
-    ensures loads { IfSome result (λ done. T.Loads.loads loading.promise.shelves.value done.1) }
+    ensures loads { IfSome result (λ done. T.Loads.words.fits loading.promise.shelves.value done.1) }
     ensures loaded { IfSome result (λ done. AreLoaded (depot_of (loads_of F.words
-        (outcomes_of (files_of D.holds D.reads D.failures D.failed)
-        (loader_of T.Loads.loads T.Loads.answers T.Loads.learned) T.Versions.noted))
+        (outcomes_of (files_of D.holds D.reads D.failures D.failed) T.Loads.words T.Versions.words.version))
         loading.promise.feeds.value done.0.queue) loading.promise.seat.value (loads_value done.0 done.2) done.1) }
 {
     asks.close(rt);

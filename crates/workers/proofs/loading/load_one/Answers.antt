@@ -1,7 +1,7 @@
 use Rattle.std.proofs.Common.{inr}
 use Rattle.std.specs.Arc.{arc_value}
 use Rattle.workers.proofs.Ending.{not_published}
-use Rattle.workers.proofs.Learning.{loader_same}
+use Rattle.workers.proofs.Learning.{loader_goes_same}
 use Rattle.workers.proofs.loading.load_one.Goals as goal
 
 pub returns-in-Err-clause-outcome : goal.returns-in-Err-clause-outcome
@@ -14,5 +14,5 @@ returns-in-Err-publish_image-clause-outcome g c =
     (shared.first_read, (arc_value c.in-Ok.image, c.in-Ok.report, shared.all_read, shared.ok), inr c.in-Err-publish_image.ensures.published)
 
 -- nothing was published
-pub returns-in-Err-clause-learns : goal.returns-in-Err-clause-learns
-returns-in-Err-clause-learns g c = loader_same _ _
+pub returns-in-Err-clause-seat : goal.returns-in-Err-clause-seat
+returns-in-Err-clause-seat g c = loader_goes_same _ _ _ c.requires.loads

@@ -7,7 +7,7 @@ use Rattle.std.specs.Global.{Global}
 use Rattle.load_orders.specs.Keeping.{QueueId}
 use Rattle.workers.specs.Ordering.{GoesBy, IsKeeperOf, put_by, route_to}
 use Rattle.workers.specs.Sessions.{AreAllServed, IsShare, post_at, posts_at, share_of, work_of}
-use Rattle.workers.specs.Words.{seats_of, sessions_of}
+use Rattle.workers.specs.Words.{sessions_of}
 use Rattle.session.specs.declared.reply_form.ReplyForm.{ReplyForm}
 use Rattle.workers.proofs.Shared.{joined_none, joined_next, joined_all, keeper_next, keeper_none}
 use Rattle.workers.proofs.shares.join_workers.Goals as goal
@@ -15,7 +15,7 @@ use Rattle.workers.proofs.shares.join_workers.Goals as goal
 pub loop-worker-init : goal.loop-worker-init
 loop-worker-init g c =
     let words = sessions_of c.args.form g.C.Client.words g.C.Reader.Read.remaining g.C.Writer.Write.contents
-    (seats_of g.T.Versions.fits g.T.Versions.number g.T.Versions.value g.T.Versions.known g.T.Versions.noted) in
+    g.T.Versions.words in
     let items = c.into_iter-worker-iterator.ensures.into_iter_gives.0 in
     let ready = c.requires.out in
     let none = ready.none_ended in
@@ -26,7 +26,7 @@ loop-worker-init g c =
       finite = tt;
       len = search rules;
       at = subst (λ workers. All (λ worker. worker.promise.shelves.value ≡ c.args.shelves.now) workers) (sym items) c.requires.shelves;
-      fit = subst (λ seats. All (g.T.Versions.fits c.args.shelves.now) seats) (sym c.requires.room) (All-nil _);
+      fit = subst (λ seats. All (g.T.Versions.words.fits c.args.shelves.now) seats) (sym c.requires.room) (All-nil _);
       forms = subst (λ workers. All (λ worker. worker.promise.form ≡ c.args.form) workers) (sym items) c.requires.forms;
       queues = subst (λ workers. All (λ worker. worker.promise.taker.value.queue ≡ c.args.dealer.queue) workers) (sym items) c.requires.queues;
       routes = subst (λ workers. All (λ worker. GoesBy worker.promise.route c.args.route) workers) (sym items) c.requires.routes;
@@ -60,7 +60,7 @@ take_in-requires g c =
 pub loop-worker-preserved : goal.loop-worker-preserved
 loop-worker-preserved g c =
     let words = sessions_of c.args.form g.C.Client.words g.C.Reader.Read.remaining g.C.Writer.Write.contents
-    (seats_of g.T.Versions.fits g.T.Versions.number g.T.Versions.value g.T.Versions.known g.T.Versions.noted) in
+    g.T.Versions.words in
     let was = c.loop-worker.invariant in
     let step = c.in-Some.ensures.steps in
     let short = ap length step.0 in
@@ -73,14 +73,14 @@ loop-worker-preserved g c =
     let route = routes 0 c.in-Some.worker (omega arith) in
     let Share = λ (form : ReplyForm) (names : List (String Global)) (queue : QueueId _).
     IsShare (sessions_of form g.C.Client.words g.C.Reader.Read.remaining g.C.Writer.Write.contents
-    (seats_of g.T.Versions.fits g.T.Versions.number g.T.Versions.value g.T.Versions.known g.T.Versions.noted))
+    g.T.Versions.words)
     (post_at c.in-Some.worker.promise.seat.value (route_to names queue)) done.taker.taken (share_of done.served done.seat pair.1) in
     let by_form = subst (λ (form : ReplyForm). Share form (g.F.Feeds.words.named c.in-Some.worker.promise.route.feeds.value)
     c.in-Some.worker.promise.route.end.value.queue) (forms 0 c.in-Some.worker (omega arith)) c.join-share.ensures.2 in
     let by_queue = subst (λ (queue : QueueId _). Share c.args.form (g.F.Feeds.words.named c.in-Some.worker.promise.route.feeds.value) queue)
     route.0 by_form in
     let share = subst (λ feeds. Share c.args.form (g.F.Feeds.words.named feeds) c.args.route.end.value.queue) route.1 by_queue in
-    let fits = subst (λ shelves. g.T.Versions.fits shelves done.seat) (at 0 c.in-Some.worker (omega arith)) c.join-share.ensures.1 in
+    let fits = subst (λ shelves. g.T.Versions.words.fits shelves done.seat) (at 0 c.in-Some.worker (omega arith)) c.join-share.ensures.1 in
     let back = c.take_back.ensures in
     let view = ap (λ dealer. dealer.view) back in
     let closed : done.taker.closed ≡ true = search rules in
@@ -95,8 +95,8 @@ loop-worker-preserved g c =
       finite = tt;
       len = omega (arith, short, step.1, was.len);
       at = λ k d small. at (suc k) d (omega arith);
-      fit = subst (λ seats. All (g.T.Versions.fits c.args.shelves.now) seats) (sym c.in-Ok.ensures.items)
-          (All-push (g.T.Versions.fits c.args.shelves.now) _ done.seat was.fit fits);
+      fit = subst (λ seats. All (g.T.Versions.words.fits c.args.shelves.now) seats) (sym c.in-Ok.ensures.items)
+          (All-push (g.T.Versions.words.fits c.args.shelves.now) _ done.seat was.fit fits);
       forms = λ k d small. forms (suc k) d (omega arith);
       queues = λ k d small. queues (suc k) d (omega arith);
       routes = λ k d small. routes (suc k) d (omega arith);
@@ -116,7 +116,7 @@ loop-worker-preserved g c =
 pub returns : goal.returns
 returns g c =
     let words = sessions_of c.args.form g.C.Client.words g.C.Reader.Read.remaining g.C.Writer.Write.contents
-    (seats_of g.T.Versions.fits g.T.Versions.number g.T.Versions.value g.T.Versions.known g.T.Versions.noted) in
+    g.T.Versions.words in
     let was = c.loop-worker.invariant in
     let items = c.into_iter-worker-iterator.ensures.into_iter_gives.0 in
     let all = ap length items in

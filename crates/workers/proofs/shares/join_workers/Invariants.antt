@@ -2,7 +2,7 @@ use Rattle.std.proofs.Common.{◌≡◌, ◌+◌, All, length}
 use Rattle.std.specs.Vec.Iter.{into_iter_items, into_iter_len}
 use Rattle.workers.specs.Ordering.{GoesBy, IsKeeperOf, put_by, route_to}
 use Rattle.workers.specs.Sessions.{work_of}
-use Rattle.workers.specs.Words.{seats_of, sessions_of}
+use Rattle.workers.specs.Words.{sessions_of}
 use Rattle.workers.proofs.Shared.{Joined}
 use Rattle.workers.proofs.shares.join_workers.Given as goal
 
@@ -13,7 +13,7 @@ invariant-loop-worker g l = record {
   finite : (goal.iterator-loop-worker g).is_finite l.worker-iterator;
   len : into_iter_len l.worker-iterator ≡ length (into_iter_items l.worker-iterator);
   at : All (λ worker. worker.promise.shelves.value ≡ l.fn.shelves) (into_iter_items l.worker-iterator);
-  fit : All (g.T.Versions.fits l.fn.shelves) l.seats.items;
+  fit : All (g.T.Versions.words.fits l.fn.shelves) l.seats.items;
   forms : All (λ worker. worker.promise.form ≡ l.fn.form) (into_iter_items l.worker-iterator);
   queues : All (λ worker. worker.promise.taker.value.queue ≡ l.fn.dealer.queue) (into_iter_items l.worker-iterator);
   routes : All (λ worker. GoesBy worker.promise.route l.fn.route) (into_iter_items l.worker-iterator);
@@ -23,7 +23,7 @@ invariant-loop-worker g l = record {
   out : l.dealer.view.out ≡ length (into_iter_items l.worker-iterator);
   ended : l.dealer.view.ended + length (into_iter_items l.worker-iterator) ≡ l.dealer.view.closings;
   joined : Joined (sessions_of l.fn.form g.C.Client.words g.C.Reader.Read.remaining g.C.Writer.Write.contents
-      (seats_of g.T.Versions.fits g.T.Versions.number g.T.Versions.value g.T.Versions.known g.T.Versions.noted))
+      g.T.Versions.words)
       (λ worker. worker.promise.seat.value) (route_to (g.F.Feeds.words.named l.fn.route.feeds.value) l.fn.route.end.value.queue)
       (into_iter_items l.initial.worker-iterator) (into_iter_items l.worker-iterator)
       l.dealer.view.taken (work_of l.served l.seats.items l.orders);

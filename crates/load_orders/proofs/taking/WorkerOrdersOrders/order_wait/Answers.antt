@@ -12,10 +12,10 @@ invariant_of-self g c =
     let names = map string_bytes here.names.now in
     let feed = c.args.feed.now in
     let waited = c.wait_for-outcome in
-    let does = does_wait g.P.Protocol.holds g.T.Versions.noted feed waited.result names here.end waited.new.end here.heard waited.new.heard
+    let does = does_wait g.P.Protocol.holds g.T.Versions.words.version feed waited.result names here.end waited.new.end here.heard waited.new.heard
     waited.ensures.notice waited.ensures.heard waited.ensures.refused in
     let grows = c.note.ensures ∙ ap (λ (order : OrderValue). here.asked ++ order ∷ []) c.waited.ensures in
-    asked_more g.P.Protocol.holds g.T.Versions.noted (waited_value feed (version_alone waited.result)) names here.end waited.new.end
+    asked_more g.P.Protocol.holds g.T.Versions.words.version (waited_value feed (version_alone waited.result)) names here.end waited.new.end
     here.asked c.note.new.self here.heard waited.new.heard c.self.invariant does waited.ensures.queue grows
 
 -- what was heard, or why nothing was, by the orders as they are then
@@ -35,5 +35,5 @@ returns-clause-refused g c =
     let after : WorkerOrdersValue _ = record { names = names; end = waited.new.end; asked = c.note.new.self; heard = waited.new.heard } in
     let P = λ (before : WorkerOrdersValue _). IfErr waited.result (λ fault. RefusesVersion g.P.Protocol.holds c.args.feed.now fault before after) in
     subst P c.self.view_is
-    (refused_so g.P.Protocol.holds g.T.Versions.noted c.args.feed.now waited.result names here.end waited.new.end here.asked c.note.new.self
+    (refused_so g.P.Protocol.holds g.T.Versions.words.version c.args.feed.now waited.result names here.end waited.new.end here.asked c.note.new.self
     here.heard waited.new.heard waited.ensures.refused)

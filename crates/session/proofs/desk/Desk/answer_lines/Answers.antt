@@ -4,15 +4,13 @@ use Rattle.lines.proofs.GivenLemmas.{Gives-ended, Gives-nothing, Gives-rest}
 use Rattle.session.proofs.LineLemmas.{nothing_is_one_line, some_bytes, SoFar-more, SoFar-start, TurnsTo-number}
 use Rattle.session.proofs.LineLemmas.{cut_short_at_line, cut_short_at_rest, ends_at_end, ends_with_rest, not_rose}
 use Rattle.session.proofs.LineLemmas.{none_failed, one_failed, read_fails, read_stops, rose, too_many, why_failed}
-use Rattle.session.proofs.LearnLemmas.{learns_on, learns_same}
+use Rattle.session.proofs.LearnLemmas.{goes_on, goes_on_same}
 use Rattle.session.proofs.desk.Desk.answer_lines.Goals as goal
 
 pub loop-init : goal.loop-init
 loop-init g c = record {
-  fits = c.requires.fits;
-  number = refl;
+  seat = goes_on_same _ _ _ c.requires.fits;
   route = refl;
-  learns = learns_same _ _;
   reads = refl;
   writes =
       refl;
@@ -37,7 +35,7 @@ returns-in-Err-answer_line-2-clause-session g c =
     let e = c.in-Ok-Ended.ensures in
     let gives = Gives-ended _ _ _ _ c.in-Ok-Ended.field-0-is e.2.0 in
     let done = c.in-Err-answer_line-2.ensures.turn gives.line (c.line-line-in-Ok-Ended.ensures gives.line gives.shown) in
-    let turn = TurnsTo-number _ _ _ _ _ c.loop.invariant.number done.2 in
+    let turn = TurnsTo-number _ _ _ _ _ c.loop.invariant.seat.number done.2 in
     cut_short_at_line _ _ _ _ _ e.0 _ _ _ _ _ _ _ _ _ _ _ _ (omega (arith, c.loop-test.true, c.loop.auto.counter-end))
     c.loop.invariant.so_far e.1 gives done.0 done.1 turn done.3.0 done.3.1 (not_rose _ _ (e.2.1 ∙ c.loop.invariant.reads))
     (rose _ _ _ c.requires.counts.1 c.loop.invariant.writes c.in-Err-answer_line-2.ensures.failures.0)
@@ -47,12 +45,10 @@ loop-preserved g c =
     let e = c.in-Ok-Ended.ensures in
     let gives = Gives-ended _ _ _ _ c.in-Ok-Ended.field-0-is e.2.0 in
     let done = c.in-Ok-answer_line.ensures.turn gives.line (c.line-line-in-Ok-Ended.ensures gives.line gives.shown) in
-    let turn = TurnsTo-number _ _ _ _ _ c.loop.invariant.number done.2 in
+    let turn = TurnsTo-number _ _ _ _ _ c.loop.invariant.seat.number done.2 in
     record {
-      fits = c.in-Ok-answer_line.ensures.fits;
-      number = c.in-Ok-answer_line.ensures.number ∙ c.loop.invariant.number;
+      seat = goes_on _ _ _ _ _ c.loop.invariant.seat c.in-Ok-answer_line.ensures.seat;
       route = c.in-Ok-answer_line.ensures.route ∙ c.loop.invariant.route;
-      learns = learns_on _ _ _ _ _ _ c.loop.invariant.learns c.in-Ok-answer_line.ensures.learns;
       reads = e.2.1 ∙ c.loop.invariant.reads;
       writes = c.in-Ok-answer_line.ensures.failures ∙ c.loop.invariant.writes;
       so_far = SoFar-more _ _ _ _ _ e.0 _ _ _ _ _ _ _ _ c.loop.invariant.so_far e.1 gives done.0 done.1 turn done.3;
@@ -63,7 +59,7 @@ returns-in-Ok-clause-session g c =
     let e = c.in-Ok-Rest.ensures in
     let gives = Gives-rest _ _ _ _ c.in-Ok-Rest.field-0-is e.2.0 in
     let done = c.in-Ok.ensures.turn _ (c.line-line.ensures _ gives.shown) in
-    let turn = TurnsTo-number _ _ _ _ _ c.loop.invariant.number done.2 in
+    let turn = TurnsTo-number _ _ _ _ _ c.loop.invariant.seat.number done.2 in
     ends_with_rest _ _ _ _ _ e.0 _ _ _ _ _ _ _ _ _ _ _ _ _ (omega (arith, c.loop-test.true, c.loop.auto.counter-end))
     c.loop.invariant.so_far e.1 gives done.0 done.1 turn done.3 (not_rose _ _ (e.2.1 ∙ c.loop.invariant.reads))
     (not_rose _ _ (c.in-Ok.ensures.failures ∙ c.loop.invariant.writes))
@@ -73,7 +69,7 @@ returns-in-Err-answer_line-clause-session g c =
     let e = c.in-Ok-Rest.ensures in
     let gives = Gives-rest _ _ _ _ c.in-Ok-Rest.field-0-is e.2.0 in
     let done = c.in-Err-answer_line.ensures.turn _ (c.line-line.ensures _ gives.shown) in
-    let turn = TurnsTo-number _ _ _ _ _ c.loop.invariant.number done.2 in
+    let turn = TurnsTo-number _ _ _ _ _ c.loop.invariant.seat.number done.2 in
     cut_short_at_rest _ _ _ _ _ e.0 _ _ _ _ _ _ _ _ _ _ _ _ (omega (arith, c.loop-test.true, c.loop.auto.counter-end))
     c.loop.invariant.so_far e.1 gives done.0 done.1 turn done.3.0 done.3.1 (not_rose _ _ (e.2.1 ∙ c.loop.invariant.reads))
     (rose _ _ _ c.requires.counts.1 c.loop.invariant.writes c.in-Err-answer_line.ensures.failures.0)
@@ -103,29 +99,29 @@ returns-clause-session g c =
     c.loop.invariant.so_far e.1 (nothing_is_one_line _ (sym e.2 ∙ e.3.0))
     (inl (rose _ _ _ c.requires.counts.0 c.loop.invariant.reads e.3.1.0)) (not_rose _ _ c.loop.invariant.writes)
 
-pub returns-in-Err-clause-learns : goal.returns-in-Err-clause-learns
-returns-in-Err-clause-learns g c = c.loop.invariant.learns
+pub returns-in-Err-clause-seat : goal.returns-in-Err-clause-seat
+returns-in-Err-clause-seat g c = c.loop.invariant.seat
 
-pub returns-in-Ok-Nothing-clause-learns : goal.returns-in-Ok-Nothing-clause-learns
-returns-in-Ok-Nothing-clause-learns g c = c.loop.invariant.learns
+pub returns-in-Ok-Nothing-clause-seat : goal.returns-in-Ok-Nothing-clause-seat
+returns-in-Ok-Nothing-clause-seat g c = c.loop.invariant.seat
 
-pub returns-in-Ok-true-clause-learns : goal.returns-in-Ok-true-clause-learns
-returns-in-Ok-true-clause-learns g c = c.loop.invariant.learns
+pub returns-in-Ok-true-clause-seat : goal.returns-in-Ok-true-clause-seat
+returns-in-Ok-true-clause-seat g c = c.loop.invariant.seat
 
-pub returns-in-Ok-false-clause-learns : goal.returns-in-Ok-false-clause-learns
-returns-in-Ok-false-clause-learns g c = c.loop.invariant.learns
+pub returns-in-Ok-false-clause-seat : goal.returns-in-Ok-false-clause-seat
+returns-in-Ok-false-clause-seat g c = c.loop.invariant.seat
 
-pub returns-in-Err-answer_line-2-clause-learns : goal.returns-in-Err-answer_line-2-clause-learns
-returns-in-Err-answer_line-2-clause-learns g c = learns_on _ _ _ _ _ _ c.loop.invariant.learns c.in-Err-answer_line-2.ensures.learns
+pub returns-in-Err-answer_line-2-clause-seat : goal.returns-in-Err-answer_line-2-clause-seat
+returns-in-Err-answer_line-2-clause-seat g c = goes_on _ _ _ _ _ c.loop.invariant.seat c.in-Err-answer_line-2.ensures.seat
 
-pub returns-in-Ok-clause-learns : goal.returns-in-Ok-clause-learns
-returns-in-Ok-clause-learns g c = learns_on _ _ _ _ _ _ c.loop.invariant.learns c.in-Ok.ensures.learns
+pub returns-in-Ok-clause-seat : goal.returns-in-Ok-clause-seat
+returns-in-Ok-clause-seat g c = goes_on _ _ _ _ _ c.loop.invariant.seat c.in-Ok.ensures.seat
 
-pub returns-in-Err-answer_line-clause-learns : goal.returns-in-Err-answer_line-clause-learns
-returns-in-Err-answer_line-clause-learns g c = learns_on _ _ _ _ _ _ c.loop.invariant.learns c.in-Err-answer_line.ensures.learns
+pub returns-in-Err-answer_line-clause-seat : goal.returns-in-Err-answer_line-clause-seat
+returns-in-Err-answer_line-clause-seat g c = goes_on _ _ _ _ _ c.loop.invariant.seat c.in-Err-answer_line.ensures.seat
 
-pub returns-clause-learns : goal.returns-clause-learns
-returns-clause-learns g c = c.loop.invariant.learns
+pub returns-clause-seat : goal.returns-clause-seat
+returns-clause-seat g c = c.loop.invariant.seat
 
 pub returns-in-Err-clause-stops : goal.returns-in-Err-clause-stops
 returns-in-Err-clause-stops g c = (read_stops _ _ _ _ _ c.loop.invariant.reads c.in-Err.ensures.2.2, none_failed _ _ _ c.loop.invariant.writes)

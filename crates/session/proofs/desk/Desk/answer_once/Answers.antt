@@ -1,4 +1,4 @@
-use Rattle.std.proofs.Common.{subst}
+use Rattle.std.proofs.Common.{◌∙◌, subst}
 use Rattle.session.specs.SeatSteps.{HoldsInSome}
 use Rattle.session.proofs.MetLemmas.{profile_refused, profile_met_once}
 use Rattle.session.proofs.LearnLemmas.{learns_once, learns_unpinned}
@@ -9,14 +9,21 @@ returns-in-Err-clause-met g c = profile_refused _ _ _ _ _ _ c.requires.idle c.in
 
 pub returns-clause-met : goal.returns-clause-met
 returns-clause-met g c =
-    let known = subst (λ n. HoldsInSome n (g.T.Versions.value c.pin.new.seat).held) c.in_default.ensures.number
-    (g.T.Versions.known c.pin.new.seat, c.in_default.ensures.known) in
+    let known = subst (λ n. HoldsInSome n (g.T.Versions.words.shown c.pin.new.seat).held) c.in_default.ensures.number
+    (g.T.Versions.words.known c.pin.new.seat, c.in_default.ensures.known) in
     profile_met_once _ _ _ _ _ _ _ _ _ c.in_default.ensures.pin known c.in-Some.ensures.lent c.release.ensures.release c.answer_from-reply.ensures
 
-pub returns-in-Err-clause-learns : goal.returns-in-Err-clause-learns
-returns-in-Err-clause-learns g c = learns_unpinned _ _ _ _ c.in-Err.fault c.in-Err.ensures.pin c.in-Err.ensures.grows
+pub returns-in-Err-clause-seat : goal.returns-in-Err-clause-seat
+returns-in-Err-clause-seat g c =
+    let e = c.in-Err.ensures in
+    record { fits = e.fits; number = e.number; learns = learns_unpinned _ _ _ _ c.in-Err.fault e.pin e.grows }
 
-pub returns-clause-learns : goal.returns-clause-learns
-returns-clause-learns g c =
+pub returns-clause-seat : goal.returns-clause-seat
+returns-clause-seat g c =
     let e = c.in_default.ensures in
-    learns_once _ _ _ _ _ _ _ _ e.pin e.grows e.known c.release.ensures.release c.release.ensures.grows
+    let back = c.release.ensures in
+    record {
+      fits = back.fits;
+      number = back.number ∙ e.number;
+      learns = learns_once _ _ _ _ _ _ _ _ e.pin e.grows e.known back.release back.grows;
+    }

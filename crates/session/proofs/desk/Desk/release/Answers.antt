@@ -9,8 +9,12 @@ returns-in-Ok-clause-met g c = release_met _ _ _ _ c.in-Ok.ensures.release (c.fi
 pub returns-in-Err-clause-met : goal.returns-in-Err-clause-met
 returns-in-Err-clause-met g c = release_refused _ _ _ _ _ c.in-Err.ensures.release c.pin_fault.ensures
 
-pub returns-in-Ok-clause-learns : goal.returns-in-Ok-clause-learns
-returns-in-Ok-clause-learns g c = learns_by_release _ _ _ _ (Ok tt) c.in-Ok.ensures.release c.in-Ok.ensures.grows
+pub returns-in-Ok-clause-seat : goal.returns-in-Ok-clause-seat
+returns-in-Ok-clause-seat g c =
+    let e = c.in-Ok.ensures in
+    record { fits = e.fits; number = e.number; learns = learns_by_release _ _ _ _ (Ok tt) e.release e.grows }
 
-pub returns-in-Err-clause-learns : goal.returns-in-Err-clause-learns
-returns-in-Err-clause-learns g c = learns_unreleased _ _ _ _ c.in-Err.fault c.in-Err.ensures.release c.in-Err.ensures.grows
+pub returns-in-Err-clause-seat : goal.returns-in-Err-clause-seat
+returns-in-Err-clause-seat g c =
+    let e = c.in-Err.ensures in
+    record { fits = e.fits; number = e.number; learns = learns_unreleased _ _ _ _ c.in-Err.fault e.release e.grows }

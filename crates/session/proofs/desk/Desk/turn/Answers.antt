@@ -4,7 +4,7 @@ use Rattle.session_texts.specs.declared.judging.LineFault.{LineFault}
 use Rattle.session.proofs.SideLemmas.{none_asked}
 use Rattle.session.proofs.TurnLemmas.{asks_known, bad_json_turn, bad_request_turn, load_turn, memory_turn}
 use Rattle.session.proofs.TurnLemmas.{order_turn, seat_turn, too_long_turn, waits_for, waits_not, whole}
-use Rattle.session.proofs.LearnLemmas.{learns_same}
+use Rattle.session.proofs.LearnLemmas.{goes_on_same}
 use Rattle.session.proofs.desk.Desk.turn.Goals as goal
 
 pub returns-in-TooLong-clause-turn : goal.returns-in-TooLong-clause-turn
@@ -62,42 +62,42 @@ returns-in-Ok-Load-default-false-clause-turn g c = λ l shows.
 
 pub returns-clause-turn : goal.returns-clause-turn
 returns-clause-turn g c = λ l shows.
-    let put = c.load_feed.ensures.met in
+    let deed = c.load_feed.ensures.met in
     let arm = c.in-Ok-Load-default-true in
     let here = whole c.args.line c.in-Whole.bytes l c.in-Whole.is shows in
     let asked = waits_for c.args.self.now.form.sets (view c.in-Ok.value) _ arm.field-0-1 arm.field-0-1-test
     (asks_known _ (view c.in-Ok.value) _ _ arm.field-0-is arm.ensures) in
-    load_turn _ _ _ _ _ put.0 c.in-Whole.bytes.now l _ arm.feed.now (view c.in-Ok.value) here c.in-Ok.ensures.value asked put.1 put.2
+    load_turn _ _ _ _ _ deed.0 c.in-Whole.bytes.now l _ arm.feed.now (view c.in-Ok.value) here c.in-Ok.ensures.value asked deed.1 deed.2 deed.3
 
-pub returns-in-TooLong-clause-learns : goal.returns-in-TooLong-clause-learns
-returns-in-TooLong-clause-learns g c = learns_same _ _
+pub returns-in-TooLong-clause-seat : goal.returns-in-TooLong-clause-seat
+returns-in-TooLong-clause-seat g c = goes_on_same _ _ _ c.requires.fits
 
-pub returns-in-NoRoom-clause-learns : goal.returns-in-NoRoom-clause-learns
-returns-in-NoRoom-clause-learns g c = learns_same _ _
+pub returns-in-NoRoom-clause-seat : goal.returns-in-NoRoom-clause-seat
+returns-in-NoRoom-clause-seat g c = goes_on_same _ _ _ c.requires.fits
 
-pub returns-in-Err-BadJson-clause-learns : goal.returns-in-Err-BadJson-clause-learns
-returns-in-Err-BadJson-clause-learns g c = learns_same _ _
+pub returns-in-Err-BadJson-clause-seat : goal.returns-in-Err-BadJson-clause-seat
+returns-in-Err-BadJson-clause-seat g c = goes_on_same _ _ _ c.requires.fits
 
-pub returns-in-Err-OutOfMemory-clause-learns : goal.returns-in-Err-OutOfMemory-clause-learns
-returns-in-Err-OutOfMemory-clause-learns g c = learns_same _ _
+pub returns-in-Err-OutOfMemory-clause-seat : goal.returns-in-Err-OutOfMemory-clause-seat
+returns-in-Err-OutOfMemory-clause-seat g c = goes_on_same _ _ _ c.requires.fits
 
-pub returns-in-Err-BadRequest-clause-learns : goal.returns-in-Err-BadRequest-clause-learns
-returns-in-Err-BadRequest-clause-learns g c = learns_same _ _
+pub returns-in-Err-BadRequest-clause-seat : goal.returns-in-Err-BadRequest-clause-seat
+returns-in-Err-BadRequest-clause-seat g c = goes_on_same _ _ _ c.requires.fits
 
-pub returns-in-Ok-Pin-clause-learns : goal.returns-in-Ok-Pin-clause-learns
-returns-in-Ok-Pin-clause-learns g c = c.pin.ensures.learns
+pub returns-in-Ok-Pin-clause-seat : goal.returns-in-Ok-Pin-clause-seat
+returns-in-Ok-Pin-clause-seat g c = c.pin.ensures.seat
 
-pub returns-in-Ok-Release-clause-learns : goal.returns-in-Ok-Release-clause-learns
-returns-in-Ok-Release-clause-learns g c = c.release.ensures.learns
+pub returns-in-Ok-Release-clause-seat : goal.returns-in-Ok-Release-clause-seat
+returns-in-Ok-Release-clause-seat g c = c.release.ensures.seat
 
-pub returns-in-Ok-Profile-clause-learns : goal.returns-in-Ok-Profile-clause-learns
-returns-in-Ok-Profile-clause-learns g c = c.answer_profile.ensures.learns
+pub returns-in-Ok-Profile-clause-seat : goal.returns-in-Ok-Profile-clause-seat
+returns-in-Ok-Profile-clause-seat g c = c.answer_profile.ensures.seat
 
-pub returns-in-Ok-Load-default-false-clause-learns : goal.returns-in-Ok-Load-default-false-clause-learns
-returns-in-Ok-Load-default-false-clause-learns g c = learns_same _ _
+pub returns-in-Ok-Load-default-false-clause-seat : goal.returns-in-Ok-Load-default-false-clause-seat
+returns-in-Ok-Load-default-false-clause-seat g c = goes_on_same _ _ _ c.requires.fits
 
-pub returns-clause-learns : goal.returns-clause-learns
-returns-clause-learns g c = c.load_feed.ensures.learns
+pub returns-clause-seat : goal.returns-clause-seat
+returns-clause-seat g c = c.load_feed.ensures.seat
 
-pub returns-in-Err-OutOfMemory-request_of-clause-learns : goal.returns-in-Err-OutOfMemory-request_of-clause-learns
-returns-in-Err-OutOfMemory-request_of-clause-learns g c = learns_same _ _
+pub returns-in-Err-OutOfMemory-request_of-clause-seat : goal.returns-in-Err-OutOfMemory-request_of-clause-seat
+returns-in-Err-OutOfMemory-request_of-clause-seat g c = goes_on_same _ _ _ c.requires.fits

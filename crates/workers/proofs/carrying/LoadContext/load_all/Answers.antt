@@ -1,9 +1,9 @@
 use Rattle.std.proofs.Common.{◌∙◌, refl, subst, sym, ap, ◌++◌, ◌∷◌, []}
 use Rattle.load_orders.specs.Keeping.{QueueId}
 use Rattle.workers.specs.Carrying.{IsCarriedOut, depot_of, errand_of, loads_value}
-use Rattle.workers.specs.Words.{files_of, loader_of, loads_of, outcomes_of}
+use Rattle.workers.specs.Words.{files_of, loads_of, outcomes_of}
 use Rattle.workers.proofs.Carried.{carried_same, carries_also, carries_nothing, each_answered}
-use Rattle.workers.proofs.Learning.{loader_on, loader_same}
+use Rattle.workers.proofs.Learning.{loader_goes_on, loader_goes_same}
 use Rattle.workers.proofs.carrying.LoadContext.load_all.Goals as goal
 
 -- nothing was taken yet
@@ -11,14 +11,13 @@ pub loop-init : goal.loop-init
 loop-init g c =
     let words = loads_of g.F.Feeds.words (outcomes_of
     (files_of g.F.Files.FeedFiles.holds g.F.Files.FeedFiles.reads g.F.Files.FeedFiles.failures g.F.Files.FeedFiles.failed)
-    (loader_of g.T.Loads.loads g.T.Loads.answers g.T.Loads.learned) g.T.Versions.noted) in
+    g.T.Loads.words g.T.Versions.words.version) in
     let none = c.requires.none in
     record {
       next = tt;
       finite = tt;
       queue = refl;
-      loads = c.requires.loads;
-      learns = loader_same (g.T.Loads.learned c.args.seat) (g.T.Loads.answers c.args.seat);
+      seat = loader_goes_same _ _ _ c.requires.loads;
       carried = carries_nothing (depot_of words c.args.self.now.feeds.now c.args.orders.queue) c.args.seat (loads_value c.args.orders c.args.used)
           none.0 none.1 none.2;
     }
@@ -28,7 +27,7 @@ pub next-requires-in-loop : goal.next-requires-in-loop
 next-requires-in-loop g c =
     let words = loads_of g.F.Feeds.words (outcomes_of
     (files_of g.F.Files.FeedFiles.holds g.F.Files.FeedFiles.reads g.F.Files.FeedFiles.failures g.F.Files.FeedFiles.failed)
-    (loader_of g.T.Loads.loads g.T.Loads.answers g.T.Loads.learned) g.T.Versions.noted) in
+    g.T.Loads.words g.T.Versions.words.version) in
     each_answered (depot_of words c.args.self.now.feeds.now c.args.orders.queue) c.args.seat (loads_value c.loop.orders c.loop.used) c.loop.seat
     c.loop.invariant.carried
 
@@ -37,7 +36,7 @@ pub loop-preserved : goal.loop-preserved
 loop-preserved g c =
     let words = loads_of g.F.Feeds.words (outcomes_of
     (files_of g.F.Files.FeedFiles.holds g.F.Files.FeedFiles.reads g.F.Files.FeedFiles.failures g.F.Files.FeedFiles.failed)
-    (loader_of g.T.Loads.loads g.T.Loads.answers g.T.Loads.learned) g.T.Versions.noted) in
+    g.T.Loads.words g.T.Versions.words.version) in
     let feeds = c.args.self.now.feeds.now in
     let one = c.load_feed.ensures in
     let next = c.in-Some-next.ensures in
@@ -49,8 +48,7 @@ loop-preserved g c =
       next = tt;
       finite = tt;
       queue = one.queue ∙ at_queue;
-      loads = one.loads;
-      learns = loader_on _ _ _ _ _ _ c.loop.invariant.learns one.learns;
+      seat = loader_goes_on _ _ _ _ _ c.loop.invariant.seat one.seat;
       carried = carries_also (depot_of words feeds c.args.orders.queue) c.args.seat c.loop.seat c.load_feed.new.seat
           (loads_value c.loop.orders c.loop.used) (loads_value c.load_feed.new.orders c.load_feed.new.used) errand c.loop.invariant.carried
           next.taken (one.taken ∙ next.taken) (one.carried.2 ∙ ap (λ list. list ++ one.carried.0 ∷ []) next.answered) one.carried.3 also;
@@ -61,16 +59,16 @@ pub returns-in-None-next : goal.returns-in-None-next
 returns-in-None-next g c =
     let words = loads_of g.F.Feeds.words (outcomes_of
     (files_of g.F.Files.FeedFiles.holds g.F.Files.FeedFiles.reads g.F.Files.FeedFiles.failures g.F.Files.FeedFiles.failed)
-    (loader_of g.T.Loads.loads g.T.Loads.answers g.T.Loads.learned) g.T.Versions.noted) in
+    g.T.Loads.words g.T.Versions.words.version) in
     let last = c.in-None-next.ensures in
     let at_queue = last.queue ∙ c.loop.invariant.queue in
     record {
-      loads = c.loop.invariant.loads;
+      loads = c.loop.invariant.seat.fits;
       queue = at_queue;
       loaded = record {
         over = last.over;
         carried = carried_same words c.args.self.now.feeds.now c.args.orders.queue c.next-in-loop.new.self.queue c.args.seat c.loop.seat
             c.loop.orders c.next-in-loop.new.self c.loop.used (sym at_queue) last.taken last.answered c.loop.invariant.carried;
-        learns = c.loop.invariant.learns;
+        learns = c.loop.invariant.seat.learns;
       };
     }

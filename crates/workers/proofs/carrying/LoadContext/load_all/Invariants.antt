@@ -1,7 +1,7 @@
 use Rattle.std.proofs.Common.{◌≡◌}
 use Rattle.workers.specs.Carrying.{AreCarried, depot_of, loads_value}
-use Rattle.workers.specs.Learned.{LoaderLearns}
-use Rattle.workers.specs.Words.{files_of, loader_of, loads_of, outcomes_of}
+use Rattle.workers.specs.Learned.{LoaderGoesOn}
+use Rattle.workers.specs.Words.{files_of, loads_of, outcomes_of}
 use Rattle.workers.proofs.carrying.LoadContext.load_all.Given as goal
 
 abbrev pub invariant-loop : goal.invariant-loop
@@ -9,10 +9,9 @@ invariant-loop g l = record {
   next : (goal.iterator-loop g).can_next l.iterator';
   finite : (goal.iterator-loop g).is_finite l.iterator';
   queue : l.orders.queue ≡ l.fn.orders.queue;
-  loads : g.T.Loads.loads l.self.shelves.now l.seat;
+  seat : LoaderGoesOn g.T.Loads.words l.self.shelves.now l.fn.seat l.seat;
   carried : AreCarried (depot_of (loads_of g.F.Feeds.words (outcomes_of
       (files_of g.F.Files.FeedFiles.holds g.F.Files.FeedFiles.reads g.F.Files.FeedFiles.failures g.F.Files.FeedFiles.failed)
-      (loader_of g.T.Loads.loads g.T.Loads.answers g.T.Loads.learned) g.T.Versions.noted))
+      g.T.Loads.words g.T.Versions.words.version))
       l.self.feeds.now l.fn.orders.queue) l.fn.seat (loads_value l.orders l.used) l.seat;
-  learns : LoaderLearns (g.T.Loads.learned l.fn.seat) (g.T.Loads.answers l.fn.seat) (g.T.Loads.learned l.seat) (g.T.Loads.answers l.seat);
 }

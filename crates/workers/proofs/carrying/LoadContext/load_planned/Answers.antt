@@ -1,6 +1,6 @@
 use Rattle.std.proofs.Common.{ap, refl, arith, sym, subst}
 use Rattle.feed_files.specs.Reads.{SomeWereRead}
-use Rattle.workers.proofs.Learning.{loader_same}
+use Rattle.workers.proofs.Learning.{loader_goes_same}
 use Rattle.workers.proofs.Reading.{none_read}
 use Rattle.workers.proofs.carrying.LoadContext.load_planned.Goals as goal
 
@@ -15,5 +15,5 @@ returns-in-Err-clause-outcome g c =
     let failed = ap g.F.Files.FeedFiles.failed c.requires.new in
     (possible.0, possible.1, (unread, λ content shows not. absurd (not refl), refl), (omega (arith, failures), failed))
 
-pub returns-in-Err-clause-learns : goal.returns-in-Err-clause-learns
-returns-in-Err-clause-learns g c = loader_same _ _
+pub returns-in-Err-clause-seat : goal.returns-in-Err-clause-seat
+returns-in-Err-clause-seat g c = loader_goes_same _ _ _ c.requires.loads

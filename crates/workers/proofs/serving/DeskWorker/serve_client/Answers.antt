@@ -4,7 +4,7 @@ use Rattle.epochs.specs.Seats.{SeatValue}
 use Rattle.session.specs.Learning.{TellPublished}
 use Rattle.session.proofs.LearnLemmas.{learning_tells, learns_same}
 use Rattle.workers.specs.Sessions.{standing}
-use Rattle.workers.specs.Words.{seats_of, sessions_of}
+use Rattle.workers.specs.Words.{sessions_of}
 use Rattle.workers.proofs.Ending.{session_of}
 use Rattle.workers.proofs.serving.DeskWorker.serve_client.Goals as goal
 
@@ -16,7 +16,7 @@ tells_same k a = learning_tells k k a a (learns_same k a)
 pub returns-in-Ok-clause-session : goal.returns-in-Ok-clause-session
 returns-in-Ok-clause-session g c =
     let words = sessions_of c.args.self.now.desk.form g.C.Client.words g.C.Reader.Read.remaining g.C.Writer.Write.contents
-    (seats_of g.T.Versions.fits g.T.Versions.number g.T.Versions.value g.T.Versions.known g.T.Versions.noted) in
+    g.T.Versions.words in
     let new = c.new-streams.ensures in
     let is = c.serve-outcome.ensures in
     let asked = g.O.Orders.asked in
@@ -25,8 +25,8 @@ returns-in-Ok-clause-session g c =
           is.session.0 (standing c.args.seat.now (asked c.args.orders.now))
           (standing c.serve-outcome.new.seat (asked c.serve-outcome.new.orders))
           c.in-Ok.ensures new.reader new.writer new.reads new.writes c.end_of.ensures is.session.1 is.session.2;
-      number = is.number;
-      learns = is.learns;
+      number = is.seat.number;
+      learns = is.seat.learns;
       profiles = is.profiles;
       idle = λ none. is.released;
     }
@@ -37,6 +37,6 @@ returns-in-Err-clause-session g c = record {
   served = record { fault = c.in-Err.field-0; opens = c.in-Err.ensures; end_is = refl; same = refl };
   number = refl;
   learns = learns_same _ _;
-  profiles = tells_same (g.T.Versions.known c.args.seat.now) (g.T.Versions.value c.args.seat.now);
+  profiles = tells_same (g.T.Versions.words.known c.args.seat.now) (g.T.Versions.words.shown c.args.seat.now);
   idle = λ none. none;
 }

@@ -1,6 +1,6 @@
 use Rattle.std.proofs.Common.{refl, sym, subst, ◌∙◌}
 use Rattle.workers.specs.Sessions.{AreServed, standing}
-use Rattle.workers.specs.Words.{seats_of, sessions_of}
+use Rattle.workers.specs.Words.{sessions_of}
 use Rattle.workers.proofs.Ending.{may_close, serves_next, serves_none}
 use Rattle.workers.proofs.Told.{exact}
 use Rattle.workers.proofs.serving.DeskWorker.work.Goals as goal
@@ -13,7 +13,7 @@ loop-init g c = record {
   route = refl;
   fits = c.requires.fits;
   served = serves_none (sessions_of c.args.self.now.desk.form g.C.Client.words g.C.Reader.Read.remaining g.C.Writer.Write.contents
-      (seats_of g.T.Versions.fits g.T.Versions.number g.T.Versions.value g.T.Versions.known g.T.Versions.noted))
+      g.T.Versions.words)
       _ _ (standing c.args.seat (g.O.Orders.asked c.args.orders)) c.requires.none.0 c.requires.none.1;
 }
 
@@ -21,7 +21,7 @@ loop-init g c = record {
 pub loop-preserved : goal.loop-preserved
 loop-preserved g c =
     let words = sessions_of c.args.self.now.desk.form g.C.Client.words g.C.Reader.Read.remaining g.C.Writer.Write.contents
-    (seats_of g.T.Versions.fits g.T.Versions.number g.T.Versions.value g.T.Versions.known g.T.Versions.noted) in
+    g.T.Versions.words in
     let was = c.loop.invariant in
     let one = c.serve_client-streams in
     let asked = g.O.Orders.asked in
@@ -40,7 +40,7 @@ loop-preserved g c =
 pub close-requires-clause-closes : goal.close-requires-clause-closes
 close-requires-clause-closes g c =
     let words = sessions_of c.args.self.now.desk.form g.C.Client.words g.C.Reader.Read.remaining g.C.Writer.Write.contents
-    (seats_of g.T.Versions.fits g.T.Versions.number g.T.Versions.value g.T.Versions.known g.T.Versions.noted) in
+    g.T.Versions.words in
     let one = c.serve_client-streams in
     let asked = g.O.Orders.asked in
     λ lifetimes outlive. may_close words c.args.self.now.desk.shelves.now c.in-Some-next.client one.result.0 one.result.1
@@ -51,7 +51,7 @@ close-requires-clause-closes g c =
 pub returns-in-None-next-clause-exact : goal.returns-in-None-next-clause-exact
 returns-in-None-next-clause-exact g c = λ idle.
     let words = sessions_of c.args.self.now.desk.form g.C.Client.words g.C.Reader.Read.remaining g.C.Writer.Write.contents
-    (seats_of g.T.Versions.fits g.T.Versions.number g.T.Versions.value g.T.Versions.known g.T.Versions.noted) in
+    g.T.Versions.words in
     let asked = g.O.Orders.asked in
     let a = standing c.args.seat (asked c.args.orders) in
     let b = standing c.loop.seat (asked c.loop.orders) in

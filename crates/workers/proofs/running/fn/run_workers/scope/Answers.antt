@@ -8,18 +8,18 @@ use Rattle.load_orders.specs.Keeping.{QueueId}
 use Rattle.workers.specs.Carrying.{AreLoaded, depot_of, loads_value}
 use Rattle.workers.specs.Ordering.{GoesBy, route_to}
 use Rattle.workers.specs.Sessions.{AreServedSince, MayClose, posts_at, work_of}
-use Rattle.workers.specs.Words.{files_of, loader_of, loads_of, outcomes_of, seats_of, sessions_of}
+use Rattle.workers.specs.Words.{files_of, loads_of, outcomes_of, sessions_of}
 use Rattle.workers.proofs.running.fn.run_workers.scope.Goals as goal
 
 -- the next seat is one of those that are left
 pub spawn_with-begun-requires-clause-runs : goal.spawn_with-begun-requires-clause-runs
 spawn_with-begun-requires-clause-runs g c =
     let words = sessions_of c.captures.form g.C.Client.words g.C.Reader.Read.remaining g.C.Writer.Write.contents
-    (seats_of g.T.Versions.fits g.T.Versions.number g.T.Versions.value g.T.Versions.known g.T.Versions.noted) in
-    let left : All (g.T.Versions.fits c.captures.shelves.now) (c.in-Some.seat ∷ c.next.new.self.rest.items) =
-    subst (λ items. All (g.T.Versions.fits c.captures.shelves.now) items) c.in-Some.ensures.steps.0 c.loop-seat.invariant.fit in
-    let fits : g.T.Versions.fits c.captures.shelves.now c.in-Some.seat = left 0 c.in-Some.seat (omega arith) in
-    let ready : g.T.Versions.fits c.captures.shelves.now c.in-Some.seat × (c.in_ok-taker.taker.taken ≡ []) × (c.new-nobody_yet.result ≡ [])
+    g.T.Versions.words in
+    let left : All (g.T.Versions.words.fits c.captures.shelves.now) (c.in-Some.seat ∷ c.next.new.self.rest.items) =
+    subst (λ items. All (g.T.Versions.words.fits c.captures.shelves.now) items) c.in-Some.ensures.steps.0 c.loop-seat.invariant.fit in
+    let fits : g.T.Versions.words.fits c.captures.shelves.now c.in-Some.seat = left 0 c.in-Some.seat (omega arith) in
+    let ready : g.T.Versions.words.fits c.captures.shelves.now c.in-Some.seat × (c.in_ok-taker.taker.taken ≡ []) × (c.new-nobody_yet.result ≡ [])
     × (c.in_ok-end.end.items ≡ [])
     × MayClose words c.captures.shelves.now =
     (fits, ap (λ taker. taker.taken) c.in_ok-taker.ensures.taker, c.new-nobody_yet.ensures, c.in_ok-end.ensures.nothing, c.requires.13) in
@@ -32,8 +32,8 @@ pub loop-seat-preserved : goal.loop-seat-preserved
 loop-seat-preserved g c =
     let was = c.loop-seat.invariant in
     let step = c.in-Some.ensures.steps in
-    let left : All (g.T.Versions.fits c.captures.shelves.now) (c.in-Some.seat ∷ c.next.new.self.rest.items) =
-    subst (λ items. All (g.T.Versions.fits c.captures.shelves.now) items) step.0 was.fit in
+    let left : All (g.T.Versions.words.fits c.captures.shelves.now) (c.in-Some.seat ∷ c.next.new.self.rest.items) =
+    subst (λ items. All (g.T.Versions.words.fits c.captures.shelves.now) items) step.0 was.fit in
     let short = ap length step.0 in
     let worker = c.in-Ok-begun.worker in
     let promise = c.in-Ok-begun.ensures.ok in
@@ -71,12 +71,12 @@ loop-seat-preserved g c =
 -- all seats may be used at the shelves
 pub loop-seat-init : goal.loop-seat-init
 loop-seat-init g c =
-    let all : All (g.T.Versions.fits c.captures.shelves.now) c.captures.seats.items = c.requires.12.fit in
+    let all : All (g.T.Versions.words.fits c.captures.shelves.now) c.captures.seats.items = c.requires.12.fit in
     let none = c.new-workers.ensures.items in
     record {
       next = tt;
       finite = tt;
-      fit = subst (λ items. All (g.T.Versions.fits c.captures.shelves.now) items) (sym c.into_iter-seat-iterator.ensures.into_iter_gives.0) all;
+      fit = subst (λ items. All (g.T.Versions.words.fits c.captures.shelves.now) items) (sym c.into_iter-seat-iterator.ensures.into_iter_gives.0) all;
       len = search rules;
       at = subst (λ workers. All (λ worker. worker.promise.shelves.value ≡ c.captures.shelves.now) workers) (sym none) (All-nil _);
       forms = subst (λ workers. All (λ worker. worker.promise.form ≡ c.captures.form) workers) (sym none) (All-nil _);
@@ -114,10 +114,10 @@ returns-in-Some-close_and_join g c =
     let queue : c.of-route.result.end.value.queue ≡ after.orders.queue = sym (joined.queue ∙ ap (λ keeper. keeper.queue) kept) in
     let taken = subst (λ list. IsPermutation list after.orders.taken) (ap (λ keeper. keeper.put) kept) joined.all in
     let words = sessions_of c.captures.form g.C.Client.words g.C.Reader.Read.remaining g.C.Writer.Write.contents
-    (seats_of g.T.Versions.fits g.T.Versions.number g.T.Versions.value g.T.Versions.known g.T.Versions.noted) in
+    g.T.Versions.words in
     let loads = loads_of g.F.Feeds.words (outcomes_of
     (files_of g.F.Files.FeedFiles.holds g.F.Files.FeedFiles.reads g.F.Files.FeedFiles.failures g.F.Files.FeedFiles.failed)
-    (loader_of g.T.Loads.loads g.T.Loads.answers g.T.Loads.learned) g.T.Versions.noted) in
+    g.T.Loads.words g.T.Versions.words.version) in
     let at_seats = subst (λ seats. AreServedSince words (g.K.Clients.words.came c.captures.clients) (g.K.Clients.words.came ran.clients)
     (posts_at seats (route_to (g.F.Feeds.words.named c.of-route.result.feeds.value) c.of-route.result.end.value.queue))
     (work_of ran.served ran.seats.items ran.asked)) seats ran.ensures.served in
@@ -133,7 +133,7 @@ returns-in-Some-close_and_join g c =
     (loads_value after.orders after.used) after.loader) feeds joined.loaded in
     let loaded = subst (λ seat. AreLoaded (depot_of loads c.captures.feeds.now after.orders.queue) seat
     (loads_value after.orders after.used) after.loader) seat at_feeds in
-    let loader = subst (λ shelves. g.T.Loads.loads shelves after.loader) (ap (λ promise. promise.shelves.value) promised ∙ c.of-promise.ensures.shelves)
+    let loader = subst (λ shelves. g.T.Loads.words.fits shelves after.loader) (ap (λ promise. promise.shelves.value) promised ∙ c.of-promise.ensures.shelves)
     joined.loads in
     record {
       left = record {

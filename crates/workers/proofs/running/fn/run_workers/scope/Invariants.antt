@@ -9,7 +9,7 @@ abbrev pub invariant-loop-seat : goal.invariant-loop-seat
 invariant-loop-seat g l = record {
   next : (goal.iterator-loop-seat g).can_next l.seat-iterator;
   finite : (goal.iterator-loop-seat g).is_finite l.seat-iterator;
-  fit : All (g.T.Versions.fits l.shelves) l.seat-iterator.rest.items;
+  fit : All (g.T.Versions.words.fits l.shelves) l.seat-iterator.rest.items;
   len : into_iter_len l.seat-iterator ≡ length (into_iter_items l.seat-iterator);
   at : All (λ worker. worker.promise.shelves.value ≡ l.shelves) l.workers.items;
   forms : All (λ worker. worker.promise.form ≡ l.form) l.workers.items;

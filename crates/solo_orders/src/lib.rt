@@ -1,8 +1,10 @@
-//! Orders that are carried out at once, through the loader's seat of some shelves.
+//! Orders that are carried out at once, through the loader's seat of some shelves: for tests of sessions.
+#![tactic(auto)]
 
 ghost use Rattle.std.specs.Prelude.{◌≡◌, ◌++◌, ◌∷◌, [], IfErr, IfOk, MatchOption};
 ghost use Rattle.orders.specs.Ordering.{IsNotTaken, order_value, version_alone, waited_value};
-ghost use Rattle.session.specs.Feeds.{LoadStep, OrderStep, WaitStep, order_answer, index_of, wait_answer};
+ghost use Rattle.solo_orders.specs.Feeds.{LoadStep, OrderStep, WaitStep, feeds_state, index_of};
+ghost use Rattle.solo_orders.specs.Feeds.{order_answer, wait_answer};
 
 use epochs::{Loads, PublishFault, Versions};
 use image_verifier::Verified;
@@ -41,20 +43,20 @@ pub struct SoloOrders<'a, N: Drop, L: Drop, T: Versions<Notice = N> + Loads<Load
 
 impl<'a, N: Drop, L: Drop, T: Versions<Notice = N> + Loads<Loader = L>> Model
     for SoloOrders<'a, N, L, T> {
-    ghost use Rattle.session.specs.Feeds.{SoloOrdersValue};
+    ghost use Rattle.solo_orders.specs.Feeds.{SoloOrdersValue};
 
     ghost Value = { SoloOrdersValue };
 
-    ghost view = { λ s. record { feeds = s.feeds.items; answers = T.Loads.answers s.loader; asked = s.asked } };
+    ghost view = { λ s. record { feeds = s.feeds.items; answers = T.Loads.words.answers s.loader; asked = s.asked } };
 
-    ghost invariant = { λ s. T.Loads.loads s.shelves.now s.loader };
+    ghost invariant = { λ s. T.Loads.words.fits s.shelves.now s.loader };
 }
 
 impl<'a, N: Drop, L: Drop, T: Versions<Notice = N> + Loads<Loader = L>> SoloOrders<'a, N, L, T> {
     /// Nothing was ordered yet.
     pub fn new(shelves: &'a T, loader: L, feeds: Vec<FeedImage>) -> SoloOrders<'a, N, L, T>
-        requires { T.Loads.loads shelves.now loader }
-        ensures { result ≡ record { feeds = feeds.items; answers = T.Loads.answers loader; asked = [] } }
+        requires { T.Loads.words.fits shelves.now loader }
+        ensures { result ≡ record { feeds = feeds.items; answers = T.Loads.words.answers loader; asked = [] } }
     {
         SoloOrders {
             shelves,
@@ -66,8 +68,9 @@ impl<'a, N: Drop, L: Drop, T: Versions<Notice = N> + Loads<Loader = L>> SoloOrde
 
     fn load(&mut self, feed: &str) -> Result<(u64, Option<N>), NotLoaded>
         ensures asked { self.new.asked ≡ self.old.asked }
-        ensures step { LoadStep feed.now self.old.feeds self.old.answers result self.new.feeds self.new.answers }
-        ensures notice { IfOk result (λ loaded. MatchOption loaded.1 ⊥ (λ notice. T.Versions.noted notice
+        ensures step { LoadStep feed.now (feeds_state self.old.feeds self.old.answers) result
+            (feeds_state self.new.feeds self.new.answers) }
+        ensures notice { IfOk result (λ loaded. MatchOption loaded.1 ⊥ (λ notice. T.Versions.words.version notice
             ≡ loaded.0)) }
     {
         publish_first(self.shelves, &mut self.loader, &mut self.feeds, feed)
@@ -81,11 +84,11 @@ fn publish_first<N: Drop, T: Versions<Notice = N> + Loads>(
     feeds: &mut Vec<FeedImage>,
     feed: &str,
 ) -> Result<(u64, Option<N>), NotLoaded>
-    requires { T.Loads.loads shelves.now loader.old }
-    ensures loads { T.Loads.loads shelves.now loader.new }
-    ensures step { LoadStep feed.now feeds.old.items (T.Loads.answers loader.old) result feeds.new.items
-        (T.Loads.answers loader.new) }
-    ensures notice { IfOk result (λ loaded. MatchOption loaded.1 ⊥ (λ notice. T.Versions.noted notice
+    requires { T.Loads.words.fits shelves.now loader.old }
+    ensures loads { T.Loads.words.fits shelves.now loader.new }
+    ensures step { LoadStep feed.now (feeds_state feeds.old.items (T.Loads.words.answers loader.old)) result
+        (feeds_state feeds.new.items (T.Loads.words.answers loader.new)) }
+    ensures notice { IfOk result (λ loaded. MatchOption loaded.1 ⊥ (λ notice. T.Versions.words.version notice
         ≡ loaded.0)) }
 {
     let Some(index) = index_in(feeds, feed) else {
@@ -141,12 +144,13 @@ impl<'a, N: Drop, L: Drop, T: Versions<Notice = N> + Loads<Loader = L>> Orders
 
     ghost asked = { λ orders. orders.asked };
 
-    ghost notice_version = { T.Versions.noted };
+    ghost notice_version = { T.Versions.words.version };
 
     fn order(&mut self, feed: &str) -> Result<(), OrderFault>
         ensures asked { self.new.asked ≡ self.old.asked ++ order_value feed.now result ∷ [] }
         ensures refused { IfErr result IsNotTaken }
-        ensures step { OrderStep feed.now self.old.feeds self.old.answers result self.new.feeds self.new.answers }
+        ensures step { OrderStep feed.now (feeds_state self.old.feeds self.old.answers) result
+            (feeds_state self.new.feeds self.new.answers) }
     {
         let loaded = self.load(feed);
         let outcome = answer_to_order(loaded);
@@ -156,8 +160,9 @@ impl<'a, N: Drop, L: Drop, T: Versions<Notice = N> + Loads<Loader = L>> Orders
 
     fn order_wait(&mut self, feed: &str) -> Result<(u64, N), OrderFault>
         ensures asked { self.new.asked ≡ self.old.asked ++ waited_value feed.now (version_alone result) ∷ [] }
-        ensures notice { IfOk result (λ published. T.Versions.noted published.1 ≡ published.0) }
-        ensures step { WaitStep feed.now self.old.feeds self.old.answers result self.new.feeds self.new.answers }
+        ensures notice { IfOk result (λ published. T.Versions.words.version published.1 ≡ published.0) }
+        ensures step { WaitStep feed.now (feeds_state self.old.feeds self.old.answers) result
+            (feeds_state self.new.feeds self.new.answers) }
     {
         let loaded = self.load(feed);
         let outcome = answer_to_wait(loaded);

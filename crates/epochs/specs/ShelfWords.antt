@@ -1,10 +1,10 @@
 -- The words of shelves without a lock.
 use Rattle.std.specs.Prelude.{◌≡◌}
 use Rattle.atomic_table.specs.Seated.{TableId}
+use Rattle.shelf_steps.specs.Events.{known_of}
 use Rattle.epochs.specs.ShelfLoads.{ShelfLoaderValue}
 use Rattle.epochs.specs.ShelfSeats.{NoticeValue, ShelfSeatValue}
-use Rattle.shelf_steps.specs.Events.{known_of}
-use Rattle.workers.specs.Words.{LoaderWords, SeatWords}
+use Rattle.epochs.specs.Words.{LoaderWords, SeatWords}
 
 abbrev pub shelf_seats : SeatWords TableId ShelfSeatValue NoticeValue
 shelf_seats = record {
@@ -19,5 +19,6 @@ abbrev pub shelf_loader : LoaderWords TableId ShelfLoaderValue
 shelf_loader = record {
   fits = λ shelves loader. loader.table ≡ shelves;
   answers = λ loader. loader.answers;
+  current = λ loader. loader.current;
   known = λ loader. known_of loader.view;
 }

@@ -4,9 +4,9 @@ use Rattle.std.proofs.Common.{Ok, Err, IfErr, IfOk, MatchOption, length, refl, s
 use Rattle.std.specs.List.{remove}
 use Rattle.std.proofs.lemmas.List.Quantifiers.{position-Some}
 use Rattle.std.proofs.lemmas.Option.{slice_get_read}
-use Rattle.session.specs.declared.solo_orders.FeedImage.{FeedImage}
-use Rattle.session.specs.declared.solo_orders.NotLoaded.{NotLoaded}
-use Rattle.session.specs.Feeds.{IsLoadedAs, IsRefusedSo, Leaves, LoadStep, OrderStep, WaitStep, notice_answer, order_answer, index_of, wait_answer}
+use Rattle.solo_orders.specs.declared.FeedImage.{FeedImage}
+use Rattle.solo_orders.specs.declared.NotLoaded.{NotLoaded}
+use Rattle.solo_orders.specs.Feeds.{IsLoadedAs, IsRefusedSo, Leaves, feeds_state, index_of}
 use Rattle.epochs.specs.declared.seats.LoaderAnswer.{LoaderAnswer}
 use Rattle.orders.specs.Ordering.{IsNotTaken}
 use Rattle.std.specs.Arc.{arc_value}
@@ -34,10 +34,11 @@ leaves name feeds index found others at read gone =
 pub loaded_as : (name : List ℕ) (feeds others : List FeedImage) (answers between answers_then : List LoaderAnswer)
     (version : ℕ) (found : FeedImage) (collected : Collected)
     → Leaves name feeds found others → PublishStep answers (arc_value found.image) version between → CollectStep between collected answers_then
-    → IsLoadedAs name feeds answers version others answers_then
+    → IsLoadedAs name (feeds_state feeds answers) version (feeds_state others answers_then)
 loaded_as name feeds others answers between answers_then version found collected gone publish collect =
     record { found = found; between = between; collected = collected; leaves = gone; publish = publish; collect = collect }
 
 pub refused_so : (name : List ℕ) (feeds others : List FeedImage) (answers answers_then : List LoaderAnswer) (fault : PublishFault) (found : FeedImage)
-    → Leaves name feeds found others → RefuseStep answers fault answers_then → IsRefusedSo name feeds answers fault others answers_then
+    → Leaves name feeds found others → RefuseStep answers fault answers_then
+    → IsRefusedSo name (feeds_state feeds answers) fault (feeds_state others answers_then)
 refused_so name feeds others answers answers_then fault found gone refused = record { found = found; leaves = gone; refused = refused }

@@ -1,7 +1,7 @@
 use Rattle.std.proofs.Common.{rules, ◌≡◌, Some}
-use Rattle.session.specs.Feeds.{index_of}
-use Rattle.session.proofs.FeedLemmas.{leaves, loaded_as, refused_so}
-use Rattle.session.proofs.solo_orders.publish_first.Goals as goal
+use Rattle.solo_orders.specs.Feeds.{index_of}
+use Rattle.solo_orders.proofs.FeedLemmas.{leaves, loaded_as, refused_so}
+use Rattle.solo_orders.proofs.publish_first.Goals as goal
 
 pub returns-in-Ok-clause-step : goal.returns-in-Ok-clause-step
 returns-in-Ok-clause-step g c =
