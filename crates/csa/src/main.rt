@@ -7,7 +7,7 @@ use crate::source_sum::SOURCES;
 use csa_program::{WatchedWriter, explain_no_words, print_sources, run};
 use std::env;
 use std::fs::File;
-use std::io::{ErrorKind, IsTerminal};
+use std::io::ErrorKind;
 use std::process::ExitCode;
 use std::rt::Env;
 
@@ -32,15 +32,7 @@ fn main(rt: HostRuntime) -> ExitCode {
     };
     let mut input = rt.stdin();
     let mut output = WatchedWriter::of(rt.stdout());
-    let is_terminal = errors.is_terminal();
-    let status = run(
-        &rt,
-        words.as_slice(),
-        &mut input,
-        &mut output,
-        &mut errors,
-        is_terminal,
-    );
+    let status = run(&rt, words.as_slice(), &mut input, &mut output, &mut errors);
     if status == 0 && asks_version(&words) {
         return ExitCode::from(print_sources(SOURCES, &mut output, &mut errors));
     }

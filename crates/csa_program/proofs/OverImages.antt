@@ -5,11 +5,11 @@ use Rattle.image_files.specs.Out.{OutFiles}
 use Rattle.image_layout.specs.Image.{ImageValue}
 use Rattle.command_requests.specs.declared.requests.MatrixRequest.{MatrixRequest}
 use Rattle.command_requests.specs.declared.statuses.TheConstants.{ACCEPTED, COMMAND_LINE, INPUT_OUTPUT, OUT_OF_MEMORY, REFUSED}
-use Rattle.csa_commands.specs.Ending.{IsOutcome, PrintsRefusal}
-use Rattle.csa_commands.specs.Opening.{IsRefusedImage, PrintsOver, SpellsImage}
-use Rattle.csa_commands.specs.Matrices.{EndsTable, IsTableCutShort, IsTablePrinted, IsTableRefused, IsTableUnlisted}
+use Rattle.command_endings.specs.Ending.{IsOutcome, PrintsRefusal}
+use Rattle.image_commands.specs.Opening.{IsRefusedImage, PrintsOver, SpellsImage}
+use Rattle.image_commands.specs.Matrices.{EndsTable, IsTableCutShort, IsTablePrinted, IsTableRefused, IsTableUnlisted}
 use Rattle.csa_program.specs.Running.{IsTableEnd}
-use Rattle.csa_commands.proofs.Outcomes.{outcome_of}
+use Rattle.command_endings.proofs.Outcomes.{outcome_of}
 
 module _ (may_hold : List ℕ → Option (List ℕ) → Type 0) (path : List ℕ) (input : Option (List ℕ)) (Is : ImageValue → ℕ → List ℕ → Type 0)
     (status : ℕ) (before : Option (List ℕ)) where

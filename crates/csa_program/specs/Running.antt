@@ -11,16 +11,16 @@ use Rattle.command_requests.specs.declared.requests.CommandRequest.{CommandReque
 use Rattle.command_requests.specs.declared.requests.CommandRequest.TheVariants as requests
 use Rattle.command_requests.specs.declared.requests.MatrixRequest.{MatrixRequest}
 use Rattle.command_requests.specs.declared.statuses.TheConstants.{ACCEPTED, COMMAND_LINE, INPUT_OUTPUT, OUT_OF_MEMORY, REFUSED}
-use Rattle.csa_commands.specs.Building.{IsReportLine}
-use Rattle.csa_commands.specs.Commands.{PrintsAsked, PrintsDepartures, PrintsProfile}
-use Rattle.csa_commands.specs.Ending.{IsBegun, IsOutcome, PrintsOnly}
-use Rattle.csa_commands.specs.Folders.{AreDaysOf, IsBuildRefusal, IsTablesRefusalOf}
-use Rattle.csa_commands.specs.Matrices.{EndsTable, IsTableCutShort, IsTablePrinted, IsTableRefused, IsTableUnlisted}
-use Rattle.csa_commands.specs.Opening.{IsRefusedImage, PrintsOver, SpellsImage}
-use Rattle.csa_commands.specs.Refusing.{PrintsOfFeed}
-use Rattle.csa_commands.specs.Stations.{IsStopsRefusal, IsTextOf}
-use Rattle.csa_commands.specs.Tabling.{IsCounts}
-use Rattle.csa_commands.specs.declared.asked.ImageRequest.TheVariants as images
+use Rattle.feed_commands.specs.Building.{IsReportLine}
+use Rattle.image_commands.specs.Commands.{PrintsAsked, PrintsDepartures, PrintsProfile}
+use Rattle.command_endings.specs.Ending.{IsBegun, IsOutcome, PrintsOnly}
+use Rattle.feed_commands.specs.Folders.{AreDaysOf, IsBuildRefusal, IsTablesRefusalOf}
+use Rattle.image_commands.specs.Matrices.{EndsTable, IsTableCutShort, IsTablePrinted, IsTableRefused, IsTableUnlisted}
+use Rattle.image_commands.specs.Opening.{IsRefusedImage, PrintsOver, SpellsImage}
+use Rattle.feed_commands.specs.Refusing.{PrintsOfFeed}
+use Rattle.feed_commands.specs.Stations.{IsStopsRefusal, IsTextOf}
+use Rattle.feed_commands.specs.Tabling.{IsCounts}
+use Rattle.image_commands.specs.declared.asked.ImageRequest.TheVariants as images
 
 -- a table over the image at its path ended so; `may_hold` says what a file at a path may hold, and the path `-` is the input
 pub record IsTableEnd (may_hold : List ℕ → Option (List ℕ) → Type 0) (disk : OutFiles) (input : Option (List ℕ)) (request : MatrixRequest)
@@ -57,7 +57,7 @@ module _ {D : Type 0} (may_hold : List ℕ → Option (List ℕ) → Type 0) (gi
   IsEnd (requests.Stations request) =
       IsOutcome (PrintsOfFeed (IsTextOf gives request.folder.now request) (IsStopsRefusal gives request.folder.now))
   IsEnd (requests.Build request) =
-      IsOutcome (PrintsOfFeed (IsReportLine gives disk request) (IsBuildRefusal gives request.folder.now request.plan))
+      IsOutcome (PrintsOfFeed (IsReportLine gives may_hold disk request) (IsBuildRefusal gives request.folder.now may_hold request.plan))
   IsEnd (requests.Stops request) = IsOutcome (PrintsOver may_hold request.image.now input (λ i. PrintsAsked may_hold disk i (images.Stops request)))
   IsEnd (requests.Upgrade request) = IsOutcome (PrintsOver may_hold request.image.now input (λ i. PrintsAsked may_hold disk i (images.Upgrade request)))
   IsEnd (requests.Serve request) = λ status before after. Unit {0}

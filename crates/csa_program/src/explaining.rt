@@ -1,7 +1,8 @@
 //! What standard error says of a feed that a server loads, or doesn't.
 
-use csa_commands::{explain, explain_refused};
 use epochs::PublishFault;
+use feed_commands::explain_refused;
+use feed_messages::explain;
 use std::io::Write;
 use std::rt::Files;
 use workers::{LoadRefusal, LoadedVersion};

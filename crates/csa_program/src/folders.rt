@@ -1,7 +1,7 @@
 //! Whether the folders of a server's feeds are there.
 
 use command_requests::NamedFolder;
-use csa_commands::{explain, folder_fault};
+use feed_messages::{explain, folder_fault};
 use std::io::Write;
 use std::rt::Files;
 

@@ -4,9 +4,9 @@
 ghost use Rattle.std.specs.Prelude.{Result, map};
 ghost use Rattle.command_line.specs.declared.reading.NoCommand.{NoCommand};
 ghost use Rattle.command_requests.specs.declared.requests.CommandRequest.{CommandRequest};
-ghost use Rattle.csa_commands.specs.Commands.{PrintsAsked, PrintsDepartures, PrintsProfile, path_of};
-ghost use Rattle.csa_commands.specs.Ending.{IsOutcome};
-ghost use Rattle.csa_commands.specs.Opening.{PrintsOver};
+ghost use Rattle.image_commands.specs.Commands.{PrintsAsked, PrintsDepartures, PrintsProfile, path_of};
+ghost use Rattle.command_endings.specs.Ending.{IsOutcome};
+ghost use Rattle.image_commands.specs.Opening.{PrintsOver};
 ghost use Rattle.csa_program.specs.Running.{IsEnd, IsEndOf, IsTableEnd};
 
 mod accepting;
@@ -28,17 +28,17 @@ pub use crate::asking::Asks;
 pub use crate::explaining::Explains;
 pub use crate::machine::Machine;
 pub use crate::watching::{Watched, WatchedWriter};
+use command_endings::status;
 use command_line::{NoCommand, wants_warnings};
 use command_requests::{CommandRequest, DeparturesRequest, MatrixRequest, ProfileRequest};
-use csa_commands::matrix::TableNotes;
-use csa_commands::{
-    ImageRequest, answer, build, days, explain, explain_zone, matrix, open_image, reason_of,
-    stations, status, tables,
-};
+use feed_commands::{build, days, explain_zone, stations, tables};
 pub use feed_files::Disk;
+use feed_messages::{explain, reason_of};
+use image_commands::matrix::TableNotes;
+use image_commands::{ImageRequest, answer, matrix, open_image};
 use image_files::{ImageDisk, OutDisk};
 use std::convert::AsStr;
-use std::io::{ErrorKind, Read, Write};
+use std::io::{ErrorKind, IsTerminal, Read, Write};
 use std::net::{Net, TcpListener, TcpStream};
 use std::thread::Threads;
 use std::time::Clock;
@@ -56,15 +56,15 @@ pub fn run<
     S: AsStr,
     I: Read,
     O: Watched,
-    E: Write + Send,
->(rt: &H, words: &[S], input: &mut I, output: &mut O, errors: &mut E, is_terminal: bool) -> u8
+    E: Write + IsTerminal + Send,
+>(rt: &H, words: &[S], input: &mut I, output: &mut O, errors: &mut E) -> u8
     ensures { (asked : Result CommandRequest NoCommand)
         × H.Asks.may_ask rt.now (map S.text words.now) asked
         × IsEndOf (H.ImageDisk.may_hold rt.now) H.Disk.gives (H.OutDisk.files rt.now) (I.remaining input.old) asked
         result (O.Write.contents output.old) (O.Write.contents output.new) }
 {
     let notes = TableNotes {
-        is_terminal,
+        is_terminal: errors.is_terminal(),
         warnings: wants_warnings(words),
     };
     let asked = rt.asked(words);

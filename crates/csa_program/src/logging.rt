@@ -8,8 +8,8 @@ ghost use Rattle.csa_program.specs.Logging.{begin_text, end_word, loaded_text, s
 
 use crate::line_queue::LineQueue;
 use arrayvec::ArrayVec;
-use clock_days::instant;
-use csa_commands::{StartInstant, put_seconds};
+use command_endings::{StartInstant, put_seconds};
+use feed_plans::instant;
 use jiff::Timestamp;
 use std::alloc::{AllocError, Global};
 use std::fmt::Write as _;

@@ -6,7 +6,7 @@ ghost use Rattle.std.specs.Io.KnownBytes.{ReadConsumes};
 
 use crate::logging::Host;
 use crate::visits::Visit;
-use csa_commands::{StartInstant, line_ends};
+use command_endings::{StartInstant, line_ends};
 use std::io;
 use std::io::{ErrorKind, Read};
 use std::net::TcpStream;

@@ -29,16 +29,15 @@ use crate::machine::Machine;
 use crate::requests::Requests;
 use crate::sockets::{Door, Visitor};
 use crate::visits::{SessionRules, Visit};
-use clock_days::instant;
+use command_endings::{StartInstant, status};
 use command_requests::{NamedFolder, Seconds, ServeRequest, SessionCounts};
-use csa_commands::{
-    PlanFailure, StartInstant, explain_load, open_image, reason_of, refuse_feed, status,
-    zone_and_plan,
-};
 use epochs::{NamedNotice, ShelfLoader, ShelfSeat, Shelves, ShelvesName};
+use feed_commands::{explain_load, refuse_feed, report_unread_zone};
 use feed_files::{Disk, FeedFiles, FolderFiles};
 use feed_loader::Plan;
-use feed_plans::plan_at;
+use feed_messages::reason_of;
+use feed_plans::{PlanFailure, instant, plan_at, zone_and_plan};
+use image_commands::open_image;
 use image_verifier::Verified;
 use orders::OpenGate;
 use std::alloc::{AllocError, Global};
@@ -155,7 +154,7 @@ pub fn run<
             explain_load(&fault, errors);
             return refuse_feed(alloc, output, fault);
         }
-        Err(PlanFailure::Unreadable(path)) => return status::report_unread_zone(rt, errors, path),
+        Err(PlanFailure::Unreadable(path)) => return report_unread_zone(rt, errors, path),
         Err(PlanFailure::OutOfMemory) => return status::OUT_OF_MEMORY,
     };
     let image = match open_image(rt, request.image, input, output, errors) {

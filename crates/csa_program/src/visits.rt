@@ -3,8 +3,8 @@
 ghost use Rattle.std.specs.Prelude.{◌≡◌, is_some};
 
 use crate::logging::Host;
+use command_endings::StartInstant;
 use command_requests::Seconds;
-use csa_commands::StartInstant;
 use std::time::Duration;
 use workers::SessionEnd;
 

@@ -1,7 +1,7 @@
 -- The plan that a command line asks for.
 use Rattle.std.specs.Prelude.{◌≡◌, ◌⊎◌, ℕ, ℤ, List, Option, None, Some, IsSome, true, false}
 use Rattle.std.specs.Result.{is_ok}
-use Rattle.clock_days.specs.Shown.{HasNoDay, HasNoDayBefore, IsDayAt, IsDayBefore}
+use Rattle.feed_plans.specs.Shown.{HasNoDay, HasNoDayBefore, IsDayAt, IsDayBefore}
 use Rattle.command_requests.specs.declared.plans.FirstDay.{FirstDay}
 use Rattle.command_requests.specs.declared.plans.FirstDay.TheVariants.{On, Today, Yesterday}
 use Rattle.command_requests.specs.declared.plans.PlanText.{PlanText}

@@ -1,3 +1,4 @@
 pub mod Held
 pub mod Out
+pub mod Texts
 pub mod Writing

@@ -5,10 +5,12 @@ mod disk;
 mod fault;
 mod out;
 mod reading;
+mod texts;
 mod writing;
 
 pub use disk::ImageDisk;
 pub use fault::ImageFileFault;
 pub use out::OutDisk;
 pub use reading::image_words;
+pub use texts::{bytes_at, text_at};
 pub use writing::{NewFile, new_file, put_image, put_text_into, settle};

@@ -1,8 +1,8 @@
 use Rattle.std.proofs.Common.{ℕ, List, rules, subst}
 use Rattle.image_files.specs.Held.{HoldsOfBytes}
-use Rattle.csa_commands.specs.Commands.{PrintsAsked, path_of}
-use Rattle.csa_commands.specs.Ending.{IsOutcome, PrintsRefusal}
-use Rattle.csa_commands.specs.Opening.{IsRefusedImage, SpellsImage}
+use Rattle.image_commands.specs.Commands.{PrintsAsked, path_of}
+use Rattle.command_endings.specs.Ending.{IsOutcome, PrintsRefusal}
+use Rattle.image_commands.specs.Opening.{IsRefusedImage, SpellsImage}
 use Rattle.csa_program.proofs.OverImages.{over_image, over_none}
 use Rattle.csa_program.proofs.answer_over.Goals as goal
 

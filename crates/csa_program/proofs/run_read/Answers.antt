@@ -2,7 +2,7 @@ use Rattle.std.proofs.Common.{◌≡◌, Result, Err, rules, string_bytes, subst
 use Rattle.command_line.specs.declared.reading.NoCommand.{NoCommand}
 use Rattle.command_line.specs.declared.reading.NoCommand.TheVariants.{Help}
 use Rattle.command_requests.specs.declared.requests.CommandRequest.{CommandRequest}
-use Rattle.csa_commands.proofs.Outcomes.{written}
+use Rattle.command_endings.proofs.Outcomes.{written}
 use Rattle.csa_program.specs.Running.{IsEndOf}
 use Rattle.csa_program.proofs.run_read.Goals as goal
 

@@ -3,7 +3,7 @@
 ghost use Rattle.std.specs.Prelude.{◌≡◌};
 
 use super::texts::{Case, Reporter, try_cases, zone_of};
-use clock_days::{instant, today, yesterday};
+use feed_plans::{instant, today, yesterday};
 use gtfs_rows::Day;
 use service_days::{DayFault, Zone};
 use std::alloc::{AllocError, Global};

@@ -1,6 +1,6 @@
 //! `csa verify` and `csa journey` over the sample image, changes of it, and bytes that are no image.
 
-use crate::tests::running::Machine;
+use crate::tests::running::{Machine, Plain};
 use crate::tests::transcript::try_transcripts;
 use csa_program::{WatchedWriter, explain_no_words, print_sources, run};
 use image_files::ImageDisk;
@@ -117,8 +117,7 @@ fn verified<
         &["csa", "verify", "-"],
         input,
         &mut watched,
-        errors,
-        false,
+        &mut Plain::of(errors),
     )
 }
 

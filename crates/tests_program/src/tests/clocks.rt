@@ -1,9 +1,8 @@
 //! For which days a feed is loaded, by a clock that is passed in.
 
-use clock_days::instant;
 use command_line::read;
 use command_requests::{CommandRequest, FirstDay, PlanText, ZoneText};
-use feed_plans::plan_at;
+use feed_plans::{instant, plan_at};
 use service_days::day_start;
 use std::alloc::Global;
 use std::io;

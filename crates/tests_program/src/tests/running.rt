@@ -3,6 +3,8 @@
 pub(crate) use csa_program::Machine;
 use csa_program::{WatchedWriter, run};
 use image_files::ImageDisk;
+use std::io;
+use std::io::{IsTerminal, Write};
 use std::net::{Net, TcpListener, TcpStream};
 
 /// What a command wrote, and its status.
@@ -11,6 +13,36 @@ pub(crate) struct Outcome {
     pub(crate) status: u8,
     pub(crate) output: Vec<u8>,
     pub(crate) errors: Vec<u8>,
+}
+
+/// A writer that is no terminal.
+#[derive(Drop)]
+pub(crate) struct Plain<'a> {
+    bytes: &'a mut Vec<u8>,
+}
+
+impl<'a> Plain<'a> {
+    /// What is written is added to these bytes.
+    pub(crate) fn of(bytes: &'a mut Vec<u8>) -> Plain<'a> {
+        Plain { bytes }
+    }
+}
+
+impl<'a> Write for Plain<'a> {
+    fn write(&mut self, piece: &[u8]) -> io::Result<usize> {
+        self.bytes.extend_from_slice(piece)?;
+        Ok(piece.len())
+    }
+
+    fn flush(&mut self) -> io::Result<()> {
+        Ok(())
+    }
+}
+
+impl<'a> IsTerminal for Plain<'a> {
+    fn is_terminal(&self) -> bool {
+        false
+    }
 }
 
 pub(crate) fn outcome_of<
@@ -24,8 +56,7 @@ pub(crate) fn outcome_of<
         words,
         &mut input,
         &mut WatchedWriter::of(&mut output),
-        &mut errors,
-        false,
+        &mut Plain::of(&mut errors),
     );
     Outcome {
         status,

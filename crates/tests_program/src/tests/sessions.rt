@@ -6,7 +6,7 @@ use csa_program::{WatchedWriter, run};
 use image_files::ImageDisk;
 use image_layout::{Words, sample_words};
 use std::alloc::Global;
-use std::io::{Read, Write};
+use std::io::{IsTerminal, Read, Write};
 use std::net::{Ipv4Addr, Net, Shutdown, TcpListener, TcpStream};
 use std::process::Abort;
 use std::sync::{Mutex, Wait};
@@ -67,6 +67,12 @@ impl<'a, R: Wait> Write for Heard<'a, R> {
 
     fn flush(&mut self) -> io::Result<()> {
         Ok(())
+    }
+}
+
+impl<'a, R> IsTerminal for Heard<'a, R> {
+    fn is_terminal(&self) -> bool {
+        false
     }
 }
 
@@ -133,7 +139,7 @@ fn a_client_beside_its_server(rt: HostRuntime) -> Result<(), Fail> {
                 bytes: reported,
             };
             let mut watched = WatchedWriter::of(&mut output);
-            run(rt, &WORDS, &mut input, &mut watched, &mut errors, false)
+            run(rt, &WORDS, &mut input, &mut watched, &mut errors)
         },
         move || -> Option<Vec<u8>> { replies_at(rt, port_of(rt, printed)?).ok() },
     );

@@ -1,7 +1,0 @@
-use Rattle.std.proofs.Common.{refl}
-use Rattle.jiff_tz.specs.Zone.{offset_at}
-use Rattle.clock_days.proofs.time_zone.Goals as goal
-
-pub returns-in-Table : goal.returns-in-Table
-unfolding offset_at
-returns-in-Table c = λ n. rw (c.in-Table.is, c.tzif.ensures) refl

@@ -1,0 +1,4 @@
+pub mod Elapsed
+pub mod Ending
+pub mod Newlines
+pub mod Refusing

@@ -1,8 +1,0 @@
-mod AnswerLemmas
-mod MissingFile
-mod OfFolder
-pub mod Outcomes
-mod Picturing
-mod Ranges
-mod StopLines
-mod MatrixLemmas

@@ -1,7 +1,0 @@
-use Rattle.std.proofs.Common.{◌≡◌, ◌++◌, take, string_bytes}
-use Rattle.std.specs.List.{flat_map}
-use Rattle.csa_commands.specs.Listing.{named_ride}
-use Rattle.csa_commands.proofs.naming.append_rides.Given as goal
-
-abbrev pub invariant-loop-ride : goal.invariant-loop-ride
-invariant-loop-ride l = string_bytes l.lines ≡ string_bytes l.fn.lines ++ flat_map (named_ride l.image) (take l.ride-index l.rides)

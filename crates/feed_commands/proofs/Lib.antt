@@ -1,0 +1,3 @@
+mod MissingFile
+mod OfFolder
+mod Unloaded

@@ -1,0 +1,36 @@
+-- All files were read before the image was made, and none after that; what is written is the image that was made.
+use Rattle.std.proofs.Common.{◌∙◌}
+use Rattle.feed_files.specs.Reads.{all_tables}
+use Rattle.feed_loader.specs.Refused.{IsLoaded}
+use Rattle.connections.specs.declared.report.Report.{Report}
+use Rattle.image_files.specs.Writing.{IsWholeImage}
+use Rattle.image_layout.specs.Image.{ImageValue}
+use Rattle.feed_commands.proofs.OfFolder.{as_failed, whole_of}
+use Rattle.feed_commands.proofs.build.build_reported.Goals as goal
+
+pub put_image-requires : goal.put_image-requires
+put_image-requires g c =
+    let image = c.in-Ok.loaded.0 in
+    let whole : IsWholeImage c.words.result.now = record {
+      timetable = image.timetable;
+      names = image.names;
+      image = c.words.ensures.0;
+      layout = c.words.ensures.1 ∙ c.in-Ok.ensures.layout;
+    } in
+    whole
+
+pub returns-clause-built : goal.returns-clause-built
+returns-clause-built g c =
+    let loaded = c.in-Ok.loaded in
+    whole_of g.F.FeedFiles.reads (g.F.FeedFiles.reads c.args.files.now.files) c.load_reported.new.files.files
+    c.report_written.new.self.files
+    (λ content. IsLoaded content c.args.plan loaded.0.timetable loaded.0.names loaded.1)
+    (c.report_written.ensures ∙ c.report_writing.ensures) c.in-Ok.ensures.all_read
+    (λ content read. c.in-Ok.ensures.read_ok content all_tables read)
+
+pub returns-in-Err-clause-refused : goal.returns-in-Err-clause-refused
+returns-in-Err-clause-refused g c unless = (
+  c.load_reported.ensures.first_read,
+  c.in-Err.ensures.failed ∙ as_failed (ImageValue × Report) (g.F.FeedFiles.failed c.args.files.now.files) c.in-Err.fault,
+  λ content ts read. c.in-Err.ensures.read_err content ts read unless,
+)

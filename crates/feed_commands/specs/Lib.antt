@@ -1,0 +1,5 @@
+pub mod Building
+pub mod Folders
+pub mod Refusing
+pub mod Stations
+pub mod Tabling

@@ -1,0 +1,58 @@
+-- What `csa stations` prints of a folder's stops.txt.
+use Rattle.std.specs.Prelude.{◌≡◌, ◌⊎◌, ℕ, List, Bool, true, false, Some, None, Ok, Err, Vec}
+use Rattle.std.specs.declared.alloc.Global.{Global}
+use Rattle.feed_files.specs.Files.{MayGive}
+use Rattle.feed_files.specs.declared.files.FileFault.TheVariants.{Failed}
+use Rattle.feed_loader.specs.declared.fault.LoadFault.{LoadFault}
+use Rattle.feed_loader.specs.declared.fault.LoadFault.TheVariants.{FileFailed, Table as OfTable}
+use Rattle.gtfs_rows.specs.Tables.{HoldsStopsWithin, IsStopsFault}
+use Rattle.gtfs_rows.specs.FaultNumber.{file_name}
+use Rattle.gtfs_rows.specs.declared.fault.FaultKind.TheVariants.{MissingFile}
+use Rattle.gtfs_rows.specs.declared.fault.Table.TheVariants.{Stops}
+use Rattle.gtfs_rows.specs.declared.fault.TableFault.{TableFault}
+use Rattle.gtfs_rows.specs.declared.read.TheConstants.{MAX_STOPS}
+use Rattle.gtfs_rows.specs.declared.rows.StopRow.{StopRow}
+use Rattle.gtfs_tables.specs.First.{first_fault_of}
+use Rattle.feed_stations.specs.Choosing.{AreLines, IsJson}
+use Rattle.feed_stations.specs.Homes.{AreHomes, orphan_fault, station_named}
+use Rattle.feed_stations.specs.Labels.{AreLabels}
+use Rattle.feed_stations.specs.declared.places.Places.{Places}
+use Rattle.command_requests.specs.declared.requests.StationsRequest.{StationsRequest}
+
+-- the bytes of stops.txt have no fault, and these are their rows, the labels of these, and the rows by which they are listed
+pub record ArePlacesIn (bytes : List ℕ) (places : Places) : Type 0 where
+  pub rows : HoldsStopsWithin MAX_STOPS bytes places.rows.items
+  pub homes : AreHomes places.rows.items places.homes.items
+  pub labels : AreLabels bytes places.labels.items
+
+-- the first fault of the bytes of stops.txt; or, if they have none, that of the first stop whose parent isn't a station
+abbrev pub IsFaultIn : List ℕ → TableFault → Type 0
+IsFaultIn bytes fault =
+    ((fault.file ≡ Stops) × IsStopsFault MAX_STOPS bytes fault.row fault.kind)
+    ⊎ ((rows : List StopRow) × HoldsStopsWithin MAX_STOPS bytes rows × (first_fault_of Stops (orphan_fault (station_named rows)) rows ≡ Some fault))
+
+-- the text is that of the places in which a text is found, as lines or as JSON
+abbrev pub IsTextAsked : Bool → Places → List ℕ → List ℕ → Type 0
+IsTextAsked true places asked text = IsJson places asked text
+IsTextAsked false places asked text = AreLines places asked text
+
+-- `gives` says what a disk of some kind may give for a folder and the name of a file
+module _ {D : Type 0} (gives : D → List ℕ → MayGive) (folder : List ℕ) where
+  -- some disk may give these bytes for the folder's stops.txt
+  abbrev pub MayHoldStops : List ℕ → Type 0
+  MayHoldStops bytes = (disk : D) × (file : Vec ℕ Global) × gives disk folder (file_name Stops) (Ok (Some file)) × (file.items ≡ bytes)
+
+  -- the places are those of the folder's stops.txt
+  abbrev pub ArePlacesOf : Places → Type 0
+  ArePlacesOf places = (bytes : List ℕ) × MayHoldStops bytes × ArePlacesIn bytes places
+
+  -- the text is the one that is asked for
+  abbrev pub IsTextOf : StationsRequest → List ℕ → Type 0
+  IsTextOf request text = (places : Places) × ArePlacesOf places × IsTextAsked request.json places request.text.now text
+
+  -- the folder has no stops.txt, or one that can't be read, or one with this fault
+  abbrev pub IsStopsRefusal : LoadFault → Type 0
+  IsStopsRefusal fault =
+      ((disk : D) × gives disk folder (file_name Stops) (Ok None) × (fault ≡ OfTable (record { file = Stops; row = 0; kind = MissingFile })))
+      ⊎ ((disk : D) × gives disk folder (file_name Stops) (Err Failed) × (fault ≡ FileFailed Stops))
+      ⊎ ((refusal : TableFault) × (bytes : List ℕ) × MayHoldStops bytes × IsFaultIn bytes refusal × (fault ≡ OfTable refusal))

@@ -1,0 +1,5 @@
+mod AnswerLemmas
+mod MatrixLemmas
+mod Picturing
+mod Ranges
+mod StopLines

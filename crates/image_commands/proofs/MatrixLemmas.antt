@@ -1,0 +1,169 @@
+-- Whether a table can be made, and why it isn't.
+use Rattle.std.proofs.Common.{◌≡◌, ◌≢◌, ◌<◌, ◌⊎◌, ℕ, List, [], ◌∷◌, Option, None, Some, Result, Ok, Err, Contains, IfErr, IfOk, MatchResult}
+use Rattle.std.proofs.Common.{arith, inl, inr, subst, sym}
+use Rattle.std.specs.Borrow.{Bor}
+use Rattle.std.specs.Global.{Vec}
+use Rattle.std.specs.List.{AllZip}
+use Rattle.std.proofs.lemmas.List.Elements.{Contains-append_right}
+use Rattle.reasoning.proofs.ListLemmas.{contains_cases, contains_first, not_in_nil}
+use Rattle.image_layout.specs.Image.{ImageValue}
+use Rattle.matrix_rows.specs.Tables.{AreWithin, CanBeMade, HasWindow, IsTableBegun}
+use Rattle.matrix_rows.specs.declared.table.TravelTable.{TravelTable}
+use Rattle.command_requests.specs.declared.requests.MatrixRequest.{MatrixRequest}
+use Rattle.command_requests.specs.declared.statuses.TheConstants.{ACCEPTED, COMMAND_LINE, INPUT_OUTPUT, OUT_OF_MEMORY}
+use Rattle.command_endings.specs.Ending.{Ends, IsBegun}
+use Rattle.timetable.specs.declared.query.QueryFault.TheVariants.{BadWindow}
+use Rattle.image_files.specs.Texts.{IsTextAt}
+use Rattle.image_commands.specs.Matrices.{AreBadTimes, AreListedIn, AreNoSources, AreOfList, AreSources, EndsTable, EndsUnlisted, IsBadWindow, IsCutShort}
+use Rattle.image_commands.specs.Matrices.{IsShownInPart, IsTableOf, IsUnasked, IsUnlisted, IsUnlistedIn}
+use Rattle.image_commands.specs.Refusing.{refusal_line}
+use Rattle.image_commands.specs.declared.refusal.CommandRefusal.TheVariants.{Query}
+use Rattle.image_commands.proofs.Ranges.{below_all}
+
+-- the stops of sets of one stop each
+each_within : (limit : ℕ) (stops : List ℕ) (sets : List (Vec ℕ)) → ((n : ℕ) → Contains stops n → n < limit)
+    → AllZip (λ stop set. set.items ≡ stop ∷ []) stops sets → (set : Vec ℕ) → Contains sets set → (stop : ℕ) → Contains set.items stop → stop < limit
+each_within limit [] [] below zipped set h stop within = absurd (not_in_nil set h)
+each_within limit [] (s ∷ sets) below zipped set h stop within = absurd zipped
+each_within limit (x ∷ xs) [] below zipped set h stop within = absurd zipped
+each_within limit (x ∷ xs) (s ∷ sets) below zipped set h stop within = elim (contains_cases set s sets h) [
+  | inl same ↦
+      let one : Contains (x ∷ []) stop = subst (λ (ys : List ℕ). Contains ys stop) zipped.0
+      (subst (λ (v : Vec ℕ). Contains v.items stop) (sym same) within) in
+      elim (contains_cases stop x [] one) [
+        | inl is ↦ subst (λ (n : ℕ). n < limit) is (below x (contains_first x xs))
+        | inr none ↦ absurd (not_in_nil stop none)
+      ]
+  | inr rest ↦ each_within limit xs sets (λ n k. below n (Contains-append_right (x ∷ []) xs n k)) zipped.1 set rest stop within
+]
+
+pub sources_within : (may_hold : List ℕ → Option (List ℕ) → Type 0) (from : Option (Bor (List ℕ))) (image : ImageValue) (sets : List (Vec ℕ))
+    → AreSources may_hold from image sets → AreWithin image sets
+sources_within may_hold None image sets are =
+    each_within image.timetable.stops _ sets (λ n h. below_all image.timetable.stops n h) are
+sources_within may_hold (Some path) image sets are = are.2.within
+
+-- a table can be made if its stops are those of the image, and its times make a window
+pub can_be_made : (table : TravelTable) → AreWithin table.image.now table.targets.now → AreWithin table.image.now table.sources.now → HasWindow table
+    → (targets : Vec ℕ) → Contains table.targets.now targets → CanBeMade table targets.items
+can_be_made table within sources window targets h = record {
+  sources = sources;
+  asked = record {
+    sources = λ stop none. absurd (not_in_nil stop none);
+    targets = within targets h;
+    differ = λ stop none. absurd (not_in_nil stop none);
+    window = window.window;
+    in_time = window.in_time;
+    small = window.small;
+  };
+}
+
+-- the table that was made is the one that is asked for
+pub table_asked : (may_hold : List ℕ → Option (List ℕ) → Type 0) (image : ImageValue) (request : MatrixRequest) (table : TravelTable)
+    (targets sources : List (Vec ℕ)) → table.image.now ≡ image → table.targets.now ≡ targets → table.sources.now ≡ sources
+    → (table.after ≡ request.after) × (table.until ≡ request.until) × (table.by ≡ request.by)
+    → (table.criterion ≡ request.criterion) × (table.each ≡ request.each)
+    → AreOfList may_hold request.to.now image targets → AreSources may_hold request.from image sources → IsTableOf may_hold image request table
+table_asked may_hold image request table targets sources is same_targets same_sources times form listed from = record {
+  image_is = is;
+  targets = subst (AreOfList may_hold request.to.now image) (sym same_targets) listed;
+  sources = subst (AreSources may_hold request.from image) (sym same_sources) from;
+  times = times;
+  form = form;
+}
+
+pub targets_are_within : (may_hold : List ℕ → Option (List ℕ) → Type 0) (image : ImageValue) (request : MatrixRequest) (table : TravelTable)
+    → IsTableOf may_hold image request table → AreWithin table.image.now table.targets.now
+targets_are_within may_hold image request table of =
+    subst (λ (i : ImageValue). AreWithin i table.targets.now) (sym of.image_is) of.targets.2.within
+
+pub sources_are_within : (may_hold : List ℕ → Option (List ℕ) → Type 0) (image : ImageValue) (request : MatrixRequest) (table : TravelTable)
+    → IsTableOf may_hold image request table → AreWithin table.image.now table.sources.now
+sources_are_within may_hold image request table of =
+    subst (λ (i : ImageValue). AreWithin i table.sources.now) (sym of.image_is)
+    (sources_within may_hold request.from image table.sources.now of.sources)
+
+-- the window of a table is that of its request
+bad_times_of : (after until by a u b : ℕ) (before now : Option (List ℕ)) → a ≡ after → u ≡ until → b ≡ by → IsBadWindow a u b before now
+    → IsBadWindow after until by before now
+bad_times_of after until by a u b before now same-a same-u same-b bad =
+    subst (λ (x : ℕ). IsBadWindow x until by before now) same-a
+    (subst (λ (x : ℕ). IsBadWindow a x by before now) same-u
+    (subst (λ (x : ℕ). IsBadWindow a u x before now) same-b bad))
+
+pub bad_window_of : (may_hold : List ℕ → Option (List ℕ) → Type 0) (image : ImageValue) (request : MatrixRequest) (table : TravelTable)
+    (before now : Option (List ℕ)) → IsTableOf may_hold image request table
+    → IsBadWindow table.after table.until table.by before now → IsBadWindow request.after request.until request.by before now
+bad_window_of may_hold image request table before now of bad =
+    bad_times_of _ _ _ _ _ _ before now of.times.0 of.times.1 of.times.2 bad
+
+-- a command whose lists aren't known ends otherwise than with 0
+ends_not_accepted : (status : ℕ) → EndsUnlisted status → status ≢ ACCEPTED
+ends_not_accepted status (inl (inl is)) e = omega (arith, is, e)
+ends_not_accepted status (inl (inr (inl is))) e = omega (arith, is, e)
+ends_not_accepted status (inl (inr (inr is))) e = omega (arith, is, e)
+ends_not_accepted status (inr is) e = omega (arith, is, e)
+
+ends_table : (status : ℕ) → EndsUnlisted status → EndsTable status
+ends_table status (inl undone) = inl (inr undone)
+ends_table status (inr is) = inr is
+
+pub unasked_table : (may_hold : List ℕ → Option (List ℕ) → Type 0) (request : MatrixRequest) (image : ImageValue) (status : ℕ)
+    → IsUnasked may_hold request image status → EndsTable status × (status ≢ ACCEPTED)
+unasked_table may_hold request image status why = (ends_table status why.ends, ends_not_accepted status why.ends)
+
+-- a table that was begun doesn't end as a bad command line does
+pub ends_asked : (status : ℕ) → Ends status → status ≢ COMMAND_LINE
+ends_asked status (inl is) e = omega (arith, is, e)
+ends_asked status (inr (inl is)) e = omega (arith, is, e)
+ends_asked status (inr (inr (inl is))) e = omega (arith, is, e)
+ends_asked status (inr (inr (inr is))) e = omega (arith, is, e)
+
+pub unasked_sources : (may_hold : List ℕ → Option (List ℕ) → Type 0) (request : MatrixRequest) (image : ImageValue) (status : ℕ) (from : Option (Bor (List ℕ)))
+    → request.from ≡ from → AreNoSources may_hold from image status → IsUnasked may_hold request image status
+unasked_sources may_hold request image status None same is = record {
+  ends = inl (inr (inr is));
+  unknown = λ e. absurd (omega (arith, is, e));
+  bad = λ e. absurd (omega (arith, is, e));
+}
+unasked_sources may_hold request image status (Some path) same why = record {
+  ends = why.ends;
+  unknown = λ is. inr (path, same, why.unknown is);
+  bad = λ is. inr (path, same, why.bad is);
+}
+
+-- the sets of a text that was read, or why there are none
+pub listed_at : (may_hold : List ℕ → Option (List ℕ) → Type 0) (path text : List ℕ) (image : ImageValue) (r : Result (Vec (Vec ℕ)) ℕ)
+    → IsTextAt may_hold path text → IfOk r (λ sets. AreListedIn image sets.items text) → IfErr r (IsUnlistedIn image text)
+    → MatchResult r (λ sets. AreOfList may_hold path image sets.items) (IsUnlisted may_hold path image)
+listed_at may_hold path text image (Ok sets) at listed why = (text, at, listed)
+listed_at may_hold path text image (Err status) at listed why = record {
+  ends = why.ends;
+  unknown = λ is. (text, at, why.unknown is);
+  bad = λ is. (text, at, why.bad is);
+}
+
+pub unread_list : (may_hold : List ℕ → Option (List ℕ) → Type 0) (path : List ℕ) (image : ImageValue) (status : ℕ)
+    → (status ≡ INPUT_OUTPUT) ⊎ (status ≡ OUT_OF_MEMORY) → IsUnlisted may_hold path image status
+unread_list may_hold path image status (inl is) = record {
+  ends = inl (inr (inl is));
+  unknown = λ e. absurd (omega (arith, is, e));
+  bad = λ e. absurd (omega (arith, is, e));
+}
+unread_list may_hold path image status (inr is) = record {
+  ends = inl (inr (inr is));
+  unknown = λ e. absurd (omega (arith, is, e));
+  bad = λ e. absurd (omega (arith, is, e));
+}
+
+-- what was printed of a table that was begun, or of a line for its times
+pub cut_table : (table : TravelTable) (out : List ℕ) (before after : Option (List ℕ)) → HasWindow table
+    → (after ≡ before) ⊎ IsShownInPart table out before after → IsCutShort table out before after
+cut_table table out before after window (inl same) = inl same
+cut_table table out before after window (inr part) = inr (inr (window, part))
+
+pub cut_refusal : (status : ℕ) (table : TravelTable) (out : List ℕ) (before after : Option (List ℕ)) → AreBadTimes table.after table.until table.by
+    → (status ≡ INPUT_OUTPUT → IsBegun before after (refusal_line (Query BadWindow))) → (status ≡ OUT_OF_MEMORY → after ≡ before)
+    → (status ≡ INPUT_OUTPUT) ⊎ (status ≡ OUT_OF_MEMORY) → IsCutShort table out before after
+cut_refusal status table out before after bad begun silent (inl is) = inr (inl (bad, begun is))
+cut_refusal status table out before after bad begun silent (inr is) = inl (silent is)

@@ -1,0 +1,14 @@
+use Rattle.std.proofs.Common.{rules}
+use Rattle.profile_scan.specs.Destinations.{question_to_any}
+use Rattle.image_commands.specs.Departing.{AreShownBy}
+use Rattle.command_endings.proofs.Outcomes.{written}
+use Rattle.image_commands.proofs.departures.print_all.Goals as goal
+
+pub returns-in-Ok : goal.returns-in-Ok
+returns-in-Ok g c =
+    let request = c.args.request.now in
+    let asked = question_to_any c.args.destinations.now in
+    let shown : AreShownBy request.criterion request.form c.args.image.now asked c.args.wanted.now c.as_str.result.now = search rules in
+    let wrote = c.write_text.ensures in
+    written (AreShownBy request.criterion request.form c.args.image.now asked c.args.wanted.now) _ c.as_str.result.now _ _ shown
+    wrote.status wrote.written wrote.begun

@@ -1,0 +1,16 @@
+use Rattle.std.proofs.Common.{rules}
+use Rattle.image_commands.proofs.MatrixLemmas.{can_be_made, cut_refusal, cut_table}
+use Rattle.image_commands.proofs.matrix.make_table.Goals as goal
+
+pub write_asked-requires : goal.write_asked-requires
+write_asked-requires g c = (
+  search rules,
+  can_be_made c.args.table.now c.requires.targets c.requires.sources c.if-not-has_window.ensures,
+)
+
+pub returns-then-not-has_window-clause-cut : goal.returns-then-not-has_window-clause-cut
+returns-then-not-has_window-clause-cut g c =
+    cut_refusal _ c.args.table.now _ _ _ c.if-not-has_window.ensures c.refuse_window.ensures.begun c.refuse_window.ensures.silent
+
+pub returns-clause-cut : goal.returns-clause-cut
+returns-clause-cut g c = λ ends. cut_table c.args.table.now _ _ _ c.if-not-has_window.ensures (c.write_asked.ensures.cut ends)

@@ -1,0 +1,28 @@
+use Rattle.std.proofs.Common.{◌≡◌, inl, refl, rules, string_bytes}
+use Rattle.image_commands.specs.Answering.{HasFault, IsAnswered, IsNoRequest, IsPicturePut}
+use Rattle.image_commands.specs.Commands.{PrintsProfile}
+use Rattle.command_endings.specs.Ending.{PrintsOnly}
+use Rattle.image_commands.specs.Refusing.{refusal_line}
+use Rattle.image_commands.specs.declared.refusal.CommandRefusal.TheVariants.{Query}
+use Rattle.command_endings.proofs.Outcomes.{outcome_of, refused_or}
+use Rattle.image_commands.proofs.profile.run.Goals as goal
+
+pub returns-in-Ok : goal.returns-in-Ok
+returns-in-Ok g c =
+    let disk = g.H.OutDisk.files c.args.rt.now in
+    let image = c.args.image.now in
+    let request = c.args.request.now in
+    let profile = c.in-Ok.profile in
+    outcome_of (PrintsOnly (λ text. IsPicturePut disk request.picture profile.picture × (text ≡ string_bytes profile.text)))
+    (PrintsProfile disk image request) _ _ _
+    (λ s text is. inl (is.0, (profile, c.in-Ok.ensures, is.1.0, is.1.1))) c.print_profile.ensures
+
+pub returns-in-Err-Bad : goal.returns-in-Err-Bad
+returns-in-Err-Bad g c =
+    let image = c.args.image.now in
+    let request = c.args.request.now in
+    let fault = c.in-Err-Bad.fault in
+    let bad : HasFault image request fault = search rules in
+    let done = c.refuse.ensures in
+    refused_or (IsAnswered (g.H.OutDisk.files c.args.rt.now) image request) (IsNoRequest image request) _ (refusal_line (Query fault)) _ _
+    (fault, bad, refl) done.status done.printed done.silent done.begun

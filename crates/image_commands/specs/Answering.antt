@@ -1,0 +1,91 @@
+-- What `csa profile` prints.
+use Rattle.std.specs.Prelude.{◌≡◌, ℕ, List, Option, None, Some, Result, Ok, Err, Contains, String, length, map, string_bytes}
+use Rattle.std.specs.Borrow.{Bor}
+use Rattle.std.specs.declared.alloc.Global.{Global}
+use Rattle.criteria.specs.Laws.{Rules}
+use Rattle.criteria.specs.declared.name.CriterionName.{CriterionName}
+use Rattle.criteria.specs.declared.figures.Figures.{Figures}
+use Rattle.timetable.specs.declared.query.QueryFault.{QueryFault}
+use Rattle.image_files.specs.Out.{OutFiles}
+use Rattle.image_files.specs.Writing.{IsPutInto}
+use Rattle.image_layout.specs.Image.{ImageValue}
+use Rattle.journeys.specs.Answer.{point_of}
+use Rattle.journeys.specs.Extracted.{AttainsBetween}
+use Rattle.journeys.specs.declared.answering.Departure.{Departure}
+use Rattle.journeys.specs.declared.question.Window.{Window}
+use Rattle.profile_scan.specs.Between.{BetweenValue, IsAnswerBetween, IsAskableBetween}
+use Rattle.answer_replies.specs.Valuing.{arrival_figures, by_arrival, by_trips, by_walking, trips_figures, walking_figures}
+use Rattle.station_answers.specs.Naming.{AsksBetween, IsFaultBetween}
+use Rattle.station_answers.specs.Reading.{window_between}
+use Rattle.station_answers.specs.Walks.{IsDirectTime}
+use Rattle.station_answers.specs.declared.naming.NoQuestion.{NoQuestion}
+use Rattle.station_answers.specs.declared.naming.NoQuestion.TheVariants.{Bad, OutOfMemory}
+use Rattle.command_requests.specs.declared.requests.ProfileRequest.{ProfileRequest}
+use Rattle.image_commands.specs.Listing.{form_text}
+use Rattle.image_commands.specs.Picturing.{IsDrawn}
+use Rattle.image_commands.specs.Refusing.{refusal_line}
+use Rattle.image_commands.specs.declared.profile.Profile.{Profile}
+use Rattle.image_commands.specs.declared.refusal.CommandRefusal.TheVariants.{Query as OfQuery}
+
+-- the question is answered: the departures' points are exactly the undominated points of all journeys that count for any of its pairs, in order, each once,
+-- and each departure has a journey that attains its point for one of the pairs, and that ends as soon as it is at a target. The text shows the departures and
+-- the direct walk, and in lines also how many connections the window has. A picture, if one is asked for, shows the same departures. Between a single stop and
+-- a single other this is the answer of the plain query (the law `one_is_plain` of profile_scan)
+pub record IsShown {V : Type 0} (figures : V → Figures) (rules : Rules V) (request : ProfileRequest) (image : ImageValue) (b : BetweenValue)
+    (profile : Profile) : Type 0 where
+  pub departures : List (Departure V)
+  pub walk : Option ℕ
+  pub answer : IsAnswerBetween rules image.timetable b (map point_of departures)
+  pub attained : (departure : Departure V) → Contains departures departure
+      → AttainsBetween rules image.timetable b (point_of departure) departure.journey
+  pub direct : IsDirectTime image.timetable b walk
+  pub text_is : string_bytes profile.text ≡ form_text figures image request.form departures (length (window_between image.timetable b)) walk
+  pub drawn : IsDrawn figures image request b departures walk profile.picture
+
+-- the question is answered under the criterion of this name
+abbrev pub IsShownBy : CriterionName → ProfileRequest → ImageValue → BetweenValue → Profile → Type 0
+IsShownBy CriterionName.Arrival request image b profile = IsShown arrival_figures by_arrival request image b profile
+IsShownBy CriterionName.ArrivalTrips request image b profile = IsShown trips_figures by_trips request image b profile
+IsShownBy CriterionName.ArrivalTripsWalk request image b profile = IsShown walking_figures by_walking request image b profile
+
+-- the names of the stops on each side, and the window
+abbrev pub names_from : ProfileRequest → List (List ℕ)
+names_from request = map (λ name. name.now) request.from.items
+
+abbrev pub names_to : ProfileRequest → List (List ℕ)
+names_to request = map (λ name. name.now) request.to.items
+
+abbrev pub window_of_profile : ProfileRequest → Window
+window_of_profile request = record { from = request.after; until = request.until; by = request.by }
+
+-- the request makes a question that can be asked of the image, and the profile answers it
+pub record AnswersRequest (image : ImageValue) (request : ProfileRequest) (profile : Profile) : Type 0 where
+  pub question : BetweenValue
+  pub askable : IsAskableBetween image.timetable.stops question
+  pub asks : AsksBetween image.names (names_from request) (names_to request) (window_of_profile request) question
+  pub shown : IsShownBy request.criterion request image question profile
+
+-- the request makes no question of the image: it has this fault
+abbrev pub HasFault : ImageValue → ProfileRequest → QueryFault → Type 0
+HasFault image request fault = IsFaultBetween image (names_from request) (names_to request) (window_of_profile request) fault
+
+-- the answer, or why there is none
+abbrev pub IsProfile : ImageValue → ProfileRequest → Result Profile NoQuestion → Type 0
+IsProfile image request (Ok profile) = AnswersRequest image request profile
+IsProfile image request (Err (Bad fault)) = HasFault image request fault
+IsProfile image request (Err OutOfMemory) = Unit {0}
+
+-- a picture that is asked for was put into the file at its path
+abbrev pub IsPicturePut : OutFiles → Option (Bor (List ℕ)) → Option (String Global) → Type 0
+IsPicturePut disk None picture = Unit {0}
+IsPicturePut disk (Some path) None = Unit {0}
+IsPicturePut disk (Some path) (Some picture) = IsPutInto disk path.now (string_bytes picture)
+
+-- the text is that of an answer, whose picture, if one is asked for, is in its file
+abbrev pub IsAnswered : OutFiles → ImageValue → ProfileRequest → List ℕ → Type 0
+IsAnswered disk image request text =
+    (profile : Profile) × AnswersRequest image request profile × IsPicturePut disk request.picture profile.picture × (text ≡ string_bytes profile.text)
+
+-- the request makes no question of the image: this is the line of its fault
+abbrev pub IsNoRequest : ImageValue → ProfileRequest → List ℕ → Type 0
+IsNoRequest image request line = (fault : QueryFault) × HasFault image request fault × (line ≡ refusal_line (OfQuery fault))

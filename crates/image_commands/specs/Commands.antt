@@ -1,0 +1,50 @@
+-- What a command over an image prints, of what is done and of what is refused.
+use Rattle.std.specs.Prelude.{◌≡◌, ℕ, List, Option}
+use Rattle.image_files.specs.Out.{OutFiles}
+use Rattle.image_files.specs.Writing.{IsImagePut}
+use Rattle.image_layout.specs.Image.{ImageValue}
+use Rattle.command_requests.specs.declared.requests.DeparturesRequest.{DeparturesRequest}
+use Rattle.command_requests.specs.declared.requests.ProfileRequest.{ProfileRequest}
+use Rattle.image_commands.specs.Answering.{IsAnswered, IsNoRequest}
+use Rattle.image_commands.specs.Counting.{counts_line}
+use Rattle.image_commands.specs.Departing.{AreAllShown, IsNoneAsked}
+use Rattle.command_endings.specs.Ending.{Prints, PrintsOnly}
+use Rattle.image_commands.specs.Informing.{IsInfo}
+use Rattle.image_commands.specs.Judging.{IsAccepted, IsFaulty}
+use Rattle.image_commands.specs.StopLines.{AreStopsAsked}
+use Rattle.image_commands.specs.declared.asked.ImageRequest.{ImageRequest}
+use Rattle.image_commands.specs.declared.asked.ImageRequest.TheVariants.{Verify, Info, Journey, Profile, Departures, Stops, Upgrade}
+
+-- the path of the image
+abbrev pub path_of : ImageRequest → List ℕ
+path_of (Verify image) = image.now
+path_of (Info request) = request.image.now
+path_of (Journey request) = request.image.now
+path_of (Profile request) = request.now.image.now
+path_of (Departures request) = request.now.image.now
+path_of (Stops request) = request.image.now
+path_of (Upgrade request) = request.image.now
+
+-- the image was put at the path in the current layout, and the line has its counts
+abbrev pub IsUpgraded : OutFiles → ImageValue → List ℕ → List ℕ → Type 0
+IsUpgraded disk image out line = IsImagePut disk out image.timetable image.names × (line ≡ counts_line image)
+
+-- what a question's answer is, or why it can't be asked
+abbrev pub PrintsProfile : OutFiles → ImageValue → ProfileRequest → ℕ → List ℕ → Type 0
+PrintsProfile disk image request = Prints (IsAnswered disk image request) (IsNoRequest image request)
+
+-- the same of the queries from every stop; `may_hold` says what a file at a path may hold
+abbrev pub PrintsDepartures : (List ℕ → Option (List ℕ) → Type 0) → ImageValue → DeparturesRequest → ℕ → List ℕ → Type 0
+PrintsDepartures may_hold image request = Prints (AreAllShown may_hold image request) (IsNoneAsked may_hold image request)
+
+module _ (may_hold : List ℕ → Option (List ℕ) → Type 0) (disk : OutFiles) where
+  -- what the command may print of the image, and with which status. A journey or a question is refused for its first fault; a list of stops is refused for a
+  -- line that is no stop_id, and then nothing is printed; nothing else is refused
+  abbrev pub PrintsAsked : ImageValue → ImageRequest → ℕ → List ℕ → Type 0
+  PrintsAsked image (Verify path) = PrintsOnly (λ text. text ≡ counts_line image)
+  PrintsAsked image (Info request) = PrintsOnly (IsInfo request.json image)
+  PrintsAsked image (Journey request) = Prints (IsAccepted image request.question request.text.now) (IsFaulty image request.question request.text.now)
+  PrintsAsked image (Profile request) = PrintsProfile disk image request.now
+  PrintsAsked image (Departures request) = PrintsDepartures may_hold image request.now
+  PrintsAsked image (Stops request) = PrintsOnly (AreStopsAsked image request)
+  PrintsAsked image (Upgrade request) = PrintsOnly (IsUpgraded disk image request.out.now)

@@ -1,0 +1,13 @@
+pub mod Answering
+pub mod Asking
+pub mod Commands
+pub mod Counting
+pub mod Departing
+pub mod Informing
+pub mod Judging
+pub mod Listing
+pub mod Matrices
+pub mod Opening
+pub mod Picturing
+pub mod Refusing
+pub mod StopLines

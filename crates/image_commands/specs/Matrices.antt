@@ -1,0 +1,159 @@
+-- What `csa matrix` prints, over which stops, and why it is refused.
+use Rattle.std.specs.Prelude.{◌≡◌, ◌≢◌, ◌⊎◌, ◌<◌, ◌++◌, ℕ, List, [], ◌∷◌, Option, None, Some, codes, decimal, length}
+use Rattle.std.specs.Borrow.{Bor}
+use Rattle.std.specs.Global.{Vec}
+use Rattle.std.specs.Io.KnownBytes.{Appends}
+use Rattle.std.specs.List.{AllZip, range_with_len}
+use Rattle.std.specs.Str.Lines.{lines}
+use Rattle.image_files.specs.Out.{OutFiles}
+use Rattle.image_files.specs.Writing.{IsPut}
+use Rattle.image_layout.specs.Image.{ImageValue}
+use Rattle.timetable.specs.Queries.{HasBadWindow}
+use Rattle.timetable.specs.declared.query.Query.{Query}
+use Rattle.timetable.specs.declared.query.QueryFault.TheVariants.{BadWindow}
+use Rattle.matrix_rows.specs.Listed.{AreListed, HasStopTwice, IsLineTwice, IsUnknownLine}
+use Rattle.matrix_rows.specs.Tables.{AreWithin, HasWindow, IsTable, IsTableBegun}
+use Rattle.matrix_rows.specs.declared.lists.SetListFault.{SetListFault}
+use Rattle.matrix_rows.specs.declared.lists.SetListFault.TheVariants.{Empty, LineTwice, OutOfMemory, StopTwice, UnknownStop}
+use Rattle.matrix_rows.specs.declared.table.TravelTable.{TravelTable}
+use Rattle.command_requests.specs.declared.requests.MatrixRequest.{MatrixRequest}
+use Rattle.command_requests.specs.declared.statuses.TheConstants.{ACCEPTED, COMMAND_LINE, INPUT_OUTPUT, OUT_OF_MEMORY, REFUSED}
+use Rattle.command_endings.specs.Ending.{Ends, EndsUndone, IsBegun}
+use Rattle.image_files.specs.Texts.{HoldsOfText}
+use Rattle.image_commands.specs.Refusing.{refusal_line}
+use Rattle.image_commands.specs.declared.refusal.CommandRefusal.TheVariants.{Query as OfQuery}
+
+-- a list can't be asked for, or else the command ends as others do
+abbrev pub EndsUnlisted : ℕ → Type 0
+EndsUnlisted status = EndsUndone status ⊎ (status ≡ COMMAND_LINE)
+
+abbrev pub EndsTable : ℕ → Type 0
+EndsTable status = Ends status ⊎ (status ≡ COMMAND_LINE)
+
+-- the table was written, or a file or a line can't be, or memory ran out
+abbrev pub EndsWritten : ℕ → Type 0
+EndsWritten status = (status ≡ ACCEPTED) ⊎ (status ≡ INPUT_OUTPUT) ⊎ (status ≡ OUT_OF_MEMORY)
+
+-- the sets of stops that a list names, one at least
+pub record AreListedIn (image : ImageValue) (sets : List (Vec ℕ)) (list : List ℕ) : Type 0 where
+  pub listed : AreListed image.names (lines list) sets
+  pub within : AreWithin image sets
+  pub some : 0 < length sets
+
+-- those that the file at a path names
+abbrev pub AreOfList : (List ℕ → Option (List ℕ) → Type 0) → List ℕ → ImageValue → List (Vec ℕ) → Type 0
+AreOfList may_hold path image sets = HoldsOfText may_hold path (AreListedIn image sets)
+
+-- those of a file, if one is given, or else a set of each stop, in the image's order
+abbrev pub AreSources : (List ℕ → Option (List ℕ) → Type 0) → Option (Bor (List ℕ)) → ImageValue → List (Vec ℕ) → Type 0
+AreSources may_hold None image sets = AllZip (λ stop set. set.items ≡ stop ∷ []) (range_with_len 0 image.timetable.stops) sets
+AreSources may_hold (Some path) image sets = AreOfList may_hold path.now image sets
+
+-- a list says nothing that can be asked for: it has no line, a stop_id twice in a line, or a line twice
+abbrev pub IsNoList : List ℕ → Type 0
+IsNoList list =
+    (lines list ≡ []) ⊎ ((number : ℕ) × HasStopTwice (lines list) number) ⊎ ((first : ℕ) × (second : ℕ) × IsLineTwice (lines list) first second)
+
+-- a line of a list has what is no stop_id
+abbrev pub HasUnknown : ImageValue → List ℕ → Type 0
+HasUnknown image list = (number : ℕ) × IsUnknownLine image.names (lines list) number
+
+-- the status for a list that doesn't say which stops are meant
+abbrev pub fault_status : SetListFault → ℕ
+fault_status (UnknownStop number) = REFUSED
+fault_status (StopTwice number) = COMMAND_LINE
+fault_status (LineTwice first second) = COMMAND_LINE
+fault_status Empty = COMMAND_LINE
+fault_status OutOfMemory = OUT_OF_MEMORY
+
+-- why a list doesn't say which stops are meant, by the status
+pub record IsUnlistedIn (image : ImageValue) (list : List ℕ) (status : ℕ) : Type 0 where
+  pub ends : EndsUnlisted status
+  pub unknown : status ≡ REFUSED → HasUnknown image list
+  pub bad : status ≡ COMMAND_LINE → IsNoList list
+
+-- the same of the file at a path, which may not have been read
+pub record IsUnlisted (may_hold : List ℕ → Option (List ℕ) → Type 0) (path : List ℕ) (image : ImageValue) (status : ℕ) : Type 0 where
+  pub ends : EndsUnlisted status
+  pub unknown : status ≡ REFUSED → HoldsOfText may_hold path (HasUnknown image)
+  pub bad : status ≡ COMMAND_LINE → HoldsOfText may_hold path IsNoList
+
+-- the same of the sources: without a file, only memory can run out
+abbrev pub AreNoSources : (List ℕ → Option (List ℕ) → Type 0) → Option (Bor (List ℕ)) → ImageValue → ℕ → Type 0
+AreNoSources may_hold None image status = status ≡ OUT_OF_MEMORY
+AreNoSources may_hold (Some path) image status = IsUnlisted may_hold path.now image status
+
+-- Is holds of the list of the targets, or of that of the sources, if a file is given
+abbrev pub HoldsOfList : (List ℕ → Option (List ℕ) → Type 0) → MatrixRequest → (List ℕ → Type 0) → Type 0
+HoldsOfList may_hold request Is =
+    HoldsOfText may_hold request.to.now Is
+    ⊎ ((path : Bor (List ℕ)) × (request.from ≡ Some path) × HoldsOfText may_hold path.now Is)
+
+-- why it isn't known which stops a request means, by the status
+pub record IsUnasked (may_hold : List ℕ → Option (List ℕ) → Type 0) (request : MatrixRequest) (image : ImageValue) (status : ℕ) : Type 0 where
+  pub ends : EndsUnlisted status
+  pub unknown : status ≡ REFUSED → HoldsOfList may_hold request (HasUnknown image)
+  pub bad : status ≡ COMMAND_LINE → HoldsOfList may_hold request IsNoList
+
+-- a table is the one that is asked for
+pub record IsTableOf (may_hold : List ℕ → Option (List ℕ) → Type 0) (image : ImageValue) (request : MatrixRequest) (table : TravelTable) : Type 0 where
+  pub image_is : table.image.now ≡ image
+  pub targets : AreOfList may_hold request.to.now image table.targets.now
+  pub sources : AreSources may_hold request.from image table.sources.now
+  pub times : (table.after ≡ request.after) × (table.until ≡ request.until) × (table.by ≡ request.by)
+  pub form : (table.criterion ≡ request.criterion) × (table.each ≡ request.each)
+
+-- the earliest departure, the latest one and the latest arrival make no window
+abbrev pub AreBadTimes : ℕ → ℕ → ℕ → Type 0
+AreBadTimes after until by =
+    let q : Query = record { source = 0; target = 0; from = after; until = until; by = by } in HasBadWindow q
+
+-- the times make no window, and the line of this refusal was added to what was printed before, and nothing else
+abbrev pub IsBadWindow : ℕ → ℕ → ℕ → Option (List ℕ) → Option (List ℕ) → Type 0
+IsBadWindow after until by before now = AreBadTimes after until by × Appends before now (refusal_line (OfQuery BadWindow))
+
+-- the line that says how many sets of stops a table has
+unfoldable pub counts_text : ℕ → ℕ → List ℕ
+counts_text targets sources = (codes "targets " ++ decimal targets) ++ (codes " sources " ++ decimal sources) ++ codes "\n"
+
+abbrev pub counts_of : TravelTable → List ℕ
+counts_of table = counts_text (length table.targets.now) (length table.sources.now)
+
+-- a table was put at `out`, and its counts were printed; or it was printed itself, if that is `-`
+pub record IsTableShown (disk : OutFiles) (table : TravelTable) (out : List ℕ) (before after : Option (List ℕ)) : Type 0 where
+  pub shown : out ≡ codes "-" → (text : List ℕ) × IsTable table text × Appends before after text
+  pub put : out ≢ codes "-" → (text : List ℕ) × IsTable table text × IsPut disk out text
+  pub counted : out ≢ codes "-" → Appends before after (counts_of table)
+
+-- a first part of that
+pub record IsShownInPart (table : TravelTable) (out : List ℕ) (before after : Option (List ℕ)) : Type 0 where
+  pub begun : out ≡ codes "-" → IsTableBegun table before after
+  pub counted : out ≢ codes "-" → IsBegun before after (counts_of table)
+
+-- the table that is asked for, whose times make a window, was printed, or put at its path
+abbrev pub IsTablePrinted : (List ℕ → Option (List ℕ) → Type 0) → OutFiles → ImageValue → MatrixRequest → Option (List ℕ) → Option (List ℕ) → Type 0
+IsTablePrinted may_hold disk image request before after =
+    (table : TravelTable) × IsTableOf may_hold image request table × HasWindow table × IsTableShown disk table request.out.now before after
+
+-- a table is refused for its times, whose line was printed; or for a line of a list that has what is no stop_id, and then nothing was printed
+abbrev pub IsTableRefused : (List ℕ → Option (List ℕ) → Type 0) → ImageValue → MatrixRequest → Option (List ℕ) → Option (List ℕ) → Type 0
+IsTableRefused may_hold image request before after =
+    IsBadWindow request.after request.until request.by before after
+    ⊎ (HoldsOfList may_hold request (HasUnknown image) × (after ≡ before))
+
+-- a table can't be asked for because of a list, and nothing was printed
+abbrev pub IsTableUnlisted : (List ℕ → Option (List ℕ) → Type 0) → MatrixRequest → Option (List ℕ) → Option (List ℕ) → Type 0
+IsTableUnlisted may_hold request before after = HoldsOfList may_hold request IsNoList × (after ≡ before)
+
+-- what was printed of a table if a file or a line can't be written, or memory ran out: nothing, a first part of the line for bad times, or of what is
+-- printed of the table
+abbrev pub IsCutShort : TravelTable → List ℕ → Option (List ℕ) → Option (List ℕ) → Type 0
+IsCutShort table out before after =
+    (after ≡ before)
+    ⊎ (AreBadTimes table.after table.until table.by × IsBegun before after (refusal_line (OfQuery BadWindow)))
+    ⊎ (HasWindow table × IsShownInPart table out before after)
+
+-- the same of the table that is asked for; or nothing
+abbrev pub IsTableCutShort : (List ℕ → Option (List ℕ) → Type 0) → ImageValue → MatrixRequest → Option (List ℕ) → Option (List ℕ) → Type 0
+IsTableCutShort may_hold image request before after =
+    (after ≡ before) ⊎ ((table : TravelTable) × IsTableOf may_hold image request table × IsCutShort table request.out.now before after)

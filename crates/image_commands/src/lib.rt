@@ -1,0 +1,27 @@
+//! The commands over an image, over readers and writers: `csa verify`, `info`, `journey`, `profile`, `departures`,
+//! `matrix`, `stops` and `upgrade`.
+#![tactic(auto)]
+
+mod asked;
+mod departures;
+mod info;
+mod journey;
+mod listing;
+pub mod matrix;
+mod matrix_lists;
+mod matrix_progress;
+mod naming;
+mod opening;
+mod pictured;
+mod profile;
+mod question;
+mod refusal;
+mod replying;
+mod stops;
+mod upgrade;
+mod verify;
+mod wanted_stops;
+mod windows;
+
+pub use asked::{ImageRequest, answer};
+pub use opening::open_image;

@@ -1,0 +1,384 @@
+//! `csa matrix IMAGE OUT --to FILE [--from FILE] --after .. --until .. --by .. --criterion NAME [--each] [--workers N]
+//! [--progress] [--no-warnings]`.
+
+ghost use Rattle.std.specs.Prelude.{◌≡◌, ◌≢◌, ◌⊎◌, ℕ, List, Contains, IfErr, IfNone, IfOk, IfSome, OnErr, OnOk};
+ghost use Rattle.std.specs.Prelude.{MatchResult, codes, length, string_bytes};
+ghost use Rattle.std.specs.Global.{Vec};
+ghost use Rattle.std.specs.Io.KnownBytes.{Appends};
+ghost use Rattle.command_requests.specs.declared.statuses.TheConstants.{ACCEPTED, COMMAND_LINE, INPUT_OUTPUT};
+ghost use Rattle.command_requests.specs.declared.statuses.TheConstants.{OUT_OF_MEMORY, REFUSED};
+ghost use Rattle.image_files.specs.Writing.{IsPut};
+ghost use Rattle.matrix_rows.specs.Tables.{AreWithin, CanBeMade, HasWindow, IsTable, IsTableBegun};
+ghost use Rattle.command_endings.specs.Ending.{Ends, EndsUndone, IsBegun};
+ghost use Rattle.image_commands.specs.Matrices.{AreNoSources, AreOfList, AreSources, EndsTable, EndsWritten};
+ghost use Rattle.image_commands.specs.Matrices.{IsBadWindow, IsCutShort};
+ghost use Rattle.image_commands.specs.Matrices.{IsShownInPart, IsTableCutShort, IsTablePrinted};
+ghost use Rattle.image_commands.specs.Matrices.{IsTableRefused, IsTableShown, IsTableUnlisted, IsUnasked, IsUnlisted};
+ghost use Rattle.image_commands.specs.Matrices.{counts_of, counts_text};
+ghost use Rattle.image_commands.specs.Refusing.{refusal_line};
+ghost use Rattle.image_commands.specs.declared.refusal.CommandRefusal.TheVariants.{Query};
+ghost use Rattle.timetable.specs.declared.query.QueryFault.TheVariants.{BadWindow};
+
+use crate::matrix_lists::{ListOption, all_stops, sets_of_file};
+use crate::matrix_progress::TableProgress;
+use crate::question::window_reason;
+use crate::refusal::{CommandRefusal, print_refusal};
+use crate::windows::{DepartureRange, warn_of_window};
+use command_endings::status;
+use command_requests::{MatrixRequest, TableWorkers};
+use feed_messages::explain;
+use image_files::{ImageDisk, OutDisk, new_file, settle};
+use image_verifier::Verified;
+use matrix_rows::{TableReports, TravelTable, write_table};
+use std::alloc::{AllocError, Global};
+use std::io;
+use std::io::{ErrorKind, Write};
+use std::rt::Files;
+use std::thread::{Threads, available_parallelism};
+use std::time::Clock;
+use text_pieces::{put_number, put_text};
+use timetable::QueryFault;
+
+/// What goes to standard error besides explanations.
+#[derive(Clone, Copy, Drop)]
+pub struct TableNotes {
+    /// Whether it is a terminal: then progress is shown, in one line that is rewritten.
+    pub is_terminal: bool,
+    /// Whether a window that goes beyond the image's connections is warned of.
+    pub warnings: bool,
+}
+
+/// Writes the table to the file that is asked for, once it is whole, and then prints how many sets of stops it has; or
+/// writes it to `output`. Nothing is scanned before the lists and the window are judged and the file is made.
+/// Explanations go to `errors`, and so do progress, if it is asked for or shown on a terminal, and the warning. Returns
+/// `ACCEPTED`; `REFUSED` if a line has what is no stop_id, or if the window is bad, which `output` says; `COMMAND_LINE`
+/// if a list can't be asked for; `INPUT_OUTPUT`; or `OUT_OF_MEMORY`, with nothing printed unless the table itself is.
+pub fn run<
+    H: OutDisk + ImageDisk<Image = H::File> + AllocGlobal + Clock + Threads + Sync,
+    O: Write,
+    E: Write,
+>(
+    rt: &H,
+    image: &Verified,
+    request: MatrixRequest<'_>,
+    output: &mut O,
+    errors: &mut E,
+    notes: TableNotes,
+) -> u8
+    ensures status { EndsTable result }
+    ensures printed { result ≡ ACCEPTED → IsTablePrinted (H.may_hold rt.now) (H.files rt.now) image.now
+        request.entry (O.contents output.old) (O.contents output.new) }
+    ensures refused { result ≡ REFUSED → IsTableRefused (H.may_hold rt.now) image.now request.entry
+        (O.contents output.old) (O.contents output.new) }
+    ensures unlisted { result ≡ COMMAND_LINE → IsTableUnlisted (H.may_hold rt.now) request.entry
+        (O.contents output.old) (O.contents output.new) }
+    ensures cut { (result ≡ INPUT_OUTPUT) ⊎ (result ≡ OUT_OF_MEMORY) → IsTableCutShort (H.may_hold rt.now) image.now
+        request.entry (O.contents output.old) (O.contents output.new) }
+    ensures silent { request.entry.out.now ≢ codes "-" → result ≡ OUT_OF_MEMORY
+        → O.contents output.new ≡ O.contents output.old }
+{
+    match stops_asked(rt, image, request, errors) {
+        Ok(stops) => {
+            let table = table_of(image, &stops.targets, &stops.sources, request);
+            make_table(rt, &table, request, output, errors, notes)
+        }
+        Err(status) => status,
+    }
+}
+
+// The sets of stops of a table.
+#[derive(Drop)]
+struct AskedStops {
+    targets: Vec<Vec<u32>>,
+    sources: Vec<Vec<u32>>,
+}
+
+// The sets of stops that are asked for, or the status that says why they aren't known.
+fn stops_asked<H: Files + ImageDisk<Image = H::File> + AllocGlobal, E: Write>(
+    rt: &H,
+    image: &Verified,
+    request: MatrixRequest<'_>,
+    errors: &mut E,
+) -> Result<AskedStops, u8>
+    ensures targets { IfOk result (λ stops. AreOfList (H.may_hold rt.now) request.entry.to.now image.now
+        stops.targets.items) }
+    ensures sources { IfOk result (λ stops. AreSources (H.may_hold rt.now) request.entry.from image.now
+        stops.sources.items) }
+    ensures status { IfErr result (IsUnasked (H.may_hold rt.now) request.entry image.now) }
+{
+    let targets = targets_asked(rt, image, request, errors)?;
+    let sources = sources_asked(rt, image, request, errors)?;
+    Ok(AskedStops { targets, sources })
+}
+
+// Writes the table that is asked for, if its window is good.
+fn make_table<H: OutDisk + AllocGlobal + Clock + Threads + Sync, O: Write, E: Write>(
+    rt: &H,
+    table: &TravelTable<'_>,
+    request: MatrixRequest<'_>,
+    output: &mut O,
+    errors: &mut E,
+    notes: TableNotes,
+) -> u8
+    requires targets { AreWithin table.now.image.now table.now.targets.now }
+    requires sources { AreWithin table.now.image.now table.now.sources.now }
+    ensures status { Ends result }
+    ensures shown { result ≡ ACCEPTED → HasWindow table.now
+        × IsTableShown (H.files rt.now) table.now request.entry.out.now (O.contents output.old)
+        (O.contents output.new) }
+    ensures refused { result ≡ REFUSED → IsBadWindow table.now.after table.now.until table.now.by
+        (O.contents output.old) (O.contents output.new) }
+    ensures cut { (result ≡ INPUT_OUTPUT) ⊎ (result ≡ OUT_OF_MEMORY) → IsCutShort table.now request.entry.out.now
+        (O.contents output.old) (O.contents output.new) }
+    ensures silent { request.entry.out.now ≢ codes "-" → result ≡ OUT_OF_MEMORY
+        → O.contents output.new ≡ O.contents output.old }
+{
+    if !table.has_window() {
+        return refuse_window(rt.alloc(), table, output, errors);
+    }
+    if notes.warnings {
+        warn_of_table(table, errors);
+    }
+    write_asked(rt, table, request, output, errors, notes.is_terminal)
+}
+
+fn warn_of_table<E: Write>(table: &TravelTable<'_>, errors: &mut E) {
+    let departures = DepartureRange {
+        first: table.after,
+        last: table.until,
+    };
+    warn_of_window(table.image, departures, errors);
+}
+
+fn table_of<'a>(
+    image: &'a Verified,
+    targets: &'a [Vec<u32>],
+    sources: &'a [Vec<u32>],
+    request: MatrixRequest<'_>,
+) -> TravelTable<'a>
+    ensures image { result.image.now ≡ image.now }
+    ensures stops { (result.targets.now ≡ targets.now) × (result.sources.now ≡ sources.now) }
+    ensures times { (result.after ≡ request.entry.after) × (result.until ≡ request.entry.until)
+        × (result.by ≡ request.entry.by) }
+    ensures form { (result.criterion ≡ request.entry.criterion) × (result.each ≡ request.entry.each) }
+{
+    TravelTable {
+        image,
+        targets,
+        sources,
+        after: request.after,
+        until: request.until,
+        by: request.by,
+        criterion: request.criterion,
+        each: request.each,
+    }
+}
+
+// The sets of stops where journeys end.
+fn targets_asked<H: Files + ImageDisk<Image = H::File> + AllocGlobal, E: Write>(
+    rt: &H,
+    image: &Verified,
+    request: MatrixRequest<'_>,
+    errors: &mut E,
+) -> Result<Vec<Vec<u32>>, u8>
+    ensures { MatchResult result
+        (λ sets. AreOfList (H.may_hold rt.now) request.entry.to.now image.now sets.items)
+        (IsUnlisted (H.may_hold rt.now) request.entry.to.now image.now) }
+{
+    let option = ListOption {
+        name: "--to",
+        path: request.to,
+    };
+    sets_of_file(rt, image, option, errors)
+}
+
+// The sets of stops where they begin.
+fn sources_asked<H: Files + ImageDisk<Image = H::File> + AllocGlobal, E: Write>(
+    rt: &H,
+    image: &Verified,
+    request: MatrixRequest<'_>,
+    errors: &mut E,
+) -> Result<Vec<Vec<u32>>, u8>
+    ensures sets { IfOk result (λ sets. AreSources (H.may_hold rt.now) request.entry.from image.now sets.items) }
+    ensures status { IfErr result (AreNoSources (H.may_hold rt.now) request.entry.from image.now) }
+{
+    match request.from {
+        Some(path) => {
+            let option = ListOption {
+                name: "--from",
+                path,
+            };
+            sets_of_file(rt, image, option, errors)
+        }
+        None => match all_stops(rt.alloc(), image) {
+            Ok(stops) => Ok(stops),
+            Err(AllocError) => Err(status::OUT_OF_MEMORY),
+        },
+    }
+}
+
+// Prints the refusal of a window, and says what is wrong.
+fn refuse_window<O: Write, E: Write>(
+    alloc: Global,
+    table: &TravelTable<'_>,
+    output: &mut O,
+    errors: &mut E,
+) -> u8
+    ensures status { EndsUndone result }
+    ensures printed { result ≡ REFUSED
+        → Appends (O.contents output.old) (O.contents output.new) (refusal_line (Query BadWindow)) }
+    ensures begun { result ≡ INPUT_OUTPUT
+        → IsBegun (O.contents output.old) (O.contents output.new) (refusal_line (Query BadWindow)) }
+    ensures silent { result ≡ OUT_OF_MEMORY → O.contents output.new ≡ O.contents output.old }
+{
+    let refusal = CommandRefusal::Query(QueryFault::BadWindow);
+    let status = print_refusal(alloc, output, refusal);
+    if status == status::REFUSED {
+        let reason = window_reason(table.after, table.until, table.by);
+        explain(errors, &["csa: ", reason]);
+    }
+    status
+}
+
+// Writes the table to where it is asked for, and says how that ended.
+fn write_asked<H: OutDisk + AllocGlobal + Clock + Threads + Sync, O: Write, E: Write>(
+    rt: &H,
+    table: &TravelTable<'_>,
+    request: MatrixRequest<'_>,
+    output: &mut O,
+    errors: &mut E,
+    is_terminal: bool,
+) -> u8
+    requires can { (targets : Vec ℕ) → Contains table.now.targets.now targets
+        → CanBeMade table.now targets.items }
+    ensures status { EndsWritten result }
+    ensures shown { result ≡ ACCEPTED
+        → IsTableShown (H.files rt.now) table.now request.entry.out.now (O.contents output.old)
+        (O.contents output.new) }
+    ensures cut { (result ≡ INPUT_OUTPUT) ⊎ (result ≡ OUT_OF_MEMORY)
+        → (O.contents output.new ≡ O.contents output.old)
+        ⊎ IsShownInPart table.now request.entry.out.now (O.contents output.old) (O.contents output.new) }
+    ensures silent { request.entry.out.now ≢ codes "-" → result ≡ OUT_OF_MEMORY
+        → O.contents output.new ≡ O.contents output.old }
+{
+    let log = if request.progress || is_terminal {
+        Some(&mut *errors)
+    } else {
+        None
+    };
+    let outcome = put_reported(rt, table, request, output, log, is_terminal);
+    if request.out == "-" {
+        return printed(outcome);
+    }
+    match outcome {
+        Ok(()) => print_counts(rt.alloc(), table, output),
+        Err(error) => status::report_unwritten(errors, request.out, error.kind()),
+    }
+}
+
+// Writes the table to where it is asked for, and reports progress to `log`, if there is one.
+fn put_reported<'c, H: OutDisk + AllocGlobal + Clock + Threads + Sync, O: Write, E: Write>(
+    rt: &'c H,
+    table: &TravelTable<'_>,
+    request: MatrixRequest<'_>,
+    output: &mut O,
+    log: Option<&'c mut E>,
+    is_terminal: bool,
+) -> io::Result<()>
+    requires can { (targets : Vec ℕ) → Contains table.now.targets.now targets
+        → CanBeMade table.now targets.items }
+    ensures shown { request.entry.out.now ≡ codes "-" → OnOk result ((text : List ℕ) × IsTable table.now text
+        × Appends (O.contents output.old) (O.contents output.new) text) }
+    ensures put { request.entry.out.now ≢ codes "-" → OnOk result ((text : List ℕ) × IsTable table.now text
+        × IsPut (H.files rt.now) request.entry.out.now text) }
+    ensures begun { request.entry.out.now ≡ codes "-"
+        → OnErr result (IsTableBegun table.now (O.contents output.old) (O.contents output.new)) }
+    ensures kept { request.entry.out.now ≢ codes "-" → O.contents output.new ≡ O.contents output.old }
+{
+    let mut progress = TableProgress::new(rt.alloc(), rt, log, is_terminal, table.targets.len());
+    let workers = workers_of(rt, request.workers);
+    let outcome = put_table(rt, table, workers, request.out, output, &mut progress);
+    progress.close();
+    outcome
+}
+
+// Writes the table to a path, or to `output` if that is `-`.
+fn put_table<H: OutDisk + AllocGlobal + Threads + Sync, O: Write, P: TableReports>(
+    rt: &H,
+    table: &TravelTable<'_>,
+    workers: TableWorkers,
+    path: &str,
+    output: &mut O,
+    reports: &mut P,
+) -> io::Result<()>
+    requires can { (targets : Vec ℕ) → Contains table.now.targets.now targets
+        → CanBeMade table.now targets.items }
+    ensures shown { path.now ≡ codes "-" → OnOk result ((text : List ℕ) × IsTable table.now text
+        × Appends (O.contents output.old) (O.contents output.new) text) }
+    ensures put { path.now ≢ codes "-" → OnOk result ((text : List ℕ) × IsTable table.now text
+        × IsPut (H.files rt.now) path.now text) }
+    ensures begun { path.now ≡ codes "-"
+        → OnErr result (IsTableBegun table.now (O.contents output.old) (O.contents output.new)) }
+    ensures kept { path.now ≢ codes "-" → O.contents output.new ≡ O.contents output.old }
+{
+    if path == "-" {
+        return write_table(rt, table, workers.number, output, reports);
+    }
+    let mut file = new_file(rt, path)?;
+    let outcome = write_table(rt, table, workers.number, &mut file.file, reports);
+    settle(rt, file, outcome)
+}
+
+// How many threads work: as many as are asked for, or one for each processor.
+fn workers_of<R: Threads>(rt: &R, asked: Option<TableWorkers>) -> TableWorkers {
+    match asked {
+        Some(workers) => workers,
+        None => TableWorkers::for_processors(processors(rt)),
+    }
+}
+
+// How many processors the program may use; 1 if that isn't known.
+fn processors<R: Threads>(rt: &R) -> usize {
+    match available_parallelism(rt) {
+        Ok(count) => count.get(),
+        Err(_) => 1,
+    }
+}
+
+// The status of a table on standard output.
+fn printed(outcome: io::Result<()>) -> u8
+    ensures status { EndsWritten result }
+    ensures done { IfOk outcome (λ _. result ≡ ACCEPTED) }
+    ensures failed { IfErr outcome (λ _. result ≢ ACCEPTED) }
+{
+    match outcome {
+        Ok(()) => status::ACCEPTED,
+        Err(error) => match error.kind() {
+            ErrorKind::OutOfMemory => status::OUT_OF_MEMORY,
+            _ => status::INPUT_OUTPUT,
+        },
+    }
+}
+
+// Prints how many sets of stops a table has.
+fn print_counts<O: Write>(alloc: Global, table: &TravelTable<'_>, output: &mut O) -> u8
+    ensures status { EndsWritten result }
+    ensures printed { result ≡ ACCEPTED
+        → Appends (O.contents output.old) (O.contents output.new) (counts_of table.now) }
+    ensures begun { result ≡ INPUT_OUTPUT
+        → IsBegun (O.contents output.old) (O.contents output.new) (counts_of table.now) }
+    ensures silent { result ≡ OUT_OF_MEMORY → O.contents output.new ≡ O.contents output.old }
+{
+    let line = counts_line(alloc, table.targets.len(), table.sources.len());
+    status::write_line(output, line, status::ACCEPTED)
+}
+
+fn counts_line(alloc: Global, targets: usize, sources: usize) -> Result<String, AllocError>
+    ensures { IfOk result (λ line. string_bytes line ≡ counts_text targets sources) }
+{
+    let mut line = String::new(alloc);
+    put_number(&mut line, "targets ", targets as u64)?;
+    put_number(&mut line, " sources ", sources as u64)?;
+    put_text(&mut line, "\n")?;
+    Ok(line)
+}

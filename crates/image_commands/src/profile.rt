@@ -1,0 +1,238 @@
+//! `csa profile IMAGE --from STOP_ID.. --to STOP_ID.. --after .. --until .. --by .. --criterion NAME
+//! [--names | --json [--legs]] [--picture FILE [--rows N]]`.
+
+ghost use Rattle.std.specs.Prelude.{◌≡◌, IfOk, OnOk, string_bytes};
+ghost use Rattle.std.specs.Io.KnownBytes.{Appends};
+ghost use Rattle.profile_scan.specs.Between.{IsAskableBetween, question};
+ghost use Rattle.command_requests.specs.declared.statuses.TheConstants.{INPUT_OUTPUT, OUT_OF_MEMORY, REFUSED};
+ghost use Rattle.image_commands.specs.Answering.{IsPicturePut, IsProfile, IsShown, IsShownBy};
+ghost use Rattle.image_commands.specs.Commands.{PrintsProfile};
+ghost use Rattle.command_endings.specs.Ending.{EndsUndone, IsBegun, IsOutcome, PrintsOnly};
+ghost use Rattle.image_commands.specs.Listing.{form_text};
+ghost use Rattle.image_commands.specs.Refusing.{refusal_line};
+ghost use Rattle.image_commands.specs.declared.refusal.CommandRefusal.TheVariants.{Query as OfQuery};
+
+use crate::listing::{named_lines, numbered_lines};
+use crate::pictured::picture_asked;
+use crate::question::{SAME_STOP, explain_ends, window_reason};
+use crate::refusal::{CommandRefusal, print_refusal};
+use crate::replying::reply_line;
+use answer_replies::PointForm;
+use command_endings::status;
+use command_requests::{AnswerForm, ProfileRequest};
+use criteria::{Arrival, ArrivalTrips, ArrivalTripsWalk, CriterionName, ShowsFigures};
+use feed_messages::explain;
+use image_files::{OutDisk, put_text_into};
+use image_verifier::Verified;
+use journeys::{Answer, Window};
+use profile_scan::{Between, InPlace};
+use station_answers::{NoQuestion, answer_between, question_between};
+use std::alloc::{AllocError, Global};
+use std::io;
+use std::io::Write;
+use timetable::QueryFault;
+
+/// The answer to a question: a text, and a picture if one is asked for.
+#[derive(Drop)]
+pub struct Profile {
+    text: String,
+    picture: Option<String>,
+}
+
+/// Prints the answer in the form that is asked for: a line for each best departure of any pair of stops with a journey,
+/// then how many there are, how many connections were read, and the shortest direct footpath; or what a session would
+/// reply. A picture that is asked for is written first.
+pub fn run<H: OutDisk + AllocGlobal, O: Write, E: Write>(
+    rt: &H,
+    image: &Verified,
+    request: &ProfileRequest<'_>,
+    output: &mut O,
+    errors: &mut E,
+) -> u8
+    ensures { IsOutcome (PrintsProfile (H.files rt.now) image.now request.now) result
+        (O.contents output.old) (O.contents output.new) }
+{
+    match profile_asked(rt.alloc(), image, request) {
+        Ok(profile) => print_profile(rt, &profile, request, output, errors),
+        Err(NoQuestion::Bad(fault)) => refuse(rt.alloc(), image, request, fault, output, errors),
+        Err(NoQuestion::OutOfMemory) => status::OUT_OF_MEMORY,
+    }
+}
+
+/// Writes the picture, if there is one, and then prints the text.
+fn print_profile<H: OutDisk + AllocGlobal, O: Write, E: Write>(
+    rt: &H,
+    profile: &Profile,
+    request: &ProfileRequest<'_>,
+    output: &mut O,
+    errors: &mut E,
+) -> u8
+    ensures { IsOutcome (PrintsOnly (λ text. IsPicturePut (H.files rt.now) request.now.picture profile.now.picture
+        × (text ≡ string_bytes profile.now.text))) result
+        (O.contents output.old) (O.contents output.new) }
+{
+    match put_picture(rt, request.picture, &profile.picture) {
+        Ok(()) => status::write_text(output, profile.text.as_str(), status::ACCEPTED),
+        Err(error) => {
+            let path = request.picture.unwrap_or("");
+            status::report_unwritten(errors, path, error.kind())
+        }
+    }
+}
+
+/// Writes a picture into the file at its path, if there are both.
+fn put_picture<H: OutDisk>(rt: &H, path: Option<&str>, picture: &Option<String>) -> io::Result<()>
+    ensures { OnOk result (IsPicturePut (H.files rt.now) path.entry picture.now) }
+{
+    match path {
+        None => Ok(()),
+        Some(path) => match picture {
+            None => Ok(()),
+            Some(picture) => put_text_into(rt, path, picture.as_str()),
+        },
+    }
+}
+
+/// Answers the question, or returns why it can't be answered.
+fn profile_asked(
+    alloc: Global,
+    image: &Verified,
+    request: &ProfileRequest<'_>,
+) -> Result<Profile, NoQuestion>
+    ensures { IsProfile image.now request.now result }
+{
+    let window = Window {
+        from: request.after,
+        until: request.until,
+        by: request.by,
+    };
+    let query = match question_between(alloc, image, &request.from, &request.to, window) {
+        Ok(query) => query,
+        Err(failure) => return Err(failure),
+    };
+    match profile_by_name(alloc, image, &query, request) {
+        Ok(profile) => Ok(profile),
+        Err(AllocError) => Err(NoQuestion::OutOfMemory),
+    }
+}
+
+/// Answers a question under the criterion that the request names.
+fn profile_by_name(
+    alloc: Global,
+    image: &Verified,
+    query: &Between,
+    request: &ProfileRequest<'_>,
+) -> Result<Profile, AllocError>
+    requires { IsAskableBetween image.now.timetable.stops (question query.now) }
+    ensures { IfOk result (IsShownBy request.now.criterion request.now image.now (question query.now)) }
+{
+    match request.criterion {
+        CriterionName::Arrival => profile_by(alloc, image, &Arrival, query, request),
+        CriterionName::ArrivalTrips => profile_by(alloc, image, &ArrivalTrips, query, request),
+        CriterionName::ArrivalTripsWalk => {
+            profile_by(alloc, image, &ArrivalTripsWalk, query, request)
+        }
+    }
+}
+
+/// Answers a question under a criterion: the text and the picture are of one and the same answer.
+fn profile_by<C: ShowsFigures>(
+    alloc: Global,
+    image: &Verified,
+    criterion: &C,
+    query: &Between,
+    request: &ProfileRequest<'_>,
+) -> Result<Profile, AllocError>
+    requires { IsAskableBetween image.now.timetable.stops (question query.now) }
+    ensures { IfOk result (IsShown C.figures (C.rules criterion.now) request.now image.now (question query.now)) }
+{
+    let mut source = InPlace::new(image);
+    let answer = answer_between(alloc, &mut source, criterion, query)?;
+    let picture = picture_asked(alloc, image, criterion, request, query, &answer)?;
+    let text = text_in_form(alloc, image, criterion, &answer, request.form)?;
+    Ok(Profile { text, picture })
+}
+
+/// The text of an answer, in a form.
+pub(crate) fn text_in_form<C: ShowsFigures>(
+    alloc: Global,
+    image: &Verified,
+    criterion: &C,
+    answer: &Answer<C>,
+    form: AnswerForm,
+) -> Result<String, AllocError>
+    ensures { IfOk result (λ text. string_bytes text ≡
+        form_text C.figures image.now form answer.now.departures.items answer.now.read answer.now.walk) }
+{
+    match form {
+        AnswerForm::Numbers => numbered_lines(alloc, criterion, answer),
+        AnswerForm::Names => named_lines(alloc, image, criterion, answer),
+        AnswerForm::Json => reply_line(alloc, PointForm::Bare, image, criterion, answer),
+        AnswerForm::JsonLegs => reply_line(alloc, PointForm::WithLegs, image, criterion, answer),
+    }
+}
+
+/// Prints why a question can't be asked of an image, and says in `errors` which stops or clocks are at fault.
+fn refuse<O: Write, E: Write>(
+    alloc: Global,
+    image: &Verified,
+    request: &ProfileRequest<'_>,
+    fault: QueryFault,
+    output: &mut O,
+    errors: &mut E,
+) -> u8
+    ensures status { EndsUndone result }
+    ensures printed { result ≡ REFUSED
+        → Appends (O.contents output.old) (O.contents output.new) (refusal_line (OfQuery fault)) }
+    ensures silent { result ≡ OUT_OF_MEMORY → O.contents output.new ≡ O.contents output.old }
+    ensures begun { result ≡ INPUT_OUTPUT
+        → IsBegun (O.contents output.old) (O.contents output.new) (refusal_line (OfQuery fault)) }
+{
+    let status = print_refusal(alloc, output, CommandRefusal::Query(fault));
+    if status == status::REFUSED {
+        explain_profile(image, request, fault, errors);
+    }
+    status
+}
+
+/// Says which stops the image doesn't have or are on both sides, or what is wrong with the window.
+fn explain_profile<E: Write>(
+    image: &Verified,
+    request: &ProfileRequest<'_>,
+    fault: QueryFault,
+    errors: &mut E,
+) {
+    match fault {
+        QueryFault::UnknownStop => {
+            explain_ends(image, "--from", &request.from, errors);
+            explain_ends(image, "--to", &request.to, errors);
+        }
+        QueryFault::SameStop => explain_shared(&request.from, &request.to, errors),
+        QueryFault::BadWindow => {
+            let reason = window_reason(request.after, request.until, request.by);
+            explain(errors, &["csa: ", reason]);
+        }
+    }
+}
+
+/// Says which stops are on both sides.
+fn explain_shared<E: Write>(from: &[&str], to: &[&str], errors: &mut E) {
+    if from.len() == 1 && to.len() == 1 {
+        explain(errors, &[SAME_STOP]);
+        return;
+    }
+    for stop in from {
+        if is_among(to, stop) {
+            let _ = write!(errors, "csa: --from {stop:?}: it is given by --to too\n");
+        }
+    }
+}
+
+fn is_among(stops: &[&str], stop: &str) -> bool {
+    for other in stops {
+        if *other == stop {
+            return true;
+        }
+    }
+    false
+}
