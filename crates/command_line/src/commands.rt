@@ -1,13 +1,17 @@
 //! The commands as `clap` knows them: their words, options and help.
 
+ghost use Rattle.std.specs.Prelude.{◌≡◌, map};
+ghost use Rattle.clap.specs.Words.{rule_of};
+ghost use Rattle.command_line.specs.Grammar.{flag, image_shapes, maybe_word, other_shapes, rule_of_argument};
+ghost use Rattle.command_line.specs.Grammar.{shape_of_task, stops_shapes, words};
+
 use crate::texts;
 use clap::{Arg, ArgAction, Command};
-use criteria::CriterionName;
 use std::alloc::{AllocError, Global};
 
 /// An argument of a command: its id, which is also the name of an option, then the name of its value, and its help.
 #[derive(Clone, Copy)]
-enum Argument {
+pub(crate) enum Argument {
     /// A word; words are given in the order of this list.
     Positional(&'static str, &'static str, &'static str),
     /// A word, in the same order, that may be left out.
@@ -22,22 +26,14 @@ enum Argument {
     Stops(&'static str, &'static str, &'static str),
     /// An option with a value; the option may be left out.
     MaybeOption(&'static str, &'static str, &'static str),
-    /// An option whose value is the name of a criterion.
-    Criterion(&'static str, &'static str, &'static str),
-    /// An option with a value, which may be given only together with the option whose id comes last.
-    OptionBeside(&'static str, &'static str, &'static str, &'static str),
     /// An option without a value.
     Flag(&'static str, &'static str),
-    /// An option without a value, which may not be given together with the option whose id comes last.
-    OtherFlag(&'static str, &'static str, &'static str),
-    /// An option without a value, which may be given only together with the option whose id comes last.
-    FlagBeside(&'static str, &'static str, &'static str),
 }
 
 /// A command: its word, what it does, what its help prints below the arguments, and the arguments, in groups that
 /// commands may share.
 #[derive(Clone, Copy)]
-struct Task {
+pub(crate) struct Task {
     name: &'static str,
     about: &'static str,
     notes: &'static str,
@@ -96,10 +92,10 @@ const TIMES: [Argument; 3] = [
     Argument::Option("by", "CLOCK", "The latest arrival"),
 ];
 
-const CRITERION: [Argument; 1] = [Argument::Criterion(
+const CRITERION: [Argument; 1] = [Argument::Option(
     "criterion",
     "NAME",
-    "What makes a journey better",
+    "What makes a journey better [possible values: arrival, arrival+trips, arrival+trips+walk]",
 )];
 
 const DEPARTURES: [Argument; 4] = [
@@ -108,15 +104,13 @@ const DEPARTURES: [Argument; 4] = [
         "FILE",
         "Print only the departures from the stops of FILE, which has one stop_id on each line (- is a file name here)",
     ),
-    Argument::OtherFlag(
+    Argument::Flag(
         "summary",
         "Print one line for each stop: how many departures, the first, the last, the least seconds, the direct walk",
-        "no-journeys",
     ),
-    Argument::OtherFlag(
+    Argument::Flag(
         "json",
         "Print one line of JSON for each stop, and the counts as the last one",
-        "summary",
     ),
     Argument::Flag("no-journeys", "Print no journeys"),
 ];
@@ -166,26 +160,22 @@ const PROFILE: [Argument; 5] = [
         "FILE",
         "Write a picture of the answer to FILE, as SVG (- is a file name here)",
     ),
-    Argument::OptionBeside(
+    Argument::MaybeOption(
         "rows",
         "N",
         "With --picture: draw the first N journeys, 1 to 10000, and say how many more there are [default: 200]",
-        "picture",
     ),
-    Argument::OtherFlag(
+    Argument::Flag(
         "names",
         "Print ids and clocks in journeys: ride TRIP CLOCK STOP CLOCK STOP, walk STOP STOP SECS",
-        "legs",
     ),
-    Argument::OtherFlag(
+    Argument::Flag(
         "json",
         "Print the answer as a server would reply: one line of JSON",
-        "names",
     ),
-    Argument::FlagBeside(
+    Argument::Flag(
         "legs",
         "With --json: print each point's legs too, by trip_id, stop_id and clock",
-        "json",
     ),
 ];
 
@@ -413,64 +403,67 @@ const OTHER_TASKS: [Task; 6] = [
 ];
 
 // A slice, since a loop over the list itself puts the whole list into each goal.
-fn image_tasks() -> &'static [Task] {
+fn image_tasks() -> &'static [Task]
+    ensures { map shape_of_task result.now ≡ image_shapes }
+{
     &IMAGE_TASKS
 }
 
-fn stops_tasks() -> &'static [Task] {
+fn stops_tasks() -> &'static [Task]
+    ensures { map shape_of_task result.now ≡ stops_shapes }
+{
     &STOPS_TASKS
 }
 
-fn other_tasks() -> &'static [Task] {
+fn other_tasks() -> &'static [Task]
+    ensures { map shape_of_task result.now ≡ other_shapes }
+{
     &OTHER_TASKS
 }
 
-fn value<'a>(alloc: Global, id: &'a str, name: &'a str, help: &'a str) -> Arg<'a> {
+fn value<'a>(alloc: Global, id: &'a str, name: &'a str, help: &'a str) -> Arg<'a>
+    ensures { rule_of result ≡ maybe_word id.now }
+{
     Arg::new(alloc, id)
         .value_name(name)
         .help(help)
         .action(ArgAction::Set)
 }
 
-fn option<'a>(alloc: Global, id: &'a str, name: &'a str, help: &'a str) -> Arg<'a> {
-    value(alloc, id, name, help).required(true).long(id)
-}
-
-fn stop<'a>(alloc: Global, id: &'a str, name: &'a str, help: &'a str) -> Arg<'a> {
-    option(alloc, id, name, help).allow_hyphen_values(true)
-}
-
-fn flag<'a>(alloc: Global, id: &'a str, help: &'a str) -> Arg<'a> {
+fn flag<'a>(alloc: Global, id: &'a str, help: &'a str) -> Arg<'a>
+    ensures { rule_of result ≡ flag id.now }
+{
     Arg::new(alloc, id)
         .long(id)
         .help(help)
         .action(ArgAction::SetTrue)
 }
 
-fn words<'a>(alloc: Global, id: &'a str, name: &'a str, help: &'a str) -> Arg<'a> {
+fn words<'a>(alloc: Global, id: &'a str, name: &'a str, help: &'a str) -> Arg<'a>
+    ensures { rule_of result ≡ words id.now }
+{
     Arg::new(alloc, id).value_name(name).help(help).num_args(..)
 }
 
-fn arg_of<'a>(alloc: Global, argument: Argument) -> Result<Arg<'a>, AllocError> {
+fn arg_of<'a>(alloc: Global, argument: Argument) -> Arg<'a>
+    ensures { rule_of result ≡ rule_of_argument argument }
+{
     match argument {
-        Argument::Positional(id, name, help) => Ok(value(alloc, id, name, help).required(true)),
-        Argument::MaybeWord(id, name, help) => Ok(value(alloc, id, name, help)),
-        Argument::Words(id, name, help) => Ok(words(alloc, id, name, help)),
-        Argument::Option(id, name, help) => Ok(option(alloc, id, name, help)),
-        Argument::Stop(id, name, help) => Ok(stop(alloc, id, name, help)),
-        Argument::Stops(id, name, help) => {
-            Ok(stop(alloc, id, name, help).action(ArgAction::Append))
-        }
-        Argument::MaybeOption(id, name, help) => Ok(value(alloc, id, name, help).long(id)),
-        Argument::Criterion(id, name, help) => {
-            Ok(option(alloc, id, name, help).value_parser(CriterionName::NAMES.as_slice()))
-        }
-        Argument::OptionBeside(id, name, help, other) => {
-            value(alloc, id, name, help).long(id).requires_arg(other)
-        }
-        Argument::Flag(id, help) => Ok(flag(alloc, id, help)),
-        Argument::OtherFlag(id, help, other) => flag(alloc, id, help).conflicts_with(other),
-        Argument::FlagBeside(id, help, other) => flag(alloc, id, help).requires_arg(other),
+        Argument::Positional(id, name, help) => value(alloc, id, name, help).required(true),
+        Argument::MaybeWord(id, name, help) => value(alloc, id, name, help),
+        Argument::Words(id, name, help) => words(alloc, id, name, help),
+        Argument::Option(id, name, help) => value(alloc, id, name, help).long(id).required(true),
+        Argument::Stop(id, name, help) => value(alloc, id, name, help)
+            .long(id)
+            .required(true)
+            .allow_hyphen_values(true),
+        Argument::Stops(id, name, help) => value(alloc, id, name, help)
+            .long(id)
+            .required(true)
+            .allow_hyphen_values(true)
+            .action(ArgAction::Append),
+        Argument::MaybeOption(id, name, help) => value(alloc, id, name, help).long(id),
+        Argument::Flag(id, help) => flag(alloc, id, help),
     }
 }
 
@@ -480,7 +473,7 @@ fn with_arguments<'a>(
     arguments: &[Argument],
 ) -> Result<Command<'a>, AllocError> {
     for argument in arguments {
-        command = command.arg(arg_of(alloc, *argument)?)?;
+        command = command.arg(arg_of(alloc, *argument))?;
     }
     Ok(command)
 }
@@ -552,13 +545,12 @@ fn with_tasks<'a>(
 
 /// All commands.
 pub(crate) fn program<'a>(alloc: Global) -> Result<Command<'a>, AllocError> {
-    let mut command = Command::new(alloc, "csa")
+    let command = Command::new(alloc, "csa")
         .about("Every best departure over verified public transport timetables")
         .after_help(texts::STATUSES)
         .version(texts::VERSION)
         .subcommand_required(true);
-    for tasks in [image_tasks(), stops_tasks(), other_tasks()] {
-        command = with_tasks(alloc, command, tasks)?;
-    }
-    Ok(command)
+    let command = with_tasks(alloc, command, image_tasks())?;
+    let command = with_tasks(alloc, command, stops_tasks())?;
+    with_tasks(alloc, command, other_tasks())
 }

@@ -2,7 +2,10 @@
 #![tactic(auto)]
 
 mod commands;
+mod messages;
+mod options;
 mod reading;
+mod requests;
 mod texts;
 mod values;
 

@@ -1,0 +1,4 @@
+pub mod Grammar
+pub mod Options
+pub mod Requests
+pub mod Values

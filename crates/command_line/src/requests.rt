@@ -1,0 +1,434 @@
+//! The request of each command, from the values of its arguments.
+
+ghost use Rattle.std.specs.Prelude.{◌≡◌, ◌<◌, IfOk, IfSome, MatchOption, length, map};
+ghost use Rattle.clap.specs.Words.{found_of, rows_of};
+ghost use Rattle.command_requests.specs.declared.requests.DeparturesRequest.{DeparturesRequest};
+ghost use Rattle.command_line.specs.Requests.{AsksAnswer, AsksDepartures, HasDeparturesOptions, HasPictureRows};
+ghost use Rattle.command_line.specs.Requests.{HasPlan, HasProfileOptions, HasSeconds, HasStops, HasWorkers, IsBuild};
+ghost use Rattle.command_line.specs.Requests.{IsDays, IsDepartures, IsInfo, IsJourney, IsMatrix, IsProfile, IsRequest};
+ghost use Rattle.command_line.specs.Requests.{IsServe, IsStations, IsStops, IsTables, IsUpgrade, Reads, text_sought};
+
+use crate::messages::{
+    feed_named_twice, stop_given_twice, too_many_stops, wrong_feed, wrong_value,
+};
+use crate::options::{
+    clock_at, count_at, criterion_at, day_at, is_given, number_at, port_at, text_at, texts_at,
+    zone_at,
+};
+use crate::reading::NoCommand;
+use crate::values::named_folder;
+use clap::ArgMatches;
+use command_requests::{
+    AnswerForm, BuildRequest, CommandRequest, DaysRequest, DeparturesForm, DeparturesRequest,
+    InfoRequest, JourneyRequest, MatrixRequest, NamedFolder, PictureRows, PlanText, ProfileRequest,
+    Question, Seconds, ServeRequest, StationsRequest, StopsRequest, TableWorkers, TablesRequest,
+    UpgradeRequest, Workers, days_of,
+};
+use std::alloc::Global;
+
+/// The request of words that clap accepts.
+pub(crate) fn request_in<'a>(
+    alloc: Global,
+    matches: &ArgMatches<'a>,
+) -> Result<CommandRequest<'a>, NoCommand> {
+    match matches.subcommand() {
+        Some((name, inner)) => named_request(alloc, name, inner),
+        None => Err(wrong_value(alloc, "", matches)),
+    }
+}
+
+// The request of the command of this name.
+fn named_request<'a>(
+    alloc: Global,
+    name: &str,
+    matches: &ArgMatches<'a>,
+) -> Result<CommandRequest<'a>, NoCommand>
+    ensures { IfOk result (IsRequest name.now (rows_of (found_of matches.now))) }
+{
+    match name {
+        "profile" => Ok(CommandRequest::Profile(profile_request(alloc, matches)?)),
+        "departures" => Ok(CommandRequest::Departures(departures_request(alloc, matches)?)),
+        "serve" => Ok(CommandRequest::Serve(serve_request(alloc, matches)?)),
+        _ => match plain_request(name, matches) {
+            Some(request) => Ok(request),
+            None => Err(wrong_value(alloc, name, matches)),
+        },
+    }
+}
+
+// The request of a command that takes no memory; `None` if a value has a wrong form.
+fn plain_request<'a>(name: &str, matches: &ArgMatches<'a>) -> Option<CommandRequest<'a>>
+    ensures { IfSome result (IsRequest name.now (rows_of (found_of matches.now))) }
+{
+    match name {
+        "verify" => text_at(matches, "image").map(CommandRequest::Verify),
+        "info" => info_request(matches).map(CommandRequest::Info),
+        "journey" => journey_request(matches).map(CommandRequest::Journey),
+        "matrix" => matrix_request(matches).map(CommandRequest::Matrix),
+        "stops" => stops_request(matches).map(CommandRequest::Stops),
+        "tables" => tables_request(matches).map(CommandRequest::Tables),
+        "days" => days_request(matches).map(CommandRequest::Days),
+        "stations" => stations_request(matches).map(CommandRequest::Stations),
+        "build" => build_request(matches).map(CommandRequest::Build),
+        "upgrade" => upgrade_request(matches).map(CommandRequest::Upgrade),
+        _ => None,
+    }
+}
+
+fn info_request<'a>(matches: &ArgMatches<'a>) -> Option<InfoRequest<'a>>
+    ensures { Reads IsInfo matches.now result }
+{
+    Some(InfoRequest {
+        image: text_at(matches, "image")?,
+        json: is_given(matches, "json"),
+    })
+}
+
+// The text that is looked for; none is the empty one.
+fn sought<'a>(matches: &ArgMatches<'a>) -> &'a str
+    ensures { result.now ≡ text_sought (rows_of (found_of matches.now)) }
+{
+    match text_at(matches, "text") {
+        Some(text) => text,
+        None => "",
+    }
+}
+
+fn stops_request<'a>(matches: &ArgMatches<'a>) -> Option<StopsRequest<'a>>
+    ensures { Reads IsStops matches.now result }
+{
+    Some(StopsRequest {
+        image: text_at(matches, "image")?,
+        text: sought(matches),
+        json: is_given(matches, "json"),
+    })
+}
+
+fn stations_request<'a>(matches: &ArgMatches<'a>) -> Option<StationsRequest<'a>>
+    ensures { Reads IsStations matches.now result }
+{
+    Some(StationsRequest {
+        folder: text_at(matches, "folder")?,
+        text: sought(matches),
+        json: is_given(matches, "json"),
+    })
+}
+
+fn tables_request<'a>(matches: &ArgMatches<'a>) -> Option<TablesRequest<'a>>
+    ensures { Reads IsTables matches.now result }
+{
+    Some(TablesRequest {
+        folder: text_at(matches, "folder")?,
+        all_faults: is_given(matches, "all-faults"),
+        json: is_given(matches, "json"),
+    })
+}
+
+fn days_request<'a>(matches: &ArgMatches<'a>) -> Option<DaysRequest<'a>>
+    ensures { Reads IsDays matches.now result }
+{
+    Some(DaysRequest {
+        folder: text_at(matches, "folder")?,
+        json: is_given(matches, "json"),
+    })
+}
+
+fn upgrade_request<'a>(matches: &ArgMatches<'a>) -> Option<UpgradeRequest<'a>>
+    ensures { Reads IsUpgrade matches.now result }
+{
+    Some(UpgradeRequest {
+        image: text_at(matches, "image")?,
+        out: text_at(matches, "out")?,
+    })
+}
+
+fn journey_request<'a>(matches: &ArgMatches<'a>) -> Option<JourneyRequest<'a>>
+    ensures { Reads IsJourney matches.now result }
+{
+    Some(JourneyRequest {
+        image: text_at(matches, "image")?,
+        text: text_at(matches, "text")?,
+        question: Question {
+            from: text_at(matches, "from")?,
+            to: text_at(matches, "to")?,
+            after: clock_at(matches, "after")?,
+            until: clock_at(matches, "until")?,
+            by: clock_at(matches, "by")?,
+        },
+    })
+}
+
+fn profile_request<'a>(
+    alloc: Global,
+    matches: &ArgMatches<'a>,
+) -> Result<ProfileRequest<'a>, NoCommand>
+    ensures { IfOk result (IsProfile (rows_of (found_of matches.now))) }
+{
+    let from = stops_at(alloc, "profile", matches, "from")?;
+    let to = stops_at(alloc, "profile", matches, "to")?;
+    match profile_between(matches, from, to) {
+        Some(request) => Ok(request),
+        None => Err(wrong_value(alloc, "profile", matches)),
+    }
+}
+
+// `None` if a value has a wrong form, or options stand together that may not.
+fn profile_between<'a>(
+    matches: &ArgMatches<'a>,
+    from: Vec<&'a str>,
+    to: Vec<&'a str>,
+) -> Option<ProfileRequest<'a>>
+    ensures { IfSome result (λ r. HasProfileOptions (rows_of (found_of matches.now)) r × (r.from ≡ from.entry)
+        × (r.to ≡ to.entry)) }
+{
+    Some(ProfileRequest {
+        image: text_at(matches, "image")?,
+        from,
+        to,
+        after: clock_at(matches, "after")?,
+        until: clock_at(matches, "until")?,
+        by: clock_at(matches, "by")?,
+        criterion: criterion_at(matches, "criterion")?,
+        form: answer_form(matches)?,
+        rows: rows_at(matches)?,
+        picture: text_at(matches, "picture"),
+    })
+}
+
+fn answer_form(matches: &ArgMatches<'_>) -> Option<AnswerForm>
+    ensures { Reads AsksAnswer matches.now result }
+{
+    match (
+        is_given(matches, "names"),
+        is_given(matches, "json"),
+        is_given(matches, "legs"),
+    ) {
+        (false, false, false) => Some(AnswerForm::Numbers),
+        (true, false, false) => Some(AnswerForm::Names),
+        (false, true, false) => Some(AnswerForm::Json),
+        (false, true, true) => Some(AnswerForm::JsonLegs),
+        _ => None,
+    }
+}
+
+// How many rows a picture has; `None` if the value has a wrong form, or stands without a picture.
+fn rows_at(matches: &ArgMatches<'_>) -> Option<PictureRows>
+    ensures { IfSome result (HasPictureRows (rows_of (found_of matches.now))) }
+{
+    if text_at(matches, "rows").is_none() {
+        return Some(PictureRows::plain());
+    }
+    text_at(matches, "picture")?;
+    PictureRows::of(number_at(matches, "rows")?)
+}
+
+fn departures_request<'a>(
+    alloc: Global,
+    matches: &ArgMatches<'a>,
+) -> Result<DeparturesRequest<'a>, NoCommand>
+    ensures { IfOk result (IsDepartures (rows_of (found_of matches.now))) }
+{
+    let to = stops_at(alloc, "departures", matches, "to")?;
+    match departures_to(matches, to) {
+        Some(request) => Ok(request),
+        None => Err(wrong_value(alloc, "departures", matches)),
+    }
+}
+
+// `None` if a value has a wrong form, or options stand together that may not.
+fn departures_to<'a>(matches: &ArgMatches<'a>, to: Vec<&'a str>) -> Option<DeparturesRequest<'a>>
+    ensures { MatchOption result ((r : DeparturesRequest) → ¬ (HasDeparturesOptions (rows_of (found_of matches.now)) r))
+        (λ r. HasDeparturesOptions (rows_of (found_of matches.now)) r × (r.to ≡ to.entry)) }
+{
+    Some(DeparturesRequest {
+        image: text_at(matches, "image")?,
+        to,
+        after: clock_at(matches, "after")?,
+        until: clock_at(matches, "until")?,
+        by: clock_at(matches, "by")?,
+        criterion: criterion_at(matches, "criterion")?,
+        form: departures_form(matches)?,
+        from: text_at(matches, "from"),
+    })
+}
+
+fn departures_form(matches: &ArgMatches<'_>) -> Option<DeparturesForm>
+    ensures { Reads AsksDepartures matches.now result }
+{
+    match (
+        is_given(matches, "summary"),
+        is_given(matches, "json"),
+        is_given(matches, "no-journeys"),
+    ) {
+        (false, false, false) => Some(DeparturesForm::Journeys),
+        (false, false, true) => Some(DeparturesForm::Points),
+        (true, false, false) => Some(DeparturesForm::Summary),
+        (false, true, false) => Some(DeparturesForm::Json),
+        (false, true, true) => Some(DeparturesForm::JsonPoints),
+        _ => None,
+    }
+}
+
+fn matrix_request<'a>(matches: &ArgMatches<'a>) -> Option<MatrixRequest<'a>>
+    ensures { Reads IsMatrix matches.now result }
+{
+    Some(MatrixRequest {
+        image: text_at(matches, "image")?,
+        out: text_at(matches, "out")?,
+        to: text_at(matches, "to")?,
+        from: text_at(matches, "from"),
+        after: clock_at(matches, "after")?,
+        until: clock_at(matches, "until")?,
+        by: clock_at(matches, "by")?,
+        criterion: criterion_at(matches, "criterion")?,
+        each: is_given(matches, "each"),
+        workers: maybe_workers(matches)?,
+        progress: is_given(matches, "progress"),
+    })
+}
+
+// How many threads are asked for, if any number is; `None` if the value has a wrong form.
+fn maybe_workers(matches: &ArgMatches<'_>) -> Option<Option<TableWorkers>>
+    ensures { Reads HasWorkers matches.now result }
+{
+    if text_at(matches, "workers").is_none() {
+        return Some(None);
+    }
+    Some(Some(TableWorkers::of(number_at(matches, "workers")?)?))
+}
+
+fn build_request<'a>(matches: &ArgMatches<'a>) -> Option<BuildRequest<'a>>
+    ensures { IfSome result (IsBuild (rows_of (found_of matches.now))) }
+{
+    Some(BuildRequest {
+        folder: text_at(matches, "folder")?,
+        out: text_at(matches, "out")?,
+        plan: plan_at(matches, is_given(matches, "strict"))?,
+        progress: is_given(matches, "progress"),
+        all_faults: is_given(matches, "all-faults"),
+    })
+}
+
+fn plan_at<'a>(matches: &ArgMatches<'a>, strict: bool) -> Option<PlanText<'a>>
+    ensures { IfSome result (HasPlan (rows_of (found_of matches.now)) strict) }
+{
+    Some(PlanText {
+        first: day_at(matches, "first")?,
+        days: days_of(number_at(matches, "days")?)?,
+        zone: zone_at(matches, "zone")?,
+        strict,
+    })
+}
+
+fn serve_request<'a>(alloc: Global, matches: &ArgMatches<'a>) -> Result<ServeRequest<'a>, NoCommand>
+    ensures { IfOk result (IsServe (rows_of (found_of matches.now))) }
+{
+    let feeds = feeds_at(alloc, matches)?;
+    match server_of(matches, feeds) {
+        Some(request) => Ok(request),
+        None => Err(wrong_value(alloc, "serve", matches)),
+    }
+}
+
+// `None` if a value has a wrong form.
+fn server_of<'a>(matches: &ArgMatches<'a>, feeds: Vec<NamedFolder<'a>>) -> Option<ServeRequest<'a>>
+    ensures { IfSome result (IsServe (rows_of (found_of matches.now))) }
+{
+    Some(ServeRequest {
+        image: text_at(matches, "image")?,
+        port: port_at(matches, "port")?,
+        workers: Workers::of(number_at(matches, "workers")?)?,
+        sessions: count_at(matches, "sessions")?,
+        legs: is_given(matches, "legs"),
+        log: is_given(matches, "log"),
+        idle: maybe_seconds(matches, "idle")?,
+        longest: maybe_seconds(matches, "longest")?,
+        sets: is_given(matches, "sets"),
+        plan: plan_at(matches, false)?,
+        feeds,
+    })
+}
+
+// How many seconds an option gives, if it is there; `None` if its value has a wrong form.
+fn maybe_seconds(matches: &ArgMatches<'_>, option: &str) -> Option<Option<Seconds>>
+    ensures { IfSome result (HasSeconds (rows_of (found_of matches.now)) option.now) }
+{
+    if text_at(matches, option).is_none() {
+        return Some(None);
+    }
+    Some(Some(Seconds::of(number_at(matches, option)?)?))
+}
+
+/// How many stops a side of a question may have.
+const MOST_STOPS: usize = 1000;
+
+// The stop_ids that an option of a command has, each once and at most 1000 of them.
+fn stops_at<'a>(
+    alloc: Global,
+    command: &str,
+    matches: &ArgMatches<'a>,
+    option: &str,
+) -> Result<Vec<&'a str>, NoCommand>
+    ensures { IfOk result (λ stops.
+        HasStops (rows_of (found_of matches.now)) option.now (map (λ s. s.now) stops.items)) }
+{
+    let Some(stops) = texts_at(matches, option) else {
+        return Ok(Vec::new(alloc));
+    };
+    if stops.len() > MOST_STOPS {
+        return Err(too_many_stops(alloc, command, option, stops.len()));
+    }
+    if let Some((first, index)) = twice_in(stops) {
+        return Err(stop_given_twice(alloc, command, option, stops[index], first, index));
+    }
+    match stops.to_vec(alloc) {
+        Ok(stops) => Ok(stops),
+        Err(_) => Err(NoCommand::OutOfMemory),
+    }
+}
+
+// The places of a text that is there twice.
+fn twice_in(texts: &[&str]) -> Option<(usize, usize)>
+    ensures { IfSome result (λ places. places.1 < length texts.now) }
+{
+    for index in 0..texts.len() {
+        for first in 0..index {
+            if texts[first] == texts[index] {
+                return Some((first, index));
+            }
+        }
+    }
+    None
+}
+
+// The feeds that the words name, no two of them alike.
+fn feeds_at<'a>(
+    alloc: Global,
+    matches: &ArgMatches<'a>,
+) -> Result<Vec<NamedFolder<'a>>, NoCommand> {
+    let mut feeds = Vec::new(alloc);
+    let Some(words) = texts_at(matches, "feeds") else {
+        return Ok(feeds);
+    };
+    for word in words {
+        let Some(feed) = named_folder(*word) else {
+            return Err(wrong_feed(alloc, word));
+        };
+        if has_name(&feeds, feed.name) {
+            return Err(feed_named_twice(alloc, word));
+        }
+        if feeds.push(feed).is_err() {
+            return Err(NoCommand::OutOfMemory);
+        }
+    }
+    Ok(feeds)
+}
+
+fn has_name(feeds: &[NamedFolder<'_>], name: &str) -> bool {
+    for feed in feeds {
+        if feed.name == name {
+            return true;
+        }
+    }
+    false
+}
