@@ -7,9 +7,13 @@ use Rattle.session.proofs.desk.Desk.load_feed.Goals as goal
 pub returns-in-Ok-loaded_line-clause-met : goal.returns-in-Ok-loaded_line-clause-met
 returns-in-Ok-loaded_line-clause-met g c =
     let fact = c.in-Ok.ensures in
-    let same = sym (c.requires.notices c.in-Ok.notice) ∙ fact.notice in
-    (deed_of _ _ _, refl, fact.asked, version_met _ _ _ _ c.in-Ok.version _ _ same c.take_notice.ensures.joined
-    (inl (c.made.ensures ∙ c.in-Ok-loaded_line.ensures)))
+    let same = sym (c.requires.notices c.in-Ok.notice) ∙ fact.notice in (
+      deed_of _ _ _,
+      refl,
+      fact.asked,
+      version_met _ _ _ _ c.in-Ok.version _ _ same c.take_notice.ensures.joined
+          (inl (c.made.ensures ∙ c.in-Ok-loaded_line.ensures)),
+    )
 
 pub returns-in-Err-loaded_line-clause-met : goal.returns-in-Err-loaded_line-clause-met
 returns-in-Err-loaded_line-clause-met g c =
