@@ -5,7 +5,7 @@ use Rattle.criteria.specs.Laws.{Rules}
 use Rattle.criteria.specs.declared.figures.Figures.{Figures}
 use Rattle.timetable.specs.TimetableValue.{TimetableValue}
 use Rattle.image_layout.specs.Image.{ImageValue}
-use Rattle.profile_scan.specs.Between.{BetweenValue, IsAnswerBetween}
+use Rattle.profile_scan.specs.SetQuery.{SetQueryValue, IsAnswerBetween}
 use Rattle.journeys.specs.Answer.{point_of}
 use Rattle.journeys.specs.Extracted.{AttainsBetween}
 use Rattle.journeys.specs.declared.answering.Departure.{Departure}
@@ -15,7 +15,7 @@ use Rattle.answer_replies.specs.declared.point_form.PointForm.{PointForm}
 use Rattle.answer_replies.specs.Replying.{IsAnswered, departures_data}
 
 pub answered_line : {V : Type 0} (form : PointForm) (figures : V → Figures) (rules : Rules V) (image : ImageValue) (t : TimetableValue) (version : ℕ)
-    (b : BetweenValue) (departures : List (Departure V)) (walk : Option ℕ) (points : List Data) (line : List ℕ)
+    (b : SetQueryValue) (departures : List (Departure V)) (walk : Option ℕ) (points : List Data) (line : List ℕ)
     → t ≡ image.timetable → IsAnswerBetween rules t b (map point_of departures)
     → ((d : Departure V) → Contains departures d → AttainsBetween rules t b (point_of d) d.journey)
     → IsDirectTime t b walk

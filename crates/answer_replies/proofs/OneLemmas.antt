@@ -10,8 +10,8 @@ use Rattle.timetable.specs.JourneyValue.{JourneyValue}
 use Rattle.timetable.specs.declared.network.Footpath.{Footpath}
 use Rattle.timetable.specs.declared.query.Query.{Query}
 use Rattle.image_layout.specs.Image.{ImageValue}
-use Rattle.profile_scan.specs.Between.{IsDirectWalk, between_one, pair_of, secs_of}
-use Rattle.profile_scan.specs.Kept.{IsDirectSecs}
+use Rattle.profile_scan.specs.SetQuery.{IsDirectWalk, single_set_query, pair_of, secs_of}
+use Rattle.profile_scan.specs.ScanState.{IsDirectSecs}
 use Rattle.profile_scan.proofs.Single.{answer_from}
 use Rattle.journeys.specs.Answer.{point_of}
 use Rattle.journeys.specs.Extracted.{Attains, AttainsBetween}
@@ -22,14 +22,14 @@ use Rattle.answer_replies.specs.Replying.{IsAnswered, IsAnsweredBy}
 
 -- a journey between single stops runs from the one to the other
 attains_one : {V : Type 0} (rules : Rules V) (t : TimetableValue) (q : Query) (p : Point V) (j : JourneyValue)
-    → AttainsBetween rules t (between_one q) p j → Attains rules t q p j
+    → AttainsBetween rules t (single_set_query q) p j → Attains rules t q p j
 attains_one rules t q p j a =
-    subst (λ (s : ℕ). Attains rules t (pair_of (between_one q) s q.target) p j) (contains_only q.source a.pair.source a.pair.is_source)
-    (subst (λ (s : ℕ). Attains rules t (pair_of (between_one q) a.pair.source s) p j)
+    subst (λ (s : ℕ). Attains rules t (pair_of (single_set_query q) s q.target) p j) (contains_only q.source a.pair.source a.pair.is_source)
+    (subst (λ (s : ℕ). Attains rules t (pair_of (single_set_query q) a.pair.source s) p j)
     (contains_only q.target a.pair.target a.pair.is_target) a.attains)
 
 -- the direct walk between single stops is the footpath from the one to the other
-direct_walk_one : (t : TimetableValue) (q : Query) (walk : Option Footpath) → IsDirectWalk t (between_one q) walk
+direct_walk_one : (t : TimetableValue) (q : Query) (walk : Option Footpath) → IsDirectWalk t (single_set_query q) walk
     → IsDirectSecs t q.target q.source (secs_of walk)
 direct_walk_one t q None none = λ f is from to. none 0 0 f (record {
   is_footpath = is;
@@ -42,11 +42,11 @@ direct_walk_one t q (Some f) is =
     subst (λ (a : ℕ). Contains t.footpaths (record { from = a; to = q.target; secs = f.secs })) from
     (subst (λ (z : ℕ). Contains t.footpaths (record { from = f.from; to = z; secs = f.secs })) to is.2.is_footpath)
 
-direct_one : (t : TimetableValue) (q : Query) (walk : Option ℕ) → IsDirectTime t (between_one q) walk → IsDirectSecs t q.target q.source walk
+direct_one : (t : TimetableValue) (q : Query) (walk : Option ℕ) → IsDirectTime t (single_set_query q) walk → IsDirectSecs t q.target q.source walk
 direct_one t q walk is = subst (IsDirectSecs t q.target q.source) (sym is.is) (direct_walk_one t q is.walk is.is_walk)
 
 answered_one : {V : Type 0} (form : PointForm) (figures : V → Figures) (rules : Rules V) (image : ImageValue) (version : ℕ) (q : Query)
-    (reply : List ℕ) → IsAnswered form figures rules image version (between_one q) reply
+    (reply : List ℕ) → IsAnswered form figures rules image version (single_set_query q) reply
     → IsAnsweredOne form figures rules image version q reply
 answered_one form figures rules image version q reply is = record {
   departures = is.departures;
@@ -58,7 +58,7 @@ answered_one form figures rules image version q reply is = record {
 }
 
 pub answered_one_by : (form : PointForm) (criterion : CriterionName) (image : ImageValue) (version : ℕ) (q : Query) (reply : List ℕ)
-    → IsAnsweredBy form criterion image version (between_one q) reply → IsAnsweredOneBy form criterion image version q reply
+    → IsAnsweredBy form criterion image version (single_set_query q) reply → IsAnsweredOneBy form criterion image version q reply
 answered_one_by form CriterionName.Arrival image version q reply is = answered_one form _ _ image version q reply is
 answered_one_by form CriterionName.ArrivalTrips image version q reply is = answered_one form _ _ image version q reply is
 answered_one_by form CriterionName.ArrivalTripsWalk image version q reply is = answered_one form _ _ image version q reply is

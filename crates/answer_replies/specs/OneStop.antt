@@ -5,7 +5,7 @@ use Rattle.criteria.specs.declared.name.CriterionName.{CriterionName}
 use Rattle.criteria.specs.declared.figures.Figures.{Figures}
 use Rattle.timetable.specs.declared.query.Query.{Query}
 use Rattle.image_layout.specs.Image.{ImageValue}
-use Rattle.profile_scan.specs.Kept.{IsDirectSecs}
+use Rattle.profile_scan.specs.ScanState.{IsDirectSecs}
 use Rattle.profile_scan.specs.Points.{IsAnswer}
 use Rattle.journeys.specs.Answer.{point_of}
 use Rattle.journeys.specs.Extracted.{Attains}

@@ -5,7 +5,7 @@ use Rattle.criteria.specs.Laws.{Rules}
 use Rattle.criteria.specs.declared.name.CriterionName.{CriterionName}
 use Rattle.criteria.specs.declared.figures.Figures.{Figures}
 use Rattle.image_layout.specs.Image.{ImageValue}
-use Rattle.profile_scan.specs.Between.{BetweenValue, IsAnswerBetween}
+use Rattle.profile_scan.specs.SetQuery.{SetQueryValue, IsAnswerBetween}
 use Rattle.journeys.specs.Answer.{point_of}
 use Rattle.journeys.specs.Extracted.{AttainsBetween}
 use Rattle.journeys.specs.Texts.{text_of}
@@ -32,7 +32,7 @@ departures_data PointForm.WithLegs image figures departures = map (data_with_leg
 -- a query between sets of stops is answered over the image: its points are exactly the undominated points of all journeys that count for one of the sources
 -- and one of the targets, in order, each once, and no such journey is unbeaten by them; the reply has each with a journey that attains it, and the seconds
 -- of the direct walk
-pub record IsAnswered {V : Type 0} (form : PointForm) (figures : V → Figures) (rules : Rules V) (image : ImageValue) (version : ℕ) (b : BetweenValue)
+pub record IsAnswered {V : Type 0} (form : PointForm) (figures : V → Figures) (rules : Rules V) (image : ImageValue) (version : ℕ) (b : SetQueryValue)
     (reply : List ℕ) : Type 0 where
   pub departures : List (Departure V)
   pub walk : Option ℕ
@@ -43,7 +43,7 @@ pub record IsAnswered {V : Type 0} (form : PointForm) (figures : V → Figures) 
   pub reply_is : reply ≡ line_of (profile_data (departures_data form image figures departures) version walk)
 
 -- the same by the criterion that is asked for
-abbrev pub IsAnsweredBy : PointForm → CriterionName → ImageValue → ℕ → BetweenValue → List ℕ → Type 0
+abbrev pub IsAnsweredBy : PointForm → CriterionName → ImageValue → ℕ → SetQueryValue → List ℕ → Type 0
 IsAnsweredBy form CriterionName.Arrival image version b reply = IsAnswered form arrival_figures by_arrival image version b reply
 IsAnsweredBy form CriterionName.ArrivalTrips image version b reply = IsAnswered form trips_figures by_trips image version b reply
 IsAnsweredBy form CriterionName.ArrivalTripsWalk image version b reply = IsAnswered form walking_figures by_walking image version b reply

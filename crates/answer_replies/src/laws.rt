@@ -4,7 +4,7 @@ ghost use Rattle.std.specs.Prelude.{ℕ, List};
 ghost use Rattle.criteria.specs.declared.name.CriterionName.{CriterionName};
 ghost use Rattle.timetable.specs.declared.query.Query.{Query};
 ghost use Rattle.image_layout.specs.Image.{ImageValue};
-ghost use Rattle.profile_scan.specs.Between.{between_one};
+ghost use Rattle.profile_scan.specs.SetQuery.{single_set_query};
 ghost use Rattle.answer_replies.specs.declared.point_form.PointForm.{PointForm};
 ghost use Rattle.answer_replies.specs.OneStop.{IsAnsweredOneBy};
 ghost use Rattle.answer_replies.specs.Replying.{IsAnsweredBy};
@@ -12,6 +12,6 @@ ghost use Rattle.answer_replies.specs.Replying.{IsAnsweredBy};
 /// What answers a query between a set of one stop and a set of one other answers the query from the one to the other.
 pub fn one_stop_is_plain()
     ensures { (form : PointForm) (criterion : CriterionName) (image : ImageValue) (version : ℕ) (q : Query)
-        (reply : List ℕ) → IsAnsweredBy form criterion image version (between_one q) reply
+        (reply : List ℕ) → IsAnsweredBy form criterion image version (single_set_query q) reply
         → IsAnsweredOneBy form criterion image version q reply }
 {}

@@ -1,7 +1,7 @@
 //! A query's answer as a line of reply.
 
 ghost use Rattle.std.specs.Prelude.{◌≡◌, IfOk, map, string_bytes};
-ghost use Rattle.profile_scan.specs.Between.{IsAskableBetween, question};
+ghost use Rattle.profile_scan.specs.SetQuery.{IsAskableBetween, question};
 ghost use Rattle.session_texts.specs.Replies.{line_of, profile_data};
 ghost use Rattle.session_texts.specs.Telling.{points_of};
 ghost use Rattle.answer_replies.specs.Replying.{IsAnswered, IsAnsweredBy};
@@ -12,7 +12,7 @@ use crate::point_form::PointForm;
 use criteria::{Arrival, ArrivalTrips, ArrivalTripsWalk, CriterionName, ShowsFigures};
 use image_verifier::Verified;
 use journeys::{Answer, Departure, journey_string};
-use profile_scan::Between;
+use profile_scan::SetQuery;
 use session_texts::Points;
 use sources::InPlace;
 use station_answers::answer_between;
@@ -29,7 +29,7 @@ pub fn reply_by_name(
     form: PointForm,
     image: &Verified,
     criterion: CriterionName,
-    query: &Between,
+    query: &SetQuery,
     version: u64,
 ) -> Result<String, AllocError>
     requires { IsAskableBetween image.now.timetable.stops (question query.now) }
@@ -56,7 +56,7 @@ fn line_by<C: ShowsFigures>(
     form: PointForm,
     image: &Verified,
     criterion: &C,
-    query: &Between,
+    query: &SetQuery,
     version: u64,
 ) -> Result<String, AllocError>
     requires { IsAskableBetween image.now.timetable.stops (question query.now) }

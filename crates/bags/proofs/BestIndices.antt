@@ -8,7 +8,7 @@ use Rattle.std.proofs.lemmas.List.Elements.{Contains-append_left, Contains-appen
 use Rattle.reasoning.proofs.ListLemmas.{not_in_nil}
 use Rattle.bags.specs.Best.{indices_from}
 
--- at a place inside the list
+-- at an index inside the list
 indices_from-drop : {X : Type 0} (test : X → Bool) (xs : List X) (n : ℕ) (x : X) (b : Bool) → slice_get xs n ≡ Some x
     → test x ≡ b → indices_from test n (drop n xs)
     ≡ (if b then n ∷ indices_from test (n + 1) (drop (n + 1) xs) else indices_from test (n + 1) (drop (n + 1) xs))
@@ -39,7 +39,7 @@ first_or_later true n rest k h =
     ]
 first_or_later false n rest k h = inr h
 
--- what stands at a place that is given passes
+-- what stands at an index that is given passes
 pub indices_from-passes : {X : Type 0} (test : X → Bool) (n : ℕ) (xs : List X) (k : ℕ)
     → Contains (indices_from test n xs) k → (i : ℕ) × (x : X) × (k ≡ n + i) × (slice_get xs i ≡ Some x) × (test x ≡ true)
 indices_from-passes test n [] k h = absurd (not_in_nil k h)
@@ -52,7 +52,7 @@ indices_from-passes test n (x ∷ xs) k h =
           (suc rest.0, rest.1, rest.2 ∙ shift, rest.3, rest.4)
     ]
 
--- the place of what passes is given
+-- the index of what passes is given
 pub indices_from-gives : {X : Type 0} (test : X → Bool) (n : ℕ) (xs : List X) (i : ℕ) (x : X) → slice_get xs i ≡ Some x
     → test x ≡ true → Contains (indices_from test n xs) (n + i)
 indices_from-gives test n [] i x is passes = absurd (cc)
@@ -79,7 +79,7 @@ indices_from-none test n (x ∷ xs) none =
     (none x (Contains-append_left (x ∷ []) xs x (Contains-push [] x)))
     ∙ indices_from-none test (n + 1) xs (λ y h. none y (Contains-append_right (x ∷ []) xs y h))
 
--- the places before another, none of which passes, are passed over
+-- the indices before another, none of which passes, are passed over
 passed_by : {X : Type 0} (test : X → Bool) (xs : List X) (n a : ℕ) → a + n ≤ length xs
     → ((k : ℕ) (x : X) → a ≤ k → k < a + n → slice_get xs k ≡ Some x → test x ≡ false)
     → indices_from test a (drop a xs) ≡ indices_from test (a + n) (drop (a + n) xs)

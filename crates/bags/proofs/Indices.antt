@@ -9,7 +9,7 @@ use Rattle.bags.specs.declared.point.Point.{Point}
 use Rattle.bags.proofs.Entries.{points_long, point_at, point_stands, entry_stands}
 use Rattle.bags.proofs.Order.{precedes_before, before_chains, behind_another}
 
--- the point of the entry at a place
+-- the point of the entry at an index
 there : {V : Type 0} (entries : List (BagEntry V)) (k : ℕ) (d : Point V) (e : BagEntry V) → k < length entries
     → e ≡ get_or entries k e → get_or (points_in entries) k d ≡ e.point
 there {V} entries k d e lt is = point_at entries k e d lt ∙ ap (λ (f : BagEntry V). f.point) (sym is)

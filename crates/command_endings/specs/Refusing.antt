@@ -6,7 +6,7 @@ abbrev pub word_text : List ℕ → List ℕ
 word_text word = codes " " ++ word
 
 abbrev pub place_text : ℕ → List ℕ
-place_text place = codes " " ++ decimal place
+place_text position = codes " " ++ decimal position
 
 -- the number and the name of a refusal
 unfoldable pub refusal_head : ℕ → List ℕ → List ℕ

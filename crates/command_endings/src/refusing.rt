@@ -1,4 +1,4 @@
-//! The line of a refusal: a number, a name and the places, each after a space.
+//! The line of a refusal: a number, a name and the positions, each after a space.
 
 ghost use Rattle.std.specs.Prelude.{◌≡◌, IfOk, string_bytes};
 ghost use Rattle.command_endings.specs.Refusing.{refusal_head};

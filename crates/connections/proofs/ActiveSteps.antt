@@ -35,7 +35,7 @@ named_more names new trips i trip indices more index lt is seen there now was =
     let next : take (i + 1) trips ≡ take i trips ++ trip ∷ [] = take_more trips i trip lt ∙ ap (λ (t : Trip). take i trips ++ t ∷ []) (sym is) in
     rw (next, now) (all_zip-push (λ (t : Trip) k. StandsAt new k (string_bytes t.service)) (take i trips) indices trip index before there)
 
--- that of the trip at a place
+-- that of the trip at an index
 named_at : (names : List (List ℕ)) (trips : List Trip) (indices : List ℕ) (i : ℕ) (trip : Trip) (d : ℕ) → AreNamed names trips indices
     → i < length trips → trip ≡ get_or trips i trip → StandsAt names (get_or indices i d) (string_bytes trip.service)
 named_at names [] indices i trip d named lt is = absurd (omega (arith, lt))

@@ -77,7 +77,7 @@ pub found_start : (zone : Zone) (days : List ServiceDay) (i : ℕ) (d : ServiceD
 found_start zone days i d day lt starts e = subst (λ (x : Day). IsDayStart zone x (get_or days i d).start) (same_day (get_or days i d).day day e)
     (starts i d lt)
 
--- a day that is among them is at a place
+-- a day that is among them is at an index
 index_of : (days : List ServiceDay) (day : Day) (k : ℕ) (d : ServiceDay) → k < length days
     → get_or (map (λ (d : ServiceDay). d.day) days) k day ≡ (get_or days k d).day
 index_of [] day k d lt = absurd (omega (arith, lt))
@@ -90,7 +90,7 @@ never_missing days day d (k, lt, is) none =
     let within : k < length days = omega (arith, lt, length-map days (λ (d : ServiceDay). d.day)) in
     none k d within (sym (index_of days day k d within) ∙ is)
 
--- the day at a place, and who started it
+-- the day at an index, and who started it
 pub index_at : (started : List ServiceDay) (k : ℕ) (day : Day) → k < length (map (λ d. d.day) started)
     → (x : ServiceDay) × (k < length started) × (x.day ≡ get_or (map (λ d. d.day) started) k day) × (get_or started k x ≡ x)
 index_at [] k day lt = absurd (omega (arith, lt))

@@ -195,7 +195,7 @@ apart_of c d (inr later) trip dep = (let less = later.1 in omega (arith, less, d
 apart_by : (feed : Feed) (zone : Zone) (base : ℤ) (runs : List Run) (n : ℕ) (cs : List Connection) → AreByRun feed zone base runs n cs → AreApart cs
 apart_by feed zone base runs n cs b i j d lt within trip dep = apart_of (get_or cs i d) (get_or cs j d) (b.rising i j d lt within) trip dep
 
--- the same of any two places
+-- the same of any two indices
 abbrev AreDistinct : List Connection → Type 0
 AreDistinct cs = (i j : ℕ) (d : Connection) → (i ≡ j → ⊥) → i < length cs → j < length cs → (get_or cs i d).trip ≡ (get_or cs j d).trip
     → (get_or cs i d).dep ≡ (get_or cs j d).dep → ⊥
@@ -339,7 +339,7 @@ times_all stop_times trips times n was end = record {
   each = λ k trip d at. was.each k trip d (let lt = slice_get_within trips k trip at in omega (arith, lt, end)) at;
 }
 
--- tests that agree at each place
+-- tests that agree at each index
 kept_alike : {X Y : Type 0} (p : X → Bool) (q : Y → Bool) (xs : List X) (ys : List Y) → length xs ≡ length ys
     → ((k : ℕ) (d : X) (e : Y) → k < length xs → p (get_or xs k d) ≡ q (get_or ys k e)) → length (filter p xs) ≡ length (filter q ys)
 kept_alike p q [] [] same alike = refl

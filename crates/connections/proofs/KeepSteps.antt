@@ -43,7 +43,7 @@ hold_kept rows n old new was keeps =
       each = λ t d lt. keeps.each t d (omega (arith, lt, len)) (rows_for rows t) (was.each t d lt);
     }
 
--- the starts of the trip at a place
+-- the starts of the trip at an index
 pub held_at : (rows : List Frequency) (n : ℕ) (starts : List TripStarts) (i : ℕ) (here : TripStarts) → HoldStarts rows n starts → i < n
     → here ≡ get_or starts i here → AreStartsOf (rows_for rows i) here
 held_at rows n starts i here holds lt is = subst (λ (x : TripStarts). AreStartsOf (rows_for rows i) x) (sym is) (holds.each i here lt)

@@ -135,7 +135,7 @@ module _ (feed : Feed) (zone : Zone) (base : ℤ) (runs : List Run) (n : ℕ) (r
         | inr other ↦ Contains-append_left mid a.adds.0 c (was.each r p c (omega (arith, lt, other)) x)
       ])
 
-  -- an added connection is at its place
+  -- an added connection is at its index
   hop_at : (k : ℕ) (d : Connection) → k < length a.adds.0 → IsHop base a.start a.rows n k (get_or a.adds.0 k d)
   hop_at k d lt = let len : length a.adds.0 ≡ length a.rows - 1 = a.adds.2.same_length in a.adds.2.hops k d (omega (arith, lt, len))
 

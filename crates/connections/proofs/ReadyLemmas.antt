@@ -39,7 +39,7 @@ some_stop (Some s) n h = refl
 pub trip_of : (trips : List Trip) (position : ℕ) (trip known : Trip) → trip ≡ get_or trips position trip → slice_get trips position ≡ Some known → trip ≡ known
 trip_of trips position trip known read at = read ∙ get_or_from_slice_get trips position known trip at
 
--- the trip at a place of a feed is runnable
+-- the trip at an index of a feed is runnable
 pub runnable_at : (feed : Feed) (position : ℕ) (trip : Trip) → slice_get feed.trips.items position ≡ Some trip
     → IsRunnableTrip (length feed.stops.items) feed.stop_times.items trip
 runnable_at feed position trip at =

@@ -35,7 +35,7 @@ runs_count feed day trips i d lt = ap length (runs_more feed day trips i d lt)
 -- the runs of a trip that runs that day, and of one that doesn't
 pub runs_here : (feed : Feed) (day : Day) (t : ℕ) (trip : Trip) (rows : List Frequency) (b : Bool) → b ≡ true → b ≡ runs_on feed day trip
     → rows ≡ rows_for feed.frequencies.items t → runs_of_trip rows day t trip ≡ runs_at feed day t trip
-runs_here feed day t trip rows b ran is same = let on : runs_on feed day trip ≡ true = sym is ∙ ran in rw (on, same) refl
+runs_here feed day t trip rows b runs_so is same = let on : runs_on feed day trip ≡ true = sym is ∙ runs_so in rw (on, same) refl
 
 -- the runs of one day more
 pub days_more : (feed : Feed) (days : List ServiceDay) (i : ℕ) (d : ServiceDay) → i < length days
@@ -72,7 +72,7 @@ count_over most count n all was over le = record {
   many = λ (lt : most < count). let beyond : most < n = was.many lt in omega (arith, beyond, le);
 }
 
--- whether the trip at a place runs
+-- whether the trip at an index runs
 pub running_at : (feed : Feed) (day : Day) (trips : List Trip) (running : List Bool) (i : ℕ) (trip : Trip) (d : Bool)
     → running ≡ map (runs_on feed day) trips → i < length trips → trip ≡ get_or trips i trip → get_or running i d ≡ runs_on feed day trip
 running_at feed day trips running i trip d are lt is =

@@ -2,7 +2,7 @@
 use Rattle.std.proofs.Common.{◌≡◌, ◌≤◌, ◌+◌, ◌-◌, ◌^◌, ◌∙◌, ◌⊎◌, ℕ, Bool, true, false, List, [], ◌∷◌, ◌++◌}
 use Rattle.std.proofs.Common.{arith, ap, inl, inr, length, min, sym, subst, true≢false}
 use Rattle.std.proofs.lemmas.List.{length-append}
-use Rattle.csa_program.specs.Door.{AreCountedOff, AreNumbered}
+use Rattle.csa_program.specs.Acceptor.{AreCountedOff, AreNumbered}
 use Rattle.workers.specs.Ends.{capped}
 
 -- one more has the next number
@@ -30,13 +30,13 @@ pub counted_next : (wanted left left_then accepted accepted_then : ℕ) (is_endl
     → AreCountedOff wanted left accepted is_endless failed numbers
     → AreCountedOff wanted left_then accepted_then is_endless_then failed_then numbers_then
 counted_next wanted left left_then accepted accepted_then is_endless is_endless_then failed failed_then numbers numbers_then number
-    same whole less more is also was =
+    same whole less more is grown was =
     let next : accepted_then ≡ capped (length numbers + 1) = next_capped accepted (length numbers) accepted_then was.accepted_are more in
-    let longer : length numbers_then ≡ length numbers + 1 = ap length also ∙ length-append numbers (number ∷ []) in
+    let longer : length numbers_then ≡ length numbers + 1 = ap length grown ∙ length-append numbers (number ∷ []) in
     let behind : length numbers + 1 ≡ 0 + length numbers + 1 = omega arith in
     let many = one_less wanted left left_then (length numbers) (length numbers_then) is_endless in
     record {
-      numbered = subst (AreNumbered 0) (sym also) (numbered_also 0 numbers number was.numbered (is ∙ next ∙ ap capped behind));
+      numbered = subst (AreNumbered 0) (sym grown) (numbered_also 0 numbers number was.numbered (is ∙ next ∙ ap capped behind));
       accepted_are = next ∙ ap capped (sym longer);
       endless = λ endless. was.endless (sym same ∙ endless);
       bounded = λ ends. was.bounded (sym same ∙ ends);

@@ -5,13 +5,13 @@ use Rattle.std.proofs.lemmas.List.{length-append}
 use Rattle.std.proofs.lemmas.List.Sorted.{length_permutation}
 use Rattle.std.specs.Prelude.{flat_map}
 use Rattle.workers.specs.Ends.{Session}
-use Rattle.workers.specs.Sessions.{AreServed, AreServedSince, AreShares, Post, ShareValue, Standing, WorkValue, standing}
+use Rattle.workers.specs.Sessions.{AreServed, AreServedSince, AreShares, WorkerStart, ShareValue, WorkerState, WorkValue, worker_state}
 use Rattle.workers.specs.Words.{SessionWords}
-use Rattle.csa_program.specs.Door.{AreAsMany, AreCountedOff}
+use Rattle.csa_program.specs.Acceptor.{AreAsMany, AreCountedOff}
 
 module _ {C R W T S N : Type 0} (words : SessionWords C R W T S N) where
   -- one session for each client of a hand
-  hand_many : (clients : List C) (sessions : List (Session R W)) (a b : Standing S) → AreServed words clients sessions a b
+  hand_many : (clients : List C) (sessions : List (Session R W)) (a b : WorkerState S) → AreServed words clients sessions a b
       → length sessions ≡ length clients
   hand_many [] [] a b served = refl
   hand_many [] (session ∷ sessions) a b served = absurd served
@@ -19,27 +19,27 @@ module _ {C R W T S N : Type 0} (words : SessionWords C R W T S N) where
   hand_many (client ∷ clients) (session ∷ sessions) a b served = ap suc (hand_many clients sessions served.0 b served.2)
 
   -- and of all hands
-  hands_many : (posts : List (Post S N)) (hands : List (List C)) (shares : List (ShareValue R W S N)) → AreShares words posts hands shares
+  hands_many : (starts : List (WorkerStart S N)) (hands : List (List C)) (shares : List (ShareValue R W S N)) → AreShares words starts hands shares
       → length (flat_map (λ share. share.sessions) shares) ≡ length (flat_map (λ hand. hand) hands)
   hands_many [] [] [] none = refl
   hands_many [] [] (share ∷ shares) none = absurd none
   hands_many [] (hand ∷ hands) shares none = absurd none
-  hands_many (post ∷ posts) [] shares none = absurd none
-  hands_many (post ∷ posts) (hand ∷ hands) [] none = absurd none
-  hands_many (post ∷ posts) (hand ∷ hands) (share ∷ shares) each =
-      let one = hand_many hand share.sessions (standing post.seat []) (standing share.seat share.orders.asked) each.0.served in
-      let rest = hands_many posts hands shares each.1 in
+  hands_many (start ∷ starts) [] shares none = absurd none
+  hands_many (start ∷ starts) (hand ∷ hands) [] none = absurd none
+  hands_many (start ∷ starts) (hand ∷ hands) (share ∷ shares) each =
+      let one = hand_many hand share.sessions (worker_state start.seat []) (worker_state share.seat share.orders.asked) each.0.served in
+      let rest = hands_many starts hands shares each.1 in
       let many = length-append share.sessions (flat_map (λ (s : ShareValue R W S N). s.sessions) shares) in
       let all = length-append hand (flat_map (λ (h : List C). h) hands) in
       omega (arith, one, rest, many, all)
 
   -- so of all who came since nobody had
-  pub sessions_many : (before after : List C) (posts : List (Post S N)) (work : WorkValue R W S N)
-      → AreServedSince words before after posts work → before ≡ [] → length work.sessions ≡ length after
-  sessions_many before after posts work served none =
+  pub sessions_many : (before after : List C) (starts : List (WorkerStart S N)) (work : WorkValue R W S N)
+      → AreServedSince words before after starts work → before ≡ [] → length work.sessions ≡ length after
+  sessions_many before after starts work served none =
       let came : after ≡ served.clients = served.came ∙ ap (λ first. first ++ served.clients) none in
       let work_is = served.all in
-      let many = hands_many posts work_is.hands work_is.shares work_is.each in
+      let many = hands_many starts work_is.hands work_is.shares work_is.each in
       let dealt = length_permutation served.clients (flat_map (λ (h : List C). h) work_is.hands) work_is.dealt in
       let sessions = ap length work_is.sessions_are in
       let all = ap length came in

@@ -4,7 +4,7 @@ use Rattle.atomic_table.specs.Seated.{TableId}
 use Rattle.epochs.specs.ShelfSeats.{NoticeValue, SeatsHanded, ShelfSeatValue}
 use Rattle.load_orders.specs.Asking.{OrderRoute, WorkerOrdersValue}
 use Rattle.workers.specs.Ends.{Session}
-use Rattle.workers.specs.Sessions.{AreAllServed, posts_at, work_of}
+use Rattle.workers.specs.Sessions.{AreAllServed, worker_starts, work_of}
 use Rattle.workers.specs.Words.{SessionWords}
 
 module _ {C R W : Type 0} (words : SessionWords C R W TableId ShelfSeatValue NoticeValue) where
@@ -12,7 +12,7 @@ module _ {C R W : Type 0} (words : SessionWords C R W TableId ShelfSeatValue Not
   abbrev pub AreSessionsOf : List ShelfSeatValue → List C → List (Session R W) → Type 0
   AreSessionsOf seats came sessions =
       (route : OrderRoute NoticeValue) × (orders : List (WorkerOrdersValue NoticeValue)) × (lasts : List ShelfSeatValue)
-      × AreAllServed words came (posts_at seats route) (work_of sessions lasts orders)
+      × AreAllServed words came (worker_starts seats route) (work_of sessions lasts orders)
 
   -- as `AreSessionsOf`, at the seats of so many workers who had done nothing yet
   abbrev pub AreHosted : ℕ → List C → List (Session R W) → Type 0

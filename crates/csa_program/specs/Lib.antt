@@ -1,5 +1,5 @@
 pub mod Accepting
-pub mod Door
+pub mod Acceptor
 pub mod Hosting
 pub mod Logging
 pub mod Running

@@ -12,6 +12,7 @@ ghost use Rattle.csa_program.specs.Running.{IsEnd, IsEndOf, IsTableEnd};
 mod accepting;
 mod asking;
 mod bases;
+mod client_sessions;
 mod draining;
 mod explaining;
 mod folders;
@@ -21,7 +22,6 @@ mod machine;
 mod requests;
 mod serve;
 mod sockets;
-mod visits;
 mod watching;
 
 pub use crate::asking::Asks;

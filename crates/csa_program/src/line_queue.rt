@@ -155,7 +155,7 @@ pub struct LineWriter {
 }
 
 impl LineWriter {
-    /// Writes all lines that are put into the queue, until it is closed. Lines that were dropped are told in their
+    /// Writes all lines that are put into the queue, until it is closed. Lines that were dropped are reported in their
     /// place, by their number. A line that can't be written changes nothing.
     pub fn write_all<R: Wait, W: Write>(self, rt: &R, queue: &LineQueue, writer: &mut W) {
         let LineWriter { mut taken } = self;

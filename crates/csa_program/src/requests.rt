@@ -4,8 +4,8 @@ ghost use Rattle.std.specs.Prelude.{◌≡◌};
 ghost use Rattle.std.specs.Io.{ReadsAtMost};
 ghost use Rattle.std.specs.Io.KnownBytes.{ReadConsumes};
 
+use crate::client_sessions::ClientSession;
 use crate::logging::Host;
-use crate::visits::Visit;
 use command_endings::{StartInstant, line_ends};
 use std::io;
 use std::io::{ErrorKind, Read};
@@ -40,12 +40,12 @@ pub struct Requests<S, V> {
     /// The longest time from a read that gave bytes to the next read.
     slowest: Duration,
     /// Whose requests they are.
-    pub visit: V,
+    pub client_session: V,
 }
 
 impl<S, V> Requests<S, V> {
     /// Nothing was read yet.
-    pub fn new(stream: S, visit: V) -> Requests<S, V>
+    pub fn new(stream: S, client_session: V) -> Requests<S, V>
         ensures { result.stream ≡ stream }
     {
         Requests {
@@ -55,7 +55,7 @@ impl<S, V> Requests<S, V> {
             has_failed: false,
             answering: None,
             slowest: Duration::ZERO,
-            visit,
+            client_session,
         }
     }
 
@@ -90,13 +90,13 @@ impl<S, V> Requests<S, V> {
     }
 }
 
-impl<'a, S: Peek, L: Host> Requests<S, Visit<'a, L>> {
+impl<'a, S: Peek, L: Host> Requests<S, ClientSession<'a, L>> {
     // What was read before is answered now.
     fn note_answered(&mut self)
         ensures { self.new.stream ≡ self.old.stream }
     {
         if let Some(begun) = self.answering {
-            let lasted = self.visit.elapsed(begun);
+            let lasted = self.client_session.elapsed(begun);
             if self.slowest < lasted {
                 self.slowest = lasted;
             }
@@ -120,7 +120,7 @@ impl<'a, S: Peek, L: Host> Requests<S, Visit<'a, L>> {
     // Fails where the session is no session of lines of JSON: no such line begins with a capital letter, and the first
     // one of HTTP does. Nothing is read.
     fn check_first(&self) -> io::Result<()> {
-        if self.visit.is_strict() && self.is_new() && self.begins_http()? {
+        if self.client_session.is_strict() && self.is_new() && self.begins_http()? {
             return Err(ErrorKind::InvalidData.into());
         }
         Ok(())
@@ -139,7 +139,7 @@ impl<'a, S: Peek, L: Host> Requests<S, Visit<'a, L>> {
     }
 }
 
-impl<'a, S: Peek, L: Host> Read for Requests<S, Visit<'a, L>> {
+impl<'a, S: Peek, L: Host> Read for Requests<S, ClientSession<'a, L>> {
     ghost remaining = { λ requests. S.Read.remaining requests.stream };
 
     fn read(&mut self, room: &mut [u8]) -> io::Result<usize> {
@@ -147,7 +147,7 @@ impl<'a, S: Peek, L: Host> Read for Requests<S, Visit<'a, L>> {
         match self.read_on(room) {
             Ok(count) => {
                 self.note(&room[..count]);
-                self.answering = self.visit.instant();
+                self.answering = self.client_session.instant();
                 Ok(count)
             }
             Err(error) => {

@@ -9,11 +9,11 @@ ghost use Rattle.command_requests.specs.declared.statuses.TheConstants.{ACCEPTED
 ghost use Rattle.shelf_steps.specs.Handed.{handed};
 ghost use Rattle.shelf_steps.specs.declared.views.View.{View};
 ghost use Rattle.epochs.specs.ShelfSeats.{SeatsHanded};
-ghost use Rattle.workers.specs.Headline.{AllLoaded, AllServed, AreReadyAt, IsLeftAt, house_of};
+ghost use Rattle.workers.specs.Headline.{AllLoaded, AllServed, AreReadyAt, IsLeftAt, server_input_of};
 ghost use Rattle.workers.specs.Sessions.{MayClose};
 ghost use Rattle.epochs.specs.ShelfWords.{shelf_loader, shelf_seats};
 ghost use Rattle.workers.specs.Words.{files_of, loads_of, outcomes_of, sessions_of};
-ghost use Rattle.csa_program.specs.Door.{AreAsMany, AreCountedOff};
+ghost use Rattle.csa_program.specs.Acceptor.{AreAsMany, AreCountedOff};
 ghost use Rattle.csa_program.specs.Hosting.{AreHosted, AreSessionsOf};
 ghost use Rattle.std.specs.Option.{option_map};
 ghost use Rattle.csa_program.specs.Serving.{IsServerEnd, counts_of, form_with, points_with, port_text};
@@ -21,14 +21,14 @@ ghost use Rattle.csa_program.specs.Serving.{served_text};
 ghost use Rattle.feed_plans.specs.Planning.{IsPlanNow};
 
 use crate::bases::warn_of_bases;
+use crate::client_sessions::{ClientSession, SessionRules};
 use crate::explaining::{Explains, warn_of_idle_feed};
 use crate::folders::warn_of_folders;
 use crate::line_queue::LineQueue;
 use crate::logging::{Host, LoaderErrors, SharedErrors, log_load};
 use crate::machine::Machine;
 use crate::requests::Requests;
-use crate::sockets::{Door, Visitor};
-use crate::visits::{SessionRules, Visit};
+use crate::sockets::{Acceptor, Visitor};
 use command_endings::{StartInstant, status};
 use command_requests::{NamedFolder, Seconds, ServeRequest, SessionCounts};
 use epochs::{NamedNotice, ShelfLoader, ShelfSeat, Shelves, ShelvesName};
@@ -178,7 +178,7 @@ pub fn run<
     warn_of_folders(rt, &request.feeds, errors);
     let bound = match bound_at(rt, request.port) {
         Ok(bound) => bound,
-        Err(error) => return unheard(alloc, errors, request.port, error.kind()),
+        Err(error) => return none_received(alloc, errors, request.port, error.kind()),
     };
     serve_at(rt, &bound, image, &folders, output, errors)
 }
@@ -239,16 +239,16 @@ fn listen<'d, 'f, 'e, H: Disk + Explains + Clock + Threads + Wait + Sync, O: Wri
 ) -> (u8, Option<HostingOutcome<'d, SharedErrors<'e, H>>>)
     ensures end { MatchOption result.1 ((result.0 ≡ INPUT_OUTPUT) ⊎ (result.0 ≡ OUT_OF_MEMORY))
         (λ hosted. IsServerEnd bound.now.port (O.contents output.old) (O.contents output.new)
-        hosted.served hosted.door.failed result.0) }
+        hosted.served hosted.acceptor.failed result.0) }
     ensures many { IfSome result.1 (λ hosted.
-        AreAsMany folders.now.request.now.sessions (length hosted.served) hosted.door.failed) }
+        AreAsMany folders.now.request.now.sessions (length hosted.served) hosted.acceptor.failed) }
     ensures hosted { IfSome result.1 (λ hosted. AreHosted (sessions_of
         (form_with folders.now.request.now.legs folders.now.request.now.longest
         folders.now.request.now.sets)
         ⟦<Visitor<'d, SharedErrors<'e, H>> as Client>⟧.words
-        ⟦<Requests<TcpStream, Visit<'d, SharedErrors<'e, H>>> as Read>⟧.remaining
+        ⟦<Requests<TcpStream, ClientSession<'d, SharedErrors<'e, H>>> as Read>⟧.remaining
         ⟦<TcpStream as Write>⟧.contents shelf_seats)
-        folders.now.request.now.workers.number hosted.door.came hosted.served) }
+        folders.now.request.now.workers.number hosted.acceptor.came hosted.served) }
 {
     let request = folders.request;
     let Ok(made) = shelves_of(folders.alloc, image, request.workers.number) else {
@@ -262,23 +262,24 @@ fn listen<'d, 'f, 'e, H: Disk + Explains + Clock + Threads + Wait + Sync, O: Wri
         idle: request.idle,
         log: request.log,
     };
-    let door = Door::new(&bound.listener, request.sessions, rules, errors);
+    let acceptor = Acceptor::new(&bound.listener, request.sessions, rules, errors);
     let loader_errors = LoaderErrors::of(errors.another());
-    match serve_door::<Brand, _, _, _>(door, made, folders, loader_errors) {
+    match serve_accepted::<Brand, _, _, _>(acceptor, made, folders, loader_errors) {
         Ok(hosted) => (tell_served(folders.alloc, &hosted, output), Some(hosted)),
         Err(_) => (status::OUT_OF_MEMORY, None),
     }
 }
 
-/// What a server served, and the door to which the clients came.
+/// What a server served, and the acceptor to which the clients came.
 #[derive(Drop)]
 struct HostingOutcome<'d, L> {
-    served: Served<Requests<TcpStream, Visit<'d, L>>, TcpStream>,
-    door: Door<'d, L>,
+    served: Served<Requests<TcpStream, ClientSession<'d, L>>, TcpStream>,
+    acceptor: Acceptor<'d, L>,
 }
 
-// Serves whoever comes to the door, at these shelves, whose name is `B`, with replies in the form that is asked for.
-fn serve_door<
+// Serves the clients that come to the acceptor, at these shelves, whose name is `B`, with replies in the form that is
+// asked for.
+fn serve_accepted<
     'd,
     'f,
     B: ShelvesName + Send + Sync,
@@ -286,7 +287,7 @@ fn serve_door<
     L: Host + Sync,
     E: Write + Send + Drop,
 >(
-    door: Door<'d, L>,
+    acceptor: Acceptor<'d, L>,
     made: (Shelves, ShelfLoader, Vec<ShelfSeat>),
     folders: &Folders<'f, H>,
     errors: E,
@@ -297,30 +298,30 @@ fn serve_door<
     requires new { SeatsHanded made.0 (length made.2.items) made.2.items }
     requires some { 1 ≤ length made.2.items }
     requires few { length made.2.items ≤ 16 }
-    requires nobody { door.came ≡ [] }
-    ensures many { (wanted : ℕ) → AreCountedOff wanted door.entry.left door.entry.accepted
-        door.entry.is_endless door.entry.failed []
-        → IfOk result (λ hosted. AreAsMany wanted (length hosted.served) hosted.door.failed) }
+    requires none_came { acceptor.came ≡ [] }
+    ensures many { (wanted : ℕ) → AreCountedOff wanted acceptor.entry.left acceptor.entry.accepted
+        acceptor.entry.is_endless acceptor.entry.failed []
+        → IfOk result (λ hosted. AreAsMany wanted (length hosted.served) hosted.acceptor.failed) }
     ensures sessions { IfOk result (λ hosted. AreSessionsOf (sessions_of
         (form_with folders.now.request.now.legs folders.now.request.now.longest
         folders.now.request.now.sets)
-        ⟦<Visitor<'d, L> as Client>⟧.words ⟦<Requests<TcpStream, Visit<'d, L>> as Read>⟧.remaining
-        ⟦<TcpStream as Write>⟧.contents shelf_seats) made.2.items hosted.door.came hosted.served) }
+        ⟦<Visitor<'d, L> as Client>⟧.words ⟦<Requests<TcpStream, ClientSession<'d, L>> as Read>⟧.remaining
+        ⟦<TcpStream as Write>⟧.contents shelf_seats) made.2.items hosted.acceptor.came hosted.served) }
 {
     let form = form_of(folders.request);
-    let ran = serve_all::<B, _, _, _, _>(door, made, folders, form, errors)?;
+    let run_result = serve_all::<B, _, _, _, _>(acceptor, made, folders, form, errors)?;
     Ok(HostingOutcome {
-        served: ran.served,
-        door: ran.clients,
+        served: run_result.served,
+        acceptor: run_result.clients,
     })
 }
 
 // How many sessions ended in each way, and whether accepting failed.
 fn end_of<'d, L: Host + Sync>(hosted: &HostingOutcome<'d, L>) -> (SessionCounts, bool)
     ensures ends { result.0 ≡ counts_of hosted.now.served }
-    ensures deaf { result.1 ≡ hosted.now.door.failed }
+    ensures deaf { result.1 ≡ hosted.now.acceptor.failed }
 {
-    (ends_of(&hosted.served), hosted.door.has_failed())
+    (ends_of(&hosted.served), hosted.acceptor.has_failed())
 }
 
 // Serves all clients at these shelves, until none is left. It takes clients of any type: so what is proved of clients
@@ -350,18 +351,18 @@ fn serve_all<
     >,
     WorkersFault,
 >
-    requires ready { AreReadyAt B.table (house_of clients made.0 made.2.items made.1 folders.now) }
+    requires ready { AreReadyAt B.table (server_input_of clients made.0 made.2.items made.1 folders.now) }
     requires new { SeatsHanded made.0 (length made.2.items) made.2.items }
     requires closes { MayClose (sessions_of form C.words C.Reader.remaining C.Writer.contents shelf_seats) made.0 }
-    ensures many { IfOk result (λ ran. K.words.came clients ≡ [] → length ran.served ≡ length
-        (K.words.came ran.clients)) }
-    ensures left { IfOk result (IsLeftAt K.words (house_of clients made.0 made.2.items made.1 folders.now)) }
+    ensures many { IfOk result (λ run_result. K.words.came clients ≡ [] → length run_result.served ≡ length
+        (K.words.came run_result.clients)) }
+    ensures left { IfOk result (IsLeftAt K.words (server_input_of clients made.0 made.2.items made.1 folders.now)) }
     ensures served { IfOk result (AllServed (sessions_of form C.words C.Reader.remaining C.Writer.contents shelf_seats)
-        K.words ⟦<Folders<'f, H> as Feeds>⟧.words (house_of clients made.0 made.2.items made.1 folders.now)) }
+        K.words ⟦<Folders<'f, H> as Feeds>⟧.words (server_input_of clients made.0 made.2.items made.1 folders.now)) }
     ensures loaded { IfOk result (AllLoaded (loads_of ⟦<Folders<'f, H> as Feeds>⟧.words
         (outcomes_of (files_of ⟦<FolderFiles<'f, H> as FeedFiles>⟧.holds ⟦<FolderFiles<'f, H> as FeedFiles>⟧.reads
         ⟦<FolderFiles<'f, H> as FeedFiles>⟧.failures ⟦<FolderFiles<'f, H> as FeedFiles>⟧.failed)
-        shelf_loader shelf_seats.version)) (house_of clients made.0 made.2.items made.1 folders.now)) }
+        shelf_loader shelf_seats.version)) (server_input_of clients made.0 made.2.items made.1 folders.now)) }
 {
     let (shelves, loader, seats) = made;
     run_shelves::<B, _, _, _, _, _, _>(
@@ -457,7 +458,7 @@ fn shelves_of(
 }
 
 // Reports that the server can't listen at the port, and why.
-fn unheard<E: Write>(alloc: Global, errors: &mut E, port: u16, kind: ErrorKind) -> u8
+fn none_received<E: Write>(alloc: Global, errors: &mut E, port: u16, kind: ErrorKind) -> u8
     ensures { (result ≡ INPUT_OUTPUT) ⊎ (result ≡ OUT_OF_MEMORY) }
 {
     let reason = reason_of(kind);
@@ -495,7 +496,7 @@ fn tell_served<'d, L: Host + Sync, O: Write>(
     hosted: &HostingOutcome<'d, L>,
     output: &mut O,
 ) -> u8
-    ensures status { (result ≡ status_of hosted.now.door.failed (counts_of hosted.now.served))
+    ensures status { (result ≡ status_of hosted.now.acceptor.failed (counts_of hosted.now.served))
         ⊎ (result ≡ INPUT_OUTPUT) ⊎ (result ≡ OUT_OF_MEMORY) }
     ensures printed { (result ≢ INPUT_OUTPUT) × (result ≢ OUT_OF_MEMORY) →
         Appends (O.contents output.old) (O.contents output.new) (served_text (counts_of hosted.now.served)) }

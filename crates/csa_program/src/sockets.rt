@@ -2,15 +2,15 @@
 
 ghost use Rattle.std.specs.Prelude.{◌≡◌, ◌⊎◌, ◌↔◌, ◌+◌, ◌++◌, ◌∷◌, [], true};
 ghost use Rattle.std.specs.Prelude.{false, IfOk, IfSome, IsTrue, MatchOption, ⊤, ◌-◌, ◌^◌, ℕ, map, min};
-ghost use Rattle.csa_program.specs.Door.{AreCountedOff};
+ghost use Rattle.csa_program.specs.Acceptor.{AreCountedOff};
 
 use crate::accepting::{NextTry, next_try};
+use crate::client_sessions::{ClientSession, SessionRules};
 use crate::draining::drain;
 use crate::logging::Host;
 use crate::requests::Requests;
-use crate::visits::{SessionRules, Visit};
 use command_requests::Seconds;
-use load_orders::Notes;
+use load_orders::GhostList;
 use std::io;
 use std::net::{TcpListener, TcpStream};
 use std::time::Duration;
@@ -37,7 +37,7 @@ fn make_ready(stream: &TcpStream, idle: Option<Seconds>) -> io::Result<()> {
 }
 
 impl<'a, L: Host + Sync> Client for Visitor<'a, L> {
-    type Reader = Requests<TcpStream, Visit<'a, L>>;
+    type Reader = Requests<TcpStream, ClientSession<'a, L>>;
 
     type Writer = TcpStream;
 
@@ -48,18 +48,18 @@ impl<'a, L: Host + Sync> Client for Visitor<'a, L> {
     } };
 
     /// Each reply is sent at once.
-    fn open(self) -> Result<(Requests<TcpStream, Visit<'a, L>>, TcpStream), ConnFault> {
+    fn open(self) -> Result<(Requests<TcpStream, ClientSession<'a, L>>, TcpStream), ConnFault> {
         let Visitor {
             stream,
             number,
             rules,
             host,
         } = self;
-        let visit = Visit::begin(number, rules, host);
+        let client_session = ClientSession::begin(number, rules, host);
         match (make_ready(&stream, rules.idle), stream.try_clone()) {
-            (Ok(()), Ok(reader)) => Ok((Requests::new(reader, visit), stream)),
+            (Ok(()), Ok(reader)) => Ok((Requests::new(reader, client_session), stream)),
             _ => {
-                visit.end(SessionEnd::Failed, 0, Duration::ZERO);
+                client_session.end(SessionEnd::Failed, 0, Duration::ZERO);
                 Err(ConnFault)
             }
         }
@@ -67,20 +67,24 @@ impl<'a, L: Host + Sync> Client for Visitor<'a, L> {
 
     /// If the session ended before the client's requests did, the client is left time for the replies that were
     /// written.
-    fn close(reader: Requests<TcpStream, Visit<'a, L>>, writer: TcpStream, end: SessionEnd) {
+    fn close(
+        reader: Requests<TcpStream, ClientSession<'a, L>>,
+        writer: TcpStream,
+        end: SessionEnd,
+    ) {
         let mut reader = reader;
         let slowest = reader.slowest();
         if end != SessionEnd::Ended && !reader.has_failed() {
-            let host = reader.visit.host();
+            let host = reader.client_session.host();
             drain(&writer, reader.stream(), host);
         }
-        reader.visit.end(end, reader.count(), slowest);
+        reader.client_session.end(end, reader.count(), slowest);
     }
 }
 
 /// Accepts connections, as many as are wanted. Contracts see the clients that came.
 #[derive(Drop)]
-pub struct Door<'a, L> {
+pub struct Acceptor<'a, L> {
     listener: &'a TcpListener,
     left: u64,
     is_endless: bool,
@@ -89,26 +93,26 @@ pub struct Door<'a, L> {
     accepted: u64,
     rules: SessionRules,
     host: &'a L,
-    came: Notes<Visitor<'a, L>>,
+    came: GhostList<Visitor<'a, L>>,
 }
 
-impl<'a, L> Door<'a, L> {
-    /// A door for so many connections, or for connections without end if that is 0, whose sessions are kept by these
-    /// rules.
+impl<'a, L> Acceptor<'a, L> {
+    /// An acceptor for so many connections, or for connections without end if that is 0, whose sessions are kept by
+    /// these rules.
     pub fn new(
         listener: &'a TcpListener,
         connections: u64,
         rules: SessionRules,
         host: &'a L,
-    ) -> Door<'a, L>
+    ) -> Acceptor<'a, L>
         ensures left { result.left ≡ connections }
         ensures endless { IsTrue result.is_endless ↔ (connections ≡ 0) }
         ensures whole { result.failed ≡ false }
         ensures rules { result.rules ≡ rules }
-        ensures nobody { result.came ≡ [] }
+        ensures none_came { result.came ≡ [] }
         ensures counted { AreCountedOff connections result.left result.accepted result.is_endless result.failed [] }
     {
-        Door {
+        Acceptor {
             listener,
             left: connections,
             is_endless: connections == 0,
@@ -116,7 +120,7 @@ impl<'a, L> Door<'a, L> {
             accepted: 0,
             rules,
             host,
-            came: Notes::none(),
+            came: GhostList::none(),
         }
     }
 
@@ -150,9 +154,9 @@ impl<'a, L> Door<'a, L> {
     }
 }
 
-impl<'a, L: Host> Door<'a, L> {
+impl<'a, L: Host> Acceptor<'a, L> {
     // Accepts a connection. One that ended before it was accepted is passed over, and not counted. If accepting fails
-    // for another reason, this is told, and accepting is tried again as long as that may help.
+    // for another reason, this is reported, and accepting is tried again as long as that may help.
     fn accept(&mut self) -> Option<TcpStream>
         ensures failed { MatchOption result (self.new.failed ≡ true) (λ _. self.new.failed ≡ self.old.failed) }
         ensures left { self.new.left ≡ self.old.left }
@@ -199,16 +203,17 @@ fn accepted_at<L: Host>(listener: &TcpListener, host: &L) -> Option<TcpStream> {
     None
 }
 
-impl<'a, L: Host> Clients<Visitor<'a, L>> for Door<'a, L> {
+impl<'a, L: Host> Clients<Visitor<'a, L>> for Acceptor<'a, L> {
     // No client comes any more: accepting failed, or as many as are wanted were accepted. A fact is how many clients
     // are wanted, or 0 if there is no end to them: of those who came each has the next number, and they are counted
     // off.
     ghost words = { record {
-      came = λ door. door.came;
-      none_left = λ door. (door.failed ≡ true) ⊎ ((door.is_endless ≡ false) × (door.left ≡ 0));
+      came = λ acceptor. acceptor.came;
+      none_left = λ acceptor. (acceptor.failed ≡ true) ⊎ ((acceptor.is_endless ≡ false) × (acceptor.left ≡ 0));
       Fact = ℕ;
-      holds = λ door wanted. AreCountedOff wanted door.left door.accepted door.is_endless door.failed
-          (map (λ visitor. visitor.number) door.came);
+      holds = λ acceptor wanted. AreCountedOff wanted acceptor.left acceptor.accepted acceptor.is_endless
+          acceptor.failed
+          (map (λ visitor. visitor.number) acceptor.came);
     } };
 
     /// The next connection. If there is an end to them, one is counted off what is left, even if accepting then fails.

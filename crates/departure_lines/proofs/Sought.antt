@@ -79,7 +79,7 @@ more_listed listed index name at =
     take_more listed index name (slice_get_within listed index name at)
     ∙ ap (λ (x : List ℕ). take index listed ++ x ∷ []) (get_or_from_slice_get listed index name name at)
 
--- the item at a place is the next name
+-- the item at an index is the next name
 at_index : {A : Type 0} (f : A → List ℕ) (items : List A) (index : ℕ) (d : A) → index < length items
     → slice_get (map f items) index ≡ Some (f (get_or items index d))
 at_index f items index d less = slice_get-map f items index ∙ ap (option_map f) (slice_get-get_or items index d less)

@@ -10,7 +10,7 @@ use Rattle.std.proofs.lemmas.Slice.Zip.{all_zipped_more}
 use Rattle.criteria.specs.Laws.{Rules}
 use Rattle.criteria.specs.declared.figures.Figures.{Figures}
 use Rattle.image_layout.specs.Image.{ImageValue}
-use Rattle.profile_scan.specs.Between.{BetweenValue, IsAnswerBetween, secs_of}
+use Rattle.profile_scan.specs.SetQuery.{SetQueryValue, IsAnswerBetween, secs_of}
 use Rattle.profile_scan.specs.Everywhere.{AnswerToAny, asked_to_any, criterion_to_any, listed_to_any, walk_to_any}
 use Rattle.profile_scan.specs.Origins.{from_stop}
 use Rattle.profile_scan.specs.declared.to_any.ProfilesToAny.{ProfilesToAny}
@@ -56,7 +56,7 @@ stop_left wanted targets n is =
     dropped : is_shown wanted targets n ≡ false → filter (is_shown wanted targets) (n ∷ []) ≡ []
     dropped h = rw h refl
 
-module _ {V : Type 0} (figures : V → Figures) (rules : Rules V) (form : LineForm) (image : ImageValue) (b : BetweenValue) (wanted : WantedStops) where
+module _ {V : Type 0} (figures : V → Figures) (rules : Rules V) (form : LineForm) (image : ImageValue) (b : SetQueryValue) (wanted : WantedStops) where
   pub none_added : (text : List ℕ) → AddsStops figures rules form image b wanted 0 text text (record { stops = 0; points = 0 })
   none_added text = record {
     text = [];
@@ -159,7 +159,7 @@ journeys_shown {K} {V} {c} rules_of figures form image profiles criterion stop d
     }
 
 -- departures have journeys that attain them, by one criterion's rules and by the same one's
-pub has_journeys : {K V : Type 0} (rules_of : K → Rules V) (t : TimetableValue) (q : BetweenValue) (old criterion : K) (departures : List (Departure V))
+pub has_journeys : {K V : Type 0} (rules_of : K → Rules V) (t : TimetableValue) (q : SetQueryValue) (old criterion : K) (departures : List (Departure V))
     (said : List (Departure V) → Type 0) → old ≡ criterion
     → ((d : Departure V) → Contains departures d → AttainsBetween (rules_of old) t q (point_of d) d.journey) → said departures
     → HasJourneys (rules_of criterion) t q (map point_of departures) said

@@ -8,7 +8,7 @@ use Rattle.timetable.specs.TimetableValue.{TimetableValue}
 use Rattle.timetable.specs.declared.network.Footpath.{Footpath}
 use Rattle.image_layout.specs.Image.{ImageValue}
 use Rattle.answer_pictures.specs.Naming.{stop_bytes}
-use Rattle.profile_scan.specs.Between.{BetweenValue, IsAnswerBetween, IsDirectWalk, secs_of}
+use Rattle.profile_scan.specs.SetQuery.{SetQueryValue, IsAnswerBetween, IsDirectWalk, secs_of}
 use Rattle.profile_scan.specs.Origins.{from_stop}
 use Rattle.profile_scan.specs.Window.{window_of}
 use Rattle.journeys.specs.Answer.{point_of}
@@ -22,7 +22,7 @@ use Rattle.departure_lines.specs.declared.stop_lines.StopCounts.{StopCounts}
 use Rattle.departure_lines.specs.declared.stop_lists.WantedStops.{WantedStops}
 
 -- points with journeys: there are departures, one for each point in order, each with a journey that attains it, of which `said` holds
-pub record HasJourneys {V : Type 0} (rules : Rules V) (t : TimetableValue) (b : BetweenValue) (points : List (Point V))
+pub record HasJourneys {V : Type 0} (rules : Rules V) (t : TimetableValue) (b : SetQueryValue) (points : List (Point V))
     (said : List (Departure V) → Type 0) : Type 0 where
   pub departures : List (Departure V)
   pub are : points ≡ map point_of departures
@@ -30,7 +30,7 @@ pub record HasJourneys {V : Type 0} (rules : Rules V) (t : TimetableValue) (b : 
   pub holds : said departures
 
 -- the text of a stop's points, in a form
-abbrev pub IsInForm : {V : Type 0} → (V → Figures) → Rules V → LineForm → ImageValue → BetweenValue → ℕ → List (Point V) → Option ℕ → List ℕ → Type 0
+abbrev pub IsInForm : {V : Type 0} → (V → Figures) → Rules V → LineForm → ImageValue → SetQueryValue → ℕ → List (Point V) → Option ℕ → List ℕ → Type 0
 IsInForm figures rules LineForm.Journeys image b stop points walk text =
     HasJourneys rules image.timetable (from_stop b stop) points
     (λ departures. text ≡ flat_map (line_from figures (stop_bytes image.names stop)) departures)
@@ -43,7 +43,7 @@ IsInForm figures rules LineForm.JsonPoints image b stop points walk text =
     text ≡ json_if_some (stop_bytes image.names stop) (map (point_json figures) points) walk
 
 -- the answer of the query from a stop has `count` points, and the text shows them
-pub record IsShownFrom {V : Type 0} (figures : V → Figures) (rules : Rules V) (form : LineForm) (image : ImageValue) (b : BetweenValue)
+pub record IsShownFrom {V : Type 0} (figures : V → Figures) (rules : Rules V) (form : LineForm) (image : ImageValue) (b : SetQueryValue)
     (stop count : ℕ) (text : List ℕ) : Type 0 where
   pub points : List (Point V)
   pub walk : Option Footpath
@@ -53,7 +53,7 @@ pub record IsShownFrom {V : Type 0} (figures : V → Figures) (rules : Rules V) 
   pub shown : IsInForm figures rules form image b stop points (secs_of walk) text
 
 -- such a text was added
-pub record ShowsStop {V : Type 0} (figures : V → Figures) (rules : Rules V) (form : LineForm) (image : ImageValue) (b : BetweenValue)
+pub record ShowsStop {V : Type 0} (figures : V → Figures) (rules : Rules V) (form : LineForm) (image : ImageValue) (b : SetQueryValue)
     (stop : ℕ) (old new : List ℕ) (count : ℕ) : Type 0 where
   pub text : List ℕ
   pub added : new ≡ old ++ text
@@ -72,7 +72,7 @@ abbrev pub one_if_some : ℕ → ℕ
 one_if_some points = min points 1
 
 -- the text shows the stops below n, one after the other: `stops` of them have points, and `points` points in all
-pub record AreListed {V : Type 0} (figures : V → Figures) (rules : Rules V) (form : LineForm) (image : ImageValue) (b : BetweenValue)
+pub record AreListed {V : Type 0} (figures : V → Figures) (rules : Rules V) (form : LineForm) (image : ImageValue) (b : SetQueryValue)
     (wanted : WantedStops) (n stops points : ℕ) (text : List ℕ) : Type 0 where
   pub parts : List (ℕ × List ℕ)
   pub each : AllZip (λ stop part. IsShownFrom figures rules form image b stop part.0 part.1) (shown_stops wanted b.targets n) parts
@@ -81,7 +81,7 @@ pub record AreListed {V : Type 0} (figures : V → Figures) (rules : Rules V) (f
   pub points_are : points ≡ sum_by (λ part. part.0) parts
 
 -- such a text was added
-pub record AddsStops {V : Type 0} (figures : V → Figures) (rules : Rules V) (form : LineForm) (image : ImageValue) (b : BetweenValue)
+pub record AddsStops {V : Type 0} (figures : V → Figures) (rules : Rules V) (form : LineForm) (image : ImageValue) (b : SetQueryValue)
     (wanted : WantedStops) (n : ℕ) (old new : List ℕ) (counts : StopCounts) : Type 0 where
   pub text : List ℕ
   pub added : new ≡ old ++ text
@@ -96,7 +96,7 @@ last_line LineForm.Points stops points read = counts_line stops points read
 last_line LineForm.Summary stops points read = counts_line stops points read
 
 -- all wanted stops except the targets are shown, and then the counts, with the number of connections of the window
-pub record AreShown {V : Type 0} (figures : V → Figures) (rules : Rules V) (form : LineForm) (image : ImageValue) (b : BetweenValue)
+pub record AreShown {V : Type 0} (figures : V → Figures) (rules : Rules V) (form : LineForm) (image : ImageValue) (b : SetQueryValue)
     (wanted : WantedStops) (printed : List ℕ) : Type 0 where
   pub stops : ℕ
   pub points : ℕ

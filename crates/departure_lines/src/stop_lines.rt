@@ -1,7 +1,7 @@
 //! The lines of all stops' best departures.
 
 ghost use Rattle.std.specs.Prelude.{◌≡◌, ◌<◌, ◌+◌, ℕ, List, true, Contains, IfOk, map, string_bytes};
-ghost use Rattle.profile_scan.specs.Between.{IsAnswerBetween, secs_of};
+ghost use Rattle.profile_scan.specs.SetQuery.{IsAnswerBetween, secs_of};
 ghost use Rattle.journeys.specs.Answer.{point_of};
 ghost use Rattle.journeys.specs.Extracted.{AttainsBetween};
 ghost use Rattle.departure_lines.specs.declared.form.LineForm.{LineForm};

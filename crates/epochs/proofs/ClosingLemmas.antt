@@ -17,10 +17,10 @@ use Rattle.version_core.proofs.Runs.{runs_part}
 use Rattle.shelf_steps.specs.declared.views.KnownHistory.{KnownHistory}
 use Rattle.shelf_steps.specs.declared.views.LoaderView.{LoaderView}
 use Rattle.shelf_steps.specs.declared.views.View.{View}
-use Rattle.shelf_steps.specs.Course.{Happened}
+use Rattle.shelf_steps.specs.EventHistory.{Happened}
 use Rattle.shelf_steps.specs.Events.{known_of}
 use Rattle.shelf_steps.specs.Handed.{handed}
-use Rattle.shelf_steps.specs.Loading.{Loaded, Loads, Freed, Frees, FoundBusy, FindsBusy}
+use Rattle.shelf_steps.specs.Loading.{LoadsShelf, Loads, FreesShelf, Frees, FindsShelfBusy, FindsBusy}
 use Rattle.shelf_steps.specs.Plays.{OfLoader, newest_of}
 use Rattle.epochs.specs.declared.collected.Collected.{Collected}
 use Rattle.epochs.specs.SeatHistory.{EachClosingIsTried}
@@ -179,16 +179,16 @@ closed_led before after shelves k version led there h =
     ∙ (ap (λ n. set t.shelves k (Shelf.Closing n)) one ∙ ap (λ (xs : List Shelf). set xs k (Shelf.Closing version)) same))
 
 -- what the loader knows after a try, and after a load
-led_freed : (a b : LoaderView) (k : ℕ) → LeadsToShelves a.known a.shelves → Freed a k b → LeadsToShelves b.known b.shelves
+led_freed : (a b : LoaderView) (k : ℕ) → LeadsToShelves a.known a.shelves → FreesShelf a k b → LeadsToShelves b.known b.shelves
 led_freed a b k led f = subst (λ (xs : List Shelf). LeadsToShelves b.known xs) (sym f.shelves)
     (put_back_led f.freed b.known (set a.shelves k Shelf.Free) k (freed_led a.known f.freed a.shelves k led f.collect) f.put_back)
 
-led_busy : (a b : LoaderView) (k count : ℕ) → LeadsToShelves a.known a.shelves → FoundBusy a k count b → LeadsToShelves b.known b.shelves
+led_busy : (a b : LoaderView) (k count : ℕ) → LeadsToShelves a.known a.shelves → FindsShelfBusy a k count b → LeadsToShelves b.known b.shelves
 led_busy a b k count led f = subst (λ (xs : List Shelf). LeadsToShelves b.known xs) (sym f.shelves) (busy_led a.known b.known a.shelves k count led f.collect)
 
 led_loaded : (a b : LoaderView) (image : ImageValue) (version shelf before : ℕ) → LeadsToShelves a.known a.shelves
     → slice_get (set a.shelves shelf (Shelf.Open version)) before ≡ Some (Shelf.Open a.current)
-    → Loaded a image version shelf before b → LeadsToShelves b.known b.shelves
+    → LoadsShelf a image version shelf before b → LeadsToShelves b.known b.shelves
 led_loaded a b image version shelf before led there h =
     let first : List Shelf = set a.shelves shelf (Shelf.Open version) in
     let gathered = put_back_led a.known h.gathered a.shelves shelf led h.gather in
@@ -208,15 +208,15 @@ of_both P Q (View.Noting v) u' each q h = absurd h
 of_both P Q View.Spent u' each q h = absurd h
 
 pub frees_known : (k : ℕ) (u u' : View) → KnowsShelves u → Frees k u u' → KnowsShelves u'
-frees_known k u u' led h = of_both (λ a b. Freed a k b) (λ l. LeadsToShelves l.known l.shelves) u u' (λ a b q f. led_freed a b k q f) led h
+frees_known k u u' led h = of_both (λ a b. FreesShelf a k b) (λ l. LeadsToShelves l.known l.shelves) u u' (λ a b q f. led_freed a b k q f) led h
 
 pub busy_known : (k count : ℕ) (u u' : View) → KnowsShelves u → FindsBusy k count u u' → KnowsShelves u'
 busy_known k count u u' led h =
-    of_both (λ a b. FoundBusy a k count b) (λ l. LeadsToShelves l.known l.shelves) u u' (λ a b q f. led_busy a b k count q f) led h
+    of_both (λ a b. FindsShelfBusy a k count b) (λ l. LeadsToShelves l.known l.shelves) u u' (λ a b q f. led_busy a b k count q f) led h
 
 load_known : (a b : LoaderView) (current current_shelf : ℕ) (shelves : List Shelf) (image : ImageValue) (shelf version : ℕ)
     → Rests current current_shelf shelves a → slice_get a.shelves shelf ≡ Some Shelf.Free → LeadsToShelves a.known a.shelves
-    → Loaded a image version shelf current_shelf b → LeadsToShelves b.known b.shelves
+    → LoadsShelf a image version shelf current_shelf b → LeadsToShelves b.known b.shelves
 load_known a b current current_shelf shelves image shelf version rest free led loaded =
     let stands : slice_get a.shelves current_shelf ≡ Some (Shelf.Open a.current) =
     ap (λ (xs : List Shelf). slice_get xs current_shelf) rest.shelves_are ∙ (rest.stands ∙ ap (λ n. Some (Shelf.Open n)) (sym rest.current_is)) in

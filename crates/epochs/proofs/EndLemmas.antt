@@ -7,10 +7,10 @@ use Rattle.shelf_steps.specs.declared.edition.Edition.{Edition}
 use Rattle.shelf_steps.specs.declared.views.KnownHistory.{KnownHistory}
 use Rattle.shelf_steps.specs.declared.views.WorkerView.{WorkerView}
 use Rattle.shelf_steps.specs.declared.views.View.{View}
-use Rattle.shelf_steps.specs.Course.{Happened}
+use Rattle.shelf_steps.specs.EventHistory.{Happened}
 use Rattle.shelf_steps.specs.Events.{known_of}
-use Rattle.shelf_steps.specs.Plays.{OfWorker, Mine}
-use Rattle.shelf_steps.specs.Pinning.{TriedWell, TriedLate, LetGo, Late, Well, Pins, Moves, Releases, IsIdleAs, IsHoldingAs}
+use Rattle.shelf_steps.specs.Plays.{OfWorker, SeatAndSlots}
+use Rattle.shelf_steps.specs.Pinning.{HoldingTry, LateTry, ReleasesShelf, TryIsLate, TryHolds, Pins, Moves, Releases, IsIdleAs, IsHoldingAs}
 use Rattle.epochs.specs.SeatHistory.{Grows, EndsHolding, EndsLate}
 use Rattle.epochs.proofs.GrowthLemmas.{lates_grow}
 
@@ -32,7 +32,7 @@ idle_is number (View.Noting v) h = absurd h
 idle_is number View.Spent h = absurd h
 
 -- a try that held ends holding
-took_it : (before : KnownHistory) (a b : WorkerView) (number n shelf : ℕ) (e : Edition) → Grows before a.known → TriedWell a n shelf e b → b.number ≡ number
+took_it : (before : KnownHistory) (a b : WorkerView) (number n shelf : ℕ) (e : Edition) → Grows before a.known → HoldingTry a n shelf e b → b.number ≡ number
     → EndsHolding before number n b.known
 took_it before a b number n shelf e grows h is =
     let same : a.number ≡ number = sym h.number ∙ is in (
@@ -47,7 +47,7 @@ took_it before a b number n shelf e grows h is =
     )
 
 -- and one that came late ends late
-came_late : (before : KnownHistory) (a b : WorkerView) (number n : ℕ) → Grows before a.known → TriedLate a n b → b.number ≡ number
+came_late : (before : KnownHistory) (a b : WorkerView) (number n : ℕ) → Grows before a.known → LateTry a n b → b.number ≡ number
     → EndsLate before number n b.known
 came_late before a b number n grows h is =
     let same : a.number ≡ number = sym h.number ∙ is in (
@@ -63,7 +63,7 @@ came_late before a b number n grows h is =
       subst (λ m. Happened h.taken (Event.Drop m) Reply.Dropped b.known) same h.drop,
     )
 
-well_ends : (before : KnownHistory) (u u' : View) (number n shelf : ℕ) (e : Edition) → Grows before (known_of u) → Well u n shelf e u' → IsOf number u'
+well_ends : (before : KnownHistory) (u u' : View) (number n shelf : ℕ) (e : Edition) → Grows before (known_of u) → TryHolds u n shelf e u' → IsOf number u'
     → EndsHolding before number n (known_of u')
 well_ends before (View.Working a) (View.Working b) number n shelf e grows h is = took_it before a b number n shelf e grows h is
 well_ends before (View.Working a) (View.Loading l) number n shelf e grows h is = absurd h
@@ -73,7 +73,7 @@ well_ends before (View.Loading l) u' number n shelf e grows h is = absurd h
 well_ends before (View.Noting v) u' number n shelf e grows h is = absurd h
 well_ends before View.Spent u' number n shelf e grows h is = absurd h
 
-late_ends : (before : KnownHistory) (u u' : View) (number n : ℕ) → Grows before (known_of u) → Late u n u' → IsOf number u'
+late_ends : (before : KnownHistory) (u u' : View) (number n : ℕ) → Grows before (known_of u) → TryIsLate u n u' → IsOf number u'
     → EndsLate before number n (known_of u')
 late_ends before (View.Working a) (View.Working b) number n grows h is = came_late before a b number n grows h is
 late_ends before (View.Working a) (View.Loading l) number n grows h is = absurd h
@@ -83,20 +83,20 @@ late_ends before (View.Loading l) u' number n grows h is = absurd h
 late_ends before (View.Noting v) u' number n grows h is = absurd h
 late_ends before View.Spent u' number n grows h is = absurd h
 
-pub pins_end : (u : View) (m : Mine) (number n shelf : ℕ) (e : Edition) → Pins u n shelf e m.0 → IsHoldingAs number shelf e m
+pub pins_end : (u : View) (m : SeatAndSlots) (number n shelf : ℕ) (e : Edition) → Pins u n shelf e m.0 → IsHoldingAs number shelf e m
     → EndsHolding (known_of u) number n (known_of m.0)
 pins_end u m number n shelf e h is =
     well_ends (known_of u) h.2 m.0 number n shelf e (lates_grow h.0 u h.2 h.3) h.4 (holder_is number shelf e m.0 is.0)
 
 -- the last of four late tries; the three before it are what the history has grown by
-pub moves_end : (u : View) (m : Mine) (number n : ℕ) → Moves u n m.0 → IsIdleAs number m → EndsLate (known_of u) number n (known_of m.0)
+pub moves_end : (u : View) (m : SeatAndSlots) (number n : ℕ) → Moves u n m.0 → IsIdleAs number m → EndsLate (known_of u) number n (known_of m.0)
 moves_end u m number n h is =
     let t = h.3 in let third = t.2.2.0 in let fourth = t.2.2.2.0 in
     subst (λ (v : View). IsOf number v → EndsLate (known_of u) number n (known_of v)) (sym t.2.2.2.2)
     (late_ends (known_of u) third fourth number n (lates_grow (h.0 ∷ h.1 ∷ h.2 ∷ []) u third (t.0, t.1, (t.2.0, t.2.1, (third, t.2.2.1, refl)))) t.2.2.2.1)
     (idle_is number m.0 is.0)
 
-let_go : (a b : WorkerView) (number : ℕ) → LetGo a b → b.number ≡ number → Happened a.known (Event.Drop number) Reply.Dropped b.known
+let_go : (a b : WorkerView) (number : ℕ) → ReleasesShelf a b → b.number ≡ number → Happened a.known (Event.Drop number) Reply.Dropped b.known
 let_go a b number h is = subst (λ m. Happened a.known (Event.Drop m) Reply.Dropped b.known) (sym h.number ∙ is) h.happened
 
 release_ends : (u u' : View) (number : ℕ) → Releases u u' → IsOf number u' → Happened (known_of u) (Event.Drop number) Reply.Dropped (known_of u')
@@ -108,6 +108,6 @@ release_ends (View.Loading l) u' number h is = absurd h
 release_ends (View.Noting v) u' number h is = absurd h
 release_ends View.Spent u' number h is = absurd h
 
-pub releases_end : (u : View) (m : Mine) (number : ℕ) → Releases u m.0 → IsIdleAs number m
+pub releases_end : (u : View) (m : SeatAndSlots) (number : ℕ) → Releases u m.0 → IsIdleAs number m
     → Happened (known_of u) (Event.Drop number) Reply.Dropped (known_of m.0)
 releases_end u m number h is = release_ends u m.0 number h (idle_is number m.0 is.0)

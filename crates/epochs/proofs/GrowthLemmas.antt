@@ -7,8 +7,8 @@ use Rattle.version_core.specs.declared.event.Reply.{Reply}
 use Rattle.shelf_steps.specs.declared.edition.Edition.{Edition}
 use Rattle.shelf_steps.specs.declared.views.KnownHistory.{KnownHistory}
 use Rattle.shelf_steps.specs.declared.views.View.{View}
-use Rattle.shelf_steps.specs.Course.{Happened, image_of}
-use Rattle.shelf_steps.specs.Pinning.{Late, Lates, Well, Pins, Moves, Releases}
+use Rattle.shelf_steps.specs.EventHistory.{Happened, image_of}
+use Rattle.shelf_steps.specs.Pinning.{TryIsLate, TriesAreLate, TryHolds, Pins, Moves, Releases}
 use Rattle.shelf_steps.specs.Plays.{joins_notice}
 use Rattle.shelf_steps.proofs.Courses.{prefix_same, prefix_trans}
 use Rattle.reasoning.proofs.ListLemmas.{slice_get-append}
@@ -32,7 +32,7 @@ happened_grows k k' e r h = record {
   images = h.images;
 }
 
-late_grows : (u u' : View) (n : ℕ) → Late u n u' → Grows (known_of u) (known_of u')
+late_grows : (u u' : View) (n : ℕ) → TryIsLate u n u' → Grows (known_of u) (known_of u')
 late_grows (View.Working a) (View.Working b) n h =
     growths_join a.known h.taken b.known
     (growths_join a.known h.looked h.taken (happened_grows a.known h.looked _ _ h.look.happened) (happened_grows h.looked h.taken _ _ h.take))
@@ -44,7 +44,7 @@ late_grows (View.Loading l) u' n h = absurd h
 late_grows (View.Noting v) u' n h = absurd h
 late_grows View.Spent u' n h = absurd h
 
-well_grows : (u u' : View) (n shelf : ℕ) (e : Edition) → Well u n shelf e u' → Grows (known_of u) (known_of u')
+well_grows : (u u' : View) (n shelf : ℕ) (e : Edition) → TryHolds u n shelf e u' → Grows (known_of u) (known_of u')
 well_grows (View.Working a) (View.Working b) n shelf e h =
     growths_join a.known h.looked b.known (happened_grows a.known h.looked _ _ h.look.happened) (happened_grows h.looked b.known _ _ h.take)
 well_grows (View.Working a) (View.Loading l) n shelf e h = absurd h
@@ -57,7 +57,7 @@ well_grows View.Spent u' n shelf e h = absurd h
 pub same_grows : (u u' : View) → u' ≡ u → Grows (known_of u) (known_of u')
 same_grows u u' same = subst (λ (x : View). Grows (known_of u) (known_of x)) (sym same) (grows_same (known_of u))
 
-pub lates_grow : (ns : List ℕ) (u u' : View) → Lates u ns u' → Grows (known_of u) (known_of u')
+pub lates_grow : (ns : List ℕ) (u u' : View) → TriesAreLate u ns u' → Grows (known_of u) (known_of u')
 lates_grow [] u u' h = same_grows u u' h
 lates_grow (n ∷ ns) u u' h = growths_join (known_of u) (known_of h.0) (known_of u') (late_grows u h.0 n h.1) (lates_grow ns h.0 u' h.2)
 

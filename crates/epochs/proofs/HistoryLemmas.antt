@@ -10,7 +10,7 @@ use Rattle.version_core.specs.declared.state.Worker.{Worker}
 use Rattle.version_core.specs.declared.state.Shelf.{Shelf}
 use Rattle.version_core.specs.State.{State, start, looked}
 use Rattle.version_core.specs.Steps.{Step, LookStep, TakeStep, DropStep, IsIdle, Holds}
-use Rattle.version_core.specs.Kept.{KeepsInvariants}
+use Rattle.version_core.specs.Invariants.{KeepsInvariants}
 use Rattle.version_core.specs.Rest.{IsNoLoad, RestStays}
 use Rattle.version_core.specs.Laws.{RunsGrow, LooksAndTakesHold, DropsLetGo}
 use Rattle.shelf_steps.specs.declared.edition.Edition.{Edition}

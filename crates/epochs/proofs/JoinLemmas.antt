@@ -5,7 +5,7 @@ use Rattle.shelf_steps.specs.declared.edition.Edition.{Edition}
 use Rattle.shelf_steps.specs.declared.views.LoaderView.{LoaderView}
 use Rattle.shelf_steps.specs.declared.views.KnownHistory.{KnownHistory}
 use Rattle.shelf_steps.specs.declared.views.View.{View}
-use Rattle.shelf_steps.specs.Plays.{OfWorker, Mine, IsSettled, IsLoading, joins_notice, with_note, gives_notice, new_notice}
+use Rattle.shelf_steps.specs.Plays.{OfWorker, SeatAndSlots, IsSettled, IsLoading, joins_notice, with_note, gives_notice, new_notice}
 use Rattle.epochs.specs.declared.faults.PinFault.{PinFault}
 use Rattle.epochs.specs.Seats.{SeatValue, PinStep, ReleaseStep, JoinStep}
 use Rattle.std.specs.Arc.{arc_value}

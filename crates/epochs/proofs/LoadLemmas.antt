@@ -13,7 +13,7 @@ use Rattle.version_core.specs.declared.state.Worker.{Worker}
 use Rattle.version_core.specs.State.{State, start, newest}
 use Rattle.version_core.specs.Steps.{IsFree, OpenStep, PublishStep, CloseStep}
 use Rattle.version_core.specs.Runs.{Run, IsRun}
-use Rattle.version_core.specs.Kept.{KeepsInvariants}
+use Rattle.version_core.specs.Invariants.{KeepsInvariants}
 use Rattle.version_core.specs.Rest.{IsAtRest, LoadsRest, loaded}
 use Rattle.version_core.specs.Laws.{RunsGrowByRuns}
 use Rattle.version_core.proofs.Lists.{slice_get-set}
@@ -57,7 +57,7 @@ loaded_shelves s k e editions images new kept free h many version =
     sym kept.shelves.current_open
     ∙ (ap (λ i. slice_get s.shelves i) (sym q) ∙ free) in absurd (cc) in
     let small = slice_get_within s.shelves k _ free in let a_small = slice_get_within s.shelves s.current_shelf _ kept.shelves.current_open in
-    let eight = kept.shelves.eight in let also = h.eight in let as_long : length xs ≡ length s.shelves = length-set s.shelves k (Shelf.Open n) in
+    let eight = kept.shelves.eight in let eight_too = h.eight in let as_long : length xs ≡ length s.shelves = length-set s.shelves k (Shelf.Open n) in
     record {
       eight = length-set editions k (Some new) ∙ h.eight;
       each = λ j shelf edition at_shelf at_edition.

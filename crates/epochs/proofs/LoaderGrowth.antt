@@ -12,9 +12,9 @@ use Rattle.version_core.specs.declared.state.Shelf.{Shelf}
 use Rattle.shelf_steps.specs.declared.views.KnownHistory.{KnownHistory}
 use Rattle.shelf_steps.specs.declared.views.LoaderView.{LoaderView}
 use Rattle.shelf_steps.specs.declared.views.View.{View}
-use Rattle.shelf_steps.specs.Course.{image_of, Happened}
+use Rattle.shelf_steps.specs.EventHistory.{image_of, Happened}
 use Rattle.shelf_steps.specs.Events.{known_of}
-use Rattle.shelf_steps.specs.Loading.{Loaded, Loads, Freed, Frees, FoundBusy, FindsBusy}
+use Rattle.shelf_steps.specs.Loading.{LoadsShelf, Loads, FreesShelf, Frees, FindsShelfBusy, FindsBusy}
 use Rattle.shelf_steps.specs.Plays.{OfLoader, gives_notice, newest_of}
 use Rattle.epochs.specs.declared.collected.Collected.{Collected}
 use Rattle.epochs.specs.declared.faults.PublishFault.{PublishFault}
@@ -94,7 +94,8 @@ one_try P k before reply after is h =
       tries_append P rest (Event.Collect k ∷ []) (others_try P rest h.events.2) ((inr (k, refl, is), tt)),
     )
 
-loaded_ends : (a b : LoaderView) (image : ImageValue) (version shelf before : ℕ) → Loaded a image version shelf before b → EndsPublish a.known version b.known
+loaded_ends : (a b : LoaderView) (image : ImageValue) (version shelf before : ℕ) → LoadsShelf a image version shelf before b
+    → EndsPublish a.known version b.known
 loaded_ends a b image version shelf before h = record {
   ready = h.gathered;
   opened = h.opened;
@@ -137,7 +138,7 @@ ended_since first before after version grows tried h = record {
 
 loads_end : (u u' : View) (image : ImageValue) (version shelf before : ℕ) → Loads shelf version before image u u'
     → EndsPublish (known_of u) version (known_of u')
-loads_end u u' image version shelf before h = both_load (λ a b. Loaded a image version shelf before b)
+loads_end u u' image version shelf before h = both_load (λ a b. LoadsShelf a image version shelf before b)
     (λ k k'. EndsPublish k version k') u u' (λ a b l. loaded_ends a b image version shelf before l) h
 
 -- the image that is put behind the others is that of the next version
@@ -162,11 +163,11 @@ loads_published current current_shelf shelves image shelf version before View.Sp
 
 -- a try that freed the shelf, or found so many workers there, and nothing before it
 frees_tried : (k : ℕ) (u u' : View) → Frees k u u' → IsTried (known_of u) k Reply.Freed (known_of u')
-frees_tried k u u' h = both_load (λ a b. Freed a k b) (λ x y. IsTried x k Reply.Freed y) u u'
+frees_tried k u u' h = both_load (λ a b. FreesShelf a k b) (λ x y. IsTried x k Reply.Freed y) u u'
     (λ a b f. (a.known, f.freed, grows_same a.known, f.collect, happened_grows f.freed b.known _ _ f.put_back)) h
 
 busy_tried : (k count : ℕ) (u u' : View) → FindsBusy k count u u' → IsTried (known_of u) k (Reply.Busy count) (known_of u')
-busy_tried k count u u' h = both_load (λ a b. FoundBusy a k count b) (λ x y. IsTried x k (Reply.Busy count) y) u u'
+busy_tried k count u u' h = both_load (λ a b. FindsShelfBusy a k count b) (λ x y. IsTried x k (Reply.Busy count) y) u u'
     (λ a b f. (a.known, b.known, grows_same a.known, f.collect, grows_same b.known)) h
 
 tried_grow : (before after : KnownHistory) (k : ℕ) (reply : Reply) → IsTried before k reply after → Grows before after
@@ -228,7 +229,7 @@ pub collects_grow : (u u' : View) (found : Collected) → CollectsBySteps u foun
 collects_grow u u' found h = tries_grow 8 u found.freed found.busy u' h.0
 
 frees_only : (P : ℕ → Type 0) (k : ℕ) (u u' : View) → P k → Frees k u u' → OnlyThose P (known_of u) (known_of u')
-frees_only P k u u' is h = both_load (λ a b. Freed a k b) (λ x y. OnlyThose P x y) u u'
+frees_only P k u u' is h = both_load (λ a b. FreesShelf a k b) (λ x y. OnlyThose P x y) u u'
     (λ a b f. (
       only_join P a.known f.freed b.known (one_try P k a.known Reply.Freed f.freed is f.collect)
           (one_try P k f.freed Reply.NotNow b.known is f.put_back),
@@ -236,11 +237,11 @@ frees_only P k u u' is h = both_load (λ a b. Freed a k b) (λ x y. OnlyThose P 
     )) h
 
 busy_only : (P : ℕ → Type 0) (k count : ℕ) (u u' : View) → P k → FindsBusy k count u u' → OnlyThose P (known_of u) (known_of u')
-busy_only P k count u u' is h = both_load (λ a b. FoundBusy a k count b) (λ x y. OnlyThose P x y) u u'
+busy_only P k count u u' is h = both_load (λ a b. FindsShelfBusy a k count b) (λ x y. OnlyThose P x y) u u'
     (λ a b f. (one_try P k a.known (Reply.Busy count) b.known is f.collect, f.images)) h
 
 pub found_some : (k count : ℕ) (u u' : View) → FindsBusy k count u u' → 0 < count
-found_some k count u u' h = both_load (λ a b. FoundBusy a k count b) (λ x y. 0 < count) u u' (λ a b f. f.some_one) h
+found_some k count u u' h = both_load (λ a b. FindsShelfBusy a k count b) (λ x y. 0 < count) u u' (λ a b f. f.some_one) h
 
 one_only : (P : ℕ → Type 0) (k : ℕ) (s : Option Shelf) (u : View) (f : Bool) (b : ℕ) (u' : View)
     → (f ≡ true → P k) → (0 < b → P k) → TriedShelf k s u f b u' → OnlyThose P (known_of u) (known_of u')
@@ -275,7 +276,7 @@ others_below (suc n) k u freed busy u' less t =
 once_busy : (k : ℕ) (s : Option Shelf) (u : View) (f : Bool) (b : ℕ) (u' : View) → 0 < b → TriedShelf k s u f b u'
     → IsTriedOnce (known_of u) k (Reply.Busy b) (known_of u')
 once_busy k (Some (Shelf.Closing v)) u true b u' some t = absurd (let z = t.0 in omega arith)
-once_busy k (Some (Shelf.Closing v)) u false b u' some t = both_load (λ x y. FoundBusy x k b y) (λ x y. IsTriedOnce x k (Reply.Busy b) y) u u'
+once_busy k (Some (Shelf.Closing v)) u false b u' some t = both_load (λ x y. FindsShelfBusy x k b y) (λ x y. IsTriedOnce x k (Reply.Busy b) y) u u'
     (λ x y found. (x.known, y.known, only_none (λ i. i ≢ k) x.known, found.collect, only_none (λ i. i ≢ k) y.known)) t
 once_busy k (Some (Shelf.Open v)) u f b u' some t = absurd (let z = t.1 in omega arith)
 once_busy k (Some Shelf.Free) u f b u' some t = absurd (let z = t.1 in omega arith)
@@ -307,7 +308,7 @@ tries_once (suc n) u freed busy u' t k less some =
 -- where the shelf was freed, the first try there freed it
 first_freed : (k : ℕ) (s : Option Shelf) (u : View) (f : Bool) (b : ℕ) (u' : View) → f ≡ true → TriedShelf k s u f b u'
     → IsTriedFirst (known_of u) k Reply.Freed (known_of u')
-first_freed k (Some (Shelf.Closing v)) u true b u' is t = both_load (λ x y. Freed x k y) (λ x y. IsTriedFirst x k Reply.Freed y) u u'
+first_freed k (Some (Shelf.Closing v)) u true b u' is t = both_load (λ x y. FreesShelf x k y) (λ x y. IsTriedFirst x k Reply.Freed y) u u'
     (λ x y f. (x.known, f.freed, grows_same x.known, only_none (λ i. i ≢ k) x.known, f.collect, happened_grows f.freed y.known _ _ f.put_back)) t.1
 first_freed k (Some (Shelf.Closing v)) u false b u' is t = absurd (cc)
 first_freed k (Some (Shelf.Open v)) u f b u' is t = absurd (let z = t.0 in cc)

@@ -2,32 +2,32 @@
 use Rattle.std.proofs.Common.{ℕ, Option, refl, sym, subst}
 use Rattle.shelf_steps.specs.declared.views.KnownHistory.{KnownHistory}
 use Rattle.shelf_steps.specs.declared.views.View.{View}
-use Rattle.shelf_steps.specs.Course.{Begins, Course, all_of}
+use Rattle.shelf_steps.specs.EventHistory.{IsKnownBeginning, EventHistory, all_of}
 use Rattle.shelf_steps.specs.Events.{known_of}
 use Rattle.shelf_steps.specs.Laws.{Shelved}
-use Rattle.shelf_steps.specs.Ruled.{Ruled}
+use Rattle.shelf_steps.specs.Rule.{KeepsRule}
 use Rattle.shelf_steps.specs.Seats.{SeatFits}
 use Rattle.epochs.specs.Pinned.{SeatsAgreeOnImages, SeatsKnowBeginnings}
 use Rattle.epochs.specs.SeatHistory.{Grows}
 use Rattle.epochs.proofs.GrowthLemmas.{one_image_each, published_stay}
 
-begun : (k : KnownHistory) (a : Option ℕ) (c : Course) → Begins k a c → Grows k (all_of c)
+begun : (k : KnownHistory) (a : Option ℕ) (c : EventHistory) → IsKnownBeginning k a c → Grows k (all_of c)
 begun k a c begins = record { events = (begins.events.0, begins.events.1); replies = begins.replies; images = begins.images }
 
-fits_grow : (table : Shelved) (r : Ruled table) (i : ℕ) (u : View) → SeatFits r.course r.loader r.seats.owner i u → Grows (known_of u) (all_of r.course)
+fits_grow : (table : Shelved) (r : KeepsRule table) (i : ℕ) (u : View) → SeatFits r.history r.loader r.seats.owner i u → Grows (known_of u) (all_of r.history)
 fits_grow table r i (View.Loading l) fits =
-    subst (λ loader. Grows loader.known (all_of r.course)) (sym fits.1) (begun r.loader.known _ r.course r.seats.loads.known)
-fits_grow table r i (View.Working v) fits = begun v.known _ r.course fits.2.known
+    subst (λ loader. Grows loader.known (all_of r.history)) (sym fits.1) (begun r.loader.known _ r.history r.seats.loads.known)
+fits_grow table r i (View.Working v) fits = begun v.known _ r.history fits.2.known
 fits_grow table r i (View.Noting n) fits =
-    record { events = (r.course.events, refl); replies = (r.course.replies, refl); images = (r.course.images, refl) }
+    record { events = (r.history.events, refl); replies = (r.history.replies, refl); images = (r.history.images, refl) }
 fits_grow table r i View.Spent fits =
-    record { events = (r.course.events, refl); replies = (r.course.replies, refl); images = (r.course.images, refl) }
+    record { events = (r.history.events, refl); replies = (r.history.replies, refl); images = (r.history.images, refl) }
 
 pub beginnings_known : SeatsKnowBeginnings
 beginnings_known table i u r at = fits_grow table r i u (r.seats.each i u at)
 
 pub images_agreed : SeatsAgreeOnImages
 images_agreed table i j u w version image other r at there is then =
-    let all = all_of r.course in
+    let all = all_of r.history in
     let stays = published_stay (known_of w) all version other (beginnings_known table j w r there) then in
     one_image_each (known_of u) all version image other (beginnings_known table i u r at) is stays

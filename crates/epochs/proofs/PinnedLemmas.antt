@@ -9,9 +9,9 @@ use Rattle.version_core.specs.declared.state.Worker.{Worker}
 use Rattle.shelf_steps.specs.declared.edition.Edition.{Edition}
 use Rattle.shelf_steps.specs.declared.views.WorkerView.{WorkerView}
 use Rattle.shelf_steps.specs.declared.views.View.{View}
-use Rattle.shelf_steps.specs.Course.{NeverFreedSince}
+use Rattle.shelf_steps.specs.EventHistory.{NeverFreedSince}
 use Rattle.shelf_steps.specs.Events.{known_of}
-use Rattle.shelf_steps.specs.Plays.{Mine, OfWorker}
+use Rattle.shelf_steps.specs.Plays.{SeatAndSlots, OfWorker}
 use Rattle.shelf_steps.proofs.Says.{held_have}
 use Rattle.shelf_steps.proofs.Held.{slots_are_out, in_use, held_stay}
 use Rattle.epochs.specs.declared.seats.SeatAnswer.{SeatAnswer}
@@ -32,7 +32,7 @@ idle_is number (View.Noting n) h = absurd h
 idle_is number View.Spent h = absurd h
 
 -- a seat as its parts show it
-abbrev seat_value : TableId → ℕ → Option (ℕ × Edition) → Mine → List SeatAnswer → ShelfSeatValue
+abbrev seat_value : TableId → ℕ → Option (ℕ × Edition) → SeatAndSlots → List SeatAnswer → ShelfSeatValue
 seat_value table number held m answers = record {
   table = table;
   number = number;
@@ -41,7 +41,7 @@ seat_value table number held m answers = record {
   shown = record { answers = answers; held = held_at held; seen = seen_of m.0 };
 }
 
-pub shows : (table : TableId) (number : ℕ) (held : Option (ℕ × Edition)) (m : Mine) (answers : List SeatAnswer) → FitsSeat number held m
+pub shows : (table : TableId) (number : ℕ) (held : Option (ℕ × Edition)) (m : SeatAndSlots) (answers : List SeatAnswer) → FitsSeat number held m
     → ShowsWhatItKnows (seat_value table number held m answers)
 shows table number None m answers h = (idle_is number m.0 h.0, ap (λ (c : List (ℕ × Option Edition)). map (λ (s : ℕ × Option Edition). s.0) c) h.1)
 shows table number (Some x) m answers h =
@@ -76,5 +76,5 @@ pinned_left_alone seat version image table l i r shown held loads at =
       out = subst (λ n. get_elem? table.homes (16 * k + n) ≡ some none) h.number out.0;
       not_loaders = out.1;
       in_use = λ v. in_use table l i k version v w r loads here h.now;
-      never_freed = subst (λ (u : View). NeverFreedSince k (known_of u) r.course) (sym h.is_worker) (held_stay table i k version w r here h.now);
+      never_freed = subst (λ (u : View). NeverFreedSince k (known_of u) r.history) (sym h.is_worker) (held_stay table i k version w r here h.now);
     }

@@ -5,7 +5,7 @@ use Rattle.image_layout.specs.Image.{ImageValue}
 use Rattle.version_core.specs.declared.state.Shelf.{Shelf}
 use Rattle.version_core.specs.declared.state.Worker.{Worker}
 use Rattle.version_core.specs.State.{State, newest, start}
-use Rattle.version_core.specs.Kept.{KeepsInvariants, version_of}
+use Rattle.version_core.specs.Invariants.{KeepsInvariants, version_of}
 use Rattle.version_core.specs.Rest.{IsAtRest}
 use Rattle.std.specs.Option.{option_and_then}
 use Rattle.reasoning.proofs.ListLemmas.{slice_get-replicate, slice_get-set_other}

@@ -6,14 +6,14 @@ use Rattle.image_layout.specs.Image.{ImageValue}
 use Rattle.version_core.specs.declared.state.Worker.{Worker}
 use Rattle.shelf_steps.specs.declared.edition.Edition.{Edition}
 use Rattle.shelf_steps.specs.declared.views.View.{View}
-use Rattle.shelf_steps.specs.Plays.{OfWorker, Mine}
-use Rattle.shelf_steps.specs.Pinning.{Late, Lates, Well, Pins, Moves, Releases, IsHoldingAs}
+use Rattle.shelf_steps.specs.Plays.{OfWorker, SeatAndSlots}
+use Rattle.shelf_steps.specs.Pinning.{TryIsLate, TriesAreLate, TryHolds, Pins, Moves, Releases, IsHoldingAs}
 use Rattle.std.specs.declared.snapshot.Snapshot.{Snapshot}
 use Rattle.epochs.specs.declared.seats.SeatAnswer.{SeatAnswer}
 use Rattle.epochs.specs.Seats.{SeatValue, pinned}
 use Rattle.epochs.specs.SeatHistory.{HoldsIn}
 use Rattle.shelf_steps.specs.Events.{known_of}
-use Rattle.shelf_steps.specs.Course.{image_of}
+use Rattle.shelf_steps.specs.EventHistory.{image_of}
 use Rattle.atomic_table.specs.Seated.{TableId}
 use mathlib.Core.Logic.{dite}
 use native.Mathlib.Decide.{ℕ_discrete}
@@ -21,17 +21,17 @@ use Rattle.std.proofs.lemmas.Option.{get_or_from_slice_get}
 use Rattle.reasoning.proofs.ListLemmas.{slice_get-append, slice_get-last}
 use Rattle.epochs.specs.ShelfSeats.{ShelfSeatValue, SeatsHanded, new_seat, seen_of}
 
-late_seen : (u u' : View) (n : ℕ) → Late u n u' → (seen_of u ≤ n) × (seen_of u' ≡ n)
+late_seen : (u u' : View) (n : ℕ) → TryIsLate u n u' → (seen_of u ≤ n) × (seen_of u' ≡ n)
 late_seen (View.Working a) (View.Working b) n h = (h.look.from, h.seen)
 late_seen (View.Working a) _ n h = absurd h
 late_seen _ u' n h = absurd h
 
-well_seen : (u u' : View) (n shelf : ℕ) (e : Edition) → Well u n shelf e u' → (seen_of u ≤ n) × (seen_of u' ≡ n)
+well_seen : (u u' : View) (n shelf : ℕ) (e : Edition) → TryHolds u n shelf e u' → (seen_of u ≤ n) × (seen_of u' ≡ n)
 well_seen (View.Working a) (View.Working b) n shelf e h = (h.look.from, h.seen)
 well_seen (View.Working a) _ n shelf e h = absurd h
 well_seen _ u' n shelf e h = absurd h
 
-lates_seen : (ns : List ℕ) (u u' : View) → Lates u ns u' → seen_of u ≤ seen_of u'
+lates_seen : (ns : List ℕ) (u u' : View) → TriesAreLate u ns u' → seen_of u ≤ seen_of u'
 lates_seen [] u u' h = let e : seen_of u' ≡ seen_of u = ap (λ (v : View). seen_of v) h in omega arith
 lates_seen (n ∷ ns) u u' h = let a = late_seen u h.0 n h.1 in let b = lates_seen ns h.0 u' h.2 in let up = a.0 in let is = a.1 in omega arith
 
@@ -40,11 +40,11 @@ pins_seen u u' n shelf e h =
     let a = lates_seen h.0 u h.2 h.3 in let b = well_seen h.2 u' n shelf e h.4 in
     ((let c = b.0 in omega arith), b.1)
 
-well_holds : (u : View) (m : Mine) (number n shelf : ℕ) (e : Edition) → Well u n shelf e m.0
+well_holds : (u : View) (m : SeatAndSlots) (number n shelf : ℕ) (e : Edition) → TryHolds u n shelf e m.0
     → IsHoldingAs number shelf e m → e.version ≡ n → HoldsIn (known_of m.0) number e.version (arc_value e.image)
 well_holds u m number n shelf e h is same = of_view u m.0 h is.0
   where
-    of_view : (u u' : View) → Well u n shelf e u'
+    of_view : (u u' : View) → TryHolds u n shelf e u'
         → OfWorker u' (λ a. (a.now ≡ Worker.Holding shelf e.version) × (a.number ≡ number) × (a.edition ≡ Some e))
         → HoldsIn (known_of u') number e.version (arc_value e.image)
     of_view (View.Loading l) u' h is = absurd h
@@ -65,7 +65,7 @@ well_holds u m number n shelf e h is same = of_view u m.0 h is.0
           published = ap (λ m. image_of b.known.images m) same ∙ (its.3 ∙ ap (λ (x : Edition). Some (arc_value x.image)) (sym is_it));
         }
 
-pub pins_hold : (u : View) (m : Mine) (number shelf : ℕ) (e : Edition) → Pins u e.version shelf e m.0
+pub pins_hold : (u : View) (m : SeatAndSlots) (number shelf : ℕ) (e : Edition) → Pins u e.version shelf e m.0
     → IsHoldingAs number shelf e m → HoldsIn (known_of m.0) number e.version (arc_value e.image)
 pins_hold u m number shelf e h is = well_holds h.2 m number e.version shelf e h.4 is refl
 

@@ -10,12 +10,12 @@ use Rattle.shelf_steps.specs.declared.views.LoaderView.{LoaderView}
 use Rattle.shelf_steps.specs.declared.views.View.{View}
 use Rattle.image_layout.specs.Image.{ImageValue}
 use Rattle.shelf_steps.specs.Plays.{OfLoader, newest_of}
-use Rattle.shelf_steps.specs.Loading.{Loaded, Loads, Freed, Frees}
+use Rattle.shelf_steps.specs.Loading.{LoadsShelf, Loads, FreesShelf, Frees}
 use Rattle.epochs.specs.ShelfLoads.{Rests, TriedShelf, TriesBelow, shelf_of}
 
 rests_loaded : (a b : LoaderView) (current current_shelf : ℕ) (shelves : List Shelf) (image : ImageValue)
     (shelf version : ℕ) → Rests current current_shelf shelves a → slice_get a.shelves shelf ≡ Some Shelf.Free
-    → version ≡ current + 1 → version ≤ 1000000000 → Loaded a image version shelf current_shelf b
+    → version ≡ current + 1 → version ≤ 1000000000 → LoadsShelf a image version shelf current_shelf b
     → Rests version shelf (set (set shelves shelf (Shelf.Open version)) current_shelf (Shelf.Closing current)) b
 rests_loaded a b current current_shelf shelves image shelf version rest free next few loaded =
     let free' : slice_get shelves shelf ≡ Some Shelf.Free = ap (λ (xs : List Shelf). slice_get xs shelf) (sym rest.shelves_are) ∙ free in
@@ -74,7 +74,7 @@ closing_at (x ∷ xs) (suc k) v is = closing_at xs k v is
 
 -- a closing shelf that was freed leaves the rest as it was
 rests_freed : (a b : LoaderView) (current current_shelf : ℕ) (shelves : List Shelf) (k v : ℕ) → Rests current current_shelf shelves a
-    → slice_get shelves k ≡ Some (Shelf.Closing v) → Freed a k b → Rests current current_shelf (set shelves k Shelf.Free) b
+    → slice_get shelves k ≡ Some (Shelf.Closing v) → FreesShelf a k b → Rests current current_shelf (set shelves k Shelf.Free) b
 rests_freed a b current current_shelf shelves k v rest closing f =
     let within = slice_get_within shelves k _ closing in
     let other : current_shelf ≢ k = λ e. let z : Some (Shelf.Open current) ≡ Some (Shelf.Closing v) =

@@ -13,7 +13,7 @@ use Rattle.version_core.specs.declared.state.Shelf.{Shelf}
 use Rattle.version_core.specs.State.{State, newest, shelved}
 use Rattle.version_core.specs.Steps.{CollectStep, IsClosing, IsUnpublished, MayOpen}
 use Rattle.version_core.specs.Runs.{IsRun}
-use Rattle.version_core.specs.Kept.{KeepsInvariants}
+use Rattle.version_core.specs.Invariants.{KeepsInvariants}
 use Rattle.version_core.specs.Rest.{IsAtRest, RestIsFull}
 use Rattle.version_core.specs.Laws.{RunsJoin}
 use Rattle.version_core.proofs.Lists.{slice_get-set}

@@ -8,7 +8,7 @@ use Rattle.version_core.specs.Steps.{Holds}
 use Rattle.version_core.specs.Runs.{IsRun}
 use Rattle.version_core.specs.Rest.{IsAtRest}
 use Rattle.shelf_steps.specs.declared.edition.Edition.{Edition}
-pub use Rattle.shelf_steps.specs.Course.{image_of, IsEdition}
+pub use Rattle.shelf_steps.specs.EventHistory.{image_of, IsEdition}
 
 pub record TableValue : Type 0 where
   pub state : State
@@ -21,7 +21,7 @@ StandsOn images Shelf.Free edition = edition ≡ None
 StandsOn images (Shelf.Open v) edition = IsEdition images v edition
 StandsOn images (Shelf.Closing v) edition = IsEdition images v edition
 
--- the events lead from the start to the state, which is between two loads. Edition numbers are places in the list of images
+-- the events lead from the start to the state, which is between two loads. Edition numbers are indices in the list of images
 pub record IsHistory (state : State) (events : List Event) (images : List ImageValue) : Type 0 where
   pub run : IsRun start events state
   pub rest : IsAtRest state

@@ -8,7 +8,7 @@ use Rattle.version_core.specs.Actors.{actor}
 use Rattle.version_core.specs.State.{State}
 use Rattle.version_core.specs.Steps.{Holds, IsClosing}
 use Rattle.shelf_steps.specs.declared.views.KnownHistory.{KnownHistory}
-use Rattle.shelf_steps.specs.Course.{Goes, leading_to, image_of, Happened}
+use Rattle.shelf_steps.specs.EventHistory.{LeadsToItsState, leading_to, image_of, Happened}
 use Rattle.epochs.specs.declared.faults.PinFault.{PinFault}
 use Rattle.epochs.specs.declared.faults.PublishFault.{PublishFault}
 use Rattle.epochs.specs.declared.collected.Collected.{Collected}
@@ -27,7 +27,7 @@ pub record Grows (before after : KnownHistory) : Type 0 where
 pub record HoldsIn (known : KnownHistory) (number version : ℕ) (image : ImageValue) : Type 0 where
   pub state : State
   pub shelf : ℕ
-  pub history : Goes (leading_to state known)
+  pub history : LeadsToItsState (leading_to state known)
   pub holds : Holds state number shelf version
   pub published : IsPublished known version image
 
@@ -123,7 +123,7 @@ EndsRefused before after = OnlyTries (λ k. Unit {0}) before after × (after.ima
 -- what was known before leads to a state, and each shelf that is closing in that state is reported, so it was tried
 pub record EachClosingIsTried (before : KnownHistory) (found : Collected) : Type 0 where
   pub state : State
-  pub history : Goes (leading_to state before)
+  pub history : LeadsToItsState (leading_to state before)
   pub each : (k v : ℕ) → IsClosing state k v → IsReported found k
 
 -- each closing shelf was tried and found in use, by as many workers as the counts say

@@ -11,9 +11,9 @@ use Rattle.epochs.specs.declared.faults.PublishFault.{PublishFault}
 use Rattle.epochs.specs.declared.collected.Collected.{Collected}
 use Rattle.image_layout.specs.Image.{ImageValue}
 use Rattle.epochs.specs.declared.seats.LoaderAnswer.{LoaderAnswer}
-use Rattle.shelf_steps.specs.Plays.{OfLoader, Mine, newest_of, gives_notice}
+use Rattle.shelf_steps.specs.Plays.{OfLoader, SeatAndSlots, newest_of, gives_notice}
 use Rattle.shelf_steps.specs.Loading.{Loads, Frees, FindsBusy}
-use Rattle.shelf_steps.specs.Course.{Goes, leading_to}
+use Rattle.shelf_steps.specs.EventHistory.{LeadsToItsState, leading_to}
 use Rattle.shelf_steps.specs.Events.{known_of}
 use Rattle.epochs.specs.SeatHistory.{EachClosingIsTried}
 
@@ -40,14 +40,14 @@ pub record Rests (current current_shelf : ℕ) (shelves : List Shelf) (l : Loade
 -- what is known leads to a state, and each state to which it leads has these shelves
 pub record LeadsToShelves (known : KnownHistory) (shelves : List Shelf) : Type 0 where
   pub state : State
-  pub history : Goes (leading_to state known)
+  pub history : LeadsToItsState (leading_to state known)
   pub each : (s : State) → Run start known.events known.replies s → s.shelves ≡ shelves
 
 -- the shelves of the loader's view are those to which all that it knows leads
 abbrev pub KnowsShelves : View → Type 0
 KnowsShelves u = OfLoader u (λ l. LeadsToShelves l.known l.shelves)
 
-abbrev pub RestsHere : ℕ → ℕ → List Shelf → Mine → Type 0
+abbrev pub RestsHere : ℕ → ℕ → List Shelf → SeatAndSlots → Type 0
 RestsHere current current_shelf shelves m = OfLoader m.0 (λ l. Rests current current_shelf shelves l) × (m.1 ≡ []) × KnowsShelves m.0
 
 -- a try at the shelf, if it is closing, and what it found

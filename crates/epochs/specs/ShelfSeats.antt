@@ -7,7 +7,7 @@ use Rattle.shelf_steps.specs.declared.edition.Edition.{Edition}
 use Rattle.shelf_steps.specs.declared.views.View.{View}
 use Rattle.version_core.specs.declared.state.Worker.{Worker}
 use Rattle.shelf_steps.specs.declared.views.WorkerView.{WorkerView}
-use Rattle.shelf_steps.specs.Plays.{Mine, OfWorker, newcomer, joins_notice}
+use Rattle.shelf_steps.specs.Plays.{SeatAndSlots, OfWorker, newcomer, joins_notice}
 use Rattle.shelf_steps.specs.Pinning.{Pins, Moves, Releases, IsIdleAs, IsHoldingAs}
 use Rattle.epochs.specs.declared.faults.PinFault.{PinFault}
 use Rattle.epochs.specs.Seats.{SeatValue}
@@ -23,7 +23,7 @@ pub record ShelfSeatValue : Type 0 where
   pub shown : SeatValue
 
 -- the numbers of the slots that are out with a seat
-abbrev pub slots_of : Mine → List ℕ
+abbrev pub slots_of : SeatAndSlots → List ℕ
 slots_of m = map (λ (s : ℕ × Option Edition). s.0) m.1
 
 -- the greatest version that a worker has seen
@@ -36,7 +36,7 @@ held_at None = None
 held_at (Some h) = Some (h.1.version, arc_value h.1.image)
 
 -- an idle worker's seat; or one that holds the shelf with the edition in hand, whose image the history published as its version
-abbrev pub FitsSeat : ℕ → Option (ℕ × Edition) → Mine → Type 0
+abbrev pub FitsSeat : ℕ → Option (ℕ × Edition) → SeatAndSlots → Type 0
 FitsSeat number None m = IsIdleAs number m
 FitsSeat number (Some h) m = (h.0 < 8) × IsHoldingAs number h.0 h.1 m × HoldsIn (known_of m.0) number h.1.version (arc_value h.1.image)
 

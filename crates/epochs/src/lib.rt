@@ -19,7 +19,7 @@ pub use collected::Collected;
 pub use faults::{PinFault, PublishFault};
 pub use locked::LockedShelves;
 pub use named::{
-    AtTable, ManySeats, NamedLoader, NamedNotice, NamedSeat, NamedShelves, ShelvesName, UnderName,
+    Branded, HasTable, ManySeats, NamedLoader, NamedNotice, NamedSeat, NamedShelves, ShelvesName,
 };
 pub use notice::Notice;
 pub use seats::{LoaderAnswer, LoaderSeat, SeatAnswer, WorkerSeat};

@@ -52,32 +52,32 @@ impl ShelvesName for Brand {
 }
 
 /// Something that belongs to one table of shelves; contracts see to which.
-pub trait AtTable {
+pub trait HasTable {
     ghost use Rattle.atomic_table.specs.Seated.{TableId};
 
     ghost table: { Self → TableId };
 }
 
-impl AtTable for ShelfSeat {
+impl HasTable for ShelfSeat {
     ghost table = { λ seat. seat.table };
 }
 
-impl AtTable for ShelfLoader {
+impl HasTable for ShelfLoader {
     ghost table = { λ loader. loader.table };
 }
 
-impl AtTable for Notice {
+impl HasTable for Notice {
     ghost table = { λ notice. notice.table };
 }
 
 /// A seat, a loader or a notice that belongs to the shelves of a name. Contracts see it as one without a name.
 #[derive(Drop)]
-pub struct UnderName<B: ShelvesName, S: AtTable + Drop> {
+pub struct Branded<B: ShelvesName, S: HasTable + Drop> {
     inner: S,
     of: PhantomData<B>,
 }
 
-impl<B: ShelvesName, S: AtTable + Drop> Model for UnderName<B, S> {
+impl<B: ShelvesName, S: HasTable + Drop> Model for Branded<B, S> {
     ghost use Rattle.std.specs.Prelude.{◌≡◌};
 
     ghost Value = { S };
@@ -87,13 +87,13 @@ impl<B: ShelvesName, S: AtTable + Drop> Model for UnderName<B, S> {
     ghost invariant = { λ s. S.table s.inner ≡ B.table };
 }
 
-impl<B: ShelvesName, S: AtTable + Drop> UnderName<B, S> {
+impl<B: ShelvesName, S: HasTable + Drop> Branded<B, S> {
     /// Puts a seat, a loader or a notice under the name of its shelves.
-    pub fn of(inner: S) -> UnderName<B, S>
+    pub fn of(inner: S) -> Branded<B, S>
         requires { S.table inner ≡ B.table }
         ensures { result ≡ inner }
     {
-        UnderName {
+        Branded {
             inner,
             of: PhantomData,
         }
@@ -109,7 +109,7 @@ impl<B: ShelvesName, S: AtTable + Drop> UnderName<B, S> {
 }
 
 /// A worker's seat at the shelves of a name.
-pub type NamedSeat<B> = UnderName<B, ShelfSeat>;
+pub type NamedSeat<B> = Branded<B, ShelfSeat>;
 
 impl<B: ShelvesName> NamedSeat<B> {
     /// The number of the seat's worker, from 0 to 15.
@@ -128,10 +128,10 @@ impl<B: ShelvesName> NamedSeat<B> {
 }
 
 /// The loader's seat at the shelves of a name.
-pub type NamedLoader<B> = UnderName<B, ShelfLoader>;
+pub type NamedLoader<B> = Branded<B, ShelfLoader>;
 
 /// The fact that a version was published at the shelves of a name.
-pub type NamedNotice<B> = UnderName<B, Notice>;
+pub type NamedNotice<B> = Branded<B, Notice>;
 
 impl<B: ShelvesName> NamedNotice<B> {
     /// The version that was published.
@@ -197,7 +197,7 @@ impl<B: ShelvesName> NamedShelves<B> {
 }
 
 // A version and its notice, under the shelves' name.
-fn under_name<B: ShelvesName>(published: (u64, Option<Notice>)) -> (u64, Option<NamedNotice<B>>)
+fn with_name<B: ShelvesName>(published: (u64, Option<Notice>)) -> (u64, Option<NamedNotice<B>>)
     requires { IfSome published.1 (λ notice. notice.table ≡ B.table) }
     ensures { result ≡ published }
 {
@@ -292,7 +292,7 @@ impl<B: ShelvesName, K> Loads for NamedShelves<B, K> {
             Ok(published) => published,
             Err(refused) => return Err(refused),
         };
-        Ok(under_name(published))
+        Ok(with_name(published))
     }
 
     fn collect(&self, loader: &mut NamedLoader<B>) -> Collected

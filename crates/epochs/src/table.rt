@@ -5,7 +5,7 @@ ghost use Rattle.std.specs.Prelude.{MatchBool, MatchResult};
 ghost use Rattle.std.specs.Arc.{arc_value};
 ghost use Rattle.version_core.specs.State.{start, newest};
 ghost use Rattle.version_core.specs.Steps.{IsIdle, Holds, IsClosing};
-ghost use Rattle.version_core.specs.Kept.{KeepsInvariants};
+ghost use Rattle.version_core.specs.Invariants.{KeepsInvariants};
 ghost use Rattle.version_core.specs.Laws.{LooksAndTakesHold, DropsLetGo, RunsGrow};
 ghost use Rattle.version_core.specs.Rest.{RestStays};
 ghost use Rattle.version_core.specs.declared.state.Worker.{Worker};

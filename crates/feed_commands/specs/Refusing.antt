@@ -10,16 +10,16 @@ use Rattle.command_endings.specs.Ending.{PrintsOnly}
 use Rattle.command_endings.specs.Refusing.{place_text, refusal_text, word_text}
 
 -- where a feed is wrong: the file, and for a fault of a table the record
-abbrev pub feed_places : LoadFault → List ℕ
-feed_places (feeds.Table fault) = word_text (file_name fault.file) ++ place_text fault.row
-feed_places (feeds.Day fault) = []
-feed_places (feeds.Footpaths fault) = []
-feed_places (feeds.Image fault) = []
-feed_places (feeds.FileFailed table) = word_text (file_name table)
+abbrev pub feed_positions : LoadFault → List ℕ
+feed_positions (feeds.Table fault) = word_text (file_name fault.file) ++ place_text fault.row
+feed_positions (feeds.Day fault) = []
+feed_positions (feeds.Footpaths fault) = []
+feed_positions (feeds.Image fault) = []
+feed_positions (feeds.FileFailed table) = word_text (file_name table)
 
 -- the line of a feed that has a fault
 abbrev pub feed_line : LoadFault → List ℕ
-feed_line fault = refusal_text (fault_number fault, fault_name fault) (feed_places fault)
+feed_line fault = refusal_text (fault_number fault, fault_name fault) (feed_positions fault)
 
 -- the status of a feed that is refused, or of which a file can't be read
 abbrev pub refusal_status : LoadFault → ℕ

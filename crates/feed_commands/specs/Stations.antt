@@ -16,14 +16,14 @@ use Rattle.gtfs_tables.specs.First.{first_fault_of}
 use Rattle.feed_stations.specs.Choosing.{AreLines, IsJson}
 use Rattle.feed_stations.specs.Homes.{AreHomes, orphan_fault, station_named}
 use Rattle.feed_stations.specs.Labels.{AreLabels}
-use Rattle.feed_stations.specs.declared.places.Places.{Places}
+use Rattle.feed_stations.specs.declared.stop_table.StopTable.{StopTable}
 use Rattle.command_requests.specs.declared.requests.StationsRequest.{StationsRequest}
 
 -- the bytes of stops.txt have no fault, and these are their rows, the labels of these, and the rows by which they are listed
-pub record ArePlacesIn (bytes : List ℕ) (places : Places) : Type 0 where
-  pub rows : HoldsStopsWithin MAX_STOPS bytes places.rows.items
-  pub homes : AreHomes places.rows.items places.homes.items
-  pub labels : AreLabels bytes places.labels.items
+pub record IsStopTableOf (bytes : List ℕ) (stop_table : StopTable) : Type 0 where
+  pub rows : HoldsStopsWithin MAX_STOPS bytes stop_table.rows.items
+  pub homes : AreHomes stop_table.rows.items stop_table.homes.items
+  pub labels : AreLabels bytes stop_table.labels.items
 
 -- the first fault of the bytes of stops.txt; or, if they have none, that of the first stop whose parent isn't a station
 abbrev pub IsFaultIn : List ℕ → TableFault → Type 0
@@ -31,10 +31,10 @@ IsFaultIn bytes fault =
     ((fault.file ≡ Stops) × IsStopsFault MAX_STOPS bytes fault.row fault.kind)
     ⊎ ((rows : List StopRow) × HoldsStopsWithin MAX_STOPS bytes rows × (first_fault_of Stops (orphan_fault (station_named rows)) rows ≡ Some fault))
 
--- the text is that of the places in which a text is found, as lines or as JSON
-abbrev pub IsTextAsked : Bool → Places → List ℕ → List ℕ → Type 0
-IsTextAsked true places asked text = IsJson places asked text
-IsTextAsked false places asked text = AreLines places asked text
+-- the text is that of the stations and stops in which a text is found, as lines or as JSON
+abbrev pub IsTextAsked : Bool → StopTable → List ℕ → List ℕ → Type 0
+IsTextAsked true stop_table asked text = IsJson stop_table asked text
+IsTextAsked false stop_table asked text = AreLines stop_table asked text
 
 -- `gives` says what a disk of some kind may give for a folder and the name of a file
 module _ {D : Type 0} (gives : D → List ℕ → MayGive) (folder : List ℕ) where
@@ -42,13 +42,13 @@ module _ {D : Type 0} (gives : D → List ℕ → MayGive) (folder : List ℕ) w
   abbrev pub MayHoldStops : List ℕ → Type 0
   MayHoldStops bytes = (disk : D) × (file : Vec ℕ Global) × gives disk folder (file_name Stops) (Ok (Some file)) × (file.items ≡ bytes)
 
-  -- the places are those of the folder's stops.txt
-  abbrev pub ArePlacesOf : Places → Type 0
-  ArePlacesOf places = (bytes : List ℕ) × MayHoldStops bytes × ArePlacesIn bytes places
+  -- the table is that of the folder's stops.txt
+  abbrev pub IsStopTableIn : StopTable → Type 0
+  IsStopTableIn stop_table = (bytes : List ℕ) × MayHoldStops bytes × IsStopTableOf bytes stop_table
 
   -- the text is the one that is asked for
   abbrev pub IsTextOf : StationsRequest → List ℕ → Type 0
-  IsTextOf request text = (places : Places) × ArePlacesOf places × IsTextAsked request.json places request.text.now text
+  IsTextOf request text = (stop_table : StopTable) × IsStopTableIn stop_table × IsTextAsked request.json stop_table request.text.now text
 
   -- the folder has no stops.txt, or one that can't be read, or one with this fault
   abbrev pub IsStopsRefusal : LoadFault → Type 0

@@ -1,4 +1,4 @@
-//! The refusal of a feed as it is printed: a number, a name and the places, each after a space.
+//! The refusal of a feed as it is printed: a number, a name and the positions, each after a space.
 
 ghost use Rattle.std.specs.Prelude.{◌≡◌, ◌⊎◌, ◌++◌, IfOk, OnOk, string_bytes};
 ghost use Rattle.std.specs.Io.KnownBytes.{Appends};
@@ -6,7 +6,7 @@ ghost use Rattle.command_requests.specs.declared.statuses.TheConstants.{INPUT_OU
 ghost use Rattle.feed_loader.specs.Refused.{IsWantOfMemory};
 ghost use Rattle.command_endings.specs.Ending.{EndsUndone, IsBegun};
 ghost use Rattle.command_endings.specs.Refusing.{place_text, word_text};
-ghost use Rattle.feed_commands.specs.Refusing.{RefusesFeed, feed_line, feed_places, refusal_status};
+ghost use Rattle.feed_commands.specs.Refusing.{RefusesFeed, feed_line, feed_positions, refusal_status};
 
 use command_endings::{begin_refusal, status};
 use feed_loader::LoadFault;
@@ -53,14 +53,14 @@ fn feed_line(alloc: Global, fault: LoadFault) -> Result<String, AllocError>
     ensures { IfOk result (λ line. string_bytes line ≡ feed_line fault) }
 {
     let mut line = begin_refusal(alloc, fault.number(), fault.name())?;
-    put_feed_places(&mut line, fault)?;
+    put_feed_positions(&mut line, fault)?;
     put_text(&mut line, "\n")?;
     Ok(line)
 }
 
 // Adds which file of a feed is wrong, and for a fault of a table the number of the record.
-fn put_feed_places(line: &mut String, fault: LoadFault) -> Result<(), AllocError>
-    ensures { OnOk result (string_bytes line.new ≡ string_bytes line.old ++ feed_places fault) }
+fn put_feed_positions(line: &mut String, fault: LoadFault) -> Result<(), AllocError>
+    ensures { OnOk result (string_bytes line.new ≡ string_bytes line.old ++ feed_positions fault) }
 {
     match fault {
         LoadFault::Table(fault) => put_record(line, fault.file.file_name(), fault.row),

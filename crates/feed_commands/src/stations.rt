@@ -5,7 +5,7 @@ ghost use Rattle.feed_loader.specs.Refused.{IsWantOfMemory};
 ghost use Rattle.gtfs_rows.specs.declared.fault.FaultKind.{FaultKind as Kind};
 ghost use Rattle.command_endings.specs.Ending.{IsOutcome};
 ghost use Rattle.feed_commands.specs.Refusing.{PrintsOfFeed};
-ghost use Rattle.feed_commands.specs.Stations.{ArePlacesIn, ArePlacesOf};
+ghost use Rattle.feed_commands.specs.Stations.{IsStopTableOf, IsStopTableIn};
 ghost use Rattle.feed_commands.specs.Stations.{IsFaultIn, IsStopsRefusal, IsTextAsked, IsTextOf, MayHoldStops};
 
 use crate::explaining::explain_refused;
@@ -15,7 +15,7 @@ use command_requests::StationsRequest;
 use feed_files::{Disk, FileFault};
 use feed_loader::LoadFault;
 use feed_messages::{explain, quoted};
-use feed_stations::{Places, homes_in, json_text, labels_in, lines_text};
+use feed_stations::{StopTable, homes_in, json_text, labels_in, lines_text};
 use gtfs_rows::{FaultKind, IdHash, MAX_STOPS, StopRow, Table, TableFault, rows_up_to};
 use std::alloc::{AllocError, Global};
 use std::io::Write;
@@ -70,11 +70,11 @@ fn text_of<H: Disk + AllocGlobal>(rt: &H, request: StationsRequest<'_>) -> Resul
     ensures refused { IfErr result (λ fault. ¬ (IsWantOfMemory fault)
         → IsStopsRefusal H.gives request.entry.folder.now fault) }
 {
-    let places = match places_of(rt, request.folder) {
-        Ok(places) => places,
+    let stop_table = match stop_table_of(rt, request.folder) {
+        Ok(stop_table) => stop_table,
         Err(fault) => return Err(fault),
     };
-    match text_asked(rt.alloc(), &places, request) {
+    match text_asked(rt.alloc(), &stop_table, request) {
         Ok(text) => Ok(text),
         Err(AllocError) => Err(LoadFault::Table(out_of_memory())),
     }
@@ -82,29 +82,29 @@ fn text_of<H: Disk + AllocGlobal>(rt: &H, request: StationsRequest<'_>) -> Resul
 
 fn text_asked(
     alloc: Global,
-    places: &Places,
+    stop_table: &StopTable,
     request: StationsRequest<'_>,
 ) -> Result<String, AllocError>
-    ensures { IfOk result (λ text. IsTextAsked request.entry.json places.now request.entry.text.now
+    ensures { IfOk result (λ text. IsTextAsked request.entry.json stop_table.now request.entry.text.now
         (string_bytes text)) }
 {
     match request.json {
-        true => json_text(alloc, places, request.text),
-        false => lines_text(alloc, places, request.text),
+        true => json_text(alloc, stop_table, request.text),
+        false => lines_text(alloc, stop_table, request.text),
     }
 }
 
 // What the folder's `stops.txt` has, or why that isn't known.
-fn places_of<H: Disk + AllocGlobal>(rt: &H, folder: &str) -> Result<Places, LoadFault>
-    ensures places { IfOk result (ArePlacesOf H.gives folder.now) }
+fn stop_table_of<H: Disk + AllocGlobal>(rt: &H, folder: &str) -> Result<StopTable, LoadFault>
+    ensures stop_table { IfOk result (IsStopTableIn H.gives folder.now) }
     ensures refused { IfErr result (λ fault. ¬ (IsWantOfMemory fault) → IsStopsRefusal H.gives folder.now fault) }
 {
     let bytes = match stops_file(rt, folder) {
         Ok(bytes) => bytes,
         Err(fault) => return Err(fault),
     };
-    match places_in(rt.alloc(), rt.id_hash(), &bytes) {
-        Ok(places) => Ok(places),
+    match stop_table_in(rt.alloc(), rt.id_hash(), &bytes) {
+        Ok(stop_table) => Ok(stop_table),
         Err(fault) => Err(LoadFault::Table(fault)),
     }
 }
@@ -124,8 +124,8 @@ fn stops_file<H: Disk + AllocGlobal>(rt: &H, folder: &str) -> Result<Vec<u8>, Lo
 }
 
 // What the bytes of `stops.txt` have, or their first fault.
-fn places_in(alloc: Global, hash: IdHash, bytes: &[u8]) -> Result<Places, TableFault>
-    ensures places { IfOk result (ArePlacesIn bytes.now) }
+fn stop_table_in(alloc: Global, hash: IdHash, bytes: &[u8]) -> Result<StopTable, TableFault>
+    ensures stop_table { IfOk result (IsStopTableOf bytes.now) }
     ensures fault { IfErr result (λ fault. fault.kind ≢ Kind.OutOfMemory → IsFaultIn bytes.now fault) }
 {
     let rows: Vec<StopRow> = match rows_up_to(MAX_STOPS, alloc, hash, bytes) {
@@ -137,7 +137,7 @@ fn places_in(alloc: Global, hash: IdHash, bytes: &[u8]) -> Result<Places, TableF
         Err(fault) => return Err(fault),
     };
     match labels_in(alloc, bytes) {
-        Ok(labels) => Ok(Places {
+        Ok(labels) => Ok(StopTable {
             rows,
             labels,
             homes,

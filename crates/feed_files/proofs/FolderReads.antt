@@ -16,8 +16,8 @@ rest_of P [] ys h = h
 rest_of P (x ∷ xs) ys h = rest_of P xs ys (All-tail P x (xs ++ ys) h)
 
 -- one more has it
-also : {X : Type 0} (P : X → Type 0) (xs new : List X) (x : X) → new ≡ xs ++ x ∷ [] → ∥ All P xs ∥₁ → P x → ∥ All P new ∥₁
-also P xs new x grown all one =
+all_more : {X : Type 0} (P : X → Type 0) (xs new : List X) (x : X) → new ≡ xs ++ x ∷ [] → ∥ All P xs ∥₁ → P x → ∥ All P new ∥₁
+all_more P xs new x grown all one =
     subst (λ ys. ∥ All P ys ∥₁) (sym grown)
     (∥∥₁_map all (λ (had : All P xs). All-append P xs (x ∷ []) had (All-cons P x [] one (All-nil P))))
 
@@ -26,13 +26,13 @@ pub one_more : (may_give : MayGive) (reads new : List FileRead) (name : List ℕ
     → answer ≡ Ok file → may_give name answer → new ≡ reads ++ given name file ∷ []
     → ∥ All (MayBeRead may_give) reads ∥₁ → ∥ All (MayBeRead may_give) new ∥₁
 one_more may_give reads new name file answer is gives grown all =
-    also (MayBeRead may_give) reads new (given name file) grown all (file, subst (may_give name) is gives, refl)
+    all_more (MayBeRead may_give) reads new (given name file) grown all (file, subst (may_give name) is gives, refl)
 
 pub one_failed : (may_give : MayGive) (failed new : List (List ℕ)) (name : List ℕ) (answer : FileAnswer)
     → answer ≡ Err faults.Failed → may_give name answer → new ≡ failed ++ name ∷ []
     → ∥ All (MayFail may_give) failed ∥₁ → ∥ All (MayFail may_give) new ∥₁
 one_failed may_give failed new name answer is gives grown all =
-    also (MayFail may_give) failed new name grown all (subst (may_give name) is gives)
+    all_more (MayFail may_give) failed new name grown all (subst (may_give name) is gives)
 
 -- what was read behind one folder's path is of that folder
 pub same_folder : (content : Content) (ts : List Table) (before then : List ℕ) (old new : List FileRead)

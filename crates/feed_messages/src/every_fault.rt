@@ -61,7 +61,7 @@ struct FoundFaults {
     hash: IdHash,
     first: Option<ReadFault>,
     strict: bool,
-    places: Keys,
+    stop_keys: Keys,
     trips: Keys,
     /// The trip_ids of which a record of `stop_times.txt` has a blank stop_id: the stops of these trips aren't judged.
     flex: IndexSet<String, IdHash>,
@@ -75,7 +75,7 @@ impl FoundFaults {
             hash,
             first,
             strict,
-            places: Keys::none(alloc, hash, false),
+            stop_keys: Keys::none(alloc, hash, false),
             trips: Keys::none(alloc, hash, false),
             flex: IndexSet::with_hasher(alloc, hash),
             lacks_calendar: false,
@@ -258,7 +258,7 @@ impl FoundFaults {
     fn stops_named(&self, times: &StopTimes) -> Option<Vec<Option<StopIdTarget>>> {
         let mut stops = Vec::with_capacity(self.alloc, times.stops.len()).ok()?;
         for id in &times.stops {
-            let stop = match self.places.find(id.as_str()) {
+            let stop = match self.stop_keys.find(id.as_str()) {
                 Some(seen) if stop_fault(Some(seen.target)).is_none() => seen.target,
                 _ => StopIdTarget::Stop(0),
             };
@@ -315,8 +315,8 @@ impl FoundFaults {
     fn has_too_many(&mut self, table: Table, keys: Keys) -> bool {
         match table {
             Table::Stops => {
-                self.places = keys;
-                self.places.stops() > MAX_STOPS
+                self.stop_keys = keys;
+                self.stop_keys.stops() > MAX_STOPS
             }
             Table::Trips => {
                 self.trips = keys;
@@ -345,7 +345,7 @@ impl FoundFaults {
         late: &[TableFault],
     ) -> Option<()> {
         let mut left = late;
-        let mut places: UnknownIds = IndexMap::with_hasher(self.alloc, self.hash);
+        let mut stop_keys: UnknownIds = IndexMap::with_hasher(self.alloc, self.hash);
         let mut trips: UnknownIds = IndexMap::with_hasher(self.alloc, self.hash);
         for _ in 0..u64::MAX {
             if !records.advance().ok()? {
@@ -354,7 +354,7 @@ impl FoundFaults {
             for (column, wanted) in ids_of(table) {
                 let unknown = match wanted {
                     Wanted::Trip => &mut trips,
-                    _ => &mut places,
+                    _ => &mut stop_keys,
                 };
                 self.judge_id(table, records, faults, unknown, (*column, *wanted))?;
             }
@@ -363,7 +363,8 @@ impl FoundFaults {
         None
     }
 
-    /// Judges an id of a record. One that isn't found is told once, with the number of further records that name it.
+    /// Judges an id of a record. One that isn't found is reported once, with the number of further records that name
+    /// it.
     fn judge_id(
         &self,
         table: Table,
@@ -384,7 +385,7 @@ impl FoundFaults {
         }
         let home = match wanted {
             Wanted::Trip => &self.trips,
-            _ => &self.places,
+            _ => &self.stop_keys,
         };
         let Some(kind) = home.fault_of(wanted, id) else {
             return Some(());

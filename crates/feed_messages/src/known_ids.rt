@@ -68,7 +68,9 @@ impl Keys {
     /// Adds a key that isn't there yet: that of a record in a line, which in `stops.txt` stands for this kind of place.
     /// `None` if memory runs out.
     pub fn add(&mut self, key: String, line: u64, location: Location) -> Option<()> {
-        let target = StopIdTarget::of(location, self.stops as u32, self.len() as u32);
+        let number = u32::try_from(self.stops).ok()?;
+        let index = u32::try_from(self.len()).ok()?;
+        let target = StopIdTarget::of(location, number, index);
         if location == Location::Stop {
             self.stops = self.stops.checked_add(1)?;
         }

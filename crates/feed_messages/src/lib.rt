@@ -1,4 +1,4 @@
-//! What a person is told of a feed that is refused: what is wrong with its folder, or which line, column and value of
+//! What a person reads of a feed that is refused: what is wrong with its folder, or which line, column and value of
 //! which file. The file is read again for this, with the reader by which its tables are read.
 //!
 //! No contract says that a message is right; transcripts show it.

@@ -5,7 +5,7 @@ use Rattle.std.specs.Str.Pattern.{FindsText, HasMatch}
 use Rattle.std.proofs.lemmas.List.{drop_at, length-append, take-append-drop}
 use Rattle.feed_stations.specs.Finding.{IsIn}
 
--- a text that stands at a place of a name is in it
+-- a text that stands at an index of a name is in it
 is_in : (text name : List ℕ) (i j : ℕ) → drop i name ≡ text ++ drop j name → IsIn text name
 is_in text name i j there = (
   take i name,
@@ -13,7 +13,7 @@ is_in text name i j there = (
   sym (take-append-drop i name) ∙ ap (λ (z : List ℕ). take i name ++ z) there ∙ sym (append_assoc (take i name) text (drop j name)),
 )
 
--- a text that stands at no place of a name isn't in it
+-- a text that stands at no index of a name isn't in it
 not_in : (text name : List ℕ) → ((i : ℕ) → i ≤ length name → (rest : List ℕ) → drop i name ≢ text ++ rest) → ¬ (IsIn text name)
 not_in text name nowhere is =
     let before = is.0 in

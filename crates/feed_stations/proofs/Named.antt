@@ -56,13 +56,13 @@ homes_more named rows n row homes new home lt e grown is (long, each) =
     )
 
 -- what is wrong with a row, as a function that gives the same names tells it
-pub orphan_told : (named other : List ℕ → Option ℕ) → ((id : List ℕ) → named id ≡ other id) → (row : StopRow) (fault : Option FaultKind)
+pub orphan_as_found : (named other : List ℕ → Option ℕ) → ((id : List ℕ) → named id ≡ other id) → (row : StopRow) (fault : Option FaultKind)
     → orphan_fault named row ≡ fault → orphan_fault other row ≡ fault
-orphan_told named other same row fault told =
-    ap (λ (o : Option ℕ). if has_parent row then fault_unless o UnknownId else None) (sym (same (string_bytes row.parent))) ∙ told
+orphan_as_found named other same row fault found_so =
+    ap (λ (o : Option ℕ). if has_parent row then fault_unless o UnknownId else None) (sym (same (string_bytes row.parent))) ∙ found_so
 
 -- and the home of a row
-pub home_told : (named other : List ℕ → Option ℕ) → ((id : List ℕ) → named id ≡ other id) → (k : ℕ) (row : StopRow) (home : Option ℕ)
+pub home_as_found : (named other : List ℕ → Option ℕ) → ((id : List ℕ) → named id ≡ other id) → (k : ℕ) (row : StopRow) (home : Option ℕ)
     → home ≡ home_of named k row → home ≡ home_of other k row
-home_told named other same k row home told =
-    told ∙ ap (λ (o : Option ℕ). if is_stop row then (if is_blank (string_bytes row.parent) then Some k else o) else None) (same (string_bytes row.parent))
+home_as_found named other same k row home found_so =
+    found_so ∙ ap (λ (o : Option ℕ). if is_stop row then (if is_blank (string_bytes row.parent) then Some k else o) else None) (same (string_bytes row.parent))

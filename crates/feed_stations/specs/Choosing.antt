@@ -5,9 +5,9 @@ use Rattle.std.specs.List.{flat_map, list_any, range_with_len, slice_get, slice_
 use Rattle.gtfs_rows.specs.declared.rows.StopRow.{StopRow}
 use Rattle.feed_stations.specs.Finding.{AreMarks, IsFoundAt}
 use Rattle.feed_stations.specs.Grouping.{AreGroups}
-use Rattle.feed_stations.specs.Json.{place_json, with_commas}
-use Rattle.feed_stations.specs.Listing.{is_listed_row, place_line}
-use Rattle.feed_stations.specs.declared.places.Places.{Places}
+use Rattle.feed_stations.specs.Json.{row_json, with_commas}
+use Rattle.feed_stations.specs.Listing.{is_listed_row, row_line}
+use Rattle.feed_stations.specs.declared.stop_table.StopTable.{StopTable}
 
 -- the stops of a group, if there is that group
 abbrev pub items_of : Option (Vec ℕ) → List ℕ
@@ -33,26 +33,26 @@ chosen_below rows groups found n = filter (is_chosen rows groups found) (range_w
 
 -- the groups have the stops of each row; and of the rows that stand for a station or a stop without one, those are chosen at which, or at a stop of which,
 -- the text is found
-pub record IsChoice (places : Places) (text : List ℕ) (groups : List (Vec ℕ)) (chosen : List ℕ) : Type 0 where
+pub record IsChoice (stop_table : StopTable) (text : List ℕ) (groups : List (Vec ℕ)) (chosen : List ℕ) : Type 0 where
   pub found : List Bool
-  pub marks : AreMarks (IsFoundAt places.rows.items places.labels.items text) (length places.rows.items) found
-  pub grouped : AreGroups places.homes.items (length places.rows.items) groups
-  pub chosen_is : chosen ≡ chosen_below places.rows.items groups found (length places.rows.items)
+  pub marks : AreMarks (IsFoundAt stop_table.rows.items stop_table.labels.items text) (length stop_table.rows.items) found
+  pub grouped : AreGroups stop_table.homes.items (length stop_table.rows.items) groups
+  pub chosen_is : chosen ≡ chosen_below stop_table.rows.items groups found (length stop_table.rows.items)
 
 -- the line and the JSON of a chosen row
-abbrev pub line_at : Places → List (Vec ℕ) → ℕ → List ℕ
-line_at places groups k = place_line places.rows.items places.labels.items k (stops_of groups k)
+abbrev pub line_at : StopTable → List (Vec ℕ) → ℕ → List ℕ
+line_at stop_table groups k = row_line stop_table.rows.items stop_table.labels.items k (stops_of groups k)
 
-abbrev pub json_at : Places → List (Vec ℕ) → ℕ → List ℕ
-json_at places groups k = place_json places.rows.items places.labels.items k (stops_of groups k)
+abbrev pub json_at : StopTable → List (Vec ℕ) → ℕ → List ℕ
+json_at stop_table groups k = row_json stop_table.rows.items stop_table.labels.items k (stops_of groups k)
 
--- the text is that of the chosen places, as lines
-abbrev pub AreLines : Places → List ℕ → List ℕ → Type 0
-AreLines places text lines =
-    (groups : List (Vec ℕ)) × (chosen : List ℕ) × IsChoice places text groups chosen × (lines ≡ flat_map (line_at places groups) chosen)
+-- the text is that of the chosen rows, as lines
+abbrev pub AreLines : StopTable → List ℕ → List ℕ → Type 0
+AreLines stop_table text lines =
+    (groups : List (Vec ℕ)) × (chosen : List ℕ) × IsChoice stop_table text groups chosen × (lines ≡ flat_map (line_at stop_table groups) chosen)
 
 -- the same as JSON
-abbrev pub IsJson : Places → List ℕ → List ℕ → Type 0
-IsJson places text out =
-    (groups : List (Vec ℕ)) × (chosen : List ℕ) × IsChoice places text groups chosen
-    × (out ≡ codes "[" ++ with_commas (map (json_at places groups) chosen) ++ codes "]\n")
+abbrev pub IsJson : StopTable → List ℕ → List ℕ → Type 0
+IsJson stop_table text out =
+    (groups : List (Vec ℕ)) × (chosen : List ℕ) × IsChoice stop_table text groups chosen
+    × (out ≡ codes "[" ++ with_commas (map (json_at stop_table groups) chosen) ++ codes "]\n")

@@ -3,7 +3,7 @@ use Rattle.std.specs.Prelude.{◌≡◌, ◌<◌, ◌⊎◌, ℕ, List, [], ◌+
 use Rattle.std.specs.List.{slice_get, slice_index_or}
 use Rattle.gtfs_rows.specs.declared.rows.StopRow.{StopRow}
 use Rattle.feed_stations.specs.Folding.{folded}
-use Rattle.feed_stations.specs.declared.labels.Label.{Label}
+use Rattle.feed_stations.specs.declared.labels.StopLabel.{StopLabel}
 
 -- the text is somewhere in the name
 abbrev pub IsIn : List ℕ → List ℕ → Type 0
@@ -15,11 +15,11 @@ id_of None = []
 id_of (Some row) = string_bytes row.id
 
 -- the name and the platform code of a label, if there is one
-abbrev pub name_of : Option Label → List ℕ
+abbrev pub name_of : Option StopLabel → List ℕ
 name_of None = []
 name_of (Some label) = string_bytes label.name
 
-abbrev pub platform_of : Option Label → List ℕ
+abbrev pub platform_of : Option StopLabel → List ℕ
 platform_of None = []
 platform_of (Some label) = string_bytes label.platform
 
@@ -28,7 +28,7 @@ abbrev pub IsInEither : List ℕ → List ℕ → List ℕ → Type 0
 IsInEither text id name = IsIn text (folded id) ⊎ IsIn text (folded name)
 
 -- the text is in the id or the name of the row at an index, without regard to case and accents
-abbrev pub IsFoundAt : List StopRow → List Label → List ℕ → ℕ → Type 0
+abbrev pub IsFoundAt : List StopRow → List StopLabel → List ℕ → ℕ → Type 0
 IsFoundAt rows labels text k = IsInEither (folded text) (id_of (slice_get rows k)) (name_of (slice_get labels k))
 
 -- of the indices below n, those that this holds of are marked

@@ -8,7 +8,7 @@ use Rattle.gtfs_rows.specs.declared.rows.Location.{Location}
 use Rattle.gtfs_rows.specs.declared.rows.StopRow.{StopRow}
 use Rattle.feed_stations.specs.Finding.{id_of, name_of, platform_of}
 use Rattle.feed_stations.specs.Homes.{is_station, is_station_at}
-use Rattle.feed_stations.specs.declared.labels.Label.{Label}
+use Rattle.feed_stations.specs.declared.labels.StopLabel.{StopLabel}
 
 -- the row is that of a station, or of a stop without one
 abbrev pub has_line : StopRow → Bool
@@ -18,7 +18,7 @@ abbrev pub is_listed_row : Option StopRow → Bool
 is_listed_row None = false
 is_listed_row (Some row) = has_line row
 
--- what a place is
+-- what a row is: a station or a stop
 abbrev pub kind_at : Location → List ℕ
 kind_at location = if is_station_at location then codes "station" else codes "stop"
 
@@ -37,11 +37,11 @@ unfoldable pub cell_text : List ℕ → List ℕ
 cell_text text = codes "\t" ++ flat_text text
 
 -- the stop_id and the platform_code of the row at an index
-unfoldable pub stop_text : List StopRow → List Label → ℕ → List ℕ
+unfoldable pub stop_text : List StopRow → List StopLabel → ℕ → List ℕ
 stop_text rows labels k = cell_text (id_of (slice_get rows k)) ++ cell_text (platform_of (slice_get labels k))
 
 -- the line of the row at an index, with its stops
-unfoldable pub place_line : List StopRow → List Label → ℕ → List ℕ → List ℕ
-place_line rows labels k stops =
+unfoldable pub row_line : List StopRow → List StopLabel → ℕ → List ℕ → List ℕ
+row_line rows labels k stops =
     kind_of (slice_get rows k) ++ cell_text (id_of (slice_get rows k)) ++ cell_text (name_of (slice_get labels k))
     ++ flat_map (stop_text rows labels) stops ++ codes "\n"

@@ -4,7 +4,7 @@ ghost use Rattle.std.specs.Prelude.{IfOk, MatchBool, length};
 ghost use Rattle.feed_stations.specs.Finding.{AreMarks, IsFoundAt, IsIn, IsInEither};
 
 use crate::folding::folded;
-use crate::places::Places;
+use crate::stop_table::StopTable;
 use std::alloc::{AllocError, Global};
 
 /// Whether a text is in a name.
@@ -17,16 +17,21 @@ pub fn is_in(text: &str, name: &str) -> bool
 /// For each row whether its stop_id or its name has the text in it, without regard to case and accents.
 pub(crate) fn found_each(
     alloc: Global,
-    places: &Places,
+    stop_table: &StopTable,
     text: &str,
 ) -> Result<Vec<bool>, AllocError>
-    ensures { IfOk result (λ found. AreMarks (IsFoundAt places.now.rows.items places.now.labels.items text.now)
-        (length places.now.rows.items) found.items) }
+    ensures { IfOk result (λ found. AreMarks (IsFoundAt stop_table.now.rows.items stop_table.now.labels.items text.now)
+        (length stop_table.now.rows.items) found.items) }
 {
     let text = folded(alloc, text)?;
-    let mut found = Vec::with_capacity(alloc, places.rows.len())?;
-    for place in 0..places.rows.len() {
-        let here = is_in_either(alloc, text.as_str(), places.id(place), places.name(place))?;
+    let mut found = Vec::with_capacity(alloc, stop_table.rows.len())?;
+    for row_index in 0..stop_table.rows.len() {
+        let here = is_in_either(
+            alloc,
+            text.as_str(),
+            stop_table.id(row_index),
+            stop_table.name(row_index),
+        )?;
         found.push(here)?;
     }
     Ok(found)

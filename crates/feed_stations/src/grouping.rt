@@ -16,9 +16,9 @@ pub(crate) fn grouped(
     ensures { IfOk result (λ groups. AreGroups homes.now count groups.items) }
 {
     let mut groups = empty_lists(alloc, count)?;
-    for place in 0..homes.len() {
-        if let Some(home) = homes[place] {
-            put_into(&mut groups, home, place)?;
+    for row_index in 0..homes.len() {
+        if let Some(home) = homes[row_index] {
+            put_into(&mut groups, home, row_index)?;
         }
     }
     Ok(groups)

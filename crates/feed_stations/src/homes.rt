@@ -35,14 +35,14 @@ pub fn homes_in(
     let Ok(mut homes) = Vec::with_capacity(alloc, rows.len()) else {
         return Err(out_of_memory());
     };
-    for place in 0..rows.len() {
-        match home_of(&stations, &rows[place], place) {
+    for row_index in 0..rows.len() {
+        match home_of(&stations, &rows[row_index], row_index) {
             Ok(home) => {
                 if homes.push(home).is_err() {
                     return Err(out_of_memory());
                 }
             }
-            Err(kind) => return Err(fault_at(place, kind)),
+            Err(kind) => return Err(fault_at(row_index, kind)),
         }
     }
     Ok(homes)
@@ -57,10 +57,10 @@ fn stations_by_id(
     ensures { IfOk result (λ stations. (id : List ℕ) → held_at stations id ≡ station_named rows.now id) }
 {
     let mut stations = IndexMap::with_capacity_and_hasher(alloc, 0, hash)?;
-    for place in 0..rows.len() {
-        let row = &rows[place];
+    for row_index in 0..rows.len() {
+        let row = &rows[row_index];
         if is_station(row) {
-            add_first(&mut stations, row.id.as_str(), place)?;
+            add_first(&mut stations, row.id.as_str(), row_index)?;
         }
     }
     Ok(stations)
@@ -76,12 +76,12 @@ fn is_station(row: &StopRow) -> bool
 fn add_first<'a>(
     stations: &mut StationsById<'a>,
     id: &'a str,
-    place: usize,
+    row_index: usize,
 ) -> Result<(), AllocError>
     ensures { OnOk result ((q : List ℕ) → held_at stations.new q
-        ≡ option_or (held_at stations.old q) (if bytes_eq q id.now then Some place else None)) }
+        ≡ option_or (held_at stations.old q) (if bytes_eq q id.now then Some row_index else None)) }
 {
-    if let Some(first) = stations.insert(id, place)? {
+    if let Some(first) = stations.insert(id, row_index)? {
         stations.insert(id, first)?;
     }
     Ok(())
@@ -92,17 +92,17 @@ fn add_first<'a>(
 fn home_of(
     stations: &StationsById<'_>,
     row: &StopRow,
-    place: usize,
+    row_index: usize,
 ) -> Result<Option<usize>, FaultKind>
     ensures fine { IfOk result (λ _. orphan_fault (held_at stations.now) row.now ≡ None) }
-    ensures home { IfOk result (λ home. home ≡ home_of (held_at stations.now) place row.now) }
+    ensures home { IfOk result (λ home. home ≡ home_of (held_at stations.now) row_index row.now) }
     ensures err { IfErr result (λ kind. orphan_fault (held_at stations.now) row.now ≡ Some kind) }
 {
     if row.location != Location::Stop {
         return Ok(None);
     }
     if row.parent.is_empty() {
-        return Ok(Some(place));
+        return Ok(Some(row_index));
     }
     match stations.get(row.parent.as_str()) {
         Some(station) => Ok(Some(*station)),
@@ -111,13 +111,13 @@ fn home_of(
 }
 
 // The fault of the row at an index; records are numbered from 1.
-fn fault_at(place: usize, kind: FaultKind) -> TableFault
-    requires { place < usize.MAX }
-    ensures { result ≡ fault_of Stops place kind }
+fn fault_at(row_index: usize, kind: FaultKind) -> TableFault
+    requires { row_index < usize.MAX }
+    ensures { result ≡ fault_of Stops row_index kind }
 {
     TableFault {
         file: Table::Stops,
-        row: place as u64 + 1,
+        row: row_index as u64 + 1,
         kind,
     }
 }

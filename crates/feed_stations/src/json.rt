@@ -3,28 +3,28 @@
 ghost use Rattle.std.specs.Prelude.{◌≡◌, ◌++◌, IfOk, OnOk, map, string_bytes};
 ghost use Rattle.serde_json.specs.Data.{string};
 ghost use Rattle.serde_json.specs.Written.{compact_text};
-ghost use Rattle.feed_stations.specs.Json.{comma_before, member_json, place_json, stop_json, stops_json, with_commas};
+ghost use Rattle.feed_stations.specs.Json.{comma_before, member_json, row_json, stop_json, stops_json, with_commas};
 
-use crate::places::Places;
+use crate::stop_table::StopTable;
 use serde_json::Value;
 use std::alloc::{AllocError, Global};
 use text_pieces::put_text;
 
-/// Adds a place as an object of JSON.
+/// Adds a station or stop as an object of JSON.
 pub(crate) fn append_json(
     out: &mut String,
     alloc: Global,
-    places: &Places,
-    place: usize,
+    stop_table: &StopTable,
+    row_index: usize,
     stops: &[usize],
 ) -> Result<(), AllocError>
     ensures { OnOk result (string_bytes out.new ≡ string_bytes out.old
-        ++ place_json places.now.rows.items places.now.labels.items place stops.now) }
+        ++ row_json stop_table.now.rows.items stop_table.now.labels.items row_index stops.now) }
 {
-    append_member(out, alloc, "{\"id\":", places.id(place))?;
-    append_member(out, alloc, ",\"name\":", places.name(place))?;
-    append_stops(out, alloc, places, stops)?;
-    append_member(out, alloc, ",\"type\":", places.kind(place))?;
+    append_member(out, alloc, "{\"id\":", stop_table.id(row_index))?;
+    append_member(out, alloc, ",\"name\":", stop_table.name(row_index))?;
+    append_stops(out, alloc, stop_table, stops)?;
+    append_member(out, alloc, ",\"type\":", stop_table.kind(row_index))?;
     put_text(out, "}")?;
     Ok(())
 }
@@ -32,14 +32,14 @@ pub(crate) fn append_json(
 fn append_stops(
     out: &mut String,
     alloc: Global,
-    places: &Places,
+    stop_table: &StopTable,
     stops: &[usize],
 ) -> Result<(), AllocError>
     ensures { OnOk result (string_bytes out.new ≡ string_bytes out.old
-        ++ stops_json places.now.rows.items places.now.labels.items stops.now) }
+        ++ stops_json stop_table.now.rows.items stop_table.now.labels.items stops.now) }
 {
     put_text(out, ",\"stops\":[")?;
-    append_each(out, alloc, places, stops)?;
+    append_each(out, alloc, stop_table, stops)?;
     put_text(out, "]")?;
     Ok(())
 }
@@ -47,24 +47,24 @@ fn append_stops(
 fn append_each(
     out: &mut String,
     alloc: Global,
-    places: &Places,
+    stop_table: &StopTable,
     stops: &[usize],
 ) -> Result<(), AllocError>
     ensures { OnOk result (string_bytes out.new ≡ string_bytes out.old
-        ++ with_commas (map (stop_json places.now.rows.items places.now.labels.items) stops.now)) }
+        ++ with_commas (map (stop_json stop_table.now.rows.items stop_table.now.labels.items) stops.now)) }
 {
-    for place in 0..stops.len() {
-        put_comma(out, place)?;
-        append_stop(out, alloc, places, stops[place])?;
+    for row_index in 0..stops.len() {
+        put_comma(out, row_index)?;
+        append_stop(out, alloc, stop_table, stops[row_index])?;
     }
     Ok(())
 }
 
-/// Adds a comma, unless this is the first place.
-pub fn put_comma(out: &mut String, place: usize) -> Result<(), AllocError>
-    ensures { OnOk result (string_bytes out.new ≡ string_bytes out.old ++ comma_before place) }
+/// Adds a comma, unless this is the first.
+pub fn put_comma(out: &mut String, row_index: usize) -> Result<(), AllocError>
+    ensures { OnOk result (string_bytes out.new ≡ string_bytes out.old ++ comma_before row_index) }
 {
-    if place == 0 {
+    if row_index == 0 {
         return Ok(());
     }
     put_text(out, ",")
@@ -73,14 +73,14 @@ pub fn put_comma(out: &mut String, place: usize) -> Result<(), AllocError>
 fn append_stop(
     out: &mut String,
     alloc: Global,
-    places: &Places,
+    stop_table: &StopTable,
     stop: usize,
 ) -> Result<(), AllocError>
     ensures { OnOk result (string_bytes out.new ≡ string_bytes out.old
-        ++ stop_json places.now.rows.items places.now.labels.items stop) }
+        ++ stop_json stop_table.now.rows.items stop_table.now.labels.items stop) }
 {
-    append_member(out, alloc, "{\"id\":", places.id(stop))?;
-    append_member(out, alloc, ",\"platform\":", places.platform(stop))?;
+    append_member(out, alloc, "{\"id\":", stop_table.id(stop))?;
+    append_member(out, alloc, ",\"platform\":", stop_table.platform(stop))?;
     put_text(out, "}")?;
     Ok(())
 }

@@ -4,7 +4,7 @@ ghost use Rattle.std.specs.Prelude.{◌≡◌, IfOk, string_bytes};
 ghost use Rattle.std.specs.List.{AllZip};
 ghost use Rattle.csv.specs.Records.{fields_of};
 ghost use Rattle.gtfs_rows.specs.Source.{IsReading, left_of};
-ghost use Rattle.feed_stations.specs.Labels.{AreLabels, IsLabel, IsTextOf, name_column, platform_column};
+ghost use Rattle.feed_stations.specs.Labels.{AreLabels, IsStopLabel, IsTextOf, name_column, platform_column};
 
 use csv::ByteRecord;
 use gtfs_rows::{Records, cell, column};
@@ -12,7 +12,7 @@ use std::alloc::{AllocError, Global};
 
 /// What a rider reads of a row of `stops.txt`.
 #[derive(Drop)]
-pub struct Label {
+pub struct StopLabel {
     /// The stop_name.
     pub name: String,
     /// The platform_code.
@@ -37,7 +37,7 @@ fn columns_of(header: &ByteRecord) -> LabelColumns
 }
 
 /// The label of each record of the bytes of `stops.txt`, in order. Without its column, a name or a code is blank.
-pub fn labels_in(alloc: Global, bytes: &[u8]) -> Result<Vec<Label>, AllocError>
+pub fn labels_in(alloc: Global, bytes: &[u8]) -> Result<Vec<StopLabel>, AllocError>
     ensures { IfOk result (λ labels. AreLabels bytes.now labels.items) }
 {
     let mut records = Records::open(alloc, bytes);
@@ -54,9 +54,9 @@ fn labels_left(
     alloc: Global,
     records: &mut Records<'_>,
     columns: LabelColumns,
-) -> Result<Vec<Label>, AllocError>
+) -> Result<Vec<StopLabel>, AllocError>
     requires { IsReading records.old }
-    ensures { IfOk result (λ labels. AllZip (IsLabel columns.name columns.platform) (left_of records.old)
+    ensures { IfOk result (λ labels. AllZip (IsStopLabel columns.name columns.platform) (left_of records.old)
         labels.items) }
 {
     let mut labels = Vec::new(alloc);
@@ -71,12 +71,16 @@ fn labels_left(
     Err(AllocError)
 }
 
-fn label_of(alloc: Global, line: &ByteRecord, columns: LabelColumns) -> Result<Label, AllocError>
-    ensures { IfOk result (IsLabel columns.name columns.platform (fields_of line.now)) }
+fn label_of(
+    alloc: Global,
+    line: &ByteRecord,
+    columns: LabelColumns,
+) -> Result<StopLabel, AllocError>
+    ensures { IfOk result (IsStopLabel columns.name columns.platform (fields_of line.now)) }
 {
     let name = text_of(alloc, cell(line, columns.name))?;
     let platform = text_of(alloc, cell(line, columns.platform))?;
-    Ok(Label { name, platform })
+    Ok(StopLabel { name, platform })
 }
 
 // The text of bytes; blank if they aren't UTF-8, which those of a file whose rows were read are.

@@ -8,12 +8,12 @@ mod homes;
 mod json;
 mod labels;
 mod listing;
-mod places;
+mod stop_table;
 mod texts;
 
 pub use finding::is_in;
 pub use homes::homes_in;
 pub use json::put_comma;
-pub use labels::{Label, labels_in};
-pub use places::Places;
+pub use labels::{StopLabel, labels_in};
+pub use stop_table::StopTable;
 pub use texts::{json_text, lines_text};

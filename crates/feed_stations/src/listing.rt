@@ -2,47 +2,51 @@
 
 ghost use Rattle.std.specs.Prelude.{◌≡◌, ◌++◌, OnOk, string_bytes};
 ghost use Rattle.std.specs.List.{flat_map};
-ghost use Rattle.feed_stations.specs.Listing.{cell_text, flat_letter, flat_text, place_line, stop_text};
+ghost use Rattle.feed_stations.specs.Listing.{cell_text, flat_letter, flat_text, row_line, stop_text};
 
-use crate::places::Places;
+use crate::stop_table::StopTable;
 use std::alloc::AllocError;
 use text_pieces::put_text;
 
-/// Adds the line of a place: what it is, its stop_id, its name, and the stop_id and the platform code of each of its
-/// stops, with tabs between them.
+/// Adds the line of a station or stop: what it is, its stop_id, its name, and the stop_id and the platform code of each
+/// of its stops, with tabs between them.
 pub(crate) fn append_line(
     lines: &mut String,
-    places: &Places,
-    place: usize,
+    stop_table: &StopTable,
+    row_index: usize,
     stops: &[usize],
 ) -> Result<(), AllocError>
     ensures { OnOk result (string_bytes lines.new ≡ string_bytes lines.old
-        ++ place_line places.now.rows.items places.now.labels.items place stops.now) }
+        ++ row_line stop_table.now.rows.items stop_table.now.labels.items row_index stops.now) }
 {
-    put_text(lines, places.kind(place))?;
-    put_cell(lines, places.id(place))?;
-    put_cell(lines, places.name(place))?;
-    append_stops(lines, places, stops)?;
+    put_text(lines, stop_table.kind(row_index))?;
+    put_cell(lines, stop_table.id(row_index))?;
+    put_cell(lines, stop_table.name(row_index))?;
+    append_stops(lines, stop_table, stops)?;
     put_text(lines, "\n")?;
     Ok(())
 }
 
-fn append_stops(lines: &mut String, places: &Places, stops: &[usize]) -> Result<(), AllocError>
+fn append_stops(
+    lines: &mut String,
+    stop_table: &StopTable,
+    stops: &[usize],
+) -> Result<(), AllocError>
     ensures { OnOk result (string_bytes lines.new ≡ string_bytes lines.old
-        ++ flat_map (stop_text places.now.rows.items places.now.labels.items) stops.now) }
+        ++ flat_map (stop_text stop_table.now.rows.items stop_table.now.labels.items) stops.now) }
 {
     for stop in stops {
-        append_stop(lines, places, *stop)?;
+        append_stop(lines, stop_table, *stop)?;
     }
     Ok(())
 }
 
-fn append_stop(lines: &mut String, places: &Places, stop: usize) -> Result<(), AllocError>
+fn append_stop(lines: &mut String, stop_table: &StopTable, stop: usize) -> Result<(), AllocError>
     ensures { OnOk result (string_bytes lines.new ≡ string_bytes lines.old
-        ++ stop_text places.now.rows.items places.now.labels.items stop) }
+        ++ stop_text stop_table.now.rows.items stop_table.now.labels.items stop) }
 {
-    put_cell(lines, places.id(stop))?;
-    put_cell(lines, places.platform(stop))?;
+    put_cell(lines, stop_table.id(stop))?;
+    put_cell(lines, stop_table.platform(stop))?;
     Ok(())
 }
 

@@ -247,7 +247,7 @@ joined_in_range listed stops from to in_range (walk, walks) =
     subst (λ (n : ℕ). n < stops) walks.ends (ends_in_range listed stops in_range walk from walks.leads walks.some)
 
 module _ (listed closed : List Footpath) (stops longest : ℕ) (in_range : AreInRange listed stops) (all : IsClosedInto listed (longest + 1) stops closed) where
-  -- where no time is told as the cap, the closure is there
+  -- where no time is the cap, the closure is there
   pub closure_of_capped : All (λ f. f.secs ≤ longest) closed → IsClosure listed closed
   closure_of_capped short = record {
     in_order = all.in_order;
@@ -267,7 +267,7 @@ module _ (listed closed : List Footpath) (stops longest : ℕ) (in_range : AreIn
       all.whole f.from f.to (joined_in_range listed stops f.from f.to in_range joined) joined) in
       omega (arith, bound, few, is.more)
 
-  -- a time told as the cap is of walks that take longer
+  -- a time that is the cap is of walks that take longer
   pub longer_walk : (f : Footpath) → Contains closed f → longest < f.secs → HasLongerWalk listed longest
   longer_walk f in_it long =
       let (capped, none_less) = all.least f in_it in

@@ -183,11 +183,11 @@ all_least_walks : (listed : List Footpath) → HaveLeastWalks listed
 all_least_walks [] a b = inl (λ joined. no_walk joined.0 a b joined.1)
 all_least_walks (f ∷ fs) a b = one_more f fs (λ x y. all_least_walks fs x y) a b
 
--- a pair stands before a place: it leads into a stop below, or into the same from a stop below
+-- a pair stands before an index: it leads into a stop below, or into the same from a stop below
 abbrev IsBefore : ℕ → ℕ → ℕ → ℕ → Type 0
 IsBefore to from a b = (b < to) ⊎ ((b ≡ to) × (a < from))
 
--- the closure as far as a place
+-- the closure as far as an index
 record IsClosedUpTo (listed : List Footpath) (to from : ℕ) (closed : List Footpath) : Type 0 where
   pub in_order : AreInOrder closed
   pub below : (f : Footpath) → Contains closed f → IsBefore to from f.from f.to

@@ -70,7 +70,7 @@ module _ {V : Type 0} (rules : Rules V) (laws : Laws rules) (entries : List (Fro
 
   module _ (steps new : List Step) (tag : ℕ) (v : V) (worth : v ≡ rules.walk secs ride.value)
       (pushed : new ≡ steps ++ record { first = first; label = ride.label; walk = walk } ∷ []) (numbered : tag ≡ length steps) where
-    -- the value, with its step's place
+    -- the value, with its step's index
     value_kept : ℕ → List (Item V)
     value_kept n = record { departure = departure; value = v; tag = n } ∷ []
 

@@ -7,7 +7,7 @@ use Rattle.fronts.specs.Front.{departure_of}
 use Rattle.fronts.specs.Entries.{AreEntries}
 use Rattle.fronts.proofs.Points.{LeadsTo, departs_at, next_at, not_end, next_back, leads_on}
 
--- an entry read at a place departs when the place does
+-- an entry read at an index departs when the index does
 pub departs_early : {V : Type 0} (entries : List (FrontEntry V)) (m time : ℕ) (e : FrontEntry V) → m < length entries
     → e ≡ get_or entries m e → (get_or entries m e).departure < time → departure_of entries m < time
 departs_early {V} entries m time e lt is early =

@@ -226,8 +226,8 @@ is_put : {V : Type 0} (rules : Rules V) (laws : Laws rules) (entries : List (Fro
     → take e.count (drop e.rest more) ≡ drop 1 points ++ left_by rules points (front entries items m)
     → e.rest + e.count ≤ length more → (now : List (FrontEntry V)) (index : ℕ) → now ≡ entries ++ e ∷ [] → index ≡ length entries
     → IsPut rules entries now items more departure m points index
-is_put {V} rules laws entries items more are departure m points may e first departs f filled part room now index pushed_is place_is =
-    subst (λ n. IsPut rules entries now items more departure m points n) (sym place_is)
+is_put {V} rules laws entries items more are departure m points may e first departs f filled part room now index pushed_is index_is =
+    subst (λ n. IsPut rules entries now items more departure m points n) (sym index_is)
     (subst (λ (es : List (FrontEntry V)). IsPut rules entries es items more departure m points (length entries)) (sym pushed_is) (record {
       are = put_are rules laws entries items more are departure m points may e first departs f filled part room;
       within = put_within rules laws entries items more are departure m points may e first departs f filled part room;
@@ -242,12 +242,12 @@ pub put_one : {V : Type 0} (rules : Rules V) (laws : Laws rules) (entries now : 
     → own e ≡ x → e.rest ≡ 0 → e.count ≡ 0 → after ≡ get_or entries m after
     → Follows after.departure after.next m x.departure e.next → now ≡ entries ++ e ∷ [] → index ≡ length entries
     → IsPut rules entries now items items x.departure m (x ∷ []) index
-put_one {V} rules laws entries now items m index x e after are may out own_is rest count after_is follows pushed_is place_is =
+put_one {V} rules laws entries now items m index x e after are may out own_is rest count after_is follows pushed_is index_is =
     let left = none_left rules x (front entries items m) out in
     let f = follows_at entries m x.departure e.next after may.within after_is follows in
     is_put rules laws entries items items are x.departure m (x ∷ []) may e (ap (λ z. z ∷ []) own_is)
     (ap (λ (z : Item V). z.departure) own_is) f (sym (append-nil items) ∙ ap (λ xs. items ++ xs) (sym left))
-    (ap (λ n. take n (drop e.rest items)) count ∙ sym left) (omega arith) now index pushed_is place_is
+    (ap (λ n. take n (drop e.rest items)) count ∙ sym left) (omega arith) now index pushed_is index_is
 
 -- all that the code does, at the end
 pub put_all : {V : Type 0} (rules : Rules V) (laws : Laws rules) (entries read now : List (FrontEntry V))
@@ -259,7 +259,7 @@ pub put_all : {V : Type 0} (rules : Rules V) (laws : Laws rules) (entries read n
     → now ≡ entries ++ e ∷ [] → index ≡ length entries
     → IsPut rules entries now items more departure m points index
 put_all {V} rules laws entries read now items more departure m index points e after x are may same x_is worth tag
-    departs after_is follows filled rest count pushed_is place_is =
+    departs after_is follows filled rest count pushed_is index_is =
     let x_in : Contains points x = (0, may.some, sym x_is) in
     let d : e.departure ≡ x.departure = departs ∙ sym (may.departs x x_in) in
     let own_is : own e ≡ x =
@@ -271,7 +271,7 @@ put_all {V} rules laws entries read now items more departure m index points e af
     ++ (drop 1 points ++ left_by rules points (front es items m))) same in
     let part = part_pushed items more (drop 1 points ++ left_by rules points (front entries items m)) e.rest e.count filled_here rest count in
     is_put rules laws entries items more are departure m points may e first departs f filled_here part (omega arith) now index
-    pushed_is place_is
+    pushed_is index_is
   where
     item : ℕ → V → ℕ → Item V
     item d v t = record { departure = d; value = v; tag = t }

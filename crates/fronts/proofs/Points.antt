@@ -126,7 +126,7 @@ module _ {V : Type 0} (rules : Rules V) (entries : List (FrontEntry V)) (items :
   next_within zero lt = subst (λ n. n < length entries) (sym are.ends) are.some
   next_within (suc m) lt = let back = are.back m in omega arith
 
-  -- the entry at place 0 is passed at no time
+  -- the entry at index 0 is passed at no time
   pub not_end : (m time : ℕ) → departure_of entries m < time → time ≤ 4294967295 → 0 < m
   not_end zero time lt le = let never = are.never in absurd (omega arith)
   not_end (suc m) time lt le = omega arith

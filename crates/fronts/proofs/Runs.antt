@@ -125,10 +125,10 @@ module _ (runs : List LabelRun) (trip : ℕ) (placed : LabelRun) (in_runs : trip
   pub run_there : (k : ℕ) → (k ≡ trip → ⊥) → run_at (set runs trip placed) k ≡ run_at runs k
   run_there k other = get_or-set_other runs trip k placed no_run other
 
-  pub runs_put : (places now : ℕ) → AreRuns runs places → placed.count ≤ placed.room → placed.first + placed.room ≤ now
-      → places ≤ now → ((other : LabelRun) → other.first + other.room ≤ places → AreApart other (run_at runs trip)
+  pub runs_put : (size now : ℕ) → AreRuns runs size → placed.count ≤ placed.room → placed.first + placed.room ≤ now
+      → size ≤ now → ((other : LabelRun) → other.first + other.room ≤ size → AreApart other (run_at runs trip)
       → AreApart other placed) → AreRuns (set runs trip placed) now
-  runs_put places now are counted within longer keeps = record {
+  runs_put size now are counted within longer keeps = record {
     counted = λ k. elim (cases_eq k trip) [
       | inl e ↦ subst (λ (r : LabelRun). r.count ≤ r.room) (sym (run_here k e)) counted
       | inr other ↦ subst (λ (r : LabelRun). r.count ≤ r.room) (sym (run_there k other)) (are.counted k)

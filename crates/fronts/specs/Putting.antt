@@ -36,7 +36,7 @@ IsPath entries head (b ∷ bs) m = (head ≡ b) × (0 < b) × (b < length entrie
 
 -- these entries depart before a time
 abbrev pub DepartBefore : {V : Type 0} → List (FrontEntry V) → ℕ → List ℕ → Type 0
-DepartBefore entries time places = (b : ℕ) → Contains places b → departure_of entries b < time
+DepartBefore entries time indices = (b : ℕ) → Contains indices b → departure_of entries b < time
 
 -- a list covers all that another covers
 abbrev pub CoversAll : {V : Type 0} → Rules V → List (Item V) → List (Item V) → Type 0

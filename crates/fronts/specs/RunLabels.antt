@@ -28,10 +28,10 @@ run_labels labels trip = labels_in labels.labels.items (run_at labels.runs.items
 abbrev pub AreApart : LabelRun → LabelRun → Type 0
 AreApart a b = (a.first + a.room ≤ b.first) ⊎ (b.first + b.room ≤ a.first)
 
--- runs of a vector of `places` labels: each has room for its labels, within the vector, and no two overlap
-pub record AreRuns (runs : List LabelRun) (places : ℕ) : Type 0 where
+-- runs of a vector of `size` labels: each has room for its labels, within the vector, and no two overlap
+pub record AreRuns (runs : List LabelRun) (size : ℕ) : Type 0 where
   pub counted : (k : ℕ) → (run_at runs k).count ≤ (run_at runs k).room
-  pub within : (k : ℕ) → (run_at runs k).first + (run_at runs k).room ≤ places
+  pub within : (k : ℕ) → (run_at runs k).first + (run_at runs k).room ≤ size
   pub apart : (a b : ℕ) → (a ≡ b → ⊥) → AreApart (run_at runs a) (run_at runs b)
 
 -- labels in runs, whose values are admitted

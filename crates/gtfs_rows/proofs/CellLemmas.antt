@@ -69,7 +69,7 @@ cell_text (Some i) r h = trim_text (unwrap_or (field_at r i) []) (field_text r i
 pub text_rest : (all rest : List Record) (r : Record) → all ≡ r ∷ rest → AllRecordsText all → AllRecordsText rest
 text_rest all rest r e h = let t : AllRecordsText (r ∷ rest) = rw e at h in t.1
 
--- a column from a place on
+-- a column from an index on
 pub column-here : (name : List ℕ) (header : Record) (i : ℕ) (f : List ℕ) → drop i header ≡ f ∷ drop (i + 1) header → bytes_eq name (trim_spaces f) ≡ true
     → position_from (λ field. bytes_eq name (trim_spaces field)) i (drop i header) ≡ Some i
 column-here name header i f e h = rw (e, h) refl

@@ -8,7 +8,7 @@ use Rattle.gtfs_rows.specs.declared.values.Day.{Day}
 eight_bytes : (text : List ℕ) (d : Day) → day_of text ≡ Some d → length text ≡ 8
 eight_bytes text d is = grind (arith, common_steps)
 
--- what is joined with ends of one length is told from the whole
+-- what is joined with ends of one length is found from the whole
 same_parts : (xs us ys vs : List ℕ) → length ys ≡ length vs → xs ++ ys ≡ us ++ vs → (xs ≡ us) × (ys ≡ vs)
 same_parts [] us ys vs long whole = grind (arith, common_steps)
 same_parts (x ∷ xs) [] ys vs long whole = grind (arith, common_steps)

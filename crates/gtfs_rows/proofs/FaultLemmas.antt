@@ -6,7 +6,7 @@ use Rattle.gtfs_rows.specs.Source.{Record}
 use Rattle.gtfs_rows.specs.Faults.{IsFirstFault, Judge, fault_at}
 use Rattle.gtfs_rows.specs.declared.fault.FaultKind.{FaultKind}
 
--- what is left begins with the element at the place
+-- what is left begins with the element at the index
 pub opened : {A : Type 0} (d : A) (n : ℕ) (all rest : List A) (r : A) → drop n all ≡ r ∷ rest
     → (n < length all) × (get_or all n d ≡ r) × (drop (n + 1) all ≡ rest) × (take (n + 1) all ≡ take n all ++ r ∷ [])
 opened d zero [] rest r e = cc

@@ -72,7 +72,7 @@ kept_more (keys.Shared k) indices before r text old new added is held more fresh
     let same : text ≡ value indices k r = cc in
     (λ _. shared_more k indices before r old new held (rw same at more), λ no. cc)
 
--- an id of a set at its place
+-- an id of a set at its index
 pub stands : (keys : List (String Global)) (i : ℕ) (k : String Global) (id : List ℕ) → slice_get keys i ≡ Some k
     → bytes_eq id (string_bytes k) ≡ true → StandsAt (map string_bytes keys) i id
 stands keys i k id e same =

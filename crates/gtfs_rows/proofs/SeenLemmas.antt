@@ -17,13 +17,13 @@ use Rattle.gtfs_rows.specs.declared.rows.StopTimeRow.{StopTimeRow}
 use Rattle.gtfs_rows.proofs.KeyLemmas.{any-map}
 
 -- the ids of one record more
-pub ids_more : (also : List (List ℕ) → List ℕ → List (List ℕ)) (k : ℕ) (indices : ColumnIndices) (before : List Record) (r : Record) (ids new : List (List ℕ))
-    → ids ≡ fold also [] (map (value indices k) before) → new ≡ also ids (value indices k r)
-    → new ≡ fold also [] (map (value indices k) (before ++ r ∷ []))
-ids_more also k indices before r ids new held e =
+pub ids_more : (add_to : List (List ℕ) → List ℕ → List (List ℕ)) (k : ℕ) (indices : ColumnIndices) (before : List Record) (r : Record) (ids new : List (List ℕ))
+    → ids ≡ fold add_to [] (map (value indices k) before) → new ≡ add_to ids (value indices k r)
+    → new ≡ fold add_to [] (map (value indices k) (before ++ r ∷ []))
+ids_more add_to k indices before r ids new held e =
     let texts : map (value indices k) (before ++ r ∷ []) ≡ map (value indices k) before ++ value indices k r ∷ [] =
     map-append (value indices k) before (r ∷ []) in
-    rw (e, held, texts) (sym (fold-append also [] (map (value indices k) before) (value indices k r ∷ [])))
+    rw (e, held, texts) (sym (fold-append add_to [] (map (value indices k) before) (value indices k r ∷ [])))
 
 -- a text that stands somewhere is among the texts
 pub stands_among : (texts : List (List ℕ)) (k : ℕ) (text : List ℕ) → StandsAt texts k text → texts ≡ seen_also texts text
@@ -36,7 +36,7 @@ pub seen_insert : (keys new : List (String Global)) (k : String Global) → new 
     → map string_bytes new ≡ seen_also (map string_bytes keys) (string_bytes k)
 seen_insert keys new k e = grind (arith, common_steps, any-map)
 
--- ids stay at their places as one more is seen
+-- ids stay at their indices as one more is seen
 pub stands_also : (texts : List (List ℕ)) (new : List ℕ) (k : ℕ) (text : List ℕ) → StandsAt texts k text → StandsAt (seen_also texts new) k text
 stands_also texts new k text h = let more = slice_get-append texts (new ∷ []) k text h in grind (arith, common_steps, more)
 

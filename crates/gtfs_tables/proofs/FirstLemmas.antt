@@ -12,7 +12,7 @@ use Rattle.gtfs_tables.specs.First.{all_below, fault_at, first_below, row_fault}
 
 pub ruleset searches = (first_below-start, first_below-more, first_below-found)
 
--- the judgement of the row at a place
+-- the judgement of the row at an index
 pub row_fault-at : {R : Type 0} (table : Table) (judge : R → Option FaultKind) (rows : List R) (i : ℕ) (row : R) → i < length rows → row ≡ get_or rows i row
     → row_fault table judge rows i ≡ option_map (fault_at table i) (judge row)
 row_fault-at table judge rows i row lt e =

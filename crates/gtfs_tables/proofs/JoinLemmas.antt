@@ -14,7 +14,7 @@ use Rattle.gtfs_tables.specs.Feeds.{IsFirstFault, IsLinked, IsNamingFault, feed_
 use Rattle.gtfs_tables.specs.Feeds.{rows_by, stop_time_fault, stops_by, trip_fault, trips_by}
 use Rattle.gtfs_tables.specs.First.{first_below, first_fault_of}
 use Rattle.gtfs_tables.specs.Names.{stop_named, trip_named}
-use Rattle.gtfs_tables.specs.Order.{IsInOrder, turns_by, turns_in}
+use Rattle.gtfs_tables.specs.Order.{IsInOrder, sort_keys_by, sort_keys_in}
 use Rattle.gtfs_tables.specs.Rows.{frequency_fault, is_flex_id, is_repeated, linked_fault, parent_fault, transfer_fault}
 use Rattle.gtfs_tables.specs.declared.joining.Links.{Links}
 use Rattle.gtfs_tables.specs.declared.names.StopIdTarget.{StopIdTarget}
@@ -23,7 +23,7 @@ use Rattle.gtfs_tables.specs.declared.order.SortKey.{SortKey}
 use Rattle.gtfs_tables.specs.declared.tables.Tables.{Tables}
 use Rattle.gtfs_tables.specs.declared.tables.Transfer.{Transfer}
 use Rattle.gtfs_tables.specs.declared.tables.Trip.{Trip}
-use Rattle.gtfs_tables.proofs.TurnLemmas.{turns_kept}
+use Rattle.gtfs_tables.proofs.SortKeyLemmas.{sort_keys_kept}
 
 pub of_two : {X : Type 0} (a b c : Option X) (x : X) → a ≡ None → b ≡ Some x → option_or a (option_or b c) ≡ Some x
 of_two a b c x e f = rw (e, f) refl
@@ -35,34 +35,34 @@ pub of_none : {X : Type 0} (a b c : Option X) → a ≡ None → b ≡ None → 
 of_none a b c e f g = rw (e, f, g) refl
 
 -- the trips with what is the same of each
-pub same_trips : (turns : List SortKey) (rows : List StopTimeRow) (f g : ℕ → Bool) (from : ℕ) (trips : List TripRow)
+pub same_trips : (sort_keys : List SortKey) (rows : List StopTimeRow) (f g : ℕ → Bool) (from : ℕ) (trips : List TripRow)
     → ((t : ℕ) → t < from + length trips → f t ≡ g t)
-    → feed_trips turns rows f from trips ≡ feed_trips turns rows g from trips
-same_trips turns rows f g from [] same = refl
-same_trips turns rows f g from (trip ∷ trips) same =
+    → feed_trips sort_keys rows f from trips ≡ feed_trips sort_keys rows g from trips
+same_trips sort_keys rows f g from [] same = refl
+same_trips sort_keys rows f g from (trip ∷ trips) same =
     let here : f from ≡ g from = same from (omega arith) in
-    let rest : feed_trips turns rows f (from + 1) trips ≡ feed_trips turns rows g (from + 1) trips = same_trips turns rows f g (from + 1) trips
+    let rest : feed_trips sort_keys rows f (from + 1) trips ≡ feed_trips sort_keys rows g (from + 1) trips = same_trips sort_keys rows f g (from + 1) trips
     (λ t lt. same t (omega arith)) in
     ap (λ again. record {
       id = trip.id;
       service = trip.service;
-      first = (feed_trip turns rows f from trip).first;
+      first = (feed_trip sort_keys rows f from trip).first;
       end =
-          (feed_trip turns rows f from trip).end;
+          (feed_trip sort_keys rows f from trip).end;
       repeats = again;
-      flex = (feed_trip turns rows f from trip).flex;
-    } ∷ feed_trips turns rows f (from + 1) trips)
+      flex = (feed_trip sort_keys rows f from trip).flex;
+    } ∷ feed_trips sort_keys rows f (from + 1) trips)
     here
-    ∙ ap (λ rest. feed_trip turns rows g from trip ∷ rest) rest
+    ∙ ap (λ rest. feed_trip sort_keys rows g from trip ∷ rest) rest
 
 -- what was judged or made of lists that are those of the tables
 pub order_as_given : (placed : List ℕ → Option ℕ) (t : Tables) (rows : List StopTimeRow) (ts : List (Option ℕ)) (order : RowOrder) → rows
     ≡ t.stop_times.rows.items → ts ≡ trips_by placed t
-    → IsInOrder ts rows (turns_in ts order rows)
-    → IsInOrder (trips_by placed t) t.stop_times.rows.items (turns_in (trips_by placed t) order t.stop_times.rows.items)
+    → IsInOrder ts rows (sort_keys_in ts order rows)
+    → IsInOrder (trips_by placed t) t.stop_times.rows.items (sort_keys_in (trips_by placed t) order t.stop_times.rows.items)
 order_as_given placed t rows ts order e f is =
-    subst (λ (x : List StopTimeRow). IsInOrder (trips_by placed t) x (turns_in (trips_by placed t) order x)) e
-    (subst (λ (x : List (Option ℕ)). IsInOrder x rows (turns_in x order rows)) f is)
+    subst (λ (x : List StopTimeRow). IsInOrder (trips_by placed t) x (sort_keys_in (trips_by placed t) order x)) e
+    (subst (λ (x : List (Option ℕ)). IsInOrder x rows (sort_keys_in x order rows)) f is)
 
 pub stops_as_given : (named : List ℕ → Option StopIdTarget) (given stops : List StopRow) (r : Option TableFault) → given ≡ stops
     → first_fault_of kinds.Stops (parent_fault named) given ≡ r → first_fault_of kinds.Stops (parent_fault named) stops ≡ r
@@ -80,12 +80,12 @@ pub rows_as_given : (ts trips : List (Option ℕ)) (ss stops : List (Option Stop
 rows_as_given ts trips ss stops order rows made e s h = subst (λ (x : List (Option StopIdTarget)). made ≡ linked_by trips x order rows) s
     (subst (λ (x : List (Option ℕ)). made ≡ linked_by x ss order rows) e h)
 
--- the linked rows' turns are those of the rows
+-- the linked rows' sort keys are those of the rows
 pub keys_as_given : (trips : List (Option ℕ)) (stops : List (Option StopIdTarget)) (order : RowOrder) (rows made : List StopTimeRow)
-    → made ≡ linked_by trips stops order rows → turns_by order made ≡ turns_in trips order rows
-keys_as_given trips stops order rows made h = turns_kept trips stops (λ row. is_flex_id rows row.trip) order rows made h
+    → made ≡ linked_by trips stops order rows → sort_keys_by order made ≡ sort_keys_in trips order rows
+keys_as_given trips stops order rows made h = sort_keys_kept trips stops (λ row. is_flex_id rows row.trip) order rows made h
 
--- the marks of flex trips, told of lists that are those of the tables
+-- the marks of flex trips, of lists that are those of the tables
 pub flex_as_given : (rows : List StopTimeRow) (ts trips : List (Option ℕ)) (given flex : List Bool) → ts ≡ trips → given ≡ flex
     → ((id : ℕ) → id < length trips → slice_index_or flex id false ≡ is_flex_id rows id)
     → (id : ℕ) → id < length ts → slice_index_or given id false ≡ is_flex_id rows id
@@ -124,88 +124,95 @@ of_err {X = X} {E = E} r fault Q e h = subst (λ (x : Result X E). IfErr x Q) e 
 pub of_ok : {X E : Type 0} (r : Result X E) (kept : X) (Q : X → Type 0) → r ≡ Ok kept → IfOk r Q → Q kept
 of_ok {X = X} {E = E} r kept Q e h = subst (λ (x : Result X E). IfOk x Q) e h
 
--- what is told of trips, by turns and rows that are others'
-pub trips_as_given : (strict : Bool) (given turns : List SortKey) (listed rows : List StopTimeRow) (n : ℕ) (r : Option TableFault) → given ≡ turns → listed
+-- what is said of trips, by sort keys and rows that are others'
+pub trips_as_given : (strict : Bool) (given sort_keys : List SortKey) (listed rows : List StopTimeRow) (n : ℕ) (r : Option TableFault) → given ≡ sort_keys
+    → listed
     ≡ rows
-    → first_below (trip_fault strict given listed) n ≡ r → first_below (trip_fault strict turns rows) n ≡ r
-trips_as_given strict given turns listed rows n r e f h =
+    → first_below (trip_fault strict given listed) n ≡ r → first_below (trip_fault strict sort_keys rows) n ≡ r
+trips_as_given strict given sort_keys listed rows n r e f h =
     subst (λ (x : List SortKey). first_below (trip_fault strict x rows) n ≡ r) e
     (subst (λ (x : List StopTimeRow). first_below (trip_fault strict given x) n ≡ r) f h)
 
-pub trips_made : (given turns : List SortKey) (listed rows : List StopTimeRow) (marked repeats : List Bool) (trips : List TripRow) (made : List Trip)
-    → given ≡ turns → listed ≡ rows → marked ≡ repeats → made ≡ feed_trips given listed (λ t. slice_index_or marked t false) 0 trips
-    → made ≡ feed_trips turns rows (λ t. slice_index_or repeats t false) 0 trips
-trips_made given turns listed rows marked repeats trips made e d m h =
+pub trips_made : (given sort_keys : List SortKey) (listed rows : List StopTimeRow) (marked repeats : List Bool) (trips : List TripRow) (made : List Trip)
+    → given ≡ sort_keys → listed ≡ rows → marked ≡ repeats → made ≡ feed_trips given listed (λ t. slice_index_or marked t false) 0 trips
+    → made ≡ feed_trips sort_keys rows (λ t. slice_index_or repeats t false) 0 trips
+trips_made given sort_keys listed rows marked repeats trips made e d m h =
     subst (λ (x : List SortKey). made ≡ feed_trips x rows (λ t. slice_index_or repeats t false) 0 trips) e
     (subst (λ (x : List StopTimeRow). made ≡ feed_trips given x (λ t. slice_index_or repeats t false) 0 trips) d
     (subst (λ (x : List Bool). made ≡ feed_trips given listed (λ t. slice_index_or x t false) 0 trips) m h))
 
 -- what links tell of the tables whose ids they link
 module _ (strict : Bool) (t : Tables) (links : Links) (linked : IsLinked (stop_named t.stops.items) (trip_named t.trips.items) t links) where
-  turns_are : turns_in links.names.trips.items links.order t.stop_times.rows.items
-      ≡ turns_in (trips_by (trip_named t.trips.items) t) links.order t.stop_times.rows.items
-  turns_are = ap (λ (x : List (Option ℕ)). turns_in x links.order t.stop_times.rows.items) linked.trips
+  sort_keys_are : sort_keys_in links.names.trips.items links.order t.stop_times.rows.items
+      ≡ sort_keys_in (trips_by (trip_named t.trips.items) t) links.order t.stop_times.rows.items
+  sort_keys_are = ap (λ (x : List (Option ℕ)). sort_keys_in x links.order t.stop_times.rows.items) linked.trips
 
   pub rows_are : linked_by links.names.trips.items links.names.stops.items links.order t.stop_times.rows.items
-      ≡ rows_by (stop_named t.stops.items) (trip_named t.trips.items) t (turns_in (trips_by (trip_named t.trips.items) t) links.order t.stop_times.rows.items)
+      ≡ rows_by (stop_named t.stops.items) (trip_named t.trips.items) t (sort_keys_in (trips_by (trip_named t.trips.items) t) links.order
+      t.stop_times.rows.items)
   rows_are = rows_as_given links.names.trips.items (trips_by (trip_named t.trips.items) t) links.names.stops.items (stops_by (stop_named t.stops.items) t)
       links.order t.stop_times.rows.items (linked_by links.names.trips.items links.names.stops.items links.order t.stop_times.rows.items)
       linked.trips linked.stops refl
 
   -- the first fault of the trips' times
-  judged : (r : Option TableFault) → first_below (trip_fault strict (turns_in links.names.trips.items links.order t.stop_times.rows.items)
+  judged : (r : Option TableFault) → first_below (trip_fault strict (sort_keys_in links.names.trips.items links.order t.stop_times.rows.items)
       (linked_by links.names.trips.items links.names.stops.items links.order t.stop_times.rows.items)) (length t.trips.items) ≡ r
-      → first_below (trip_fault strict (turns_in (trips_by (trip_named t.trips.items) t) links.order t.stop_times.rows.items)
-      (rows_by (stop_named t.stops.items) (trip_named t.trips.items) t (turns_in (trips_by (trip_named t.trips.items) t) links.order t.stop_times.rows.items)))
+      → first_below (trip_fault strict (sort_keys_in (trips_by (trip_named t.trips.items) t) links.order t.stop_times.rows.items)
+      (rows_by (stop_named t.stops.items) (trip_named t.trips.items) t (sort_keys_in (trips_by (trip_named t.trips.items) t) links.order
+      t.stop_times.rows.items)))
       (length t.trips.items) ≡ r
-  judged r h = trips_as_given strict (turns_in links.names.trips.items links.order t.stop_times.rows.items)
-      (turns_in (trips_by (trip_named t.trips.items) t) links.order t.stop_times.rows.items)
+  judged r h = trips_as_given strict (sort_keys_in links.names.trips.items links.order t.stop_times.rows.items)
+      (sort_keys_in (trips_by (trip_named t.trips.items) t) links.order t.stop_times.rows.items)
       (linked_by links.names.trips.items links.names.stops.items links.order t.stop_times.rows.items)
-      (rows_by (stop_named t.stops.items) (trip_named t.trips.items) t (turns_in (trips_by (trip_named t.trips.items) t) links.order t.stop_times.rows.items))
-      (length t.trips.items) r turns_are rows_are h
+      (rows_by (stop_named t.stops.items) (trip_named t.trips.items) t (sort_keys_in (trips_by (trip_named t.trips.items) t) links.order
+      t.stop_times.rows.items))
+      (length t.trips.items) r sort_keys_are rows_are h
 
   -- a fault of the trips' times
-  pub trip_first : (fault : TableFault) → first_below (trip_fault strict (turns_in links.names.trips.items links.order t.stop_times.rows.items)
+  pub trip_first : (fault : TableFault) → first_below (trip_fault strict (sort_keys_in links.names.trips.items links.order t.stop_times.rows.items)
       (linked_by links.names.trips.items links.names.stops.items links.order t.stop_times.rows.items)) (length t.trips.items) ≡ Some fault
       → IsFirstFault strict t fault
   trip_first fault h = record {
-    turns = turns_in (trips_by (trip_named t.trips.items) t) links.order t.stop_times.rows.items;
+    sort_keys = sort_keys_in (trips_by (trip_named t.trips.items) t) links.order t.stop_times.rows.items;
     in_order = linked.in_order;
     first = of_two _ _ _ fault linked.fine (judged (Some fault) h);
   }
 
   -- trips whose times have none, and a fault of the transfers
-  pub transfer_first : (fault : TableFault) → first_below (trip_fault strict (turns_in links.names.trips.items links.order t.stop_times.rows.items)
+  pub transfer_first : (fault : TableFault) → first_below (trip_fault strict (sort_keys_in links.names.trips.items links.order t.stop_times.rows.items)
       (linked_by links.names.trips.items links.names.stops.items links.order t.stop_times.rows.items)) (length t.trips.items) ≡ None
       → links.transfers ≡ Err fault → fault.kind ≢ OutOfMemory → IsFirstFault strict t fault
   transfer_first fault none is other = record {
-    turns = turns_in (trips_by (trip_named t.trips.items) t) links.order t.stop_times.rows.items;
+    sort_keys = sort_keys_in (trips_by (trip_named t.trips.items) t) links.order t.stop_times.rows.items;
     in_order = linked.in_order;
     first = of_three _ _ _ fault linked.fine (judged None none) (of_err links.transfers fault (λ fault. fault.kind ≢ OutOfMemory
         → first_fault_of kinds.Transfers (transfer_fault (stop_named t.stops.items)) t.transfers.items ≡ Some fault) is linked.transfers_wrong other);
   }
 
   -- neither of both
-  pub none_first : (kept : Vec Transfer) → first_below (trip_fault strict (turns_in links.names.trips.items links.order t.stop_times.rows.items)
+  pub none_first : (kept : Vec Transfer) → first_below (trip_fault strict (sort_keys_in links.names.trips.items links.order t.stop_times.rows.items)
       (linked_by links.names.trips.items links.names.stops.items links.order t.stop_times.rows.items)) (length t.trips.items) ≡ None
       → links.transfers ≡ Ok kept → first_fault (stop_named t.stops.items) (trip_named t.trips.items) strict t
-      (turns_in (trips_by (trip_named t.trips.items) t) links.order t.stop_times.rows.items) ≡ None
+      (sort_keys_in (trips_by (trip_named t.trips.items) t) links.order t.stop_times.rows.items) ≡ None
   none_first kept none is = of_none _ _ _ linked.fine (judged None none) (of_ok links.transfers kept
       (λ kept. first_fault_of kinds.Transfers (transfer_fault (stop_named t.stops.items)) t.transfers.items ≡ None) is linked.transfers_fine)
 
   -- the trips
-  pub trips_are : (made : List Trip) → made ≡ feed_trips (turns_in links.names.trips.items links.order t.stop_times.rows.items)
+  pub trips_are : (made : List Trip) → made ≡ feed_trips (sort_keys_in links.names.trips.items links.order t.stop_times.rows.items)
       (linked_by links.names.trips.items links.names.stops.items links.order t.stop_times.rows.items)
       (λ i. slice_index_or links.repeats.items i false) 0 t.trips.items
-      → made ≡ feed_trips (turns_in (trips_by (trip_named t.trips.items) t) links.order t.stop_times.rows.items)
-      (rows_by (stop_named t.stops.items) (trip_named t.trips.items) t (turns_in (trips_by (trip_named t.trips.items) t) links.order t.stop_times.rows.items))
+      → made ≡ feed_trips (sort_keys_in (trips_by (trip_named t.trips.items) t) links.order t.stop_times.rows.items)
+      (rows_by (stop_named t.stops.items) (trip_named t.trips.items) t (sort_keys_in (trips_by (trip_named t.trips.items) t) links.order
+      t.stop_times.rows.items))
       (is_repeated (trip_named t.trips.items) t.frequencies.items) 0 t.trips.items
-  trips_are made h = trips_made (turns_in links.names.trips.items links.order t.stop_times.rows.items)
-      (turns_in (trips_by (trip_named t.trips.items) t) links.order t.stop_times.rows.items)
+  trips_are made h = trips_made (sort_keys_in links.names.trips.items links.order t.stop_times.rows.items)
+      (sort_keys_in (trips_by (trip_named t.trips.items) t) links.order t.stop_times.rows.items)
       (linked_by links.names.trips.items links.names.stops.items links.order t.stop_times.rows.items)
-      (rows_by (stop_named t.stops.items) (trip_named t.trips.items) t (turns_in (trips_by (trip_named t.trips.items) t) links.order t.stop_times.rows.items))
-      links.repeats.items links.repeats.items t.trips.items made turns_are rows_are refl h
-      ∙ same_trips (turns_in (trips_by (trip_named t.trips.items) t) links.order t.stop_times.rows.items)
-      (rows_by (stop_named t.stops.items) (trip_named t.trips.items) t (turns_in (trips_by (trip_named t.trips.items) t) links.order t.stop_times.rows.items))
+      (rows_by (stop_named t.stops.items) (trip_named t.trips.items) t (sort_keys_in (trips_by (trip_named t.trips.items) t) links.order
+      t.stop_times.rows.items))
+      links.repeats.items links.repeats.items t.trips.items made sort_keys_are rows_are refl h
+      ∙ same_trips (sort_keys_in (trips_by (trip_named t.trips.items) t) links.order t.stop_times.rows.items)
+      (rows_by (stop_named t.stops.items) (trip_named t.trips.items) t (sort_keys_in (trips_by (trip_named t.trips.items) t) links.order
+      t.stop_times.rows.items))
       (λ i. slice_index_or links.repeats.items i false) (is_repeated (trip_named t.trips.items) t.frequencies.items) 0 t.trips.items
       (λ i lt. linked.repeats i (omega arith))

@@ -26,7 +26,7 @@ use Rattle.gtfs_tables.specs.Feeds.{rows_by, fault_of_row, stops_by, trip_fault,
 use Rattle.gtfs_tables.specs.First.{first_below, first_fault_of}
 use Rattle.gtfs_tables.specs.Joined.{AreRunnable, HasTimedEnds, IsRunnableTrip, NameStopsBelow, NamesBelow}
 use Rattle.gtfs_tables.specs.Names.{named_as, named_at, stop_named, stop_with, trip_named}
-use Rattle.gtfs_tables.specs.Order.{first_turn, of_trip, row_of}
+use Rattle.gtfs_tables.specs.Order.{first_row_of, of_trip, row_of}
 use Rattle.gtfs_tables.specs.Rows.{IsTransferOf, is_flex_id, is_kept, is_repeated, named_by, stop_number, stop_of, transfer_fault}
 use Rattle.gtfs_tables.specs.Times.{first_wrong, is_flex, wrong_given, wrong_times}
 use Rattle.gtfs_tables.specs.declared.names.StopIdTarget.{StopIdTarget}
@@ -42,7 +42,7 @@ use Rattle.gtfs_tables.proofs.TimeLemmas.{ends_timed}
 
 -- ---- what an id names is one of the stops
 
--- what is found below a place is found at one
+-- what is found below an index is found at one
 found_at : {X : Type 0} (f : ℕ → Option X) (n : ℕ) (x : X) → first_below f n ≡ Some x → (k : ℕ) × (k < n) × (f k ≡ Some x)
 unfolding first_below
 found_at f zero x e = absurd cc
@@ -149,27 +149,32 @@ kept_more p q (x ∷ xs) h =
       | inr t ↦ elim (cases_Bool (q x)) [ inl u ↦ rw (t, u) (omega arith) | inr u ↦ rw (t, u) rest ]
     ]
 
-turn_rises : (turns : List SortKey) (t : ℕ) → first_turn turns t ≤ first_turn turns (t + 1)
-turn_rises turns t =
-    let more = kept_more (λ (turn : SortKey). nat_lt turn.trip t) (λ (turn : SortKey). nat_lt turn.trip (t + 1)) turns
-    (λ turn e. test_more turn.trip t (t + 1) (omega arith) e) in
-    omega (arith, length-filter (λ (turn : SortKey). nat_lt turn.trip t) turns, length-filter (λ (turn : SortKey). nat_lt turn.trip (t + 1)) turns)
+sort_key_rises : (sort_keys : List SortKey) (t : ℕ) → first_row_of sort_keys t ≤ first_row_of sort_keys (t + 1)
+sort_key_rises sort_keys t =
+    let more = kept_more (λ (sort_key : SortKey). nat_lt sort_key.trip t) (λ (sort_key : SortKey). nat_lt sort_key.trip (t + 1)) sort_keys
+    (λ sort_key e. test_more sort_key.trip t (t + 1) (omega arith) e) in
+    omega (
+      arith,
+      length-filter (λ (sort_key : SortKey). nat_lt sort_key.trip t) sort_keys,
+      length-filter (λ (sort_key : SortKey). nat_lt sort_key.trip (t + 1))
+          sort_keys,
+    )
 
-turn_within : (turns : List SortKey) (t : ℕ) → first_turn turns t ≤ length turns
-turn_within turns t = count_by-le-length (λ turn. nat_lt turn.trip t) turns
+sort_key_within : (sort_keys : List SortKey) (t : ℕ) → first_row_of sort_keys t ≤ length sort_keys
+sort_key_within sort_keys t = count_by-le-length (λ sort_key. nat_lt sort_key.trip t) sort_keys
 
-trip_at : (turns : List SortKey) (rows : List StopTimeRow) (repeats : ℕ → Bool) (from k : ℕ) (trips : List TripRow) (d : Trip) → k < length trips
-    → (row : TripRow) × (get_or (feed_trips turns rows repeats from trips) k d ≡ feed_trip turns rows repeats (from + k) row)
-trip_at turns rows repeats from k [] d lt = absurd (omega (arith, lt))
-trip_at turns rows repeats from zero (row ∷ trips) d lt = (row, let e : from + zero ≡ from = omega arith in rw e refl)
-trip_at turns rows repeats from (suc k) (row ∷ trips) d lt =
-    let rest = trip_at turns rows repeats (from + 1) k trips d (omega (arith, lt)) in
+trip_at : (sort_keys : List SortKey) (rows : List StopTimeRow) (repeats : ℕ → Bool) (from k : ℕ) (trips : List TripRow) (d : Trip) → k < length trips
+    → (row : TripRow) × (get_or (feed_trips sort_keys rows repeats from trips) k d ≡ feed_trip sort_keys rows repeats (from + k) row)
+trip_at sort_keys rows repeats from k [] d lt = absurd (omega (arith, lt))
+trip_at sort_keys rows repeats from zero (row ∷ trips) d lt = (row, let e : from + zero ≡ from = omega arith in rw e refl)
+trip_at sort_keys rows repeats from (suc k) (row ∷ trips) d lt =
+    let rest = trip_at sort_keys rows repeats (from + 1) k trips d (omega (arith, lt)) in
     (rest.0, let e : from + suc k ≡ from + 1 + k = omega arith in rw e rest.1)
 
-trips_counted : (turns : List SortKey) (rows : List StopTimeRow) (repeats : ℕ → Bool) (from : ℕ) (trips : List TripRow)
-    → length (feed_trips turns rows repeats from trips) ≡ length trips
-trips_counted turns rows repeats from [] = refl
-trips_counted turns rows repeats from (row ∷ trips) = ap (λ n. suc n) (trips_counted turns rows repeats (from + 1) trips)
+trips_counted : (sort_keys : List SortKey) (rows : List StopTimeRow) (repeats : ℕ → Bool) (from : ℕ) (trips : List TripRow)
+    → length (feed_trips sort_keys rows repeats from trips) ≡ length trips
+trips_counted sort_keys rows repeats from [] = refl
+trips_counted sort_keys rows repeats from (row ∷ trips) = ap (λ n. suc n) (trips_counted sort_keys rows repeats (from + 1) trips)
 
 -- ---- their times and stops
 
@@ -236,13 +241,13 @@ stop_below n None e h = absurd (false≢true (sym e))
 stop_below n (Some s) e h = h s refl
 
 -- a row of the feed has one of the stops, if any
-row_below : (t : Tables) (turns : List SortKey) (k s : ℕ) (d : StopTimeRow) → k < length turns
-    → (get_or (rows_by (stop_named t.stops.items) (trip_named t.trips.items) t turns) k d).stop ≡ Some s → s < count_by is_stop t.stops.items
-row_below t turns k s d lt e =
-    let turn = mapped_at (λ (turn : SortKey). link_by (stop_named t.stops.items) (trip_named t.trips.items) t
-    (row_of t.stop_times.rows.items turn.number)) turns k d lt in
-    let raw = row_of t.stop_times.rows.items turn.0.number in
-    let here = sym (ap (λ (row : StopTimeRow). row.stop) turn.1) ∙ e in
+row_below : (t : Tables) (sort_keys : List SortKey) (k s : ℕ) (d : StopTimeRow) → k < length sort_keys
+    → (get_or (rows_by (stop_named t.stops.items) (trip_named t.trips.items) t sort_keys) k d).stop ≡ Some s → s < count_by is_stop t.stops.items
+row_below t sort_keys k s d lt e =
+    let sort_key = mapped_at (λ (sort_key : SortKey). link_by (stop_named t.stops.items) (trip_named t.trips.items) t
+    (row_of t.stop_times.rows.items sort_key.number)) sort_keys k d lt in
+    let raw = row_of t.stop_times.rows.items sort_key.0.number in
+    let here = sym (ap (λ (row : StopTimeRow). row.stop) sort_key.1) ∙ e in
     let some = unless (is_none (named_at (trips_by (trip_named t.trips.items) t) raw.trip) || is_flex_id
     t.stop_times.rows.items raw.trip) (stop_number (stop_of (stops_by (stop_named t.stops.items) t) raw)) s here
     in
@@ -250,66 +255,66 @@ row_below t turns k s d lt e =
 
 -- ---- the trips of a joined feed
 
-fault_none : (strict : Bool) (t : Tables) (turns : List SortKey) (k : ℕ)
-    → first_fault (stop_named t.stops.items) (trip_named t.trips.items) strict t turns ≡ None → k < length t.trips.items
-    → first_wrong strict (of_trip turns k (rows_by (stop_named t.stops.items) (trip_named t.trips.items) t turns)) ≡ None
-fault_none strict t turns k e lt =
-    let rows = rows_by (stop_named t.stops.items) (trip_named t.trips.items) t turns in
+fault_none : (strict : Bool) (t : Tables) (sort_keys : List SortKey) (k : ℕ)
+    → first_fault (stop_named t.stops.items) (trip_named t.trips.items) strict t sort_keys ≡ None → k < length t.trips.items
+    → first_wrong strict (of_trip sort_keys k (rows_by (stop_named t.stops.items) (trip_named t.trips.items) t sort_keys)) ≡ None
+fault_none strict t sort_keys k e lt =
+    let rows = rows_by (stop_named t.stops.items) (trip_named t.trips.items) t sort_keys in
     let behind = option_or_parts (naming_fault (stop_named t.stops.items) (trip_named t.trips.items) t)
-    (option_or (first_below (trip_fault strict turns rows) (length t.trips.items))
+    (option_or (first_below (trip_fault strict sort_keys rows) (length t.trips.items))
     (first_fault_of tables.Transfers (transfer_fault (stop_named t.stops.items)) t.transfers.items)) e in
-    let trips = option_or_parts (first_below (trip_fault strict turns rows) (length t.trips.items))
+    let trips = option_or_parts (first_below (trip_fault strict sort_keys rows) (length t.trips.items))
     (first_fault_of tables.Transfers (transfer_fault (stop_named t.stops.items)) t.transfers.items) behind.1 in
-    unmapped (fault_of_row (of_trip turns k turns)) (first_wrong strict (of_trip turns k rows))
-    (first_below-none (trip_fault strict turns rows) (length t.trips.items) k lt trips.0)
+    unmapped (fault_of_row (of_trip sort_keys k sort_keys)) (first_wrong strict (of_trip sort_keys k rows))
+    (first_below-none (trip_fault strict sort_keys rows) (length t.trips.items) k lt trips.0)
 
--- the trip at a place, as it is made, is runnable
-made_runnable : (strict : Bool) (t : Tables) (turns : List SortKey) (k : ℕ) (row : TripRow)
-    → first_fault (stop_named t.stops.items) (trip_named t.trips.items) strict t turns ≡ None → k < length t.trips.items
-    → IsRunnableTrip (count_by is_stop t.stops.items) (rows_by (stop_named t.stops.items) (trip_named t.trips.items) t turns)
-    (feed_trip turns (rows_by (stop_named t.stops.items) (trip_named t.trips.items) t turns)
+-- the trip at an index, as it is made, is runnable
+made_runnable : (strict : Bool) (t : Tables) (sort_keys : List SortKey) (k : ℕ) (row : TripRow)
+    → first_fault (stop_named t.stops.items) (trip_named t.trips.items) strict t sort_keys ≡ None → k < length t.trips.items
+    → IsRunnableTrip (count_by is_stop t.stops.items) (rows_by (stop_named t.stops.items) (trip_named t.trips.items) t sort_keys)
+    (feed_trip sort_keys (rows_by (stop_named t.stops.items) (trip_named t.trips.items) t sort_keys)
     (is_repeated (trip_named t.trips.items) t.frequencies.items) k row)
-made_runnable strict t turns k row faultless lt =
-    let rows = rows_by (stop_named t.stops.items) (trip_named t.trips.items) t turns in
-    let up = turn_rises turns k in
-    let len : length rows ≡ length turns = length-map turns
-    (λ (turn : SortKey). link_by (stop_named t.stops.items) (trip_named t.trips.items) t
-    (row_of t.stop_times.rows.items turn.number)) in
-    let inside : first_turn turns (k + 1) ≤ length rows = let w = turn_within turns (k + 1) in omega arith in
-    let count : length (of_trip turns k rows) ≡ first_turn turns (k + 1) - first_turn turns k =
-    slice_length rows (first_turn turns k) (first_turn turns (k + 1)) inside in
+made_runnable strict t sort_keys k row faultless lt =
+    let rows = rows_by (stop_named t.stops.items) (trip_named t.trips.items) t sort_keys in
+    let up = sort_key_rises sort_keys k in
+    let len : length rows ≡ length sort_keys = length-map sort_keys
+    (λ (sort_key : SortKey). link_by (stop_named t.stops.items) (trip_named t.trips.items) t
+    (row_of t.stop_times.rows.items sort_key.number)) in
+    let inside : first_row_of sort_keys (k + 1) ≤ length rows = let w = sort_key_within sort_keys (k + 1) in omega arith in
+    let count : length (of_trip sort_keys k rows) ≡ first_row_of sort_keys (k + 1) - first_row_of sort_keys k =
+    slice_length rows (first_row_of sort_keys k) (first_row_of sort_keys (k + 1)) inside in
     record {
       rising = up;
       within = inside;
       timed = λ makes.
-          let parts = and_parts (not (is_flex (of_trip turns k rows))) (nat_le 2 (first_turn turns (k + 1) - first_turn turns k)) makes in
-          let two = leb-true 2 (first_turn turns (k + 1) - first_turn turns k) parts.1 in
-          timed_by strict (of_trip turns k rows) (le-ltb (length (of_trip turns k rows)) 2 (omega arith))
-          (not-true (is_flex (of_trip turns k rows)) parts.0) (fault_none strict t turns k faultless lt);
+          let parts = and_parts (not (is_flex (of_trip sort_keys k rows))) (nat_le 2 (first_row_of sort_keys (k + 1) - first_row_of sort_keys k)) makes in
+          let two = leb-true 2 (first_row_of sort_keys (k + 1) - first_row_of sort_keys k) parts.1 in
+          timed_by strict (of_trip sort_keys k rows) (le-ltb (length (of_trip sort_keys k rows)) 2 (omega arith))
+          (not-true (is_flex (of_trip sort_keys k rows)) parts.0) (fault_none strict t sort_keys k faultless lt);
       stops_below = λ makes i d less.
-          let parts = and_parts (not (is_flex (of_trip turns k rows))) (nat_le 2 (first_turn turns (k + 1) - first_turn turns k)) makes in
-          let steady = not-true (is_flex (of_trip turns k rows)) parts.0 in
-          let at : get_or (of_trip turns k rows) i d ≡ get_or rows (first_turn turns k + i) d =
-          slice_at rows (first_turn turns k) (first_turn turns (k + 1)) i d (omega arith) in
-          stop_below (count_by is_stop t.stops.items) (get_or (of_trip turns k rows) i d).stop
-          (none_any (λ (row : StopTimeRow). is_none row.stop) (of_trip turns k rows) i d steady less)
-          (λ s e. row_below t turns (first_turn turns k + i) s d (omega arith) (sym (ap (λ (row : StopTimeRow). row.stop) at) ∙ e));
+          let parts = and_parts (not (is_flex (of_trip sort_keys k rows))) (nat_le 2 (first_row_of sort_keys (k + 1) - first_row_of sort_keys k)) makes in
+          let steady = not-true (is_flex (of_trip sort_keys k rows)) parts.0 in
+          let at : get_or (of_trip sort_keys k rows) i d ≡ get_or rows (first_row_of sort_keys k + i) d =
+          slice_at rows (first_row_of sort_keys k) (first_row_of sort_keys (k + 1)) i d (omega arith) in
+          stop_below (count_by is_stop t.stops.items) (get_or (of_trip sort_keys k rows) i d).stop
+          (none_any (λ (row : StopTimeRow). is_none row.stop) (of_trip sort_keys k rows) i d steady less)
+          (λ s e. row_below t sort_keys (first_row_of sort_keys k + i) s d (omega arith) (sym (ap (λ (row : StopTimeRow). row.stop) at) ∙ e));
     }
 
-pub joined_trips : (strict : Bool) (t : Tables) (turns : List SortKey) (stops : List Stop) (times : List StopTimeRow) (trips : List Trip)
-    → first_fault (stop_named t.stops.items) (trip_named t.trips.items) strict t turns ≡ None
+pub joined_trips : (strict : Bool) (t : Tables) (sort_keys : List SortKey) (stops : List Stop) (times : List StopTimeRow) (trips : List Trip)
+    → first_fault (stop_named t.stops.items) (trip_named t.trips.items) strict t sort_keys ≡ None
     → stops ≡ map (feed_stop (stop_named t.stops.items)) (filter is_stop t.stops.items)
-    → times ≡ rows_by (stop_named t.stops.items) (trip_named t.trips.items) t turns
-    → trips ≡ feed_trips turns (rows_by (stop_named t.stops.items) (trip_named t.trips.items) t turns)
+    → times ≡ rows_by (stop_named t.stops.items) (trip_named t.trips.items) t sort_keys
+    → trips ≡ feed_trips sort_keys (rows_by (stop_named t.stops.items) (trip_named t.trips.items) t sort_keys)
     (is_repeated (trip_named t.trips.items) t.frequencies.items) 0 t.trips.items
     → AreRunnable (length stops) times trips
-joined_trips strict t turns stops times trips faultless stops_are times_are trips_are k d lt =
-    let rows = rows_by (stop_named t.stops.items) (trip_named t.trips.items) t turns in
+joined_trips strict t sort_keys stops times trips faultless stops_are times_are trips_are k d lt =
+    let rows = rows_by (stop_named t.stops.items) (trip_named t.trips.items) t sort_keys in
     let repeats = is_repeated (trip_named t.trips.items) t.frequencies.items in
     let count = stops_counted t stops (stop_named t.stops.items) stops_are in
-    let many : length trips ≡ length t.trips.items = ap length trips_are ∙ trips_counted turns rows repeats 0 t.trips.items in
-    let made = trip_at turns rows repeats 0 k t.trips.items d (omega arith) in
+    let many : length trips ≡ length t.trips.items = ap length trips_are ∙ trips_counted sort_keys rows repeats 0 t.trips.items in
+    let made = trip_at sort_keys rows repeats 0 k t.trips.items d (omega arith) in
     let index : 0 + k ≡ k = omega arith in
-    let is : get_or trips k d ≡ feed_trip turns rows repeats k made.0 =
-    ap (λ (all : List Trip). get_or all k d) trips_are ∙ made.1 ∙ ap (λ n. feed_trip turns rows repeats n made.0) index in
-    rw (is, times_are, count) (made_runnable strict t turns k made.0 faultless (omega arith))
+    let is : get_or trips k d ≡ feed_trip sort_keys rows repeats k made.0 =
+    ap (λ (all : List Trip). get_or all k d) trips_are ∙ made.1 ∙ ap (λ n. feed_trip sort_keys rows repeats n made.0) index in
+    rw (is, times_are, count) (made_runnable strict t sort_keys k made.0 faultless (omega arith))

@@ -9,4 +9,4 @@ pub mod OrderLemmas
 pub mod RowLemmas
 pub mod SpreadLemmas
 pub mod TimeLemmas
-pub mod TurnLemmas
+pub mod SortKeyLemmas

@@ -1,4 +1,4 @@
--- Turns have only one order.
+-- Sort keys have only one order.
 use Rattle.std.proofs.Common.{◌≡◌, ◌∙◌, ℕ, suc, ◌+◌, ◌<◌, ◌≤◌, ◌⊎◌, inl, inr, List, [], ◌∷◌, get_or, true, false, eqb}
 use Rattle.std.proofs.Common.{ltb, if◌then◌else◌, Option, refl, sym, ap, subst, arith}
 use Rattle.std.specs.Prelude.{IsSortedBy}
@@ -7,10 +7,10 @@ use Rattle.std.proofs.lemmas.Bool.{cases_Bool, cases_order, eq-eqb, le-ltb, lt-l
 use Rattle.std.proofs.lemmas.List.Sums.{sum_by-cons}
 use Rattle.std.proofs.lemmas.List.Sorted.{sum_by-IsPermutation}
 use Rattle.gtfs_rows.specs.declared.rows.StopTimeRow.{StopTimeRow}
-use Rattle.gtfs_tables.specs.Order.{IsInOrder, comes_before, turns_from}
+use Rattle.gtfs_tables.specs.Order.{IsInOrder, comes_before, sort_keys_from}
 use Rattle.gtfs_tables.specs.declared.order.SortKey.{SortKey}
 
--- a turn is another's, or comes after it
+-- a sort key is another's, or comes after it
 abbrev IsAtOrAfter : SortKey → SortKey → Type 0
 IsAtOrAfter a b = (b.trip < a.trip) ⊎ ((a.trip ≡ b.trip) × ((b.sequence < a.sequence) ⊎ ((a.sequence ≡ b.sequence) × (b.number ≤ a.number))))
 
@@ -31,7 +31,7 @@ at_or_after a b e = by (cases_order a.trip b.trip) (cases_order a.sequence b.seq
   where
     by : (a.trip ≡ b.trip) ⊎ ((a.trip < b.trip) ⊎ (b.trip < a.trip))
         → (a.sequence ≡ b.sequence) ⊎ ((a.sequence < b.sequence) ⊎ (b.sequence < a.sequence)) → IsAtOrAfter a b
-    by (inl same) (inl also) = inr (same, inr (also, ltb-false a.number b.number (sym (same_sequence a b same also) ∙ e)))
+    by (inl same) (inl equal_too) = inr (same, inr (equal_too, ltb-false a.number b.number (sym (same_sequence a b same equal_too) ∙ e)))
     by (inl same) (inr (inl less)) = absurd (false≢true (sym e ∙ other_sequence a b same (λ s. omega (arith, s)) ∙ lt-ltb a.sequence b.sequence less))
     by (inl same) (inr (inr more)) = inr (same, inl more)
     by (inr (inl less)) s = absurd (false≢true (sym e ∙ other_trip a b (λ t. omega (arith, t)) ∙ lt-ltb a.trip b.trip less))
@@ -40,30 +40,30 @@ at_or_after a b e = by (cases_order a.trip b.trip) (cases_order a.sequence b.seq
 never_before : (a b : SortKey) → IsAtOrAfter a b → comes_before a b ≡ false
 never_before a b (inl more) = other_trip a b (λ t. omega (arith, t)) ∙ le-ltb a.trip b.trip (omega arith)
 never_before a b (inr (same, inl more)) = other_sequence a b same (λ s. omega (arith, s)) ∙ le-ltb a.sequence b.sequence (omega arith)
-never_before a b (inr (same, inr (also, no_less))) = same_sequence a b same also ∙ le-ltb a.number b.number no_less
+never_before a b (inr (same, inr (equal_too, no_less))) = same_sequence a b same equal_too ∙ le-ltb a.number b.number no_less
 
 chained : (a b c : SortKey) → IsAtOrAfter a b → IsAtOrAfter b c → IsAtOrAfter a c
 chained a b c (inl ab) (inl bc) = inl (omega arith)
 chained a b c (inl ab) (inr (same, rest)) = inl (omega (arith, same))
 chained a b c (inr (same, rest)) (inl bc) = inl (omega (arith, same))
 chained a b c (inr (same, inl ab)) (inr (too, inl bc)) = inr (same ∙ too, inl (omega arith))
-chained a b c (inr (same, inl ab)) (inr (too, inr (also, bc))) = inr (same ∙ too, inl (omega (arith, also)))
-chained a b c (inr (same, inr (also, ab))) (inr (too, inl bc)) = inr (same ∙ too, inl (omega (arith, also)))
-chained a b c (inr (same, inr (also, ab))) (inr (too, inr (as_well, bc))) = inr (same ∙ too, inr (also ∙ as_well, omega arith))
+chained a b c (inr (same, inl ab)) (inr (too, inr (equal_too, bc))) = inr (same ∙ too, inl (omega (arith, equal_too)))
+chained a b c (inr (same, inr (equal_too, ab))) (inr (too, inl bc)) = inr (same ∙ too, inl (omega (arith, equal_too)))
+chained a b c (inr (same, inr (equal_too, ab))) (inr (too, inr (as_well, bc))) = inr (same ∙ too, inr (equal_too ∙ as_well, omega arith))
 
--- two turns of which neither comes before the other are the same
-same_turn : (a b : SortKey) → IsAtOrAfter a b → IsAtOrAfter b a → a ≡ b
-same_turn a b (inl ab) (inl ba) = absurd (omega arith)
-same_turn a b (inl ab) (inr (same, rest)) = absurd (omega (arith, same))
-same_turn a b (inr (same, rest)) (inl ba) = absurd (omega (arith, same))
-same_turn a b (inr (same, inl ab)) (inr (too, inl ba)) = absurd (omega arith)
-same_turn a b (inr (same, inl ab)) (inr (too, inr (also, ba))) = absurd (omega (arith, also))
-same_turn a b (inr (same, inr (also, ab))) (inr (too, inl ba)) = absurd (omega (arith, also))
-same_turn a b (inr (same, inr (also, ab))) (inr (too, inr (as_well, ba))) =
+-- two sort keys of which neither comes before the other are the same
+same_sort_key : (a b : SortKey) → IsAtOrAfter a b → IsAtOrAfter b a → a ≡ b
+same_sort_key a b (inl ab) (inl ba) = absurd (omega arith)
+same_sort_key a b (inl ab) (inr (same, rest)) = absurd (omega (arith, same))
+same_sort_key a b (inr (same, rest)) (inl ba) = absurd (omega (arith, same))
+same_sort_key a b (inr (same, inl ab)) (inr (too, inl ba)) = absurd (omega arith)
+same_sort_key a b (inr (same, inl ab)) (inr (too, inr (equal_too, ba))) = absurd (omega (arith, equal_too))
+same_sort_key a b (inr (same, inr (equal_too, ab))) (inr (too, inl ba)) = absurd (omega (arith, equal_too))
+same_sort_key a b (inr (same, inr (equal_too, ab))) (inr (too, inr (as_well, ba))) =
     let number : a.number ≡ b.number = omega arith in
-    λ i. record { trip = same i; sequence = also i; number = number i }
+    λ i. record { trip = same i; sequence = equal_too i; number = number i }
 
--- 1 for a turn that comes before another, else 0
+-- 1 for a sort key that comes before another, else 0
 abbrev before : SortKey → SortKey → ℕ
 before b a = if comes_before a b then 1 else 0
 
@@ -78,7 +78,7 @@ rest_sorted x xs sorted k d low lt =
     let next : suc k + 1 ≡ suc (k + 1) = omega arith in
     subst (λ (n : ℕ). comes_before (get_or (x ∷ xs) n d) (get_or xs k d) ≡ false) next (sorted (suc k) d (omega arith) (omega arith))
 
--- of turns in order none comes before one that the first doesn't come before
+-- of sort keys in order none comes before one that the first doesn't come before
 none_before : (x : SortKey) (xs : List SortKey) → IsSortedBy comes_before (x ∷ xs) → (b : SortKey) → IsAtOrAfter x b → sum_by (before b) (x ∷ xs) ≡ 0
 none_before x [] sorted b from =
     let here : before b x ≡ 0 = before-false b x (never_before x b from) in
@@ -97,7 +97,7 @@ HaveSameSums xs ys = (f : SortKey → ℕ) → sum_by f xs ≡ sum_by f ys
 itself : (a : SortKey) → IsAtOrAfter a a
 itself a = inr (refl, inr (refl, omega arith))
 
--- the first turn of the one doesn't come before the first of the other
+-- the first sort key of the one doesn't come before the first of the other
 first_after : (x y : SortKey) (xs ys : List SortKey) → IsSortedBy comes_before (y ∷ ys) → HaveSameSums (x ∷ xs) (y ∷ ys) → IsAtOrAfter x y
 first_after x y xs ys sorted sums = by (cases_Bool (comes_before x y))
   where
@@ -114,15 +114,15 @@ abbrev one : SortKey → ℕ
 one a = 1
 
 same_lists : (xs ys : List SortKey) → IsSortedBy comes_before xs → IsSortedBy comes_before ys → HaveSameSums xs ys → xs ≡ ys
-same_lists [] [] up also sums = refl
-same_lists [] (y ∷ ys) up also sums =
+same_lists [] [] up equal_too sums = refl
+same_lists [] (y ∷ ys) up equal_too sums =
     let e : 0 ≡ 1 + sum_by one ys = sums one ∙ sum_by-cons one y ys in
     absurd (omega (arith, e))
-same_lists (x ∷ xs) [] up also sums =
+same_lists (x ∷ xs) [] up equal_too sums =
     let e : 0 ≡ 1 + sum_by one xs = sym (sums one) ∙ sum_by-cons one x xs in
     absurd (omega (arith, e))
-same_lists (x ∷ xs) (y ∷ ys) up also sums =
-    let same : x ≡ y = same_turn x y (first_after x y xs ys also sums) (first_after y x ys xs up (λ f. sym (sums f))) in
+same_lists (x ∷ xs) (y ∷ ys) up equal_too sums =
+    let same : x ≡ y = same_sort_key x y (first_after x y xs ys equal_too sums) (first_after y x ys xs up (λ f. sym (sums f))) in
     let rest : HaveSameSums xs ys =
     λ f.
     let left : sum_by f (x ∷ xs) ≡ f x + sum_by f xs = sum_by-cons f x xs in
@@ -130,10 +130,10 @@ same_lists (x ∷ xs) (y ∷ ys) up also sums =
     let whole : sum_by f (x ∷ xs) ≡ sum_by f (y ∷ ys) = sums f in
     let heads : f x ≡ f y = ap f same in
     omega (arith, left, right, whole, heads) in
-    let tails : xs ≡ ys = same_lists xs ys (rest_sorted x xs up) (rest_sorted y ys also) rest in
+    let tails : xs ≡ ys = same_lists xs ys (rest_sorted x xs up) (rest_sorted y ys equal_too) rest in
     λ i. same i ∷ tails i
 
 pub one_order : (trips : List (Option ℕ)) (rows : List StopTimeRow) (xs ys : List SortKey) → IsInOrder trips rows xs → IsInOrder trips rows ys → xs ≡ ys
 one_order trips rows xs ys a b =
-    same_lists xs ys a.rising b.rising (λ f. sum_by-IsPermutation f (turns_from trips 1 rows) xs a.same
-    ∙ sym (sum_by-IsPermutation f (turns_from trips 1 rows) ys b.same))
+    same_lists xs ys a.rising b.rising (λ f. sum_by-IsPermutation f (sort_keys_from trips 1 rows) xs a.same
+    ∙ sym (sum_by-IsPermutation f (sort_keys_from trips 1 rows) ys b.same))

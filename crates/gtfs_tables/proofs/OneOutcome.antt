@@ -23,25 +23,27 @@ use Rattle.gtfs_tables.proofs.FirstLemmas.{first_of_all}
 use Rattle.gtfs_tables.proofs.JoinLemmas.{of_two}
 use Rattle.gtfs_tables.proofs.OneOrder.{one_order}
 
--- the tables' first fault by the turns of the one and of the other
+-- the tables' first fault by the sort keys of the one and of the other
 found : Bool → Tables → List SortKey → Option TableFault
-found strict t turns = first_fault (stop_named t.stops.items) (trip_named t.trips.items) strict t turns
+found strict t sort_keys = first_fault (stop_named t.stops.items) (trip_named t.trips.items) strict t sort_keys
 
 pub one_fault : (strict : Bool) (t : Tables) (x y : TableFault) → IsFirstFault strict t x → IsFirstFault strict t y → x ≡ y
 unfolding found
 one_fault strict t x y a b =
-    let turns : a.turns ≡ b.turns = one_order (trips_by (trip_named t.trips.items) t) t.stop_times.rows.items a.turns b.turns a.in_order b.in_order in
-    let first : found strict t a.turns ≡ Some x = a.first in
-    let also : found strict t b.turns ≡ Some y = b.first in
-    same_Some x y (sym first ∙ ap (found strict t) turns ∙ also)
+    let sort_keys : a.sort_keys ≡ b.sort_keys = one_order (trips_by (trip_named t.trips.items) t) t.stop_times.rows.items a.sort_keys b.sort_keys a.in_order
+    b.in_order in
+    let first : found strict t a.sort_keys ≡ Some x = a.first in
+    let equal_too : found strict t b.sort_keys ≡ Some y = b.first in
+    same_Some x y (sym first ∙ ap (found strict t) sort_keys ∙ equal_too)
 
 pub no_fault : (strict : Bool) (t : Tables) (feed : Feed) (x : TableFault) → IsJoined strict t feed → IsFirstFault strict t x → ⊥
 unfolding found
 no_fault strict t feed x a b =
-    let turns : a.turns ≡ b.turns = one_order (trips_by (trip_named t.trips.items) t) t.stop_times.rows.items a.turns b.turns a.in_order b.in_order in
-    let none : found strict t a.turns ≡ None = a.faultless in
-    let first : found strict t b.turns ≡ Some x = b.first in
-    none-some x (sym none ∙ ap (found strict t) turns ∙ first)
+    let sort_keys : a.sort_keys ≡ b.sort_keys = one_order (trips_by (trip_named t.trips.items) t) t.stop_times.rows.items a.sort_keys b.sort_keys a.in_order
+    b.in_order in
+    let none : found strict t a.sort_keys ≡ None = a.faultless in
+    let first : found strict t b.sort_keys ≡ Some x = b.first in
+    none-some x (sym none ∙ ap (found strict t) sort_keys ∙ first)
 
 -- the first of all faults in the times of trips is the tables', if no id is at fault
 pub first_time_fault : (strict : Bool) (t : Tables) (faults : List TableFault) (fault : TableFault)
@@ -49,7 +51,7 @@ pub first_time_fault : (strict : Bool) (t : Tables) (faults : List TableFault) (
     → AreTimeFaults (trips_by (trip_named t.trips.items) t) (stops_by (stop_named t.stops.items) t) t.stop_times.rows.items
     (length t.trips.items) strict faults → slice_get faults 0 ≡ Some fault → IsFirstFault strict t fault
 first_time_fault strict t faults fault fine are first = record {
-  turns = are.turns;
+  sort_keys = are.sort_keys;
   in_order = are.in_order;
   first = of_two _ _ _ fault fine (sym (first_of_all _ (length t.trips.items)) ∙ ap (λ (all : List TableFault). slice_get all 0) (sym are.faults_are) ∙ first);
 }
@@ -90,11 +92,12 @@ one_list named (row ∷ rows) (x ∷ xs) (y ∷ ys) a b =
 
 pub one_feed : (strict : Bool) (t : Tables) (f g : Feed) → IsJoined strict t f → IsJoined strict t g → IsSameFeed f g
 one_feed strict t f g a b =
-    let turns : a.turns ≡ b.turns = one_order (trips_by (trip_named t.trips.items) t) t.stop_times.rows.items a.turns b.turns a.in_order b.in_order in
+    let sort_keys : a.sort_keys ≡ b.sort_keys = one_order (trips_by (trip_named t.trips.items) t) t.stop_times.rows.items a.sort_keys b.sort_keys a.in_order
+    b.in_order in
     record {
       stops = a.feed_is.stops ∙ sym b.feed_is.stops;
-      trips = a.feed_is.trips ∙ rw turns (sym b.feed_is.trips);
-      stop_times = a.feed_is.stop_times ∙ rw turns (sym b.feed_is.stop_times);
+      trips = a.feed_is.trips ∙ rw sort_keys (sym b.feed_is.trips);
+      stop_times = a.feed_is.stop_times ∙ rw sort_keys (sym b.feed_is.stop_times);
       frequencies = a.feed_is.frequencies ∙ sym b.feed_is.frequencies;
       transfers = one_list (stop_named t.stops.items) (filter is_kept t.transfers.items) f.transfers.items
           g.transfers.items a.feed_is.transfers b.feed_is.transfers;

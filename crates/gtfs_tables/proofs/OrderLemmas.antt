@@ -1,4 +1,4 @@
--- The turns of rows, one row at a time, and where those of a trip begin.
+-- The sort keys of rows, one row at a time, and where those of a trip begin.
 use Rattle.std.proofs.Common.{◌≡◌, ℕ, zero, suc, ◌+◌, ◌<◌, ◌≤◌, ◌⊎◌, inl, inr, List, [], ◌∷◌, ◌++◌, length, get_or}
 use Rattle.std.proofs.Common.{take, Bool, true, false, eqb, ltb, Option, refl, ap, ◌∙◌, sym, arith}
 use Rattle.std.specs.Prelude.{count_by, filter, IsSortedBy}
@@ -9,27 +9,29 @@ use Rattle.std.proofs.lemmas.List.Sums.{length-filter}
 use Rattle.std.proofs.lemmas.List.Sorted.{IsNonDecreasingBy-from_all_adjacent}
 use Rattle.std.proofs.lemmas.List.{get_or_default, length-take-le, take_more}
 use Rattle.gtfs_rows.specs.declared.rows.StopTimeRow.{StopTimeRow}
-use Rattle.gtfs_tables.specs.Order.{comes_before, first_turn, sort_key_of, turns_from}
+use Rattle.gtfs_tables.specs.Order.{comes_before, first_row_of, sort_key_of, sort_keys_from}
 use Rattle.gtfs_tables.specs.declared.order.SortKey.{SortKey}
 
-turns-push : (trips : List (Option ℕ)) (k index : ℕ) (rows : List StopTimeRow) (row : StopTimeRow) → index ≡ k + length rows
-    → turns_from trips k (rows ++ row ∷ []) ≡ turns_from trips k rows ++ sort_key_of trips index row ∷ []
-turns-push trips k index [] row e = let same : index ≡ k = omega (arith, e) in rw same refl
-turns-push trips k index (first ∷ rows) row e = ap (λ rest. sort_key_of trips k first ∷ rest) (turns-push trips (k + 1) index rows row (omega (arith, e)))
+sort_keys-push : (trips : List (Option ℕ)) (k index : ℕ) (rows : List StopTimeRow) (row : StopTimeRow) → index ≡ k + length rows
+    → sort_keys_from trips k (rows ++ row ∷ []) ≡ sort_keys_from trips k rows ++ sort_key_of trips index row ∷ []
+sort_keys-push trips k index [] row e = let same : index ≡ k = omega (arith, e) in rw same refl
+sort_keys-push trips k index (first ∷ rows) row e = ap (λ rest. sort_key_of trips k first ∷ rest)
+    (sort_keys-push trips (k + 1) index rows row (omega (arith, e)))
 
-pub turns-more : (trips : List (Option ℕ)) (rows : List StopTimeRow) (i : ℕ) (row : StopTimeRow) → i < length rows → row ≡ get_or rows i row
-    → turns_from trips 1 (take (i + 1) rows) ≡ turns_from trips 1 (take i rows) ++ sort_key_of trips (i + 1) row ∷ []
-turns-more trips rows i row lt e =
+pub sort_keys-more : (trips : List (Option ℕ)) (rows : List StopTimeRow) (i : ℕ) (row : StopTimeRow) → i < length rows → row ≡ get_or rows i row
+    → sort_keys_from trips 1 (take (i + 1) rows) ≡ sort_keys_from trips 1 (take i rows) ++ sort_key_of trips (i + 1) row ∷ []
+sort_keys-more trips rows i row lt e =
     let len : length (take i rows) ≡ i = length-take-le i rows (omega arith) in
     let front : take (i + 1) rows ≡ take i rows ++ row ∷ [] = take_more rows i row lt ∙ ap (λ x. take i rows ++ x ∷ []) (sym e) in
-    rw front (turns-push trips 1 (i + 1) (take i rows) row (omega (arith, len)))
+    rw front (sort_keys-push trips 1 (i + 1) (take i rows) row (omega (arith, len)))
 
-pub turns-pushed : (trips : List (Option ℕ)) (rows : List StopTimeRow) (i : ℕ) (d : StopTimeRow) (turns : List SortKey) → i < length rows
-    → turns ≡ turns_from trips 1 (take i rows) → turns ++ sort_key_of trips (i + 1) (get_or rows i d) ∷ [] ≡ turns_from trips 1 (take (i + 1) rows)
-turns-pushed trips rows i d turns lt e =
-    rw e (sym (turns-more trips rows i (get_or rows i d) lt (get_or_default rows i d (get_or rows i d) lt)))
+pub sort_keys-pushed : (trips : List (Option ℕ)) (rows : List StopTimeRow) (i : ℕ) (d : StopTimeRow) (sort_keys : List SortKey) → i < length rows
+    → sort_keys ≡ sort_keys_from trips 1 (take i rows) → sort_keys ++ sort_key_of trips (i + 1) (get_or rows i d) ∷ []
+    ≡ sort_keys_from trips 1 (take (i + 1) rows)
+sort_keys-pushed trips rows i d sort_keys lt e =
+    rw e (sym (sort_keys-more trips rows i (get_or rows i d) lt (get_or_default rows i d (get_or rows i d) lt)))
 
--- the trips rise along the turns
+-- the trips rise along the sort keys
 trip_rises : (a b : SortKey) → comes_before b a ≡ false → a.trip ≤ b.trip
 trip_rises a b e = by (cases_order b.trip a.trip)
   where
@@ -41,11 +43,11 @@ trip_rises a b e = by (cases_order b.trip a.trip)
         absurd (false≢true (sym e ∙ rw (differs, below) refl))
     by (inr (inr more)) = omega arith
 
-pub trips_rise : (turns : List SortKey) → IsSortedBy comes_before turns → IsNonDecreasingBy (λ turn. turn.trip) turns
-trips_rise turns sorted = IsNonDecreasingBy-from_all_adjacent (λ turn. turn.trip) turns
-    (λ k d lt. trip_rises (get_or turns k d) (get_or turns (k + 1) d) (sorted k d (omega arith) lt))
+pub trips_rise : (sort_keys : List SortKey) → IsSortedBy comes_before sort_keys → IsNonDecreasingBy (λ sort_key. sort_key.trip) sort_keys
+trips_rise sort_keys sorted = IsNonDecreasingBy-from_all_adjacent (λ sort_key. sort_key.trip) sort_keys
+    (λ k d lt. trip_rises (get_or sort_keys k d) (get_or sort_keys (k + 1) d) (sorted k d (omega arith) lt))
 
--- a test that passes exactly below a place passes so often
+-- a test that passes exactly below an index passes so often
 filter_front : {X : Type 0} (p : X → Bool) (xs : List X) (n : ℕ) → n ≤ length xs → ((k : ℕ) (d : X) → k < n → p (get_or xs k d) ≡ true)
     → ((k : ℕ) (d : X) → n ≤ k → k < length xs → p (get_or xs k d) ≡ false) → length (filter p xs) ≡ n
 filter_front p [] zero le under over = refl
@@ -63,13 +65,14 @@ count_front : {X : Type 0} (p : X → Bool) (xs : List X) (n : ℕ) → n ≤ le
     → ((k : ℕ) (d : X) → n ≤ k → k < length xs → p (get_or xs k d) ≡ false) → count_by p xs ≡ n
 count_front p xs n le under over = sym (length-filter p xs) ∙ filter_front p xs n le under over
 
--- the place up to which the trips are below t, and from which they aren't
-pub first_turn-is : (turns : List SortKey) (t at : ℕ) → IsSortedBy comes_before turns → at ≤ length turns → AllWithin (λ turn. turn.trip < t) turns 0 at
-    → ((d : SortKey) → at < length turns → t ≤ (get_or turns at d).trip) → at ≡ first_turn turns t
-first_turn-is turns t at sorted le below here =
-    sym (count_front (λ turn. ltb turn.trip t) turns at le
-    (λ k d lt. lt-ltb (get_or turns k d).trip t (below k d (omega arith) lt))
+-- the index up to which the trips are below t, and from which they aren't
+pub first_row_of-is : (sort_keys : List SortKey) (t at : ℕ) → IsSortedBy comes_before sort_keys → at ≤ length sort_keys
+    → AllWithin (λ sort_key. sort_key.trip < t) sort_keys 0 at
+    → ((d : SortKey) → at < length sort_keys → t ≤ (get_or sort_keys at d).trip) → at ≡ first_row_of sort_keys t
+first_row_of-is sort_keys t at sorted le below here =
+    sym (count_front (λ sort_key. ltb sort_key.trip t) sort_keys at le
+    (λ k d lt. lt-ltb (get_or sort_keys k d).trip t (below k d (omega arith) lt))
     (λ k d low lt.
-    let up : (get_or turns at d).trip ≤ (get_or turns k d).trip = trips_rise turns sorted at k d low lt in
-    let from : t ≤ (get_or turns at d).trip = here d (omega arith) in
-    le-ltb (get_or turns k d).trip t (omega arith)))
+    let up : (get_or sort_keys at d).trip ≤ (get_or sort_keys k d).trip = trips_rise sort_keys sorted at k d low lt in
+    let from : t ≤ (get_or sort_keys at d).trip = here d (omega arith) in
+    le-ltb (get_or sort_keys k d).trip t (omega arith)))

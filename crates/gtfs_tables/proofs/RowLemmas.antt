@@ -48,7 +48,7 @@ marked_more named rows i u n row old lt e names len before t within = by (cases_
         let differs : eqb u t ≡ false = ne_eqb u t (λ s. other (sym s)) in
         set_else ∙ here ∙ sym (more ∙ rw differs (or-false (is_repeated named (take i rows) t)))
 
--- what is told of a row by its mark is told of what the mark stands for: where no mark was made its trip isn't known
+-- what is said of a row by its mark is said of what the mark stands for: where no mark was made its trip isn't known
 by_mark : {X : Type 0} (shown : Bool → X) (trips : List (Option ℕ)) (rows : List StopTimeRow) (flex : List Bool) (id : ℕ)
     → ((id : ℕ) → id < length trips → get_or flex id false ≡ is_flex_id rows id)
     → (get_or trips id None ≡ None → shown (get_or flex id false) ≡ shown (is_flex_id rows id))
@@ -93,36 +93,37 @@ pub mapped_more : {A B : Type 0} (f : A → B) (xs : List A) (i : ℕ) (d : A) (
     → ys ++ y ∷ [] ≡ map f (take (i + 1) xs)
 mapped_more f xs i d ys y lt e here = rw (e, here) (sym (map_more f xs i d lt))
 
-abbrev pub no_turn : SortKey
-no_turn = record { trip = 0; sequence = 0; number = 0 }
+abbrev pub no_sort_key : SortKey
+no_sort_key = record { trip = 0; sequence = 0; number = 0 }
 
--- where the turns are those of the records as they are filed, what is made of each turn's row is what is made of each row
+-- where the sort keys are those of the records as they are filed, what is made of each sort key's row is what is made of each row
 read_behind : (before rows : List StopTimeRow) (row : StopTimeRow) → row_of (before ++ row ∷ rows) (length before + 1) ≡ row
 read_behind before rows row =
     let behind : length before + 1 - 1 ≡ length before = omega arith in
     ap (λ (k : ℕ). get_or (before ++ row ∷ rows) k no_row) behind ∙ get_or_at before row rows no_row (length before) refl
 
-filed : {A : Type 0} (f : StopTimeRow → A) (before rows : List StopTimeRow) (turns : List SortKey)
-    → map (λ turn. turn.number) turns ≡ numbers_from (length before + 1) (length rows) → map (λ turn. f (row_of (before ++ rows) turn.number)) turns
+filed : {A : Type 0} (f : StopTimeRow → A) (before rows : List StopTimeRow) (sort_keys : List SortKey)
+    → map (λ sort_key. sort_key.number) sort_keys ≡ numbers_from (length before + 1) (length rows)
+    → map (λ sort_key. f (row_of (before ++ rows) sort_key.number)) sort_keys
     ≡ map f rows
 filed f before [] [] e = refl
-filed f before [] (turn ∷ turns) e = cc
+filed f before [] (sort_key ∷ sort_keys) e = cc
 filed f before (row ∷ rows) [] e = cc
-filed f before (row ∷ rows) (turn ∷ turns) e =
-    let number : turn.number ≡ length before + 1 = cc in
-    let rest : map (λ turn. turn.number) turns ≡ numbers_from (length before + 1 + 1) (length rows) = cc in
+filed f before (row ∷ rows) (sort_key ∷ sort_keys) e =
+    let number : sort_key.number ≡ length before + 1 = cc in
+    let rest : map (λ sort_key. sort_key.number) sort_keys ≡ numbers_from (length before + 1 + 1) (length rows) = cc in
     let longer : length (before ++ row ∷ []) ≡ length before + 1 = length-append before (row ∷ []) in
     let again : before ++ row ∷ [] ++ rows ≡ before ++ row ∷ rows = append_assoc before (row ∷ []) rows in
-    let here : f (row_of (before ++ row ∷ rows) turn.number) ≡ f row = ap f (ap (row_of (before ++ row ∷ rows)) number ∙ read_behind before rows row) in
-    let others : map (λ turn. f (row_of (before ++ row ∷ [] ++ rows) turn.number)) turns ≡ map f rows =
-    filed f (before ++ row ∷ []) rows turns (rest ∙ ap (λ n. numbers_from (n + 1) (length rows)) (sym longer)) in
-    let same : map (λ turn. f (row_of (before ++ row ∷ rows) turn.number)) turns ≡ map f rows =
-    subst (λ (all : List StopTimeRow). map (λ turn. f (row_of all turn.number)) turns ≡ map f rows) again others in
-    ap (λ x. x ∷ map (λ turn. f (row_of (before ++ row ∷ rows) turn.number)) turns) here ∙ ap (λ xs. f row ∷ xs) same
+    let here : f (row_of (before ++ row ∷ rows) sort_key.number) ≡ f row = ap f (ap (row_of (before ++ row ∷ rows)) number ∙ read_behind before rows row) in
+    let others : map (λ sort_key. f (row_of (before ++ row ∷ [] ++ rows) sort_key.number)) sort_keys ≡ map f rows =
+    filed f (before ++ row ∷ []) rows sort_keys (rest ∙ ap (λ n. numbers_from (n + 1) (length rows)) (sym longer)) in
+    let same : map (λ sort_key. f (row_of (before ++ row ∷ rows) sort_key.number)) sort_keys ≡ map f rows =
+    subst (λ (all : List StopTimeRow). map (λ sort_key. f (row_of all sort_key.number)) sort_keys ≡ map f rows) again others in
+    ap (λ x. x ∷ map (λ sort_key. f (row_of (before ++ row ∷ rows) sort_key.number)) sort_keys) here ∙ ap (λ xs. f row ∷ xs) same
 
-pub filed_rows : {A : Type 0} (f : StopTimeRow → A) (rows : List StopTimeRow) (turns : List SortKey) → length turns ≡ length rows
-    → map (λ turn. turn.number) turns ≡ numbers_from 1 (length turns) → map (λ turn. f (row_of rows turn.number)) turns ≡ map f rows
-filed_rows f rows turns len e = filed f [] rows turns (e ∙ ap (numbers_from 1) len)
+pub filed_rows : {A : Type 0} (f : StopTimeRow → A) (rows : List StopTimeRow) (sort_keys : List SortKey) → length sort_keys ≡ length rows
+    → map (λ sort_key. sort_key.number) sort_keys ≡ numbers_from 1 (length sort_keys) → map (λ sort_key. f (row_of rows sort_key.number)) sort_keys ≡ map f rows
+filed_rows f rows sort_keys len e = filed f [] rows sort_keys (e ∙ ap (numbers_from 1) len)
 
 pub kept_next : (named : List ℕ → Option StopIdTarget) (rows : List TransferRow) (i : ℕ) (row : TransferRow) (kept new : List Transfer)
     (found : Option Transfer)

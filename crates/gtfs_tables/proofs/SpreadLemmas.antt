@@ -48,7 +48,7 @@ pub record IsStep (rows : List StopTimeRow) (old new : List (ℕ × ℕ)) (at ne
   pub parts : (d b : ℕ) → departure_at rows at ≡ Some d → arrival_at rows next ≡ Some b → (j : ℕ) → 0 < j → j < next - at
       → slice_index_or new (length old + j) (0, 0) ≡ (part_of d b (next - at) j, part_of d b (next - at) j)
 
--- a gap over a place behind the row is the one behind it
+-- a gap over an index behind the row is the one behind it
 gap_from : (rows : List StopTimeRow) (old new : List (ℕ × ℕ)) (at next p q a b i : ℕ) → IsStep rows old new at next
     → IsGap rows p q a b → at < i → p < i → i < q → i < next → p ≡ at
 gap_from rows old new at next p q a b i s g h low high less = by (cases_order p at)

@@ -14,7 +14,7 @@ use Rattle.gtfs_tables.specs.Times.{arrives_spread, departed_before, departs_spr
 use Rattle.gtfs_tables.specs.Times.{given_from, goes_back, has_no_duration, is_short, is_twice, wrong_at, wrong_given}
 use Rattle.gtfs_tables.proofs.SpreadLemmas.{departs, never_departs}
 
--- a place that passes, with none before it, or none below n
+-- an index that passes, with none before it, or none below n
 pub record IsFirstIndex (p : ℕ → Bool) (n q : ℕ) : Type 0 where
   pub found : first_index p n ≡ Some q
   pub within : q < n
@@ -71,7 +71,7 @@ some_value : {X : Type 0} (o : Option X) → IsSome o → (x : X) × (o ≡ Some
 some_value None s = absurd (false≢true s)
 some_value (Some x) s = (x, refl)
 
--- the place behind which the rows are blank up to k
+-- the index behind which the rows are blank up to k
 pub record IsBefore (rows : List StopTimeRow) (k p : ℕ) : Type 0 where
   pub given : IsSome (arrival_at rows p)
   pub below : p < k
@@ -98,7 +98,7 @@ pub before_is : (rows : List StopTimeRow) (k : ℕ) → IsSome (arrival_at rows 
 before_is rows zero first some = absurd (omega arith)
 before_is rows (suc k) first some = before_next rows k first (λ more. before_is rows k first more)
 
--- the place up to which the rows are blank from k on
+-- the index up to which the rows are blank from k on
 pub record IsAfter (rows : List StopTimeRow) (k q : ℕ) : Type 0 where
   pub given : IsSome (arrival_at rows q)
   pub from : k ≤ q
@@ -166,7 +166,7 @@ spread_at rows times k s first last lt = by (cases_Bool (is_some (arrival_at row
         } in
         rw (none, gone, a.1, b.1) (s.spread.blank (given_before rows k) (given_from rows k) a.0 b.0 k gap low.below above lt)
 
--- a place that isn't found has no row at fault
+-- an index that isn't found has no row at fault
 nowhere_at : (kind : FaultKind) (index : Option ℕ) → wrong_at kind index ≡ None → index ≡ None
 nowhere_at kind None e = refl
 nowhere_at kind (Some k) e = absurd cc

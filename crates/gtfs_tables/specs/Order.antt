@@ -12,42 +12,42 @@ use Rattle.gtfs_tables.specs.declared.order.SortKey.{SortKey}
 abbrev pub sort_key_of : List (Option ℕ) → ℕ → StopTimeRow → SortKey
 sort_key_of trips number row = record { trip = unwrap_or (named_at trips row.trip) 0; sequence = row.sequence; number = number }
 
--- the turns of the rows, given the number of the first row's record
-abbrev pub turns_from : List (Option ℕ) → ℕ → List StopTimeRow → List SortKey
-turns_from trips number [] = []
-turns_from trips number (row ∷ rest) = sort_key_of trips number row ∷ turns_from trips (number + 1) rest
+-- the sort keys of the rows, given the number of the first row's record
+abbrev pub sort_keys_from : List (Option ℕ) → ℕ → List StopTimeRow → List SortKey
+sort_keys_from trips number [] = []
+sort_keys_from trips number (row ∷ rest) = sort_key_of trips number row ∷ sort_keys_from trips (number + 1) rest
 
--- turns are ordered by trip, then by stop_sequence, then by record
+-- sort keys are ordered by trip, then by stop_sequence, then by record
 abbrev pub comes_before : SortKey → SortKey → Bool
 comes_before a b =
     if a.trip == b.trip then (if a.sequence == b.sequence then nat_lt a.number b.number else nat_lt a.sequence b.sequence) else nat_lt a.trip b.trip
 
--- the turns are those of the rows, in order
-pub record IsInOrder (trips : List (Option ℕ)) (rows : List StopTimeRow) (turns : List SortKey) : Type 0 where
-  pub same : IsPermutation (turns_from trips 1 rows) turns
-  pub rising : IsSortedBy comes_before turns
+-- the sort keys are those of the rows, in order
+pub record IsInOrder (trips : List (Option ℕ)) (rows : List StopTimeRow) (sort_keys : List SortKey) : Type 0 where
+  pub same : IsPermutation (sort_keys_from trips 1 rows) sort_keys
+  pub rising : IsSortedBy comes_before sort_keys
 
--- the turns of rows that already have the indices of their trips
-abbrev pub filed_turns : ℕ → List StopTimeRow → List SortKey
-filed_turns number [] = []
-filed_turns number (row ∷ rest) = record { trip = row.trip; sequence = row.sequence; number = number } ∷ filed_turns (number + 1) rest
+-- the sort keys of rows that already have the indices of their trips
+abbrev pub filed_sort_keys : ℕ → List StopTimeRow → List SortKey
+filed_sort_keys number [] = []
+filed_sort_keys number (row ∷ rest) = record { trip = row.trip; sequence = row.sequence; number = number } ∷ filed_sort_keys (number + 1) rest
 
--- the turns that an order gives rows: as the rows are read, and once they are in that order with the indices of their trips
-abbrev pub turns_in : List (Option ℕ) → RowOrder → List StopTimeRow → List SortKey
-turns_in trips orders.Filed rows = turns_from trips 1 rows
-turns_in trips (orders.ByTurns turns) rows = turns.items
+-- the sort keys that an order gives rows: as the rows are read, and once they are in that order with the indices of their trips
+abbrev pub sort_keys_in : List (Option ℕ) → RowOrder → List StopTimeRow → List SortKey
+sort_keys_in trips orders.Filed rows = sort_keys_from trips 1 rows
+sort_keys_in trips (orders.ByKeys sort_keys) rows = sort_keys.items
 
-abbrev pub turns_by : RowOrder → List StopTimeRow → List SortKey
-turns_by orders.Filed rows = filed_turns 1 rows
-turns_by (orders.ByTurns turns) rows = turns.items
+abbrev pub sort_keys_by : RowOrder → List StopTimeRow → List SortKey
+sort_keys_by orders.Filed rows = filed_sort_keys 1 rows
+sort_keys_by (orders.ByKeys sort_keys) rows = sort_keys.items
 
 -- where the rows of a trip begin: after those of the trips before it
-abbrev pub first_turn : List SortKey → ℕ → ℕ
-first_turn turns t = count_by (λ turn. nat_lt turn.trip t) turns
+abbrev pub first_row_of : List SortKey → ℕ → ℕ
+first_row_of sort_keys t = count_by (λ sort_key. nat_lt sort_key.trip t) sort_keys
 
--- of a list in the order of the turns, the part that belongs to a trip
+-- of a list in the order of the sort keys, the part that belongs to a trip
 abbrev pub of_trip : {X : Type 0} → List SortKey → ℕ → List X → List X
-of_trip turns t xs = slice_range xs (first_turn turns t) (first_turn turns (t + 1))
+of_trip sort_keys t xs = slice_range xs (first_row_of sort_keys t) (first_row_of sort_keys (t + 1))
 
 -- a row without stop and times, for an index past the end
 abbrev pub no_row : StopTimeRow

@@ -8,7 +8,7 @@ ghost use Rattle.gtfs_rows.specs.declared.rows.StopTimeRow.{StopTimeRow as Linke
 ghost use Rattle.gtfs_rows.specs.Tables.{is_stop};
 ghost use Rattle.gtfs_tables.specs.First.{first_below, first_fault_of};
 ghost use Rattle.gtfs_tables.specs.Names.{held_at, stop_named, trip_named};
-ghost use Rattle.gtfs_tables.specs.Order.{comes_before, first_turn, turns_by, turns_in};
+ghost use Rattle.gtfs_tables.specs.Order.{comes_before, first_row_of, sort_keys_by, sort_keys_in};
 ghost use Rattle.gtfs_tables.specs.Rows.{is_flex_id, linked_fault, linked_row, station_of};
 ghost use Rattle.std.specs.String.{string_bytes};
 ghost use Rattle.gtfs_tables.specs.Times.{first_wrong as wrong_first};
@@ -216,15 +216,15 @@ fn made_of(
 ) -> Result<FeedParts, TableFault>
     requires flex { (id : ℕ) → id < length links.names.trips.items
         → slice_index_or links.names.flex.items id false ≡ is_flex_id rows.items id }
-    requires rising { IsSortedBy comes_before (turns_in links.names.trips.items links.order rows.items) }
+    requires rising { IsSortedBy comes_before (sort_keys_in links.names.trips.items links.order rows.items) }
     ensures rows { IfOk result (λ made. made.stop_times.items
         ≡ linked_by links.names.trips.items links.names.stops.items links.order rows.items) }
     ensures fine { IfOk result (λ made. first_below
-        (trip_fault strict (turns_in links.names.trips.items links.order rows.items)
+        (trip_fault strict (sort_keys_in links.names.trips.items links.order rows.items)
         (linked_by links.names.trips.items links.names.stops.items links.order rows.items)) (length trips.items)
         ≡ None) }
     ensures trips { IfOk result (λ made. made.trips.items
-        ≡ feed_trips (turns_in links.names.trips.items links.order rows.items)
+        ≡ feed_trips (sort_keys_in links.names.trips.items links.order rows.items)
         (linked_by links.names.trips.items links.names.stops.items links.order rows.items)
         (λ t. slice_index_or links.repeats.items t false) 0 trips.items) }
     ensures stops { (named : List ℕ → Option NamedBy) → links.stations.items ≡ map (station_of named) stops.items
@@ -232,10 +232,10 @@ fn made_of(
     ensures frequencies { IfOk result (λ made. made.frequencies ≡ links.frequencies) }
     ensures transfers { IfOk result (λ made. links.transfers ≡ Ok made.transfers) }
     ensures err { IfErr result (λ fault. fault.kind ≢ FaultKind.OutOfMemory
-        → (first_below (trip_fault strict (turns_in links.names.trips.items links.order rows.items)
+        → (first_below (trip_fault strict (sort_keys_in links.names.trips.items links.order rows.items)
         (linked_by links.names.trips.items links.names.stops.items links.order rows.items)) (length trips.items)
         ≡ Some fault)
-        ⊎ ((first_below (trip_fault strict (turns_in links.names.trips.items links.order rows.items)
+        ⊎ ((first_below (trip_fault strict (sort_keys_in links.names.trips.items links.order rows.items)
         (linked_by links.names.trips.items links.names.stops.items links.order rows.items)) (length trips.items) ≡ None)
         × (links.transfers ≡ Err fault))) }
 {
@@ -275,19 +275,19 @@ fn timed_rows(
 ) -> Result<(Vec<StopTimeRow>, Vec<Trip>), TableFault>
     requires flex { (id : ℕ) → id < length links.now.names.trips.items
         → slice_index_or links.now.names.flex.items id false ≡ is_flex_id rows.items id }
-    requires rising { IsSortedBy comes_before (turns_in links.now.names.trips.items links.now.order rows.items) }
+    requires rising { IsSortedBy comes_before (sort_keys_in links.now.names.trips.items links.now.order rows.items) }
     ensures rows { IfOk result (λ timed. timed.0.items
         ≡ linked_by links.now.names.trips.items links.now.names.stops.items links.now.order rows.items) }
     ensures fine { IfOk result (λ timed. first_below
-        (trip_fault strict (turns_in links.now.names.trips.items links.now.order rows.items)
+        (trip_fault strict (sort_keys_in links.now.names.trips.items links.now.order rows.items)
         (linked_by links.now.names.trips.items links.now.names.stops.items links.now.order rows.items))
         (length trips.items) ≡ None) }
     ensures trips { IfOk result (λ timed. timed.1.items
-        ≡ feed_trips (turns_in links.now.names.trips.items links.now.order rows.items)
+        ≡ feed_trips (sort_keys_in links.now.names.trips.items links.now.order rows.items)
         (linked_by links.now.names.trips.items links.now.names.stops.items links.now.order rows.items)
         (λ t. slice_index_or links.now.repeats.items t false) 0 trips.items) }
     ensures err { IfErr result (λ fault. fault.kind ≢ FaultKind.OutOfMemory
-        → first_below (trip_fault strict (turns_in links.now.names.trips.items links.now.order rows.items)
+        → first_below (trip_fault strict (sort_keys_in links.now.names.trips.items links.now.order rows.items)
         (linked_by links.now.names.trips.items links.now.names.stops.items links.now.order rows.items))
         (length trips.items) ≡ Some fault) }
 {
@@ -316,15 +316,15 @@ fn timed_trips(
     repeats: &[bool],
     strict: bool,
 ) -> Result<Vec<Trip>, TableFault>
-    requires len { length rows.now ≡ length (turns_by order.now rows.now) }
-    requires rising { IsSortedBy comes_before (turns_by order.now rows.now) }
-    ensures fine { IfOk result (λ timed. first_below (trip_fault strict (turns_by order.now rows.now) rows.now)
+    requires len { length rows.now ≡ length (sort_keys_by order.now rows.now) }
+    requires rising { IsSortedBy comes_before (sort_keys_by order.now rows.now) }
+    ensures fine { IfOk result (λ timed. first_below (trip_fault strict (sort_keys_by order.now rows.now) rows.now)
         (length trips.items) ≡ None) }
     ensures ok { IfOk result (λ timed. timed.items
-        ≡ feed_trips (turns_by order.now rows.now) rows.now (λ t. slice_index_or repeats.now t false) 0
+        ≡ feed_trips (sort_keys_by order.now rows.now) rows.now (λ t. slice_index_or repeats.now t false) 0
         trips.items) }
     ensures err { IfErr result (λ fault. fault.kind ≢ FaultKind.OutOfMemory
-        → first_below (trip_fault strict (turns_by order.now rows.now) rows.now) (length trips.items)
+        → first_below (trip_fault strict (sort_keys_by order.now rows.now) rows.now) (length trips.items)
         ≡ Some fault) }
 {
     let Ok(mut timed) = Vec::with_capacity(alloc, trips.len()) else {
@@ -363,14 +363,14 @@ pub(crate) fn end_of_trip(
     first: usize,
     trip: usize,
 ) -> usize
-    requires len { length rows.now ≡ length (turns_by order.now rows.now) }
-    requires rising { IsSortedBy comes_before (turns_by order.now rows.now) }
+    requires len { length rows.now ≡ length (sort_keys_by order.now rows.now) }
+    requires rising { IsSortedBy comes_before (sort_keys_by order.now rows.now) }
     requires within { first ≤ length rows.now }
-    requires before { AllWithin (λ turn. turn.trip < trip) (turns_by order.now rows.now) 0 first }
+    requires before { AllWithin (λ sort_key. sort_key.trip < trip) (sort_keys_by order.now rows.now) 0 first }
     ensures from { first ≤ result }
     ensures within { result ≤ length rows.now }
-    ensures before { AllWithin (λ turn. turn.trip < trip + 1) (turns_by order.now rows.now) 0 result }
-    ensures end { result ≡ first_turn (turns_by order.now rows.now) (trip + 1) }
+    ensures before { AllWithin (λ sort_key. sort_key.trip < trip + 1) (sort_keys_by order.now rows.now) 0 result }
+    ensures end { result ≡ first_row_of (sort_keys_by order.now rows.now) (trip + 1) }
 {
     for at in first..rows.len() {
         if trip_at(rows, order, at) as usize > trip {
@@ -391,10 +391,10 @@ fn judge_trip(
 ) -> Result<(), TableFault>
     requires rising { first ≤ end }
     requires within { end ≤ length rows.now }
-    ensures ok { IfOk result (λ _. option_map (fault_of_row (slice_range (turns_by order.now rows.now) first end))
+    ensures ok { IfOk result (λ _. option_map (fault_of_row (slice_range (sort_keys_by order.now rows.now) first end))
         (wrong_first strict (slice_range rows.now first end)) ≡ None) }
     ensures err { IfErr result (λ fault. fault.kind ≢ FaultKind.OutOfMemory
-        → option_map (fault_of_row (slice_range (turns_by order.now rows.now) first end))
+        → option_map (fault_of_row (slice_range (sort_keys_by order.now rows.now) first end))
         (wrong_first strict (slice_range rows.now first end)) ≡ Some fault) }
 {
     match fault_of_trip(alloc, rows, order, first, end, strict) {
@@ -414,7 +414,7 @@ pub(crate) fn fault_at_row(
 ) -> TableFault
     requires { first ≤ end }
     ensures { (rows : List LinkedRow) → end ≤ length rows
-        → result ≡ fault_of_row (slice_range (turns_by order.now rows) first end) (at, kind) }
+        → result ≡ fault_of_row (slice_range (sort_keys_by order.now rows) first end) (at, kind) }
 {
     let row = if at < end - first {
         number_at(order, first + at)

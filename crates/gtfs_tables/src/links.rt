@@ -5,7 +5,7 @@ ghost use Rattle.std.specs.Prelude.{is_some, slice_index_or, slice_set, true, fa
 ghost use Rattle.std.specs.List.{AllZip};
 ghost use Rattle.gtfs_tables.specs.First.{fault_at as fault_of, first_fault_of};
 ghost use Rattle.gtfs_tables.specs.Names.{held_at, named_at};
-ghost use Rattle.gtfs_tables.specs.Order.{row_of, turns_in};
+ghost use Rattle.gtfs_tables.specs.Order.{row_of, sort_keys_in};
 ghost use Rattle.gtfs_tables.specs.Rows.{IsTransferOf, ends_fault, end_fault, frequency_fault, frequency_of};
 ghost use Rattle.gtfs_tables.specs.Rows.{is_flex_id, is_kept, is_repeated, linked_fault, linked_row, named_by};
 ghost use Rattle.gtfs_tables.specs.Rows.{parent_fault, station_of, stop_number, stop_of};
@@ -223,12 +223,13 @@ pub(crate) fn linked_rows(
 ) -> Result<Vec<StopTimeRow>, AllocError>
     requires { (id : ℕ) → id < length names.now.trips.items
         → slice_index_or names.now.flex.items id false ≡ is_flex_id rows.items id }
-    ensures { IfOk result (λ ordered. ordered.items ≡ map (λ turn. let row = row_of rows.items turn.number in
-        linked_row names.now.trips.items names.now.stops.items (is_flex_id rows.items row.trip) row) (turns_in names.now.trips.items order.now rows.items)) }
+    ensures { IfOk result (λ ordered. ordered.items ≡ map (λ sort_key. let row = row_of rows.items sort_key.number in
+        linked_row names.now.trips.items names.now.stops.items (is_flex_id rows.items row.trip) row)
+        (sort_keys_in names.now.trips.items order.now rows.items)) }
 {
     match order {
         RowOrder::Filed => Ok(linked_in_place(rows, names)),
-        RowOrder::ByTurns(turns) => linked_by_turns(alloc, &rows, turns, names),
+        RowOrder::ByKeys(sort_keys) => linked_by_sort_keys(alloc, &rows, sort_keys, names),
     }
 }
 
@@ -255,22 +256,22 @@ fn linked_marked(row: &StopTimeRow, names: &RowNames) -> StopTimeRow
     linked(row, &names.trips, &names.stops, flex)
 }
 
-// Copies the rows into a new list, in the order of their turns, each with the index of its trip and the number of its
-// stop.
-pub(crate) fn linked_by_turns(
+// Copies the rows into a new list, in the order of their sort keys, each with the index of its trip and the number of
+// its stop.
+pub(crate) fn linked_by_sort_keys(
     alloc: Global,
     rows: &[StopTimeRow],
-    turns: &[SortKey],
+    sort_keys: &[SortKey],
     names: &RowNames,
 ) -> Result<Vec<StopTimeRow>, AllocError>
     requires { (id : ℕ) → id < length names.now.trips.items
         → slice_index_or names.now.flex.items id false ≡ is_flex_id rows.now id }
-    ensures { IfOk result (λ ordered. ordered.items ≡ map (λ turn. let row = row_of rows.now turn.number in
-        linked_row names.now.trips.items names.now.stops.items (is_flex_id rows.now row.trip) row) turns.now) }
+    ensures { IfOk result (λ ordered. ordered.items ≡ map (λ sort_key. let row = row_of rows.now sort_key.number in
+        linked_row names.now.trips.items names.now.stops.items (is_flex_id rows.now row.trip) row) sort_keys.now) }
 {
-    let mut ordered = Vec::with_capacity(alloc, turns.len())?;
-    for turn in turns {
-        let row = row_numbered(rows, turn.number);
+    let mut ordered = Vec::with_capacity(alloc, sort_keys.len())?;
+    for sort_key in sort_keys {
+        let row = row_numbered(rows, sort_key.number);
         ordered.push(linked_marked(&row, names))?;
     }
     Ok(ordered)

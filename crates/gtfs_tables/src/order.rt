@@ -2,7 +2,8 @@
 
 ghost use Rattle.std.specs.Prelude.{◌≡◌, ◌<◌, ◌+◌, List, length, map, IfOk, IsSortedBy, slice_index_or, true};
 ghost use Rattle.gtfs_rows.specs.declared.rows.StopTimeRow.{StopTimeRow as FiledRow};
-ghost use Rattle.gtfs_tables.specs.Order.{IsInOrder, comes_before, sort_key_of, turns_by, turns_from, turns_in};
+ghost use Rattle.gtfs_tables.specs.Order.{IsInOrder, comes_before, sort_key_of};
+ghost use Rattle.gtfs_tables.specs.Order.{sort_keys_by, sort_keys_from, sort_keys_in};
 
 use crate::links::index_at;
 use gtfs_rows::StopTimeRow;
@@ -16,57 +17,57 @@ pub struct SortKey {
     pub number: u64,
 }
 
-/// The order of the rows: that of the file, or that of a list of turns.
+/// The order of the rows: that of the file, or that of a list of sort keys.
 #[derive(Drop)]
 pub enum RowOrder {
     Filed,
-    ByTurns(Vec<SortKey>),
+    ByKeys(Vec<SortKey>),
 }
 
-// Returns the order of the rows. A list of turns is made only if the rows aren't already in order.
+// Returns the order of the rows. A list of sort keys is made only if the rows aren't already in order.
 pub(crate) fn order_of_rows(
     alloc: Global,
     rows: &[StopTimeRow],
     trips: &[Option<u32>],
 ) -> Result<RowOrder, AllocError>
-    ensures { IfOk result (λ order. IsInOrder trips.now rows.now (turns_in trips.now order rows.now)) }
+    ensures { IfOk result (λ order. IsInOrder trips.now rows.now (sort_keys_in trips.now order rows.now)) }
 {
     if are_in_order(rows, trips) {
         return Ok(RowOrder::Filed);
     }
-    let turns = sorted_turns(alloc, rows, trips)?;
-    Ok(RowOrder::ByTurns(turns))
+    let sort_keys = sorted_keys(alloc, rows, trips)?;
+    Ok(RowOrder::ByKeys(sort_keys))
 }
 
-// Returns the turns of the rows, in order.
-pub(crate) fn sorted_turns(
+// Returns the sort keys of the rows, in order.
+pub(crate) fn sorted_keys(
     alloc: Global,
     rows: &[StopTimeRow],
     trips: &[Option<u32>],
 ) -> Result<Vec<SortKey>, AllocError>
-    ensures { IfOk result (λ turns. IsInOrder trips.now rows.now turns.items) }
+    ensures { IfOk result (λ sort_keys. IsInOrder trips.now rows.now sort_keys.items) }
 {
-    let mut turns = sort_keys_of(alloc, rows, trips)?;
-    turns.sort()?;
-    Ok(turns)
+    let mut sort_keys = sort_keys_of(alloc, rows, trips)?;
+    sort_keys.sort()?;
+    Ok(sort_keys)
 }
 
-// Returns the turns of the rows, in the order of the file.
+// Returns the sort keys of the rows, in the order of the file.
 fn sort_keys_of(
     alloc: Global,
     rows: &[StopTimeRow],
     trips: &[Option<u32>],
 ) -> Result<Vec<SortKey>, AllocError>
-    ensures { IfOk result (λ turns. turns.items ≡ turns_from trips.now 1 rows.now) }
+    ensures { IfOk result (λ sort_keys. sort_keys.items ≡ sort_keys_from trips.now 1 rows.now) }
 {
-    let mut turns = Vec::with_capacity(alloc, rows.len())?;
+    let mut sort_keys = Vec::with_capacity(alloc, rows.len())?;
     for (index, row) in rows.iter().enumerate() {
-        turns.push(sort_key_of(trips, row, index))?;
+        sort_keys.push(sort_key_of(trips, row, index))?;
     }
-    Ok(turns)
+    Ok(sort_keys)
 }
 
-// Returns the turn of the row at an index in the file.
+// Returns the sort key of the row at an index in the file.
 fn sort_key_of(trips: &[Option<u32>], row: &StopTimeRow, index: usize) -> SortKey
     requires { index < usize.MAX }
     ensures { result ≡ sort_key_of trips.now (index + 1) row.now }
@@ -78,20 +79,20 @@ fn sort_key_of(trips: &[Option<u32>], row: &StopTimeRow, index: usize) -> SortKe
     }
 }
 
-// Returns whether the rows are already in the order of their turns.
+// Returns whether the rows are already in the order of their sort keys.
 fn are_in_order(rows: &[StopTimeRow], trips: &[Option<u32>]) -> bool
-    ensures { result ≡ true → IsSortedBy comes_before (turns_from trips.now 1 rows.now) }
+    ensures { result ≡ true → IsSortedBy comes_before (sort_keys_from trips.now 1 rows.now) }
 {
     if rows.is_empty() {
         return true;
     }
     let mut last = sort_key_of(trips, &rows[0], 0);
     for at in 1..rows.len() {
-        let turn = sort_key_of(trips, &rows[at], at);
-        if turn < last {
+        let sort_key = sort_key_of(trips, &rows[at], at);
+        if sort_key < last {
             return false;
         }
-        last = turn;
+        last = sort_key;
     }
     true
 }
@@ -99,24 +100,24 @@ fn are_in_order(rows: &[StopTimeRow], trips: &[Option<u32>]) -> bool
 // Returns the trip of the row at an index; the rows are in order.
 pub(crate) fn trip_at(rows: &[StopTimeRow], order: &RowOrder, at: usize) -> u32
     requires within { at < length rows.now }
-    requires len { length rows.now ≡ length (turns_by order.now rows.now) }
-    ensures { (d : SortKey) → result ≡ (slice_index_or (turns_by order.now rows.now) at d).trip }
+    requires len { length rows.now ≡ length (sort_keys_by order.now rows.now) }
+    ensures { (d : SortKey) → result ≡ (slice_index_or (sort_keys_by order.now rows.now) at d).trip }
 {
     match order {
         RowOrder::Filed => rows[at].trip,
-        RowOrder::ByTurns(turns) => turns[at].trip,
+        RowOrder::ByKeys(sort_keys) => sort_keys[at].trip,
     }
 }
 
 pub(crate) fn number_at(order: &RowOrder, at: usize) -> u64
     requires { at < usize.MAX }
     ensures { (rows : List FiledRow) → at < length rows
-        → result ≡ slice_index_or (map (λ turn. turn.number) (turns_by order.now rows)) at 0 }
+        → result ≡ slice_index_or (map (λ sort_key. sort_key.number) (sort_keys_by order.now rows)) at 0 }
 {
     match order {
         RowOrder::Filed => at as u64 + 1,
-        RowOrder::ByTurns(turns) => match turns.get(at) {
-            Some(turn) => turn.number,
+        RowOrder::ByKeys(sort_keys) => match sort_keys.get(at) {
+            Some(sort_key) => sort_key.number,
             None => 0,
         },
     }

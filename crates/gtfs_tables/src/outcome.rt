@@ -28,9 +28,9 @@ pub fn one_fault()
 /// The first of all faults in the times of trips is that of the first trip that has one.
 #[tactic(auto, using(crate::proofs::FirstLemmas::first_of_all))]
 pub fn first_of_time_faults()
-    ensures { (strict : Bool) (turns : List SortKey) (rows : List StopTimeRow) (count : ℕ)
-        → slice_get (all_below (trip_fault strict turns rows) count) 0
-        ≡ first_below (trip_fault strict turns rows) count }
+    ensures { (strict : Bool) (sort_keys : List SortKey) (rows : List StopTimeRow) (count : ℕ)
+        → slice_get (all_below (trip_fault strict sort_keys rows) count) 0
+        ≡ first_below (trip_fault strict sort_keys rows) count }
 {}
 
 /// Tables whose ids have no fault are refused for the first of all faults in the times of trips, if there is one.

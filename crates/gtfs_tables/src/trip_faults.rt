@@ -5,14 +5,14 @@ ghost use Rattle.std.specs.List.{slice_range};
 ghost use Rattle.std.specs.Option.{option_to_list};
 ghost use Rattle.gtfs_tables.specs.Feeds.{fault_of_row, trip_fault};
 ghost use Rattle.gtfs_tables.specs.First.{all_below};
-ghost use Rattle.gtfs_tables.specs.Order.{comes_before, turns_by};
+ghost use Rattle.gtfs_tables.specs.Order.{comes_before, sort_keys_by};
 ghost use Rattle.gtfs_tables.specs.TimeFaults.{AreTimeFaults};
 ghost use Rattle.gtfs_tables.specs.Times.{first_wrong as wrong_first};
 
 use crate::joining::{end_of_trip, fault_at_row};
-use crate::links::{RowNames, flex_ids, linked_by_turns};
+use crate::links::{RowNames, flex_ids, linked_by_sort_keys};
 use crate::names::StopIdTarget;
-use crate::order::{RowOrder, sorted_turns};
+use crate::order::{RowOrder, sorted_keys};
 use crate::times::first_wrong;
 use gtfs_rows::{StopTimeRow, TableFault};
 use std::alloc::{AllocError, Global};
@@ -32,10 +32,10 @@ pub fn time_faults(
     ensures { IfOk result (λ faults. AreTimeFaults trips.items stops.items rows.now count strict faults.items) }
 {
     let flex = flex_ids(alloc, rows, trips.len())?;
-    let turns = sorted_turns(alloc, rows, &trips)?;
+    let sort_keys = sorted_keys(alloc, rows, &trips)?;
     let names = RowNames { trips, stops, flex };
-    let ordered = linked_by_turns(alloc, rows, &turns, &names)?;
-    let order = RowOrder::ByTurns(turns);
+    let ordered = linked_by_sort_keys(alloc, rows, &sort_keys, &names)?;
+    let order = RowOrder::ByKeys(sort_keys);
     faults_of_trips(alloc, &ordered, &order, count, strict)
 }
 
@@ -47,10 +47,10 @@ fn faults_of_trips(
     count: usize,
     strict: bool,
 ) -> Result<Vec<TableFault>, AllocError>
-    requires len { length rows.now ≡ length (turns_by order.now rows.now) }
-    requires rising { IsSortedBy comes_before (turns_by order.now rows.now) }
+    requires len { length rows.now ≡ length (sort_keys_by order.now rows.now) }
+    requires rising { IsSortedBy comes_before (sort_keys_by order.now rows.now) }
     ensures { IfOk result (λ faults. faults.items
-        ≡ all_below (trip_fault strict (turns_by order.now rows.now) rows.now) count) }
+        ≡ all_below (trip_fault strict (sort_keys_by order.now rows.now) rows.now) count) }
 {
     let mut faults = Vec::new(alloc);
     let mut first = 0;
@@ -85,7 +85,7 @@ pub(crate) fn fault_of_trip(
     requires rising { first ≤ end }
     requires within { end ≤ length rows.now }
     ensures { IfOk result (λ fault. fault
-        ≡ option_map (fault_of_row (slice_range (turns_by order.now rows.now) first end))
+        ≡ option_map (fault_of_row (slice_range (sort_keys_by order.now rows.now) first end))
         (wrong_first strict (slice_range rows.now first end))) }
 {
     match first_wrong(alloc, &rows[first..end], strict)? {

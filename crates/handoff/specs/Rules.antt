@@ -10,7 +10,7 @@ use Rattle.handoff.specs.ArrivalLemmas.{closes_more, closes_same, closing_last, 
 use Rattle.handoff.specs.Queue.{AreClosedLast, AreTakenOnce, IsKeptByPutting, IsKeptByTaking, IsOneMore, IsQueue, KnowsAllTaken}
 use Rattle.handoff.specs.Queue.{closings_at, closings_in, ended_at, items_by, keeps, new_putter, new_taker, nothing_kept, put_at, puts_there, putting_at}
 use Rattle.handoff.specs.Queue.{taken_at, takes_there, taking_at, total, tried, waiting_in, with_back, with_putter_out, with_taker_out}
-use Rattle.handoff.specs.SumLemmas.{also, at_keeper, changed, counted, gone, keeper_counts_closings, keeper_counts_putters, keeper_counts_takers}
+use Rattle.handoff.specs.SumLemmas.{end_without_items, at_keeper, changed, counted, gone, keeper_counts_closings, keeper_counts_putters, keeper_counts_takers}
 use Rattle.handoff.specs.SumLemmas.{merged, more, none_put, none_taken, others_keep, same}
 use Rattle.handoff.specs.declared.queue.Message.{Message}
 use Rattle.handoff.specs.declared.queue.KeeperView.{KeeperView}
@@ -19,7 +19,7 @@ use Rattle.handoff.specs.declared.queue.EndView.{EndView}
 -- if `m` is 0 whenever `n` is positive, and `m` is positive, then `n` is 0
 is_none : (n m : ℕ) → (0 < n → m ≡ 0) → 0 < m → n ≡ 0
 is_none zero m then any = refl
-is_none (suc n) m then any = let nobody = then (omega arith) in absurd (omega (arith, nobody, any))
+is_none (suc n) m then any = let no_end = then (omega arith) in absurd (omega (arith, no_end, any))
 
 module _ {I : Type 0} where
   -- how the totals change if one end knows `w` in place of `v`
@@ -93,8 +93,8 @@ module _ {I : Type 0} where
   once_split : (views : List (EndView I)) (u : EndView I) (items : List (Message I)) → put_at u ≡ [] → taken_at u ≡ []
       → AreTakenOnce items views → AreTakenOnce items (views ++ u ∷ [])
   once_split views u items none_put none_taken was =
-      subst (λ list. IsPermutation list (items_by taken_at (views ++ u ∷ []) ++ waiting_in items)) (sym (also put_at views u none_put))
-      (subst (λ list. IsPermutation (items_by put_at views) (list ++ waiting_in items)) (sym (also taken_at views u none_taken)) was)
+      subst (λ list. IsPermutation list (items_by taken_at (views ++ u ∷ []) ++ waiting_in items)) (sym (end_without_items put_at views u none_put))
+      (subst (λ list. IsPermutation (items_by put_at views) (list ++ waiting_in items)) (sym (end_without_items taken_at views u none_taken)) was)
 
   -- one end is back
   once_back : (views : List (EndView I)) (k other : ℕ) (v both w : EndView I) (items : List (Message I)) → get_elem? views k ≡ some v → ¬ (other ≡ k)

@@ -51,9 +51,9 @@ module _ {I : Type 0} where
     same (x ∷ rest) (suc k) v w at is = ap (λ list. part x ++ list) (same rest k v w at is)
 
     -- there is one end more, which has none
-    pub also : (views : List (EndView I)) (u : EndView I) → part u ≡ [] → items_by part (views ++ u ∷ []) ≡ items_by part views
-    also [] u bare = ap (λ list. list ++ []) bare
-    also (x ∷ rest) u bare = ap (λ list. part x ++ list) (also rest u bare)
+    pub end_without_items : (views : List (EndView I)) (u : EndView I) → part u ≡ [] → items_by part (views ++ u ∷ []) ≡ items_by part views
+    end_without_items [] u bare = ap (λ list. list ++ []) bare
+    end_without_items (x ∷ rest) u bare = ap (λ list. part x ++ list) (end_without_items rest u bare)
 
     -- all items are those of one end, and those that are there once it is let go
     pub gone : (views : List (EndView I)) (k : ℕ) (v : EndView I) → get_elem? views k ≡ some v → part EndView.Rests ≡ []
@@ -115,10 +115,10 @@ module _ {I : Type 0} where
 
   -- so there are none without a keeper, and else as many as it has
   nowhere : (part : EndView I → ℕ) (views : List (EndView I)) → IsKeepers part → total keeps views ≡ 0 → total part views ≡ 0
-  nowhere part [] only nobody = refl
-  nowhere part (x ∷ rest) only nobody =
-      let here = only x (omega (arith, nobody)) in
-      let there = nowhere part rest only (omega (arith, nobody)) in
+  nowhere part [] only no_end = refl
+  nowhere part (x ∷ rest) only no_end =
+      let here = only x (omega (arith, no_end)) in
+      let there = nowhere part rest only (omega (arith, no_end)) in
       omega (arith, here, there)
 
   pub others_keep : (views : List (EndView I)) (k : ℕ) (view : KeeperView I) → get_elem? views k ≡ some (EndView.Keeping view) → total keeps views ≡ 1
@@ -128,28 +128,28 @@ module _ {I : Type 0} where
   pub at_keeper : (part : EndView I → ℕ) (views : List (EndView I)) (k : ℕ) (view : KeeperView I) → IsKeepers part
       → get_elem? views k ≡ some (EndView.Keeping view) → total keeps views ≡ 1 → total part views ≡ part (EndView.Keeping view)
   at_keeper part views k view only at one =
-      let nobody = nowhere part (slice_set views k EndView.Rests) only (others_keep views k view at one) in
+      let no_end = nowhere part (slice_set views k EndView.Rests) only (others_keep views k view at one) in
       let rests = only EndView.Rests refl in
       let all = changed part views k (EndView.Keeping view) EndView.Rests at in
-      omega (arith, nobody, rests, all)
+      omega (arith, no_end, rests, all)
 
   pub keeper_counts_putters : IsKeepers putting_at
-  keeper_counts_putters (EndView.Keeping k) nobody = absurd (omega (arith, nobody))
-  keeper_counts_putters (EndView.Putting items tries) nobody = refl
-  keeper_counts_putters (EndView.Taking items ended) nobody = refl
-  keeper_counts_putters EndView.Rests nobody = refl
+  keeper_counts_putters (EndView.Keeping k) no_end = absurd (omega (arith, no_end))
+  keeper_counts_putters (EndView.Putting items tries) no_end = refl
+  keeper_counts_putters (EndView.Taking items ended) no_end = refl
+  keeper_counts_putters EndView.Rests no_end = refl
 
   pub keeper_counts_takers : IsKeepers taking_at
-  keeper_counts_takers (EndView.Keeping k) nobody = absurd (omega (arith, nobody))
-  keeper_counts_takers (EndView.Putting items tries) nobody = refl
-  keeper_counts_takers (EndView.Taking items ended) nobody = refl
-  keeper_counts_takers EndView.Rests nobody = refl
+  keeper_counts_takers (EndView.Keeping k) no_end = absurd (omega (arith, no_end))
+  keeper_counts_takers (EndView.Putting items tries) no_end = refl
+  keeper_counts_takers (EndView.Taking items ended) no_end = refl
+  keeper_counts_takers EndView.Rests no_end = refl
 
   pub keeper_counts_closings : IsKeepers closings_at
-  keeper_counts_closings (EndView.Keeping k) nobody = absurd (omega (arith, nobody))
-  keeper_counts_closings (EndView.Putting items tries) nobody = refl
-  keeper_counts_closings (EndView.Taking items ended) nobody = refl
-  keeper_counts_closings EndView.Rests nobody = refl
+  keeper_counts_closings (EndView.Keeping k) no_end = absurd (omega (arith, no_end))
+  keeper_counts_closings (EndView.Putting items tries) no_end = refl
+  keeper_counts_closings (EndView.Taking items ended) no_end = refl
+  keeper_counts_closings EndView.Rests no_end = refl
 
   -- nothing was put where there are no ends for that, and nothing was taken
   pub none_put : (views : List (EndView I)) → total keeps views ≡ 0 → total puts_there views ≡ 0 → items_by put_at views ≡ []

@@ -4,7 +4,7 @@ use Rattle.criteria.specs.Laws.{Rules}
 use Rattle.criteria.specs.declared.figures.Figures.{Figures}
 use Rattle.timetable.specs.TimetableValue.{TimetableValue}
 use Rattle.image_layout.specs.Image.{ImageValue}
-use Rattle.profile_scan.specs.Between.{BetweenValue, IsAnswerBetween}
+use Rattle.profile_scan.specs.SetQuery.{SetQueryValue, IsAnswerBetween}
 use Rattle.journeys.specs.Answer.{point_of}
 use Rattle.journeys.specs.Extracted.{AttainsBetween}
 use Rattle.journeys.specs.declared.answering.Departure.{Departure}
@@ -16,7 +16,7 @@ use Rattle.image_commands.specs.Listing.{form_text}
 use Rattle.image_commands.specs.Picturing.{IsDrawn}
 use Rattle.image_commands.specs.declared.profile.Profile.{Profile}
 
-pub answer_shown : {V : Type 0} (figures : V → Figures) (rules : Rules V) (request : ProfileRequest) (image : ImageValue) (b : BetweenValue)
+pub answer_shown : {V : Type 0} (figures : V → Figures) (rules : Rules V) (request : ProfileRequest) (image : ImageValue) (b : SetQueryValue)
     (t : TimetableValue) (departures : List (Departure V)) (walk : Option ℕ) (read : ℕ) (profile : Profile) → t ≡ image.timetable
     → IsAnswerBetween rules t b (map point_of departures)
     → ((departure : Departure V) → Contains departures departure → AttainsBetween rules t b (point_of departure) departure.journey)

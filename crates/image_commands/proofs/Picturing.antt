@@ -6,7 +6,7 @@ use Rattle.std.proofs.lemmas.Slice.Zip.{all_zipped_more}
 use Rattle.criteria.specs.declared.name.CriterionName.{CriterionName}
 use Rattle.criteria.specs.declared.figures.Figures.{Figures}
 use Rattle.image_layout.specs.Image.{ImageValue}
-use Rattle.profile_scan.specs.Between.{BetweenValue}
+use Rattle.profile_scan.specs.SetQuery.{SetQueryValue}
 use Rattle.answer_pictures.specs.declared.axis.Axis.{Axis}
 use Rattle.answer_pictures.specs.LineValue.{HeadingValue, LineValue}
 use Rattle.answer_pictures.specs.Pictures.{IsPicture, LiesOn}
@@ -22,7 +22,7 @@ drawn_more R xs i x ys zs y lt there before last grown =
 
 -- a picture with the lines of the departures that are drawn
 pub picture_made : {V : Type 0} (figures : V
-    → Figures) (image : ImageValue) (name : CriterionName) (rows : ℕ) (b : BetweenValue)
+    → Figures) (image : ImageValue) (name : CriterionName) (rows : ℕ) (b : SetQueryValue)
     (departures drawn : List (Departure V))
     (walk : Option ℕ) (text : List ℕ) (heading shown : HeadingValue) (axis : Axis) (lines seen drew : List LineValue) (left : ℕ)
     → IsHeadingBetween image.names name b heading → drawn ≡ take rows departures → seen ≡ lines → drew ≡ lines

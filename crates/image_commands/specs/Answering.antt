@@ -13,7 +13,7 @@ use Rattle.journeys.specs.Answer.{point_of}
 use Rattle.journeys.specs.Extracted.{AttainsBetween}
 use Rattle.journeys.specs.declared.answering.Departure.{Departure}
 use Rattle.journeys.specs.declared.question.Window.{Window}
-use Rattle.profile_scan.specs.Between.{BetweenValue, IsAnswerBetween, IsAskableBetween}
+use Rattle.profile_scan.specs.SetQuery.{SetQueryValue, IsAnswerBetween, IsAskableBetween}
 use Rattle.answer_replies.specs.Valuing.{arrival_figures, by_arrival, by_trips, by_walking, trips_figures, walking_figures}
 use Rattle.station_answers.specs.Naming.{AsksBetween, IsFaultBetween}
 use Rattle.station_answers.specs.Reading.{window_between}
@@ -31,7 +31,7 @@ use Rattle.image_commands.specs.declared.refusal.CommandRefusal.TheVariants.{Que
 -- and each departure has a journey that attains its point for one of the pairs, and that ends as soon as it is at a target. The text shows the departures and
 -- the direct walk, and in lines also how many connections the window has. A picture, if one is asked for, shows the same departures. Between a single stop and
 -- a single other this is the answer of the plain query (the law `one_is_plain` of profile_scan)
-pub record IsShown {V : Type 0} (figures : V → Figures) (rules : Rules V) (request : ProfileRequest) (image : ImageValue) (b : BetweenValue)
+pub record IsShown {V : Type 0} (figures : V → Figures) (rules : Rules V) (request : ProfileRequest) (image : ImageValue) (b : SetQueryValue)
     (profile : Profile) : Type 0 where
   pub departures : List (Departure V)
   pub walk : Option ℕ
@@ -43,7 +43,7 @@ pub record IsShown {V : Type 0} (figures : V → Figures) (rules : Rules V) (req
   pub drawn : IsDrawn figures image request b departures walk profile.picture
 
 -- the question is answered under the criterion of this name
-abbrev pub IsShownBy : CriterionName → ProfileRequest → ImageValue → BetweenValue → Profile → Type 0
+abbrev pub IsShownBy : CriterionName → ProfileRequest → ImageValue → SetQueryValue → Profile → Type 0
 IsShownBy CriterionName.Arrival request image b profile = IsShown arrival_figures by_arrival request image b profile
 IsShownBy CriterionName.ArrivalTrips request image b profile = IsShown trips_figures by_trips request image b profile
 IsShownBy CriterionName.ArrivalTripsWalk request image b profile = IsShown walking_figures by_walking request image b profile
@@ -60,7 +60,7 @@ window_of_profile request = record { from = request.after; until = request.until
 
 -- the request makes a question that can be asked of the image, and the profile answers it
 pub record AnswersRequest (image : ImageValue) (request : ProfileRequest) (profile : Profile) : Type 0 where
-  pub question : BetweenValue
+  pub question : SetQueryValue
   pub askable : IsAskableBetween image.timetable.stops question
   pub asks : AsksBetween image.names (names_from request) (names_to request) (window_of_profile request) question
   pub shown : IsShownBy request.criterion request image question profile

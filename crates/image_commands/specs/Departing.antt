@@ -8,7 +8,7 @@ use Rattle.criteria.specs.declared.name.CriterionName.{CriterionName}
 use Rattle.timetable.specs.NamesValue.{NamesValue}
 use Rattle.timetable.specs.declared.query.QueryFault.{QueryFault}
 use Rattle.image_layout.specs.Image.{ImageValue}
-use Rattle.profile_scan.specs.Between.{BetweenValue, IsAskableBetween}
+use Rattle.profile_scan.specs.SetQuery.{SetQueryValue, IsAskableBetween}
 use Rattle.station_answers.specs.Naming.{AsksBetween, IsFaultBetween}
 use Rattle.journeys.specs.declared.question.Window.{Window}
 use Rattle.answer_replies.specs.Valuing.{arrival_figures, by_arrival, by_trips, by_walking, trips_figures, walking_figures}
@@ -35,7 +35,7 @@ form_of DeparturesForm.Json = LineForm.Json
 form_of DeparturesForm.JsonPoints = LineForm.JsonPoints
 
 -- the text shows the departures from the stops that are wanted, under the criterion of this name
-abbrev pub AreShownBy : CriterionName → DeparturesForm → ImageValue → BetweenValue → WantedStops → List ℕ → Type 0
+abbrev pub AreShownBy : CriterionName → DeparturesForm → ImageValue → SetQueryValue → WantedStops → List ℕ → Type 0
 AreShownBy CriterionName.Arrival form image b wanted printed = AreShown arrival_figures by_arrival (form_of form) image b wanted printed
 AreShownBy CriterionName.ArrivalTrips form image b wanted printed = AreShown trips_figures by_trips (form_of form) image b wanted printed
 AreShownBy CriterionName.ArrivalTripsWalk form image b wanted printed = AreShown walking_figures by_walking (form_of form) image b wanted printed
@@ -99,7 +99,7 @@ list_status OutOfMemory = OUT_OF_MEMORY
 -- the text shows the departures to the stops that are asked for, and which can be asked, from the stops that are wanted
 abbrev pub AreAllShown : (List ℕ → Option (List ℕ) → Type 0) → ImageValue → DeparturesRequest → List ℕ → Type 0
 AreAllShown may_hold image request printed =
-    (b : BetweenValue) × (wanted : WantedStops) × IsAskableBetween image.timetable.stops b
+    (b : SetQueryValue) × (wanted : WantedStops) × IsAskableBetween image.timetable.stops b
     × AsksBetween image.names [] (targets_asked request) (window_asked request) b × IsWantedFrom may_hold request.from image.names wanted
     × AreShownBy request.criterion request.form image b wanted printed
 

@@ -23,43 +23,43 @@ numbered_refusal BadText = (80, codes "BadText")
 numbered_refusal (Journey fault) = (number_of fault, name_of fault)
 
 -- where an image is wrong: which connection, stop or name it is, or which three stops
-abbrev pub image_places : ImageFault → List ℕ
-image_places images.BadMagic = []
-image_places images.BadLayout = []
-image_places images.BadLength = []
-image_places (images.StopRange i) = number_text i
-image_places (images.TripRange i) = number_text i
-image_places (images.HopWithoutDuration i) = number_text i
-image_places (images.Unsorted i) = number_text i
-image_places (images.TripBroken i) = number_text i
-image_places (images.TimeRange i) = number_text i
-image_places (images.BadFlags i) = number_text i
-image_places (images.FootRange i) = number_text i
-image_places (images.FootUnsorted i) = number_text i
-image_places (images.NoLoop i) = number_text i
-image_places (images.NotClosed a b c) = number_text a ++ number_text b ++ number_text c
-image_places (images.BadNames i) = number_text i
-image_places images.OutOfMemory = []
+abbrev pub image_positions : ImageFault → List ℕ
+image_positions images.BadMagic = []
+image_positions images.BadLayout = []
+image_positions images.BadLength = []
+image_positions (images.StopRange i) = number_text i
+image_positions (images.TripRange i) = number_text i
+image_positions (images.HopWithoutDuration i) = number_text i
+image_positions (images.Unsorted i) = number_text i
+image_positions (images.TripBroken i) = number_text i
+image_positions (images.TimeRange i) = number_text i
+image_positions (images.BadFlags i) = number_text i
+image_positions (images.FootRange i) = number_text i
+image_positions (images.FootUnsorted i) = number_text i
+image_positions (images.NoLoop i) = number_text i
+image_positions (images.NotClosed a b c) = number_text a ++ number_text b ++ number_text c
+image_positions (images.BadNames i) = number_text i
+image_positions images.OutOfMemory = []
 
 -- where a journey is wrong: which leg or walk it is
-abbrev pub journey_places : JourneyFault → List ℕ
-journey_places (journeys.LegRange leg) = number_text leg
-journey_places (journeys.TwoTrips leg) = number_text leg
-journey_places (journeys.NoBoarding leg) = number_text leg
-journey_places (journeys.NoAlighting leg) = number_text leg
-journey_places (journeys.NoFootpath walk) = number_text walk
-journey_places (journeys.WalkBroken walk) = number_text walk
-journey_places (journeys.TooEarly leg) = number_text leg
-journey_places journeys.WrongEnds = []
-journey_places journeys.OutsideWindow = []
+abbrev pub journey_positions : JourneyFault → List ℕ
+journey_positions (journeys.LegRange leg) = number_text leg
+journey_positions (journeys.TwoTrips leg) = number_text leg
+journey_positions (journeys.NoBoarding leg) = number_text leg
+journey_positions (journeys.NoAlighting leg) = number_text leg
+journey_positions (journeys.NoFootpath walk) = number_text walk
+journey_positions (journeys.WalkBroken walk) = number_text walk
+journey_positions (journeys.TooEarly leg) = number_text leg
+journey_positions journeys.WrongEnds = []
+journey_positions journeys.OutsideWindow = []
 
-abbrev pub refusal_places : CommandRefusal → List ℕ
-refusal_places OddLength = []
-refusal_places (Image fault) = image_places fault
-refusal_places (Query fault) = []
-refusal_places BadText = []
-refusal_places (Journey fault) = journey_places fault
+abbrev pub refusal_positions : CommandRefusal → List ℕ
+refusal_positions OddLength = []
+refusal_positions (Image fault) = image_positions fault
+refusal_positions (Query fault) = []
+refusal_positions BadText = []
+refusal_positions (Journey fault) = journey_positions fault
 
 -- the line of a refusal: its number, its name, and where something is wrong
 abbrev pub refusal_line : CommandRefusal → List ℕ
-refusal_line refusal = refusal_text (numbered_refusal refusal) (refusal_places refusal)
+refusal_line refusal = refusal_text (numbered_refusal refusal) (refusal_positions refusal)

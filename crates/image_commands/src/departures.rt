@@ -2,7 +2,7 @@
 //! [--summary | [--json] [--no-journeys]]`.
 
 ghost use Rattle.std.specs.Prelude.{◌≡◌, ℕ, [], IfOk, MatchResult, string_bytes};
-ghost use Rattle.profile_scan.specs.Between.{IsAskableBetween, question};
+ghost use Rattle.profile_scan.specs.SetQuery.{IsAskableBetween, question};
 ghost use Rattle.profile_scan.specs.Destinations.{question_to_any};
 ghost use Rattle.station_answers.specs.Naming.{AsksBetween, IsNoQuestion};
 ghost use Rattle.command_requests.specs.declared.statuses.TheConstants.{REFUSED};
@@ -24,7 +24,7 @@ use feed_messages::{explain, is_file};
 use image_files::ImageDisk;
 use image_verifier::Verified;
 use journeys::Window;
-use profile_scan::{Between, Destinations};
+use profile_scan::{Destinations, SetQuery};
 use station_answers::{NoQuestion, question_between};
 use std::alloc::{AllocError, Global};
 use std::io::Write;
@@ -159,7 +159,7 @@ fn destinations_asked(
 }
 
 // A question without sources, as one from every stop.
-fn without_sources(query: Between) -> Destinations
+fn without_sources(query: SetQuery) -> Destinations
     requires { (question query).sources ≡ [] }
     ensures { question_to_any result ≡ question query }
 {

@@ -98,8 +98,8 @@ fn explain_fault<E: Write>(
     errors: &mut E,
 ) {
     let _ = match (fault, journey_parse(alloc, text.as_bytes())) {
-        (JourneyFault::LegRange(place), Ok(journey)) => {
-            explain_range(image, &journey, place, errors)
+        (JourneyFault::LegRange(number), Ok(journey)) => {
+            explain_range(image, &journey, number, errors)
         }
         _ => write!(errors, "csa: {fault}\n"),
     };
@@ -109,20 +109,20 @@ fn explain_fault<E: Write>(
 fn explain_range<E: Write>(
     image: &Verified,
     journey: &Journey,
-    place: usize,
+    number: usize,
     errors: &mut E,
 ) -> io::Result<()> {
-    match (journey.rides.get(place), image.len().checked_sub(1)) {
+    match (journey.rides.get(number), image.len().checked_sub(1)) {
         (None, _) => write!(errors, "csa: the journey has no ride\n"),
         (Some(_), None) => write!(errors, "csa: the image has no connections\n"),
         (Some(ride), Some(_)) if ride.leg.last < ride.leg.first => write!(
             errors,
-            "csa: ride {place} (the first is ride 0): its first connection, {}, is after its last one, {}\n",
+            "csa: ride {number} (the first is ride 0): its first connection, {}, is after its last one, {}\n",
             ride.leg.first, ride.leg.last
         ),
         (Some(ride), Some(last)) => write!(
             errors,
-            "csa: ride {place} (the first is ride 0): it has connections {} to {}, and the image has 0 to {last}\n",
+            "csa: ride {number} (the first is ride 0): it has connections {} to {}, and the image has 0 to {last}\n",
             ride.leg.first, ride.leg.last
         ),
     }

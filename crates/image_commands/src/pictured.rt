@@ -2,7 +2,7 @@
 
 ghost use Rattle.std.specs.Prelude.{◌≡◌, ◌-◌, ◌++◌, IfOk, OnOk, length, take, string_bytes};
 ghost use Rattle.std.specs.List.{AllZip};
-ghost use Rattle.profile_scan.specs.Between.{question};
+ghost use Rattle.profile_scan.specs.SetQuery.{question};
 ghost use Rattle.image_commands.specs.Picturing.{IsDrawn, IsDrawnAs, IsHeadingBetween, IsPictureOf};
 ghost use Rattle.image_commands.specs.Picturing.{first_stop, others_text};
 
@@ -11,7 +11,7 @@ use command_requests::ProfileRequest;
 use criteria::{CriterionName, ShowsFigures};
 use image_verifier::Verified;
 use journeys::{Answer, Departure};
-use profile_scan::Between;
+use profile_scan::SetQuery;
 use std::alloc::{AllocError, Global};
 use text_pieces::{put_number, put_text};
 use timetable::Query;
@@ -22,7 +22,7 @@ pub fn picture_asked<C: ShowsFigures>(
     image: &Verified,
     criterion: &C,
     request: &ProfileRequest<'_>,
-    query: &Between,
+    query: &SetQuery,
     answer: &Answer<C>,
 ) -> Result<Option<String>, AllocError>
     ensures { IfOk result (IsDrawn C.figures image.now request.now (question query.now)
@@ -43,7 +43,7 @@ fn picture_text<C: ShowsFigures>(
     image: &Verified,
     criterion: &C,
     request: &ProfileRequest<'_>,
-    query: &Between,
+    query: &SetQuery,
     answer: &Answer<C>,
 ) -> Result<String, AllocError>
     ensures { IfOk result (λ text. IsPictureOf C.figures image.now request.now.criterion request.now.rows.number
@@ -64,7 +64,7 @@ fn picture_text<C: ShowsFigures>(
 fn heading_between(
     alloc: Global,
     image: &Verified,
-    query: &Between,
+    query: &SetQuery,
     criterion: CriterionName,
 ) -> Result<Heading, AllocError>
     ensures { IfOk result (IsHeadingBetween image.now.names criterion (question query.now)) }

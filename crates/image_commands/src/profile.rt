@@ -3,7 +3,7 @@
 
 ghost use Rattle.std.specs.Prelude.{◌≡◌, IfOk, OnOk, string_bytes};
 ghost use Rattle.std.specs.Io.KnownBytes.{Appends};
-ghost use Rattle.profile_scan.specs.Between.{IsAskableBetween, question};
+ghost use Rattle.profile_scan.specs.SetQuery.{IsAskableBetween, question};
 ghost use Rattle.command_requests.specs.declared.statuses.TheConstants.{INPUT_OUTPUT, OUT_OF_MEMORY, REFUSED};
 ghost use Rattle.image_commands.specs.Answering.{IsPicturePut, IsProfile, IsShown, IsShownBy};
 ghost use Rattle.image_commands.specs.Commands.{PrintsProfile};
@@ -25,7 +25,7 @@ use feed_messages::explain;
 use image_files::{OutDisk, put_text_into};
 use image_verifier::Verified;
 use journeys::{Answer, Window};
-use profile_scan::{Between, InPlace};
+use profile_scan::{InPlace, SetQuery};
 use station_answers::{NoQuestion, answer_between, question_between};
 use std::alloc::{AllocError, Global};
 use std::io;
@@ -120,7 +120,7 @@ fn profile_asked(
 fn profile_by_name(
     alloc: Global,
     image: &Verified,
-    query: &Between,
+    query: &SetQuery,
     request: &ProfileRequest<'_>,
 ) -> Result<Profile, AllocError>
     requires { IsAskableBetween image.now.timetable.stops (question query.now) }
@@ -140,7 +140,7 @@ fn profile_by<C: ShowsFigures>(
     alloc: Global,
     image: &Verified,
     criterion: &C,
-    query: &Between,
+    query: &SetQuery,
     request: &ProfileRequest<'_>,
 ) -> Result<Profile, AllocError>
     requires { IsAskableBetween image.now.timetable.stops (question query.now) }

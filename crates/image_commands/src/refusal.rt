@@ -1,4 +1,4 @@
-//! Refusals as they are printed: a number, a name and the places, each after a space.
+//! Refusals as they are printed: a number, a name and the positions, each after a space.
 
 ghost use Rattle.std.specs.Prelude.{◌≡◌, ◌++◌, IfOk, OnOk, Some, string_bytes};
 ghost use Rattle.std.specs.Io.KnownBytes.{Appends};
@@ -7,8 +7,8 @@ ghost use Rattle.journeys.specs.Numbers.{text_number};
 ghost use Rattle.journeys.specs.Texts.{number_text};
 ghost use Rattle.journeys.specs.declared.text_fault.TextFault.TheVariants.{BadText as OfText};
 ghost use Rattle.command_endings.specs.Ending.{EndsUndone, IsBegun};
-ghost use Rattle.image_commands.specs.Refusing.{image_places, journey_places, numbered_refusal};
-ghost use Rattle.image_commands.specs.Refusing.{refusal_line, refusal_places};
+ghost use Rattle.image_commands.specs.Refusing.{image_positions, journey_positions, numbered_refusal};
+ghost use Rattle.image_commands.specs.Refusing.{refusal_line, refusal_positions};
 
 use command_endings::{begin_refusal, status};
 use image_layout::WordsFault;
@@ -71,25 +71,25 @@ pub fn refusal_line(alloc: Global, refusal: CommandRefusal) -> Result<String, Al
     ensures { IfOk result (λ line. string_bytes line ≡ refusal_line refusal) }
 {
     let mut line = begin_refusal(alloc, refusal.number(), refusal.name())?;
-    put_places(&mut line, refusal)?;
+    put_positions(&mut line, refusal)?;
     put_text(&mut line, "\n")?;
     Ok(line)
 }
 
-// Adds the places of a refusal: where something is wrong.
-fn put_places(line: &mut String, refusal: CommandRefusal) -> Result<(), AllocError>
-    ensures { OnOk result (string_bytes line.new ≡ string_bytes line.old ++ refusal_places refusal) }
+// Adds the positions of a refusal: where something is wrong.
+fn put_positions(line: &mut String, refusal: CommandRefusal) -> Result<(), AllocError>
+    ensures { OnOk result (string_bytes line.new ≡ string_bytes line.old ++ refusal_positions refusal) }
 {
     match refusal {
         CommandRefusal::OddLength | CommandRefusal::Query(_) | CommandRefusal::BadText => Ok(()),
-        CommandRefusal::Image(fault) => put_image_places(line, fault),
-        CommandRefusal::Journey(fault) => put_journey_places(line, fault),
+        CommandRefusal::Image(fault) => put_image_positions(line, fault),
+        CommandRefusal::Journey(fault) => put_journey_positions(line, fault),
     }
 }
 
 // Adds which connection, stop or name of an image is wrong, or which three stops.
-fn put_image_places(line: &mut String, fault: ImageFault) -> Result<(), AllocError>
-    ensures { OnOk result (string_bytes line.new ≡ string_bytes line.old ++ image_places fault) }
+fn put_image_positions(line: &mut String, fault: ImageFault) -> Result<(), AllocError>
+    ensures { OnOk result (string_bytes line.new ≡ string_bytes line.old ++ image_positions fault) }
 {
     match fault {
         ImageFault::BadMagic
@@ -106,39 +106,39 @@ fn put_image_places(line: &mut String, fault: ImageFault) -> Result<(), AllocErr
         | ImageFault::FootRange(i)
         | ImageFault::FootUnsorted(i)
         | ImageFault::NoLoop(i)
-        | ImageFault::BadNames(i) => put_place(line, i),
+        | ImageFault::BadNames(i) => put_position(line, i),
         ImageFault::NotClosed(a, b, c) => put_three(line, a, b, c),
     }
 }
 
 // Adds which leg or walk of a journey is wrong.
-fn put_journey_places(line: &mut String, fault: JourneyFault) -> Result<(), AllocError>
-    ensures { OnOk result (string_bytes line.new ≡ string_bytes line.old ++ journey_places fault) }
+fn put_journey_positions(line: &mut String, fault: JourneyFault) -> Result<(), AllocError>
+    ensures { OnOk result (string_bytes line.new ≡ string_bytes line.old ++ journey_positions fault) }
 {
     match fault {
         JourneyFault::LegRange(leg)
         | JourneyFault::TwoTrips(leg)
         | JourneyFault::NoBoarding(leg)
         | JourneyFault::NoAlighting(leg)
-        | JourneyFault::TooEarly(leg) => put_place(line, leg),
-        JourneyFault::NoFootpath(walk) | JourneyFault::WalkBroken(walk) => put_place(line, walk),
+        | JourneyFault::TooEarly(leg) => put_position(line, leg),
+        JourneyFault::NoFootpath(walk) | JourneyFault::WalkBroken(walk) => put_position(line, walk),
         JourneyFault::WrongEnds | JourneyFault::OutsideWindow => Ok(()),
     }
 }
 
-fn put_place(line: &mut String, place: usize) -> Result<(), AllocError>
-    ensures { OnOk result (string_bytes line.new ≡ string_bytes line.old ++ number_text place) }
+fn put_position(line: &mut String, position: usize) -> Result<(), AllocError>
+    ensures { OnOk result (string_bytes line.new ≡ string_bytes line.old ++ number_text position) }
 {
-    put_number(line, " ", place as u64)
+    put_number(line, " ", position as u64)
 }
 
 fn put_three(line: &mut String, a: usize, b: usize, c: usize) -> Result<(), AllocError>
     ensures { OnOk result (string_bytes line.new
         ≡ string_bytes line.old ++ (number_text a ++ number_text b ++ number_text c)) }
 {
-    put_place(line, a)?;
-    put_place(line, b)?;
-    put_place(line, c)?;
+    put_position(line, a)?;
+    put_position(line, b)?;
+    put_position(line, c)?;
     Ok(())
 }
 

@@ -12,4 +12,4 @@ pub record OutFiles : Type 1 where
 
 -- nothing is known
 abbrev pub any_files : OutFiles
-any_files = record { special = λ path. Unit {0}; may_begin = λ path contents. Unit {0}; may_stand = λ place path contents. Unit {0} }
+any_files = record { special = λ path. Unit {0}; may_begin = λ path contents. Unit {0}; may_stand = λ write_path path contents. Unit {0} }

@@ -23,34 +23,34 @@ abbrev pub part_of : List ℕ → List ℕ
 part_of path = path ++ codes ".part"
 
 -- where a file is that is to be at a path
-abbrev pub place_beside : List ℕ → Option (String Global) → List ℕ
-place_beside path None = path
-place_beside path (Some beside) = string_bytes beside
+abbrev pub path_beside : List ℕ → Option (String Global) → List ℕ
+path_beside path None = path
+path_beside path (Some beside) = string_bytes beside
 
-abbrev pub place_of : {F : Type 0} → NewFile F → List ℕ
-place_of file = place_beside file.path.now file.beside
+abbrev pub write_path_of : {F : Type 0} → NewFile F → List ℕ
+write_path_of file = path_beside file.path.now file.beside
 
 -- a file that is to be at the path is made beside it, or at the path is something else than a plain file, which is opened
-abbrev pub IsPlace : OutFiles → List ℕ → List ℕ → Type 0
-IsPlace disk path place = (place ≡ part_of path) ⊎ ((place ≡ path) × disk.special path)
+abbrev pub IsWritePath : OutFiles → List ℕ → List ℕ → Type 0
+IsWritePath disk path write_path = (write_path ≡ part_of path) ⊎ ((write_path ≡ path) × disk.special path)
 
 -- a file was made or opened so that it will be at the path
 pub record IsNew {F : Type 0} (contents : F → Option (List ℕ)) (disk : OutFiles) (path : List ℕ) (made : NewFile F) : Type 0 where
   pub path_is : made.path.now ≡ path
-  pub place : IsPlace disk path (place_of made)
-  pub begun : disk.may_begin (place_of made) (contents made.file)
+  pub write_path : IsWritePath disk path (write_path_of made)
+  pub begun : disk.may_begin (write_path_of made) (contents made.file)
 
--- a file that was made or opened at a place grew by exactly these bytes, and is at the path
-pub record IsFileAt (disk : OutFiles) (place path bytes : List ℕ) : Type 0 where
+-- a file that was made or opened at a path grew by exactly these bytes, and is at the path
+pub record IsFileAt (disk : OutFiles) (write_path path bytes : List ℕ) : Type 0 where
   pub start : Option (List ℕ)
   pub end : Option (List ℕ)
-  pub begun : disk.may_begin place start
+  pub begun : disk.may_begin write_path start
   pub grown : Appends start end bytes
-  pub stands : disk.may_stand place path end
+  pub stands : disk.may_stand write_path path end
 
 -- the bytes were put at the path: by way of a file beside it, or into what is there, if that isn't a plain file
 abbrev pub IsPut : OutFiles → List ℕ → List ℕ → Type 0
-IsPut disk path bytes = (place : List ℕ) × IsPlace disk path place × IsFileAt disk place path bytes
+IsPut disk path bytes = (write_path : List ℕ) × IsWritePath disk path write_path × IsFileAt disk write_path path bytes
 
 -- the bytes were put into the file at the path, which was emptied, or into what else is there
 abbrev pub IsPutInto : OutFiles → List ℕ → List ℕ → Type 0

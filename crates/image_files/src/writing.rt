@@ -3,7 +3,7 @@
 ghost use Rattle.std.specs.Prelude.{◌≡◌, Err, IfErr, IfOk, OnOk, string_bytes};
 ghost use Rattle.std.specs.Io.KnownBytes.{Appends};
 ghost use Rattle.image_layout.specs.Text.{bytes_of};
-ghost use Rattle.image_files.specs.Writing.{IsNew, IsPut, IsPutInto, IsWholeImage, part_of, place_of};
+ghost use Rattle.image_files.specs.Writing.{IsNew, IsPut, IsPutInto, IsWholeImage, part_of, write_path_of};
 
 use crate::out::OutDisk;
 use crate::reading::PIECE_WORDS;
@@ -67,7 +67,7 @@ pub fn settle<H: OutDisk>(
     outcome: io::Result<()>,
 ) -> io::Result<()>
     ensures failed { IfErr outcome (λ error. result ≡ Err error) }
-    ensures stands { OnOk result ((H.files rt.now).may_stand (place_of file.entry) file.entry.path.now
+    ensures stands { OnOk result ((H.files rt.now).may_stand (write_path_of file.entry) file.entry.path.now
         (H.File.Write.contents file.entry.file)) }
 {
     let NewFile { file, path, beside } = file;

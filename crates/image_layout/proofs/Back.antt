@@ -113,7 +113,7 @@ image_has_index layout p n can = record {
   end = foot_index_back layout p n p.stops (omega arith) ∙ all_below p.footpaths p.stops (λ i f at. (can.legal.ends_in_range i f at).1);
 }
 
--- at each place the image shows the footpath that it was spelled from
+-- at each index the image shows the footpath that it was spelled from
 footpath_there : (layout : ℕ) (p : TimetableValue) (n : NamesValue) → HasImage p n → (k : ℕ) (f : Footpath)
     → At p.footpaths k f → slice_get (footpaths_of (image_in layout p n)) k ≡ Some f
 unfolding image_in

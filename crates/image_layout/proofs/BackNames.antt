@@ -99,33 +99,33 @@ behind layout p n can =
     let connections = flat_map connection_words p.connections in
     let feet = flat_map footpath_words p.footpaths in
     let days = map (λ (t : TripNameValue). t.day) n.trips in
-    let place1 : ℕ = 9 + 6 * length p.connections in
-    let place2 : ℕ = place1 + (p.stops + 1) in
-    let place3 : ℕ = place2 + 2 * length p.footpaths in
-    let place4 : ℕ = place3 + (length (name_list n) + 1) in
-    let place5 : ℕ = place4 + length n.trips in
-    let place6 : ℕ = place5 + length (repeats_in layout n) in
-    let at1 : drop place1 w ≡ from_foot_index layout p n =
+    let index1 : ℕ = 9 + 6 * length p.connections in
+    let index2 : ℕ = index1 + (p.stops + 1) in
+    let index3 : ℕ = index2 + 2 * length p.footpaths in
+    let index4 : ℕ = index3 + (length (name_list n) + 1) in
+    let index5 : ℕ = index4 + length n.trips in
+    let index6 : ℕ = index5 + length (repeats_in layout n) in
+    let at1 : drop index1 w ≡ from_foot_index layout p n =
     skip w connections (from_foot_index layout p n) 9 (6 * length p.connections)
     (pieces_long connection_words 6 (λ x. refl) p.connections) refl in
-    let at2 : drop place2 w ≡ from_footpaths layout p n =
-    skip w (foot_index p) (from_footpaths layout p n) place1 (p.stops + 1)
+    let at2 : drop index2 w ≡ from_footpaths layout p n =
+    skip w (foot_index p) (from_footpaths layout p n) index1 (p.stops + 1)
     (length-map-range_with_len (footpath_count_below p.footpaths) 0 (p.stops + 1)) at1 in
-    let at3 : drop place3 w ≡ from_names layout n =
-    skip w feet (from_names layout n) place2 (2 * length p.footpaths)
+    let at3 : drop index3 w ≡ from_names layout n =
+    skip w feet (from_names layout n) index2 (2 * length p.footpaths)
     (pieces_long footpath_words 2 (λ x. refl) p.footpaths) at2 in
-    let at4 : drop place4 w ≡ from_days layout n =
-    skip w (name_index n) (from_days layout n) place3 (length (name_list n) + 1)
+    let at4 : drop index4 w ≡ from_days layout n =
+    skip w (name_index n) (from_days layout n) index3 (length (name_list n) + 1)
     (length-map-range_with_len (byte_count_before (name_list n)) 0 (length (name_list n) + 1)) at3 in
-    let at5 : drop place5 w ≡ from_repeats layout n =
-    skip w days (from_repeats layout n) place4 (length n.trips)
+    let at5 : drop index5 w ≡ from_repeats layout n =
+    skip w days (from_repeats layout n) index4 (length n.trips)
     (length-map n.trips (λ (t : TripNameValue). t.day)) at4 in
-    let at6 : drop place6 w ≡ text_words (text n) = skip w (repeats_in layout n) (text_words (text n)) place5 (length (repeats_in layout n)) refl at5 in
+    let at6 : drop index6 w ≡ text_words (text n) = skip w (repeats_in layout n) (text_words (text n)) index5 (length (repeats_in layout n)) refl at5 in
     let many = length-name_list p n can in
-    let e3 : name_index_offset (header_of w) ≡ place3 = omega arith in
-    let e4 : day_offset (header_of w) ≡ place4 = omega (arith, many) in
-    let e5 : repeat_offset (header_of w) ≡ place5 = omega (arith, many, can.names.trip_names) in
-    let e6 : text_offset (header_of w) ≡ place6 = omega (arith, e5, length-repeats_in layout n p.trips can.names.trip_names) in
+    let e3 : name_index_offset (header_of w) ≡ index3 = omega arith in
+    let e4 : day_offset (header_of w) ≡ index4 = omega (arith, many) in
+    let e5 : repeat_offset (header_of w) ≡ index5 = omega (arith, many, can.names.trip_names) in
+    let e6 : text_offset (header_of w) ≡ index6 = omega (arith, e5, length-repeats_in layout n p.trips can.names.trip_names) in
     record {
       index = ap (λ (k : ℕ). drop k w) e3 ∙ at3;
       days = ap (λ (k : ℕ). drop k w) e4 ∙ at4;

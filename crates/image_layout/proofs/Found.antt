@@ -14,7 +14,7 @@ use Rattle.image_layout.specs.Shown.{connection_of, connections_of, footpath_of,
 use Rattle.image_layout.proofs.Feet.{IsFootIndex, index_rises}
 use Rattle.image_layout.proofs.Whole.{length-connections_of, length-footpaths_of, connection_is}
 
--- at place i of the shown connections stands the one of the six words there
+-- at index i of the shown connections stands the one of the six words there
 pub connection_shown : (w : List ℕ) (i : ℕ) (c : Connection) → slice_get (connections_of w) i ≡ Some c
     → (i < (header_of w).connections) × (c ≡ connection_of w i)
 connection_shown w i c e =
@@ -51,7 +51,7 @@ found_from w s j d (suc n) a rises le lt low high =
           ∙ ap (λ (x : ℕ). footpath_of w s x) q
     ]
 
--- at each place among those into stop s stands the footpath of the two words there, into s
+-- at each index among those into stop s stands the footpath of the two words there, into s
 pub footpath_is : (w : List ℕ) (s k : ℕ) → IsWhole w → IsFootIndex w → s < (header_of w).stops → foot_index_of w s ≤ k
     → k < foot_index_of w (s + 1) → slice_get (footpaths_of w) k ≡ Some (footpath_of w s k)
 unfolding footpaths_of
@@ -66,7 +66,7 @@ footpath_is w s k whole feet lt low high =
     ∙ ap Some (found_from w s k (footpath_of w s k) stops 0 (λ t below. feet.rises t (omega arith)) (omega arith)
     (omega arith) (omega (arith, feet.start)) (omega (arith, feet.start)) ∙ ap (λ (x : ℕ). footpath_of w s x) start)
 
--- the stop whose footpaths have a place among them
+-- the stop whose footpaths have an index among them
 pub record IsStopOf (w : List ℕ) (k s : ℕ) : Type 0 where
   pub stop : s < (header_of w).stops
   pub start : foot_index_of w s ≤ k
@@ -80,7 +80,7 @@ stop_below w k (suc n) low high le =
       | inr ge ↦ (n, record { stop = omega arith; start = ge; end = (let e : n + 1 ≡ suc n = omega arith in rw e high) })
     ]
 
--- at place k of the shown footpaths stands the one of the two words there, into the stop whose place it is
+-- at index k of the shown footpaths stands the one of the two words there, into the stop whose index it is
 pub footpath_shown : (w : List ℕ) (k : ℕ) (f : Footpath) → IsWhole w → IsFootIndex w
     → slice_get (footpaths_of w) k ≡ Some f → (s : ℕ) × IsStopOf w k s × (f ≡ footpath_of w s k)
 footpath_shown w k f whole feet e =

@@ -13,14 +13,14 @@ use Rattle.image_layout.specs.Spelling.{name_list}
 use Rattle.image_layout.specs.Image.{AreFirst, NamesFit, HasImage}
 use Rattle.image_layout.specs.Sample.{sample_timetable, sample_names}
 
--- what holds of three holds at each place of their list
+-- what holds of three holds at each index of their list
 each : {X : Type 0} (P : X → Type 0) (x y z : X) → P x → P y → P z → (i : ℕ) (e : X) → At (x ∷ y ∷ z ∷ []) i e → P e
 each P x y z px py pz zero e at = subst P (same_Some x e at) px
 each P x y z px py pz (suc zero) e at = subst P (same_Some y e at) py
 each P x y z px py pz (suc (suc zero)) e at = subst P (same_Some z e at) pz
 each P x y z px py pz (suc (suc (suc i))) e at = absurd cc
 
--- what holds of each two of three, in their order, holds at each two places
+-- what holds of each two of three, in their order, holds at each two indices
 each_two : {X : Type 0} (Q : X → X → Type 0) (x y z : X) → Q x y → Q x z → Q y z → (i j : ℕ) (d e : X) → i < j
     → At (x ∷ y ∷ z ∷ []) i d → At (x ∷ y ∷ z ∷ []) j e → Q d e
 each_two Q x y z xy xz yz i zero d e lt at_d at_e = absurd (omega (arith, lt))
@@ -32,7 +32,7 @@ each_two Q x y z xy xz yz (suc (suc i)) (suc zero) d e lt at_d at_e = absurd (om
 each_two Q x y z xy xz yz (suc (suc i)) (suc (suc zero)) d e lt at_d at_e = absurd (omega (arith, lt))
 each_two Q x y z xy xz yz i (suc (suc (suc j))) d e lt at_d at_e = absurd cc
 
--- neighbours stand at two places
+-- neighbours stand at two indices
 at_next : {X : Type 0} (xs : List X) (i : ℕ) (e : X) → At xs (i + 1) e → At xs (suc i) e
 at_next xs i e at = subst (λ (k : ℕ). At xs k e) (add-one i) at
 

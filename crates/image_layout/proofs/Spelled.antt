@@ -154,7 +154,7 @@ first_least (y ∷ ys) g f (suc k) h at =
     let rest = first_least ys y f k (behind g (y ∷ ys) h) at in
     omega arith
 
--- a footpath that leads below s has one of the first places, and one that doesn't has none of them
+-- a footpath that leads below s has one of the first indices, and one that doesn't has none of them
 pub offset_below : (fs : List Footpath) (k s : ℕ) (f : Footpath) → NeverFalls fs → At fs k f → f.to < s → k < footpath_count_below fs s
 offset_below [] k s f h at lt = absurd cc
 offset_below (g ∷ gs) zero s f h at lt =
@@ -209,7 +209,7 @@ below_rises (f ∷ fs) s =
       | inr ge ↦ omega (arith, counted f fs s, counted f fs (s + 1), one-no s f ge, rest)
     ]
 
--- word r of the footpath at place k
+-- word r of the footpath at index k
 footpath_word : (layout : ℕ) (p : TimetableValue) (n : NamesValue) (k r : ℕ) (f : Footpath) → At p.footpaths k f → r < 2
     → get_or (image_in layout p n) (footpath_offset (header_of (image_in layout p n)) + (2 * k + r)) 0
     ≡ get_or (footpath_words f) r 0

@@ -79,7 +79,7 @@ pub record IsWellFormed (w : List ℕ) : Type 0 where
   pub names : IsNameIndex w
   pub spare : list_all (λ b. eqb b 0) (drop (header_of w).name_bytes (padded_text_of w)) ≡ true
 
--- a list from place p on: so many words, and the rest
+-- a list from index p on: so many words, and the rest
 cut : (w : List ℕ) (p n : ℕ) → drop p w ≡ take n (drop p w) ++ drop (p + n) w
 cut w p n = sym (take-append-drop n (drop p w)) ∙ ap (λ (x : List ℕ). take n (drop p w) ++ x) (drop-drop n p w)
 
@@ -173,7 +173,7 @@ image_again w form =
     (join w (day_offset h) h.trips (repeat_offset h) _ _ (omega arith) (days_again w form.whole)
     (join w (repeat_offset h) (repeat_words h) (text_offset h) _ _ (omega arith) (repeats_again w form.whole) last))))))
 
--- what a shown connection is at its place
+-- what a shown connection is at its index
 pub connection_is : (w : List ℕ) (i : ℕ) → i < (header_of w).connections → slice_get (connections_of w) i ≡ Some (connection_of w i)
 unfolding connections_of
 connection_is w i lt =

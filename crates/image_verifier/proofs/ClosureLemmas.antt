@@ -51,12 +51,12 @@ first_between-some f a b x e =
     let at : (a + h.0) - a ≡ h.0 = omega arith in
     (a + h.0, record { low = omega arith; high = omega (arith, h.1.below); none_before = rw at h.1.none_before; here = h.1.here })
 
--- numbers that rise with their place, from place low up to before place high, and stay below n
+-- numbers that rise with their index, from index low up to before index high, and stay below n
 pub record IsRising (at : ℕ → ℕ) (low high n : ℕ) : Type 0 where
   pub rises : (j k : ℕ) → low ≤ j → j < k → k < high → at j < at k
   pub below : (k : ℕ) → low ≤ k → k < high → at k < n
 
--- f by places gives what g gives by numbers, and g gives nothing at other numbers
+-- f by indices gives what g gives by numbers, and g gives nothing at other numbers
 pub record IsByIndex {X : Type 0} (at : ℕ → ℕ) (f g : ℕ → Option X) (low high n : ℕ) : Type 0 where
   pub same : (k : ℕ) → low ≤ k → k < high → f k ≡ g (at k)
   pub none_else : (a : ℕ) → a < n → ((k : ℕ) → low ≤ k → k < high → at k ≢ a) → g a ≡ None
@@ -66,12 +66,12 @@ none_by_number : {X : Type 0} (at : ℕ → ℕ) (f g : ℕ → Option X) (low h
     → a < n → i ≤ high → first_between f low i ≡ None → ((k : ℕ) → i ≤ k → k < high → at k ≢ a) → g a ≡ None
 none_by_number at f g low high n i a by lt le none later =
     elim (cases_Bool (any_between (λ k. eqb (at k) a) low high)) [
-      | inl a_place ↦
-          let position = any_between-some (λ k. eqb (at k) a) low high a_place in
+      | inl an_index ↦
+          let position = any_between-some (λ k. eqb (at k) a) low high an_index in
           let here : at position.0 ≡ a = eqb-true _ _ position.3 in
           let early : position.0 < i = early_index position.0 position.2 here in
           ap g (sym here) ∙ sym (by.same position.0 position.1 position.2) ∙ first_between-none f low i position.0 position.1 early none
-      | inr no_place ↦ by.none_else a lt (λ k kl kh. eqb-false _ _ (any_between-none (λ j. eqb (at j) a) low high k kl kh no_place))
+      | inr no_index ↦ by.none_else a lt (λ k kl kh. eqb-false _ _ (any_between-none (λ j. eqb (at j) a) low high k kl kh no_index))
     ]
   where
     early_index : (k : ℕ) → k < high → at k ≡ a → k < i
@@ -82,7 +82,7 @@ none_by_number at f g low high n i a by lt le none later =
           | inr (inr above) ↦ absurd (later k (omega (arith, above)) kh here)
         ]
 
--- to search by rising numbers, place by place, is to search by all numbers
+-- to search by rising numbers, index by index, is to search by all numbers
 pub first_by_index : {X : Type 0} (at : ℕ → ℕ) (f g : ℕ → Option X) (low high n : ℕ) → IsRising at low high n
     → IsByIndex at f g low high n → first_below g n ≡ first_between f low high
 first_by_index at f g low high n rising by =
@@ -133,7 +133,7 @@ secs_here w a k e = rw (eq-eqb _ _ e) refl
 secs_elsewhere : (w : List ℕ) (a k : ℕ) → foot_from_of w k ≢ a → cond (eqb (foot_from_of w k) a) (Some (foot_secs_of w k)) None ≡ None
 secs_elsewhere w a k ne = rw (ne_eqb _ _ ne) refl
 
--- the footpath at place k into stop c is the one from the stop that it leaves
+-- the footpath at index k into stop c is the one from the stop that it leaves
 pub secs_between-at : (w : List ℕ) (a c k : ℕ) → HasFootRange w c → foot_index_of w c ≤ k → k < foot_index_of w (c + 1)
     → foot_from_of w k ≡ a → secs_between w a c ≡ Some (foot_secs_of w k)
 unfolding secs_between
@@ -148,7 +148,7 @@ pub secs_between-none : (w : List ℕ) (a c : ℕ)
 unfolding secs_between
 secs_between-none w a c none = first_between-all _ (foot_index_of w c) (foot_index_of w (c + 1)) (λ k low high. secs_elsewhere w a k (none k low high))
 
--- a place of the footpath from stop a into stop c
+-- an index of the footpath from stop a into stop c
 pub record IsIndexOf (w : List ℕ) (a c time k : ℕ) : Type 0 where
   pub low : foot_index_of w c ≤ k
   pub high : k < foot_index_of w (c + 1)
@@ -257,7 +257,7 @@ pair_open w first second c direct ranges into_first into_second entry lt =
       | inr some ↦ open_fault-longer w a b c (foot_secs_of w first) (foot_secs_of w second) some.0 s1 s2 some.1 (omega (arith, entry ∙ ap or_never some.1, lt))
     ]
 
--- what is found from a up to before b is found without the place at either end where nothing is
+-- what is found from a up to before b is found without the index at either end where nothing is
 without_last : {X : Type 0} (f : ℕ → Option X) (a k : ℕ) → a ≤ k → f k ≡ None → first_between f a (k + 1) ≡ first_between f a k
 without_last f a k le none =
     elim (option_cases (first_between f a k)) [
@@ -285,7 +285,7 @@ without_first f k b lt none =
           | inr (inr above) ↦ first_between-none f (k + 1) end i (omega (arith, above)) high nothing
         ]
 
--- a table without entries has those of no place
+-- a table without entries has those of no index
 pub HasSecs-none : (w : List ℕ) (k : ℕ) (secs : List ℕ) → secs ≡ replicate (header_of w).stops NEVER → HasSecs w k k secs
 HasSecs-none w k secs e = record {
   size = ap length e ∙ length-replicate (header_of w).stops NEVER;
@@ -301,7 +301,7 @@ no_entries w low k secs le table =
     let within : a < stops = omega (arith, lt, table.size) in
     table.entry a within ∙ ap or_never (first_between-empty (secs_from w a) low k le) ∙ sym (get_or-replicate stops a NEVER 0 within))
 
--- a table where the entry of one stop is written anew: it has those of other places, where these change nothing for other stops
+-- a table where the entry of one stop is written anew: it has those of other indices, where these change nothing for other stops
 HasSecs-put : (w : List ℕ) (low end now_low now_end b secs_now : ℕ) (secs : List ℕ) → b < (header_of w).stops → HasSecs w low end secs
     → secs_now ≡ or_never (first_between (secs_from w b) now_low now_end)
     → ((a : ℕ) → b ≢ a → first_between (secs_from w a) now_low now_end ≡ first_between (secs_from w a) low end)
@@ -318,7 +318,7 @@ HasSecs-put w low end now_low now_end b secs_now secs within table here others =
       ];
     }
 
--- one place more
+-- one index more
 pub HasSecs-more : (w : List ℕ) (c k : ℕ) (secs : List ℕ) → HasFootRange w c → foot_index_of w c ≤ k → k < foot_index_of w (c + 1)
     → HasSecs w (foot_index_of w c) k secs → HasSecs w (foot_index_of w c) (k + 1) (set secs (foot_from_of w k) (foot_secs_of w k))
 HasSecs-more w c k secs range low high table =
@@ -331,7 +331,7 @@ HasSecs-more w c k secs range low high table =
     HasSecs-put w start k start (k + 1) b (foot_secs_of w k) secs (range.from k low high) table (sym (ap or_never found))
     (λ a other. without_last (secs_from w a) start k low (secs_elsewhere w a k other))
 
--- one place less
+-- one index less
 pub HasSecs-less : (w : List ℕ) (c k : ℕ) (secs : List ℕ) → HasFootRange w c → foot_index_of w c ≤ k → k < foot_index_of w (c + 1)
     → HasSecs w k (foot_index_of w (c + 1)) secs → HasSecs w (k + 1) (foot_index_of w (c + 1)) (set secs (foot_from_of w k) NEVER)
 HasSecs-less w c k secs range low high table =
@@ -344,11 +344,11 @@ HasSecs-less w c k secs range low high table =
     HasSecs-put w k end (k + 1) end b NEVER secs (range.from k low high) table (sym (ap or_never none))
     (λ a other. without_first (secs_from w a) k end high (secs_elsewhere w a k other))
 
--- the fault by way of stop b to stop c from where the footpath at place i begins
+-- the fault by way of stop b to stop c from where the footpath at index i begins
 abbrev pub open_at : List ℕ → ℕ → ℕ → ℕ → Option ImageFault
 open_at w b c i = open_fault w (foot_from_of w i) b c
 
--- the first fault to stop c by way of where the footpath at place j begins
+-- the first fault to stop c by way of where the footpath at index j begins
 abbrev pub way_at : List ℕ → ℕ → ℕ → Option ImageFault
 way_at w c j = way_fault w (foot_from_of w j) c
 

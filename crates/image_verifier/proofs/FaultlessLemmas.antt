@@ -26,7 +26,7 @@ use Rattle.image_verifier.proofs.ConnectionLemmas.{IsSound}
 use Rattle.image_verifier.proofs.FootLemmas.{HasFootRange-from}
 use Rattle.image_verifier.proofs.ClosureLemmas.{secs_between-at, secs_between-some, open_fault-closed, open_fault-no_first, open_fault-no_second}
 
--- the shown connection of a place
+-- the shown connection of an index
 shown_at : (w : List ℕ) (i : ℕ) → i < (header_of w).connections → At (connections_of w) i (connection_of w i)
 shown_at w i lt = connection_is w i lt
 
@@ -90,7 +90,7 @@ connection_faultless w form can i lt =
     ∙ passes _ (Unsorted i) _ (sorted_from_legal w can i lt)
     (passes _ (TripBroken i) None (unbroken_from_legal w can i lt (last_of_trip w (trip_of w i) i) refl) refl)
 
--- the shown footpath of a place, into the stop whose place it is
+-- the shown footpath of an index, into the stop whose index it is
 walk_at : (w : List ℕ) → IsWellFormed w → (s k : ℕ) → s < (header_of w).stops → foot_index_of w s ≤ k
     → k < foot_index_of w (s + 1) → At (footpaths_of w) k (footpath_of w s k)
 walk_at w form s k lt low high = footpath_is w s k form.whole form.feet lt low high
@@ -102,7 +102,7 @@ index_far w form s t le within =
     let h = index_rises w (t - s) s (λ u below. form.feet.rises u (omega arith)) in
     omega (arith, at, h)
 
--- a listed footpath from a to c has a place among those into c
+-- a listed footpath from a to c has an index among those into c
 index_of : (w : List ℕ) → IsWellFormed w → (a c secs : ℕ) → (has : HasFootpath (footpaths_of w) a c secs)
     → IsStopOf w has.0 c × (foot_from_of w has.0 ≡ a) × (foot_secs_of w has.0 ≡ secs)
 index_of w form a c secs has =

@@ -29,7 +29,7 @@ use Rattle.image_verifier.proofs.AcceptedLemmas.{AreFaultless, AreFaultless-from
 use Rattle.image_verifier.proofs.FootLemmas.{HasFootRange-from}
 use Rattle.image_verifier.proofs.LegalLemmas.{sound_at, IsLegal-from}
 
--- what stands at a place of a list that is made from places
+-- what stands at an index of a list that is made from indices
 pub shown_in : {X : Type 0} (f : ℕ → X) (n i : ℕ) (x : X) → slice_get (map f (range_with_len 0 n)) i ≡ Some x → (i < n) × (x ≡ f i)
 shown_in f n i x e =
     let size = length-map-range_with_len f 0 n in

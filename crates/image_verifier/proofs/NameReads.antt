@@ -20,7 +20,7 @@ use Rattle.image_verifier.specs.Accepted.{IsAccepted}
 use Rattle.image_verifier.proofs.AcceptedLemmas.{AreFaultless-from, IsName, IsName-from}
 use Rattle.image_verifier.proofs.ImageLemmas.{shown_in}
 
--- at a place of a list that is made from places stands what was made
+-- at an index of a list that is made from indices stands what was made
 made_at : {X : Type 0} (f : ℕ → X) (n i : ℕ) → i < n → slice_get (map f (range_with_len 0 n)) i ≡ Some (f i)
 made_at f n i lt =
     let size = length-map-range_with_len f 0 n in
@@ -80,7 +80,7 @@ within_trips image w words t is same lt =
     subst (λ (x : List ℕ). t < (header_of x).trips) (sym same)
     (subst (λ (v : ImageValue). t < v.timetable.trips) (sym is) lt)
 
--- what is told of a trip's name in the words is told of the image's
+-- what is said of a trip's name in the words is said of the image's
 pub trip_as_read : (tell : TripNameValue → ℕ) (image : ImageValue) (w words : List ℕ) (t fact : ℕ) → shown w ≡ image → words ≡ w
     → t < image.timetable.trips → fact ≡ tell (trip_name_of words t) → option_map tell (slice_get image.names.trips t) ≡ Some fact
 trip_as_read tell image w words t fact is same lt e =

@@ -12,7 +12,7 @@ use Rattle.timetable.proofs.LegalLemmas.{connection_at-is, departures_rise}
 use Rattle.image_verifier.specs.FirstAt.{IsFirstAt}
 use Rattle.image_verifier.specs.Searches.{HasDigits, FindsByFew}
 
--- what a search has read that has the places from low up to before high left: of the digits of the number enough are left for them, and both ends were read
+-- what a search has read that has the indices from low up to before high left: of the digits of the number enough are left for them, and both ends were read
 pub record IsHalving (number low high : ℕ) (before now : List ℕ) : Type 0 where
   pub read : List ℕ
   pub noted : now ≡ before ++ read
@@ -40,7 +40,7 @@ spare_less number low high low2 high2 position before now h some half digits has
 note_more : (position : ℕ) (before now read : List ℕ) → now ≡ before ++ read → now ++ position ∷ [] ≡ before ++ (read ++ position ∷ [])
 note_more position before now read noted = ap (λ (xs : List ℕ). xs ++ position ∷ []) noted ∙ append_assoc before read (position ∷ [])
 
--- the search goes on above the place that was read
+-- the search goes on above the index that was read
 pub goes_on_above : (number low high position : ℕ) (before now : List ℕ) → IsHalving number low high before now
     → low < high → high - (position + 1) ≤ (high - low) / 2 → IsHalving number (position + 1) high before (now ++ position ∷ [])
 goes_on_above number low high position before now h some half = record {
@@ -72,7 +72,7 @@ pub departs_after : (t : TimetableValue) (middle time k : ℕ) → IsLegal t →
     → middle ≤ k → k < length t.connections → time ≤ (connection_at t k).dep
 departs_after t middle time k legal late above within = omega (arith, departures_rise t legal k middle above within, late)
 
--- the least place that departs at a time or later, told over the connections themselves
+-- the least index that departs at a time or later, over the connections themselves
 pub before_first : (t : TimetableValue) (time first : ℕ) → IsFirstAt t time first → (k : ℕ) (c : Connection) → k < first → At t.connections k c → c.dep < time
 before_first t time first is k c lt at = subst (λ (x : Connection). x.dep < time) (connection_at-is t k c at) (is.before k lt)
 

@@ -38,12 +38,12 @@ walks_exact w stop accepted lt k f at =
 pub walks_count : (w : List ℕ) → IsAccepted w → length (footpaths_of w) ≡ (header_of w).footpaths
 walks_count w accepted = length-footpaths_of w accepted.whole (IsFootIndex-from w (AreFaultless-from w accepted.faultless))
 
--- footpaths stand at the places of the index
+-- footpaths stand at the indices of the index
 pub foot_index_within : (w : List ℕ) (stop position : ℕ) → IsAccepted w → stop < (header_of w).stops
     → position < foot_index_of w (stop + 1) → position < (header_of w).footpaths
 foot_index_within w stop position accepted lt at = omega (arith, walks_within w stop accepted lt, walks_count w accepted)
 
--- the place of a footpath that leads into a stop is among those into it
+-- the index of a footpath that leads into a stop is among those into it
 pub is_among : (w : List ℕ) (stop position : ℕ) → IsAccepted w → stop < (header_of w).stops
     → position < length (footpaths_of w) → ((f : Footpath) → At (footpaths_of w) position f → f.to ≡ stop)
     → (foot_index_of w stop ≤ position) × (position < foot_index_of w (stop + 1))

@@ -1,4 +1,4 @@
--- A list that is made from places, one element after the other.
+-- A list that is made from indices, one element after the other.
 use Rattle.std.proofs.Common.{◌≡◌, ℕ, zero, suc, ◌+◌, ◌-◌, ◌<◌, ◌≤◌, List, [], ◌∷◌, ◌++◌, length, take, map, sym, ap, ◌∙◌, arith}
 use Rattle.std.specs.List.{flat_map, range_with_len}
 use Rattle.std.proofs.lemmas.List.{append_assoc, append-nil, map-append, take_more}
@@ -6,7 +6,7 @@ use Rattle.std.proofs.lemmas.List.FromFn.{map-range_with_len_more}
 use Rattle.std.proofs.lemmas.Option.{get_or_from_slice_get}
 use Rattle.timetable.specs.Legal.{At}
 
--- one more of those from place a on, behind others
+-- one more of those from index a on, behind others
 pub one_more : {X : Type 0} (f : ℕ → X) (a k : ℕ) (front xs : List X) (x : X) → a ≤ k
     → xs ≡ front ++ map f (range_with_len a (k - a)) → x ≡ f k
     → xs ++ x ∷ [] ≡ front ++ map f (range_with_len a ((k + 1) - a))
@@ -26,7 +26,7 @@ next_one {X} f k xs x so_far is =
     ∙ ap (λ (y : X). map f (range_with_len 0 k) ++ y ∷ []) is
     ∙ sym (map-range_with_len_more f 0 k k (omega arith))
 
--- one more, told by what it shows
+-- one more, by what it shows
 pub next_shown : {X Y : Type 0} (show : Y → X) (f : ℕ → X) (k : ℕ) (ys : List Y) (y : Y)
     → map show ys ≡ map f (range_with_len 0 k) → show y ≡ f k
     → map show (ys ++ y ∷ []) ≡ map f (range_with_len 0 (k + 1))

@@ -137,7 +137,7 @@ image_fits layout p n fits can =
     (All-append IsWord _ _ (all_repeats layout p n can)
     (all_text (text n) (concat_are_bytes (name_list n) can.names.utf8))))))))
 
--- each word of a list by its place, also past its end
+-- each word of a list by its index, also past its end
 pub word_at : (w : List ℕ) → All (λ x. x < 2 ^ 32) w → (i : ℕ) → slice_index w i < 2 ^ 32
 word_at w fits i =
     elim (cases_lt i (length w)) [

@@ -22,7 +22,7 @@ use Rattle.journeys.specs.Extracted.{Attains}
 use Rattle.journeys.specs.Answer.{point_of}
 use Rattle.journeys.specs.declared.answering.Departure.{Departure}
 
--- how many places a window has
+-- how many indices a window has
 length-falling : (low n : ℕ) → length (falling low n) ≡ n
 length-falling low zero = refl
 length-falling low (suc n) = ap suc (length-falling low n)
@@ -53,7 +53,7 @@ no_journeys rules t q points departures none =
     subst (HaveJourneys rules t q points 0) (sym none)
     (record { first = refl; each = λ departure h. let lt = h.1 in absurd (omega (arith, lt)) })
 
--- a point read at a place
+-- a point read at an index
 pub point_at : {V : Type 0} (points read : List (Point V)) (i : ℕ) (p : Point V)
     → read ≡ points → i < length read → p ≡ get_or read i p → slice_get points i ≡ Some p
 point_at {V} points read i p same lt is =
@@ -119,7 +119,7 @@ still_answers {V} rules t q points is = record {
     without_tag : (departure : ℕ) (v : V) → Lists points departure v → Lists (map tagless points) departure v
     without_tag departure v (p, has, time, value) = (tagless p, has_tagless points p has, time, value)
 
--- all points told are the answer
+-- all points with their journeys are the answer
 pub all_have_journeys : {V : Type 0} (rules : Rules V) (t : TimetableValue) (q : Query) (points : List (Point V)) (n : ℕ) (departures : List (Departure V))
     → HaveJourneys rules t q points n departures → length points ≤ n → IsAnswer rules t q points → IsAnswer rules t q (map point_of departures)
 all_have_journeys rules t q points n departures are past is =

@@ -46,7 +46,7 @@ has_footpath-none t f none =
       | inr missing ↦ missing
     ]
 
--- the footpaths from one place up to before another lead into a stop
+-- the footpaths from one index up to before another lead into a stop
 abbrev pub LeadInto : List Footpath → ℕ → ℕ → ℕ → Type 0
 LeadInto paths stop start end = (k : ℕ) (f : Footpath) → At paths k f → start ≤ k → k < end → f.to ≡ stop
 

@@ -11,4 +11,4 @@ pub mod RideLemmas
 pub mod TextLemmas
 pub mod WalkLemmas
 pub mod SpellLemmas
-pub mod TellLemmas
+pub mod ExtractedLemmas

@@ -11,7 +11,7 @@ use Rattle.timetable.specs.declared.query.Query.{Query}
 use Rattle.timetable.specs.TimetableValue.{TimetableValue}
 use Rattle.timetable.specs.Journeys.{start_end}
 use Rattle.profile_scan.specs.Answered.{IsAnswered, IsAnsweredBetween}
-use Rattle.profile_scan.specs.Between.{BetweenValue}
+use Rattle.profile_scan.specs.SetQuery.{SetQueryValue}
 use Rattle.profile_scan.specs.Found.{Answers, criterion_of_found, listed, nodes_of, query_of, timetable_of, walk_of_found}
 use Rattle.profile_scan.specs.Found.{AnswersBetween, criterion_between, listed_between, nodes_between, query_between, timetable_between, walk_between}
 use Rattle.profile_scan.specs.declared.found.Found.{Found}
@@ -218,7 +218,7 @@ pub between_answers_its_own : {K V : Type 0} {c : _} (rules : Rules V) (found : 
     → AnswersBetween (criterion_between found) rules (timetable_between found) (query_between found) found
 between_answers_its_own rules found is = record { answered = is; keeps = (refl, refl, refl) }
 
-between_attained : {K V : Type 0} {c : _} (criterion : K) (rules : Rules V) (t : TimetableValue) (b : BetweenValue) (found : FoundBetween K V c) (i : ℕ)
+between_attained : {K V : Type 0} {c : _} (criterion : K) (rules : Rules V) (t : TimetableValue) (b : SetQueryValue) (found : FoundBetween K V c) (i : ℕ)
     (p : Point V) → AnswersBetween criterion rules t b found → slice_get (listed_between found) i ≡ Some p
     → (j : JourneyValue) × ((spelled (nodes_between found) p.tag).journey ≡ Some j) × AttainsBetween rules t b p j
 between_attained criterion rules t b found i p answers at =
@@ -238,7 +238,7 @@ between_attained criterion rules t b found i p answers at =
       },
     )
 
-pub between_attains : {K V : Type 0} {c : _} (criterion : K) (rules : Rules V) (t : TimetableValue) (b : BetweenValue) (found : FoundBetween K V c) (i : ℕ)
+pub between_attains : {K V : Type 0} {c : _} (criterion : K) (rules : Rules V) (t : TimetableValue) (b : SetQueryValue) (found : FoundBetween K V c) (i : ℕ)
     (p point : Point V) (j : JourneyValue) → slice_get (listed_between found) i ≡ Some point
     → (spelled (nodes_between found) point.tag).journey ≡ Some j → AnswersBetween criterion rules t b found → slice_get (listed_between found) i ≡ Some p
     → AttainsBetween rules t b p j
@@ -249,7 +249,7 @@ between_attains criterion rules t b found i p point j here spells answers at =
     subst (λ (x : Point _). (spelled (nodes_between found) x.tag).journey ≡ Some j) same spells in
     subst (AttainsBetween rules t b p) (same_Some a.0 j (sym a.1 ∙ spells_p)) a.2
 
-pub between_always_spelled : {K V : Type 0} {c : _} (criterion : K) (rules : Rules V) (t : TimetableValue) (b : BetweenValue) (found : FoundBetween K V c)
+pub between_always_spelled : {K V : Type 0} {c : _} (criterion : K) (rules : Rules V) (t : TimetableValue) (b : SetQueryValue) (found : FoundBetween K V c)
     (i : ℕ) (p point : Point V) → slice_get (listed_between found) i ≡ Some point
     → (spelled (nodes_between found) point.tag).journey ≡ None → AnswersBetween criterion rules t b found → slice_get (listed_between found) i ≡ Some p → ⊥
 between_always_spelled criterion rules t b found i p point here none answers at =

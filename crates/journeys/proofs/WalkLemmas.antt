@@ -12,7 +12,7 @@ use Rattle.timetable.specs.Journeys.{IsWalk, walk_end, walk_secs}
 use Rattle.journeys.specs.Faults.{has_footpath, led_to}
 use Rattle.journeys.proofs.FootpathLemmas.{Contains-has_footpath, has_footpath-Contains}
 
--- the seconds from place i on are those of the footpath there and of the rest
+-- the seconds from index i on are those of the footpath there and of the rest
 pub walk_secs_from : (walk : List Footpath) (i : ℕ) (d : Footpath) → i < length walk
     → walk_secs (drop i walk) ≡ (get_or walk i d).secs + walk_secs (drop (i + 1) walk)
 walk_secs_from walk i d lt = rw (add-one) (ap walk_secs (drop-cons walk i d lt))

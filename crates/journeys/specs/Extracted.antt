@@ -7,7 +7,7 @@ use Rattle.timetable.specs.JourneyValue.{RideValue, JourneyValue}
 use Rattle.timetable.specs.Journeys.{Counts}
 use Rattle.timetable.specs.declared.query.Query.{Query}
 use Rattle.profile_scan.specs.Values.{journey_value}
-use Rattle.profile_scan.specs.Between.{BetweenValue, Pair, query_of_pair}
+use Rattle.profile_scan.specs.SetQuery.{SetQueryValue, Pair, query_of_pair}
 use Rattle.profile_scan.specs.Plain.{IsPlain, IsPlainOf}
 use Rattle.profile_scan.specs.Continuations.{Aboard}
 use Rattle.profile_scan.specs.Steps.{boarded}
@@ -25,7 +25,7 @@ pub record Attains {V : Type 0} (rules : Rules V) (t : TimetableValue) (q : Quer
 
 -- a journey attains a point of a query between sets: it attains it for the query of a pair, a source where it begins and a target where it ends; and with
 -- regard to all targets it is plain: after its last leg it walks on only if that leg ends at none of them
-pub record AttainsBetween {V : Type 0} (rules : Rules V) (t : TimetableValue) (b : BetweenValue) (p : Point V) (j : JourneyValue) : Type 0 where
+pub record AttainsBetween {V : Type 0} (rules : Rules V) (t : TimetableValue) (b : SetQueryValue) (p : Point V) (j : JourneyValue) : Type 0 where
   pub pair : Pair b
   pub attains : Attains rules t (query_of_pair b pair) p j
   pub plain : IsPlainOf t (Contains b.targets) j

@@ -6,7 +6,7 @@ ghost use Rattle.timetable.specs.declared.query.Query.{Query};
 ghost use Rattle.timetable.specs.Queries.{IsAskable};
 ghost use Rattle.profile_scan.specs.Window.{window};
 ghost use Rattle.profile_scan.specs.Points.{IsAnswer};
-ghost use Rattle.profile_scan.specs.Kept.{IsDirectSecs};
+ghost use Rattle.profile_scan.specs.ScanState.{IsDirectSecs};
 ghost use Rattle.profile_scan.specs.Found.{Answers};
 ghost use Rattle.journeys.specs.Answer.{AreAttained, point_of, points_of, walk_of_answer};
 ghost use Rattle.journeys.specs.Extracted.{Attains};

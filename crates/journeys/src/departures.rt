@@ -2,7 +2,7 @@
 
 ghost use Rattle.std.specs.Prelude.{◌<◌, Contains, IfOk, map};
 ghost use Rattle.timetable.specs.TimetableValue.{TimetableValue};
-ghost use Rattle.profile_scan.specs.Between.{BetweenValue, IsAnswerBetween};
+ghost use Rattle.profile_scan.specs.SetQuery.{SetQueryValue, IsAnswerBetween};
 ghost use Rattle.profile_scan.specs.Found.{AnswersBetween};
 ghost use Rattle.profile_scan.specs.Origins.{from_stop};
 ghost use Rattle.profile_scan.specs.Everywhere.{AnswerToAny, asked_to_any, criterion_to_any};
@@ -21,10 +21,10 @@ pub fn departures_between<C: Criterion>(
     alloc: Global,
     found: &FoundBetween<C>,
 ) -> Result<Vec<Departure<C::V>>, AllocError>
-    ensures points { IfOk result (λ departures. (criterion : _) (t : TimetableValue) (b : BetweenValue)
+    ensures points { IfOk result (λ departures. (criterion : _) (t : TimetableValue) (b : SetQueryValue)
         → AnswersBetween criterion (C.rules criterion) t b found.now
         → IsAnswerBetween (C.rules criterion) t b (map point_of departures.items)) }
-    ensures journeys { IfOk result (λ departures. (criterion : _) (t : TimetableValue) (b : BetweenValue)
+    ensures journeys { IfOk result (λ departures. (criterion : _) (t : TimetableValue) (b : SetQueryValue)
         → AnswersBetween criterion (C.rules criterion) t b found.now
         → (departure : _) → Contains departures.items departure
         → AttainsBetween (C.rules criterion) t b (point_of departure) departure.journey) }

@@ -5,7 +5,7 @@ ghost use Rattle.std.specs.Prelude.{slice_get};
 ghost use Rattle.timetable.specs.TimetableValue.{TimetableValue};
 ghost use Rattle.timetable.specs.declared.query.Query.{Query};
 ghost use Rattle.profile_scan.specs.Continuations.{Aboard};
-ghost use Rattle.profile_scan.specs.Between.{BetweenValue};
+ghost use Rattle.profile_scan.specs.SetQuery.{SetQueryValue};
 ghost use Rattle.profile_scan.specs.Found.{Answers, criterion_of_found, listed, nodes_of, query_of, timetable_of};
 ghost use Rattle.profile_scan.specs.Found.{AnswersBetween, criterion_between, listed_between, nodes_between};
 ghost use Rattle.profile_scan.specs.Found.{query_between, timetable_between};
@@ -245,7 +245,7 @@ pub fn extract_between<C: Criterion>(
         → ∥ AttainsBetween (C.rules (criterion_between found.now)) (timetable_between found.now)
         (query_between found.now) p journey ∥₁) }
     // So it does for the query and the timetable of which the caller knows that this is their answer.
-    ensures attains { IfOk result (λ journey. (criterion : _) (t : TimetableValue) (b : BetweenValue) (p : _)
+    ensures attains { IfOk result (λ journey. (criterion : _) (t : TimetableValue) (b : SetQueryValue) (p : _)
         → AnswersBetween criterion (C.rules criterion) t b found.now → slice_get (listed_between found.now) i ≡ Some p
         → AttainsBetween (C.rules criterion) t b p journey) }
 {

@@ -3,15 +3,15 @@ use Rattle.std.proofs.Common.{◌≡◌, ◌++◌, ◌∷◌, ℕ, List, [], Som
 use Rattle.orders.specs.Ordering.{OrderValue, version_alone}
 use Rattle.orders.specs.declared.fault.OrderFault.{OrderFault}
 use Rattle.orders.specs.declared.ordered.OrderOutcome.{OrderOutcome}
-use Rattle.load_orders.specs.Asking.{AreAsked, Does, HasAsked, Hears, IsFirst, IsNoted, IsTurnedAway, OrderRoute, RefusesVersion, WorkerOrdersValue}
+use Rattle.load_orders.specs.Asking.{AreAsked, Does, HasAsked, Receives, IsFirst, IsNoted, IsTurnedAway, OrderRoute, RefusesVersion, WorkerOrdersValue}
 use Rattle.load_orders.specs.Asking.{nothing_asked, order_of, route_of, unasked}
 use Rattle.load_orders.specs.Keeping.{EndValue, QueueId}
-use Rattle.load_orders.specs.Ways.{WayValue}
+use Rattle.load_orders.specs.AnswerChannels.{AnswerEndValue}
 use Rattle.handoff.specs.Ends.{IsPutAt, once_tried}
 use Rattle.handoff.specs.declared.queue.Message.{Message}
 use Rattle.handoff.specs.declared.queue.EndView.{EndView}
 use Rattle.load_orders.specs.declared.queue.Order.{Order}
-use Rattle.load_orders.specs.declared.ways.LoadAnswer.{LoadAnswer}
+use Rattle.load_orders.specs.declared.answer_channels.LoadAnswer.{LoadAnswer}
 
 module _ {N : Type 0} (holds : List (Message (Order N)) → List (EndView (Order N)) → Type 0) (noted : N → ℕ) where
   one_more : (orders : List OrderValue) (order : OrderValue) (a b c : WorkerOrdersValue N) → AreAsked holds noted orders a b
@@ -34,63 +34,63 @@ module _ {N : Type 0} (holds : List (Message (Order N)) → List (EndView (Order
 
   -- what an order did shows whatever was asked for before
   does_so : (feed : List ℕ) (outcome : OrderOutcome) (names : List (List ℕ)) (end end_then : EndValue N) (asked asked_then : List OrderValue)
-      (heard heard_then : List (WayValue N))
-      → Does holds noted feed outcome (unasked names end heard) (unasked names end_then heard_then)
-      → Does holds noted feed outcome (record { names = names; end = end; asked = asked; heard = heard })
-      (record { names = names; end = end_then; asked = asked_then; heard = heard_then })
-  does_so feed (OrderOutcome.Put (Ok u)) names end end_then asked asked_then heard heard_then does = does
-  does_so feed (OrderOutcome.Put (Err OrderFault.UnknownFeed)) names end end_then asked asked_then heard heard_then does = does
-  does_so feed (OrderOutcome.Put (Err OrderFault.OrdersFull)) names end end_then asked asked_then heard heard_then does = does
-  does_so feed (OrderOutcome.Put (Err (OrderFault.LoadRefused refusal))) names end end_then asked asked_then heard heard_then does = absurd does
-  does_so feed (OrderOutcome.Put (Err OrderFault.OutOfMemory)) names end end_then asked asked_then heard heard_then does = absurd does
-  does_so feed (OrderOutcome.Put (Err OrderFault.LoaderGone)) names end end_then asked asked_then heard heard_then does = does
-  does_so feed (OrderOutcome.Waited (Ok version)) names end end_then asked asked_then heard heard_then does = does
-  does_so feed (OrderOutcome.Waited (Err OrderFault.UnknownFeed)) names end end_then asked asked_then heard heard_then does = does
-  does_so feed (OrderOutcome.Waited (Err OrderFault.OrdersFull)) names end end_then asked asked_then heard heard_then does = does
-  does_so feed (OrderOutcome.Waited (Err (OrderFault.LoadRefused refusal))) names end end_then asked asked_then heard heard_then does = does
-  does_so feed (OrderOutcome.Waited (Err OrderFault.OutOfMemory)) names end end_then asked asked_then heard heard_then does = does
-  does_so feed (OrderOutcome.Waited (Err OrderFault.LoaderGone)) names end end_then asked asked_then heard heard_then does = does
+      (received heard_then : List (AnswerEndValue N))
+      → Does holds noted feed outcome (unasked names end received) (unasked names end_then heard_then)
+      → Does holds noted feed outcome (record { names = names; end = end; asked = asked; received = received })
+      (record { names = names; end = end_then; asked = asked_then; received = heard_then })
+  does_so feed (OrderOutcome.Put (Ok u)) names end end_then asked asked_then received heard_then does = does
+  does_so feed (OrderOutcome.Put (Err OrderFault.UnknownFeed)) names end end_then asked asked_then received heard_then does = does
+  does_so feed (OrderOutcome.Put (Err OrderFault.OrdersFull)) names end end_then asked asked_then received heard_then does = does
+  does_so feed (OrderOutcome.Put (Err (OrderFault.LoadRefused refusal))) names end end_then asked asked_then received heard_then does = absurd does
+  does_so feed (OrderOutcome.Put (Err OrderFault.OutOfMemory)) names end end_then asked asked_then received heard_then does = absurd does
+  does_so feed (OrderOutcome.Put (Err OrderFault.LoaderGone)) names end end_then asked asked_then received heard_then does = does
+  does_so feed (OrderOutcome.Waited (Ok version)) names end end_then asked asked_then received heard_then does = does
+  does_so feed (OrderOutcome.Waited (Err OrderFault.UnknownFeed)) names end end_then asked asked_then received heard_then does = does
+  does_so feed (OrderOutcome.Waited (Err OrderFault.OrdersFull)) names end end_then asked asked_then received heard_then does = does
+  does_so feed (OrderOutcome.Waited (Err (OrderFault.LoadRefused refusal))) names end end_then asked asked_then received heard_then does = does
+  does_so feed (OrderOutcome.Waited (Err OrderFault.OutOfMemory)) names end end_then asked asked_then received heard_then does = does
+  does_so feed (OrderOutcome.Waited (Err OrderFault.LoaderGone)) names end end_then asked asked_then received heard_then does = does
 
-  -- one order more, by what it did at the end of the queue and what was heard of it
+  -- one order more, by what it did at the end of the queue and what was received of it
   pub asked_more : (order : OrderValue) (names : List (List ℕ)) (end end_then : EndValue N) (asked asked_then : List OrderValue)
-      (heard heard_then : List (WayValue N)) → HasAsked holds noted (record { names = names; end = end; asked = asked; heard = heard })
-      → Does holds noted order.feed order.outcome (unasked names end heard) (unasked names end_then heard_then)
+      (received heard_then : List (AnswerEndValue N)) → HasAsked holds noted (record { names = names; end = end; asked = asked; received = received })
+      → Does holds noted order.feed order.outcome (unasked names end received) (unasked names end_then heard_then)
       → end_then.queue ≡ end.queue → asked_then ≡ asked ++ order ∷ []
-      → HasAsked holds noted (record { names = names; end = end_then; asked = asked_then; heard = heard_then })
-  asked_more order names end end_then asked asked_then heard heard_then is does queue grows =
+      → HasAsked holds noted (record { names = names; end = end_then; asked = asked_then; received = heard_then })
+  asked_more order names end end_then asked asked_then received heard_then is does queue grows =
       let To : QueueId N → OrderRoute N = λ q. record { names = names; queue = q } in
-      let before : WorkerOrdersValue N = record { names = names; end = end; asked = asked; heard = heard } in
-      let after : WorkerOrdersValue N = record { names = names; end = end_then; asked = asked_then; heard = heard_then } in
+      let before : WorkerOrdersValue N = record { names = names; end = end; asked = asked; received = received } in
+      let after : WorkerOrdersValue N = record { names = names; end = end_then; asked = asked_then; received = heard_then } in
       asked_once_more order before after is
-      (does_so order.feed order.outcome names end end_then asked asked_then heard heard_then does) (ap To queue, grows)
+      (does_so order.feed order.outcome names end end_then asked asked_then received heard_then does) (ap To queue, grows)
 
   -- an order that was put, or for which there was no room
   pub does_put : (feed : List ℕ) (index : ℕ) (outcome : Result (Unit {0}) OrderFault) (names : List (List ℕ)) (end end_then : EndValue N)
-      (heard : List (WayValue N)) → IsFirst names feed index → OnOk outcome (IsPutAt end (order_of index) end_then)
+      (received : List (AnswerEndValue N)) → IsFirst names feed index → OnOk outcome (IsPutAt end (order_of index) end_then)
       → IfErr outcome (λ fault. IsTurnedAway holds end fault × (end_then ≡ once_tried end))
-      → Does holds noted feed (OrderOutcome.Put outcome) (unasked names end heard) (unasked names end_then heard)
-  does_put feed index (Ok u) names end end_then heard first put refused = ((index, first, put), refl)
-  does_put feed index (Err OrderFault.UnknownFeed) names end end_then heard first put refused = absurd refused.0
-  does_put feed index (Err OrderFault.OrdersFull) names end end_then heard first put refused = (((index, first), refused.1, refl), refused.0)
-  does_put feed index (Err (OrderFault.LoadRefused refusal)) names end end_then heard first put refused = absurd refused.0
-  does_put feed index (Err OrderFault.OutOfMemory) names end end_then heard first put refused = absurd refused.0
-  does_put feed index (Err OrderFault.LoaderGone) names end end_then heard first put refused = ((index, first), refused.1, refl)
+      → Does holds noted feed (OrderOutcome.Put outcome) (unasked names end received) (unasked names end_then received)
+  does_put feed index (Ok u) names end end_then received first put refused = ((index, first, put), refl)
+  does_put feed index (Err OrderFault.UnknownFeed) names end end_then received first put refused = absurd refused.0
+  does_put feed index (Err OrderFault.OrdersFull) names end end_then received first put refused = (((index, first), refused.1, refl), refused.0)
+  does_put feed index (Err (OrderFault.LoadRefused refusal)) names end end_then received first put refused = absurd refused.0
+  does_put feed index (Err OrderFault.OutOfMemory) names end end_then received first put refused = absurd refused.0
+  does_put feed index (Err OrderFault.LoaderGone) names end end_then received first put refused = ((index, first), refused.1, refl)
 
   -- an order that was waited for
   pub does_wait : (feed : List ℕ) (sent : Result (ℕ × N) OrderFault) (names : List (List ℕ)) (end end_then : EndValue N)
-      (heard heard_then : List (WayValue N)) → IfOk sent (λ r. noted r.1 ≡ r.0)
-      → IfOk sent (λ r. Hears feed (Some (LoadAnswer.Published r.1)) (unasked names end heard) (unasked names end_then heard_then))
-      → IfErr sent (λ fault. RefusesVersion holds feed fault (unasked names end heard) (unasked names end_then heard_then))
-      → Does holds noted feed (OrderOutcome.Waited (version_alone sent)) (unasked names end heard) (unasked names end_then heard_then)
-  does_wait feed (Ok r) names end end_then heard heard_then version hears refused = (r.1, version, hears)
-  does_wait feed (Err fault) names end end_then heard heard_then version hears refused = refused
+      (received heard_then : List (AnswerEndValue N)) → IfOk sent (λ r. noted r.1 ≡ r.0)
+      → IfOk sent (λ r. Receives feed (Some (LoadAnswer.Published r.1)) (unasked names end received) (unasked names end_then heard_then))
+      → IfErr sent (λ fault. RefusesVersion holds feed fault (unasked names end received) (unasked names end_then heard_then))
+      → Does holds noted feed (OrderOutcome.Waited (version_alone sent)) (unasked names end received) (unasked names end_then heard_then)
+  does_wait feed (Ok r) names end end_then received heard_then version hears refused = (r.1, version, hears)
+  does_wait feed (Err fault) names end end_then received heard_then version hears refused = refused
 
   -- why none came shows whatever was asked for before
   pub refused_so : (feed : List ℕ) (sent : Result (ℕ × N) OrderFault) (names : List (List ℕ)) (end end_then : EndValue N)
-      (asked asked_then : List OrderValue) (heard heard_then : List (WayValue N))
-      → IfErr sent (λ fault. RefusesVersion holds feed fault (unasked names end heard) (unasked names end_then heard_then))
-      → IfErr sent (λ fault. RefusesVersion holds feed fault (record { names = names; end = end; asked = asked; heard = heard })
-      (record { names = names; end = end_then; asked = asked_then; heard = heard_then }))
-  refused_so feed (Ok r) names end end_then asked asked_then heard heard_then refused = refused
-  refused_so feed (Err fault) names end end_then asked asked_then heard heard_then refused =
-      does_so feed (OrderOutcome.Waited (Err fault)) names end end_then asked asked_then heard heard_then refused
+      (asked asked_then : List OrderValue) (received heard_then : List (AnswerEndValue N))
+      → IfErr sent (λ fault. RefusesVersion holds feed fault (unasked names end received) (unasked names end_then heard_then))
+      → IfErr sent (λ fault. RefusesVersion holds feed fault (record { names = names; end = end; asked = asked; received = received })
+      (record { names = names; end = end_then; asked = asked_then; received = heard_then }))
+  refused_so feed (Ok r) names end end_then asked asked_then received heard_then refused = refused
+  refused_so feed (Err fault) names end end_then asked asked_then received heard_then refused =
+      does_so feed (OrderOutcome.Waited (Err fault)) names end end_then asked asked_then received heard_then refused

@@ -6,7 +6,7 @@ use Rattle.std.specs.Option.{option_map}
 use Rattle.std.proofs.lemmas.List.{length-map}
 use Rattle.load_orders.specs.Asking.{IsNoName}
 
--- the text at a place
+-- the text at an index
 text_at : (names : List (String Global)) (index : ℕ) (read : String Global) → index < length names
     → read ≡ get_or names index read → slice_get (map string_bytes names) index ≡ Some (string_bytes read)
 text_at names index read small is =
@@ -24,7 +24,7 @@ named names index read name false small is other = λ there. let both : Some (st
 within : (names : List (String Global)) (index : ℕ) (name : List ℕ) → slice_get (map string_bytes names) index ≡ Some name → index < length names
 within names index name there = let n = slice_get_within (map string_bytes names) index name there in let m = length-map names string_bytes in omega arith
 
--- a name that is at no place within
+-- a name that is at no index within
 pub no_name : (names : List (String Global)) (name : List ℕ)
     → ((j : ℕ) → j < length names → ¬ (slice_get (map string_bytes names) j ≡ Some name))
     → IsNoName (map string_bytes names) name

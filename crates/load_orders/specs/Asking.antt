@@ -9,17 +9,17 @@ use Rattle.handoff.specs.Queue.{Held}
 use Rattle.handoff.specs.declared.queue.Message.{Message}
 use Rattle.handoff.specs.declared.queue.EndView.{EndView}
 use Rattle.load_orders.specs.Keeping.{EndValue, QueueId}
-use Rattle.load_orders.specs.Ways.{WayId, WayValue, heard_at}
+use Rattle.load_orders.specs.AnswerChannels.{AnswerChannelId, AnswerEndValue, received_at}
 use Rattle.load_orders.specs.declared.queue.Order.{Order}
-use Rattle.load_orders.specs.declared.ways.LoadAnswer.{LoadAnswer}
+use Rattle.load_orders.specs.declared.answer_channels.LoadAnswer.{LoadAnswer}
 
 pub record WorkerOrdersValue (N : Type 0) : Type 0 where
-  pub names : List (List ℕ)  -- of the feeds, by place
-  pub end : EndValue N  -- by which it orders feeds, by place
+  pub names : List (List ℕ)  -- of the feeds, by index
+  pub end : EndValue N  -- by which it orders feeds, by index
   pub asked : List OrderValue  -- all orders that were asked for here, refused ones too
-  pub heard : List (WayValue N)  -- the ways back at which it waited, with what was heard there
+  pub received : List (AnswerEndValue N)  -- the answer channels at which it waited, with what was received there
 
--- what a worker's orders go by: the names of the feeds, by place, and the queue
+-- what a worker's orders go by: the names of the feeds, by index, and the queue
 pub record OrderRoute (N : Type 0) : Type 0 where
   pub names : List (List ℕ)
   pub queue : QueueId N
@@ -30,11 +30,11 @@ route_of orders = record { names = orders.names; queue = orders.end.queue }
 -- nothing was asked for yet, by an end that may have tried to put orders
 abbrev pub nothing_asked : {N : Type 0} → OrderRoute N → ℕ → WorkerOrdersValue N
 nothing_asked route tries =
-    record { names = route.names; end = record { queue = route.queue; items = []; tries = tries }; asked = []; heard = [] }
+    record { names = route.names; end = record { queue = route.queue; items = []; tries = tries }; asked = []; received = [] }
 
 -- a worker's orders, with what was asked for left empty: it isn't looked at
-abbrev pub unasked : {N : Type 0} → List (List ℕ) → EndValue N → List (WayValue N) → WorkerOrdersValue N
-unasked names end heard = record { names = names; end = end; asked = []; heard = heard }
+abbrev pub unasked : {N : Type 0} → List (List ℕ) → EndValue N → List (AnswerEndValue N) → WorkerOrdersValue N
+unasked names end received = record { names = names; end = end; asked = []; received = received }
 
 -- the first feed of this name
 pub record IsFirst (names : List (List ℕ)) (name : List ℕ) (index : ℕ) : Type 0 where
@@ -44,37 +44,37 @@ pub record IsFirst (names : List (List ℕ)) (name : List ℕ) (index : ℕ) : T
 abbrev pub IsNoName : List (List ℕ) → List ℕ → Type 0
 IsNoName names name = (index : ℕ) → ¬ (slice_get names index ≡ Some name)
 
--- the fault that is told where no notice came; none where one did
+-- the fault that is returned where no notice came; none where one did
 abbrev pub fault_of_answer : {N : Type 0} → Option (LoadAnswer N) → Option OrderFault
 fault_of_answer (Some (LoadAnswer.Published notice)) = None
 fault_of_answer (Some LoadAnswer.Unnoticed) = Some OrderFault.OutOfMemory
 fault_of_answer (Some (LoadAnswer.Refused refusal)) = Some (OrderFault.LoadRefused refusal)
 fault_of_answer None = Some OrderFault.LoaderGone
 
--- an order that nobody waits for, and one that carries a way back
+-- an order that nobody waits for, and one that carries an answer channel
 abbrev pub order_of : {N : Type 0} → ℕ → Order N
-order_of index = record { feed = index; way_back = None }
+order_of index = record { feed = index; answer_channel = None }
 
-abbrev pub awaited_order : {N : Type 0} → ℕ → WayId → Order N
-awaited_order index way = record { feed = index; way_back = Some way }
+abbrev pub awaited_order : {N : Type 0} → ℕ → AnswerChannelId → Order N
+awaited_order index channel = record { feed = index; answer_channel = Some channel }
 
 -- an order of the first feed of this name is put
 abbrev pub IsPut : {N : Type 0} → List ℕ → WorkerOrdersValue N → WorkerOrdersValue N → Type 0
 IsPut name before after = (index : ℕ) × IsFirst before.names name index × IsPutAt before.end (order_of index) after.end
 
--- an order of the first feed of this name is put with a way back, and by the one hearing end of that way this answer is heard, or none
-abbrev pub Hears : {N : Type 0} → List ℕ → Option (LoadAnswer N) → WorkerOrdersValue N → WorkerOrdersValue N → Type 0
-Hears name answer before after =
-    (index : ℕ) × (way : WayId) × IsFirst before.names name index
-    × IsPutAt before.end (awaited_order index way) after.end × (after.heard ≡ before.heard ++ heard_at way answer ∷ [])
+-- an order of the first feed of this name is put with an answer channel, and by the one receiving end of that channel this answer is received, or none
+abbrev pub Receives : {N : Type 0} → List ℕ → Option (LoadAnswer N) → WorkerOrdersValue N → WorkerOrdersValue N → Type 0
+Receives name answer before after =
+    (index : ℕ) × (channel : AnswerChannelId) × IsFirst before.names name index
+    × IsPutAt before.end (awaited_order index channel) after.end × (after.received ≡ before.received ++ received_at channel answer ∷ [])
 
 -- a feed of this name is there, and nothing was put, or tried to be
 abbrev pub IsNotPut : {N : Type 0} → List ℕ → WorkerOrdersValue N → WorkerOrdersValue N → Type 0
-IsNotPut name before after = ((index : ℕ) × IsFirst before.names name index) × (after.end ≡ before.end) × (after.heard ≡ before.heard)
+IsNotPut name before after = ((index : ℕ) × IsFirst before.names name index) × (after.end ≡ before.end) × (after.received ≡ before.received)
 
 -- one try to put an order of the feed put nothing
 abbrev pub IsTriedInVain : {N : Type 0} → List ℕ → WorkerOrdersValue N → WorkerOrdersValue N → Type 0
-IsTriedInVain name before after = ((index : ℕ) × IsFirst before.names name index) × (after.end ≡ once_tried before.end) × (after.heard ≡ before.heard)
+IsTriedInVain name before after = ((index : ℕ) × IsFirst before.names name index) × (after.end ≡ once_tried before.end) × (after.received ≡ before.received)
 
 -- the order is added to those that were asked for; the names and the queue stay the same
 abbrev pub IsNoted : {N : Type 0} → OrderValue → WorkerOrdersValue N → WorkerOrdersValue N → Type 0
@@ -92,35 +92,35 @@ module _ {N : Type 0} (holds : List (Message (Order N)) → List (EndView (Order
   IsTurnedAway end OrderFault.LoaderGone = ⊤
   IsTurnedAway end _ = ⊥
 
-  -- why an order that would be waited for isn't put: there was no memory for a way back, and nothing was tried; or the queue took no order
+  -- why an order that would be waited for isn't put: there was no memory for an answer channel, and nothing was tried; or the queue took no order
   abbrev pub IsNotAwaited : EndValue N → OrderFault → EndValue N → Type 0
   IsNotAwaited end OrderFault.OutOfMemory end_then = end_then ≡ end
   IsNotAwaited end fault end_then = IsTurnedAway end fault × (end_then ≡ once_tried end)
 
   -- why an order of a feed of this name is refused, and what that did
   abbrev pub RefusesOrder : List ℕ → OrderFault → WorkerOrdersValue N → WorkerOrdersValue N → Type 0
-  RefusesOrder name OrderFault.UnknownFeed before after = IsNoName before.names name × (after.end ≡ before.end) × (after.heard ≡ before.heard)
+  RefusesOrder name OrderFault.UnknownFeed before after = IsNoName before.names name × (after.end ≡ before.end) × (after.received ≡ before.received)
   RefusesOrder name OrderFault.OrdersFull before after = IsTriedInVain name before after × IsTurnedAway before.end OrderFault.OrdersFull
   RefusesOrder name OrderFault.LoaderGone before after = IsTriedInVain name before after
   RefusesOrder name _ before after = ⊥
 
   -- why no version came of an order that was waited for
   abbrev pub RefusesVersion : List ℕ → OrderFault → WorkerOrdersValue N → WorkerOrdersValue N → Type 0
-  RefusesVersion name OrderFault.UnknownFeed before after = IsNoName before.names name × (after.end ≡ before.end) × (after.heard ≡ before.heard)
+  RefusesVersion name OrderFault.UnknownFeed before after = IsNoName before.names name × (after.end ≡ before.end) × (after.received ≡ before.received)
   RefusesVersion name OrderFault.OrdersFull before after = IsTriedInVain name before after × IsTurnedAway before.end OrderFault.OrdersFull
-  RefusesVersion name (OrderFault.LoadRefused refusal) before after = Hears name (Some (LoadAnswer.Refused refusal)) before after
-  RefusesVersion name OrderFault.OutOfMemory before after = Hears name (Some LoadAnswer.Unnoticed) before after ⊎ IsNotPut name before after
-  RefusesVersion name OrderFault.LoaderGone before after = Hears name None before after ⊎ IsTriedInVain name before after
+  RefusesVersion name (OrderFault.LoadRefused refusal) before after = Receives name (Some (LoadAnswer.Refused refusal)) before after
+  RefusesVersion name OrderFault.OutOfMemory before after = Receives name (Some LoadAnswer.Unnoticed) before after ⊎ IsNotPut name before after
+  RefusesVersion name OrderFault.LoaderGone before after = Receives name None before after ⊎ IsTriedInVain name before after
 
   -- over notices of these versions
   module _ (noted : N → ℕ) where
     -- what an order of this feed did, by what it was answered: it was put, or refused; or it was waited for, and the version that came is that
-    -- of the notice that was heard, by the order's own way back
+    -- of the notice that was received, by the order's own answer channel
     abbrev pub Does : List ℕ → OrderOutcome → WorkerOrdersValue N → WorkerOrdersValue N → Type 0
-    Does feed (OrderOutcome.Put (Ok u)) before after = IsPut feed before after × (after.heard ≡ before.heard)
+    Does feed (OrderOutcome.Put (Ok u)) before after = IsPut feed before after × (after.received ≡ before.received)
     Does feed (OrderOutcome.Put (Err fault)) before after = RefusesOrder feed fault before after
     Does feed (OrderOutcome.Waited (Ok version)) before after =
-        (notice : N) × (noted notice ≡ version) × Hears feed (Some (LoadAnswer.Published notice)) before after
+        (notice : N) × (noted notice ≡ version) × Receives feed (Some (LoadAnswer.Published notice)) before after
     Does feed (OrderOutcome.Waited (Err fault)) before after = RefusesVersion feed fault before after
 
     -- each of these orders was asked for, one after the other
@@ -129,6 +129,6 @@ module _ {N : Type 0} (holds : List (Message (Order N)) → List (EndView (Order
     AreAsked (order ∷ orders) before after = (between : WorkerOrdersValue N) × Does order.feed order.outcome before between
         × IsNoted order before between × AreAsked orders between after
 
-    -- each order that was asked for here did this, from the first on: so all that was put at the queue and heard of it comes from these orders
+    -- each order that was asked for here did this, from the first on: so all that was put at the queue and received of it comes from these orders
     abbrev pub HasAsked : WorkerOrdersValue N → Type 0
     HasAsked orders = (tries : ℕ) × AreAsked orders.asked (nothing_asked (route_of orders) tries) orders

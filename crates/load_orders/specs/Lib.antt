@@ -1,5 +1,5 @@
-pub mod Ways
-pub mod WayRules
+pub mod AnswerChannels
+pub mod AnswerRules
 pub mod Keeping
 pub mod Asking
-pub mod Telling
+pub mod Answering

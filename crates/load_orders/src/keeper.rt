@@ -3,8 +3,8 @@
 ghost use Rattle.std.specs.Prelude.{◌≡◌, ◌+◌, [], false, IfOk, IfSome, IsPermutation, MatchBool, OnErr, OnOk};
 ghost use Rattle.load_orders.specs.Keeping.{KeeperValue, with_one_out, with_orders};
 
+use crate::ghost_list::GhostList;
 use crate::loader::{LoaderOrders, UsedLoader};
-use crate::notes::Notes;
 use crate::queue::{Order, OrderEnd};
 use crate::taking::UsedOrders;
 use handoff::{Keeper, empty_queue};
@@ -52,7 +52,7 @@ pub fn order_queue<N: Drop>(alloc: Global) -> Result<(OrderKeeper<N>, LoaderOrde
     let end = keeper.last_taker();
     let loader = LoaderOrders {
         end,
-        answered: Notes::none(),
+        answered: GhostList::none(),
         over: false,
     };
     Ok((OrderKeeper { keeper }, loader))

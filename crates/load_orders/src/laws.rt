@@ -1,8 +1,9 @@
-//! What the rule of a way back says.
+//! What the rule of an answer channel says.
 
-ghost use Rattle.load_orders.specs.Ways.{ReceivedWasSent};
+ghost use Rattle.load_orders.specs.AnswerChannels.{ReceivedWasSent};
 
-/// What was heard at a way back was told there, in order, by its one telling end, whatever the ends of that way did.
+/// What was received at an answer channel was sent there, in order, by its one sending end, whatever the ends of that
+/// channel did.
 pub fn received_was_sent<N: Drop>()
     ensures { ReceivedWasSent N }
 {}

@@ -3,26 +3,26 @@
 ghost use Rattle.std.specs.Prelude.{◌≡◌, ◌++◌, ◌∷◌, [], IfNone, MatchOption, Option, false, is_none, true};
 ghost use Rattle.handoff.specs.Queue.{Held};
 ghost use Rattle.handoff.specs.declared.queue.EndView.{EndView};
-ghost use Rattle.load_orders.specs.Telling.{AllAnswered, IsSentBack};
-ghost use Rattle.load_orders.specs.Ways.{WayValue};
+ghost use Rattle.load_orders.specs.Answering.{AllAnswered, IsSentBack};
+ghost use Rattle.load_orders.specs.AnswerChannels.{AnswerEndValue};
 
-use crate::notes::Notes;
+use crate::answer_channels::{AnswerSender, LoadAnswer, UsedAnswerEnd};
+use crate::ghost_list::GhostList;
 use crate::queue::Order;
-use crate::ways::{LoadAnswer, UsedWay, WayBack};
 use handoff::{EachItemOnce, TakeEnd, TakeRule, UsedTakeEnd};
 use std::marker::Model;
 use std::sync::Wait;
 use timetable::GhostValue;
 
-/// What the loader answered to an order. Contracts see the answer, and where it was told.
+/// What the loader answered to an order. Contracts see the answer, and where it was sent.
 #[derive(Drop)]
 pub struct OrderAnswer<N: Drop> {
     answer: GhostValue<LoadAnswer<N>>,
-    sent: Option<UsedWay<N>>,
+    sent: Option<UsedAnswerEnd<N>>,
 }
 
 impl<N: Drop> Model for OrderAnswer<N> {
-    ghost use Rattle.load_orders.specs.Telling.{AnsweredValue};
+    ghost use Rattle.load_orders.specs.Answering.{AnsweredValue};
 
     ghost Value = { AnsweredValue N };
 
@@ -34,12 +34,12 @@ impl<N: Drop> Model for OrderAnswer<N> {
 #[derive(Drop)]
 pub struct LoaderOrders<N: Drop, P: TakeRule<Order<N>> = EachItemOnce<4>> {
     pub(crate) end: TakeEnd<Order<N>, P>,
-    pub(crate) answered: Notes<OrderAnswer<N>>,
+    pub(crate) answered: GhostList<OrderAnswer<N>>,
     pub(crate) over: bool,
 }
 
 impl<N: Drop, P: TakeRule<Order<N>>> Model for LoaderOrders<N, P> {
-    ghost use Rattle.load_orders.specs.Telling.{LoaderOrdersValue};
+    ghost use Rattle.load_orders.specs.Answering.{LoaderOrdersValue};
 
     ghost Value = { LoaderOrdersValue N };
 
@@ -56,12 +56,12 @@ impl<N: Drop, P: TakeRule<Order<N>>> Model for LoaderOrders<N, P> {
 #[derive(Drop)]
 pub struct UsedLoader<N: Drop> {
     pub(crate) end: UsedTakeEnd<Order<N>>,
-    pub(crate) answered: Notes<OrderAnswer<N>>,
+    pub(crate) answered: GhostList<OrderAnswer<N>>,
     pub(crate) over: bool,
 }
 
 impl<N: Drop> Model for UsedLoader<N> {
-    ghost use Rattle.load_orders.specs.Telling.{LoaderOrdersValue};
+    ghost use Rattle.load_orders.specs.Answering.{LoaderOrdersValue};
 
     ghost Value = { LoaderOrdersValue N };
 
@@ -95,32 +95,32 @@ impl<N: Drop, P: TakeRule<Order<N>>> LoaderOrders<N, P> {
         order
     }
 
-    /// Tells whoever waits for the order what came of it, by the order's own way back. Perhaps nobody waits for it, or
-    /// nobody does any more.
+    /// Sends what came of the order to whoever waits for it, by the order's own answer channel. Perhaps nobody waits
+    /// for it, or nobody does any more.
     pub fn answer<R: Wait>(&mut self, rt: &R, order: Order<N>, answer: LoadAnswer<N>)
         ensures queue { self.new.queue ≡ self.old.queue }
         ensures taken { self.new.taken ≡ self.old.taken }
         ensures over { self.new.over ≡ self.old.over }
         ensures closed { self.new.closed ≡ self.old.closed }
-        ensures sent { (sent : Option (WayValue N)) × IsSentBack order.way_back answer sent
+        ensures sent { (sent : Option (AnswerEndValue N)) × IsSentBack order.answer_channel answer sent
             × (self.new.answered ≡ self.old.answered ++ record { answer = answer; sent = sent } ∷ []) }
     {
         let kept = GhostValue::of(&answer);
-        let sent = send_back(rt, order.way_back, answer);
+        let sent = send_back(rt, order.answer_channel, answer);
         self.answered.note(&OrderAnswer { answer: kept, sent });
     }
 }
 
-// Tells whoever waits by a way back, if there is one.
+// Answers whoever waits by an answer channel, if there is one.
 fn send_back<R: Wait, N: Drop>(
     rt: &R,
-    way_back: Option<WayBack<N>>,
+    answer_channel: Option<AnswerSender<N>>,
     answer: LoadAnswer<N>,
-) -> Option<UsedWay<N>>
-    ensures { IsSentBack way_back answer result }
+) -> Option<UsedAnswerEnd<N>>
+    ensures { IsSentBack answer_channel answer result }
 {
-    match way_back {
-        Some(way) => Some(way.send(rt, answer)),
+    match answer_channel {
+        Some(channel) => Some(channel.send(rt, answer)),
         None => None,
     }
 }

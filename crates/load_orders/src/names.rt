@@ -3,7 +3,7 @@
 ghost use Rattle.std.specs.Prelude.{◌≡◌, ◌<◌, ℕ, length, map, slice_get, string_bytes, Some, MatchBool, MatchOption};
 ghost use Rattle.load_orders.specs.Asking.{IsFirst, IsNoName};
 
-/// The first place of the name.
+/// The first index of the name.
 pub(crate) fn index_of(names: &[String], name: &str) -> Option<usize>
     ensures { MatchOption result (IsNoName (map string_bytes names.now) name.now)
         (IsFirst (map string_bytes names.now) name.now) }

@@ -1,14 +1,14 @@
 //! Orders, and the rule of the queue in which they wait.
 
-use crate::ways::WayBack;
+use crate::answer_channels::AnswerSender;
 use handoff::{EachItemOnce, PutEnd, PutRule};
 
-/// An order to load a feed: its place in the list of feeds, and the way back to whoever waits for what comes of it, if
-/// somebody does.
+/// An order to load a feed: its index in the list of feeds, and the answer channel to whoever waits for what comes of
+/// it, if somebody does.
 #[derive(Drop)]
 pub struct Order<N: Drop> {
     pub feed: usize,
-    pub way_back: Option<WayBack<N>>,
+    pub answer_channel: Option<AnswerSender<N>>,
 }
 
 /// An end of the queue at which orders are put.

@@ -2,17 +2,17 @@
 
 ghost use Rattle.std.specs.Prelude.{◌≡◌, ◌++◌, ◌∷◌, [], map, string_bytes, Some, IfOk, IfErr, OnOk};
 ghost use Rattle.orders.specs.Ordering.{IsNotTaken, order_value, version_alone, waited_value};
-ghost use Rattle.load_orders.specs.Asking.{Hears, IsNotAwaited, IsPut, RefusesOrder, RefusesVersion};
+ghost use Rattle.load_orders.specs.Asking.{Receives, IsNotAwaited, IsPut, RefusesOrder, RefusesVersion};
 ghost use Rattle.handoff.specs.Ends.{IsPutAt, once_tried};
 ghost use Rattle.load_orders.specs.Asking.{HasAsked, IsTurnedAway, OrderRoute, awaited_order, fault_of_answer};
 ghost use Rattle.load_orders.specs.Asking.{route_of, unasked};
-ghost use Rattle.load_orders.specs.Ways.{WayId, heard_at};
-ghost use Rattle.load_orders.specs.declared.ways.LoadAnswer.{LoadAnswer};
+ghost use Rattle.load_orders.specs.AnswerChannels.{AnswerChannelId, received_at};
+ghost use Rattle.load_orders.specs.declared.answer_channels.LoadAnswer.{LoadAnswer};
 
+use crate::answer_channels::{LoadAnswer, UsedAnswerEnd, answer_channel};
+use crate::ghost_list::GhostList;
 use crate::names::index_of;
-use crate::notes::Notes;
 use crate::queue::{Order, OrderRule};
-use crate::ways::{LoadAnswer, UsedWay, way_back};
 use epochs::Versions;
 use handoff::{EachItemOnce, NotPut, PutEnd, UsedPutEnd};
 use orders::{OrderFault, OrderRecord, Orders};
@@ -36,8 +36,8 @@ pub struct WorkerOrders<
     names: &'a [String],
     shelves: &'a T,
     end: PutEnd<Order<N>, P>,
-    asked: Notes<OrderRecord>,
-    heard: Notes<UsedWay<N>>,
+    asked: GhostList<OrderRecord>,
+    received: GhostList<UsedAnswerEnd<N>>,
 }
 
 impl<'a, R: Wait, N: Drop, T: Versions<Notice = N>, P: OrderRule<N>> Model
@@ -51,16 +51,16 @@ impl<'a, R: Wait, N: Drop, T: Versions<Notice = N>, P: OrderRule<N>> Model
       names = map string_bytes s.names.now;
       end = s.end;
       asked = s.asked;
-      heard =
-          s.heard;
+      received =
+          s.received;
     } };
 
     ghost invariant = { λ s. HasAsked P.Protocol.holds T.words.version (record {
       names = map string_bytes s.names.now;
       end = s.end;
       asked = s.asked;
-      heard =
-          s.heard;
+      received =
+          s.received;
     }) };
 }
 
@@ -70,8 +70,8 @@ impl<'a, R: Wait, N: Drop, T: Versions<Notice = N>, P: OrderRule<N>> Model
 pub struct UsedOrders<N: Drop> {
     names: GhostValue<LinkedList<LinkedList<u8>>>,
     pub(crate) end: UsedPutEnd<Order<N>>,
-    asked: Notes<OrderRecord>,
-    heard: Notes<UsedWay<N>>,
+    asked: GhostList<OrderRecord>,
+    received: GhostList<UsedAnswerEnd<N>>,
 }
 
 impl<N: Drop> Model for UsedOrders<N> {
@@ -79,7 +79,7 @@ impl<N: Drop> Model for UsedOrders<N> {
 
     ghost Value = { WorkerOrdersValue N };
 
-    ghost view = { λ u. record { names = u.names.value; end = u.end; asked = u.asked; heard = u.heard } };
+    ghost view = { λ u. record { names = u.names.value; end = u.end; asked = u.asked; received = u.received } };
 }
 
 impl<'a, R: Wait, N: Drop, T: Versions<Notice = N>, P: OrderRule<N>> WorkerOrders<'a, R, N, T, P> {
@@ -93,7 +93,7 @@ impl<'a, R: Wait, N: Drop, T: Versions<Notice = N>, P: OrderRule<N>> WorkerOrder
         end: PutEnd<Order<N>, P>,
     ) -> WorkerOrders<'a, R, N, T, P>
         requires { end.items ≡ [] }
-        ensures { result ≡ record { names = map string_bytes names.now; end = end; asked = []; heard = [] } }
+        ensures { result ≡ record { names = map string_bytes names.now; end = end; asked = []; received = [] } }
     {
         WorkerOrders {
             rt,
@@ -101,8 +101,8 @@ impl<'a, R: Wait, N: Drop, T: Versions<Notice = N>, P: OrderRule<N>> WorkerOrder
             names,
             shelves,
             end,
-            asked: Notes::none(),
-            heard: Notes::none(),
+            asked: GhostList::none(),
+            received: GhostList::none(),
         }
     }
 
@@ -115,7 +115,7 @@ impl<'a, R: Wait, N: Drop, T: Versions<Notice = N>, P: OrderRule<N>> WorkerOrder
         let WorkerOrders {
             end,
             asked,
-            heard,
+            received,
             ..
         } = self;
         let end = end.into_used();
@@ -123,7 +123,7 @@ impl<'a, R: Wait, N: Drop, T: Versions<Notice = N>, P: OrderRule<N>> WorkerOrder
             names,
             end,
             asked,
-            heard,
+            received,
         }
     }
 }
@@ -153,52 +153,52 @@ fn wait_for<R: Wait, N: Drop, T: Versions<Notice = N>, P: OrderRule<N>>(
     names: &[String],
     feed: &str,
     end: &mut PutEnd<Order<N>, P>,
-    heard: &mut Notes<UsedWay<N>>,
+    received: &mut GhostList<UsedAnswerEnd<N>>,
 ) -> Result<(u64, N), OrderFault>
     ensures queue { end.new.queue ≡ end.old.queue }
     ensures notice { IfOk result (λ r. T.words.version r.1 ≡ r.0) }
-    ensures heard { IfOk result (λ r. Hears feed.now (Some (LoadAnswer.Published r.1))
-        (unasked (map string_bytes names.now) end.old heard.old)
-        (unasked (map string_bytes names.now) end.new heard.new)) }
+    ensures received { IfOk result (λ r. Receives feed.now (Some (LoadAnswer.Published r.1))
+        (unasked (map string_bytes names.now) end.old received.old)
+        (unasked (map string_bytes names.now) end.new received.new)) }
     ensures refused { IfErr result (λ fault. RefusesVersion P.Protocol.holds feed.now fault
-        (unasked (map string_bytes names.now) end.old heard.old)
-        (unasked (map string_bytes names.now) end.new heard.new)) }
+        (unasked (map string_bytes names.now) end.old received.old)
+        (unasked (map string_bytes names.now) end.new received.new)) }
 {
     let Some(index) = index_of(names, feed) else {
         return Err(OrderFault::UnknownFeed);
     };
-    match put_awaited(rt, alloc, index, end, heard) {
+    match put_awaited(rt, alloc, index, end, received) {
         Ok(answer) => version_or_fault::<N, T>(answer),
         Err(fault) => Err(fault),
     }
 }
 
-// Puts an order with a way back, and waits for what comes of it, which is noted.
+// Puts an order with an answer channel, and waits for what comes of it, which is noted.
 fn put_awaited<R: Wait, N: Drop, P: OrderRule<N>>(
     rt: &R,
     alloc: Global,
     index: usize,
     end: &mut PutEnd<Order<N>, P>,
-    heard: &mut Notes<UsedWay<N>>,
+    received: &mut GhostList<UsedAnswerEnd<N>>,
 ) -> Result<Option<LoadAnswer<N>>, OrderFault>
     ensures queue { end.new.queue ≡ end.old.queue }
-    ensures heard { IfOk result (λ answer. (way : WayId)
-        × IsPutAt end.old (awaited_order index way) end.new
-        × (heard.new ≡ heard.old ++ heard_at way answer ∷ [])) }
+    ensures received { IfOk result (λ answer. (channel : AnswerChannelId)
+        × IsPutAt end.old (awaited_order index channel) end.new
+        × (received.new ≡ received.old ++ received_at channel answer ∷ [])) }
     ensures refused { IfErr result (λ fault. IsNotAwaited P.Protocol.holds end.old fault end.new
-        × (heard.new ≡ heard.old)) }
+        × (received.new ≡ received.old)) }
 {
-    let Ok((way_back, awaited)) = way_back(alloc) else {
+    let Ok((answer_channel, awaited)) = answer_channel(alloc) else {
         return Err(OrderFault::OutOfMemory);
     };
     let order = Order {
         feed: index,
-        way_back: Some(way_back),
+        answer_channel: Some(answer_channel),
     };
     match put(rt, end, order) {
         Ok(()) => {
-            let (answer, way) = awaited.hear(rt);
-            heard.note(&way);
+            let (answer, channel) = awaited.receive(rt);
+            received.note(&channel);
             Ok(answer)
         }
         Err(fault) => Err(fault),
@@ -238,7 +238,7 @@ impl<'a, R: Wait, N: Drop, T: Versions<Notice = N>, P: OrderRule<N>> Orders
         ensures asked { self.new.asked ≡ self.old.asked ++ order_value feed.now result ∷ [] }
         ensures plain { IfErr result IsNotTaken }
         ensures route { route_of self.new ≡ route_of self.old }
-        ensures heard { self.new.heard ≡ self.old.heard }
+        ensures received { self.new.received ≡ self.old.received }
         ensures put { OnOk result (IsPut feed.now self.old self.new) }
         ensures refused { IfErr result (λ fault. RefusesOrder P.Protocol.holds feed.now fault self.old self.new) }
     {
@@ -248,7 +248,7 @@ impl<'a, R: Wait, N: Drop, T: Versions<Notice = N>, P: OrderRule<N>> Orders
                 &mut self.end,
                 Order {
                     feed: index,
-                    way_back: None,
+                    answer_channel: None,
                 },
             ),
             None => Err(OrderFault::UnknownFeed),
@@ -264,7 +264,7 @@ impl<'a, R: Wait, N: Drop, T: Versions<Notice = N>, P: OrderRule<N>> Orders
         ensures asked { self.new.asked ≡ self.old.asked ++ waited_value feed.now (version_alone result) ∷ [] }
         ensures notice { IfOk result (λ r. T.words.version r.1 ≡ r.0) }
         ensures route { route_of self.new ≡ route_of self.old }
-        ensures heard { IfOk result (λ r. Hears feed.now (Some (LoadAnswer.Published r.1)) self.old self.new) }
+        ensures received { IfOk result (λ r. Receives feed.now (Some (LoadAnswer.Published r.1)) self.old self.new) }
         ensures refused { IfErr result (λ fault. RefusesVersion P.Protocol.holds feed.now fault self.old self.new) }
     {
         let outcome = wait_for::<R, N, T, P>(
@@ -273,7 +273,7 @@ impl<'a, R: Wait, N: Drop, T: Versions<Notice = N>, P: OrderRule<N>> Orders
             self.names,
             feed,
             &mut self.end,
-            &mut self.heard,
+            &mut self.received,
         );
         self.asked.note(&OrderRecord::waited(feed, &outcome));
         outcome

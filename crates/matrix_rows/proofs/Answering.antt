@@ -11,7 +11,7 @@ use Rattle.criteria.specs.Laws.{Rules}
 use Rattle.criteria.specs.declared.figures.Figures.{Figures}
 use Rattle.bags.specs.declared.point.Point.{Point}
 use Rattle.image_layout.specs.Image.{ImageValue}
-use Rattle.profile_scan.specs.Between.{BetweenValue, IsAnswerBetween, IsAskableBetween}
+use Rattle.profile_scan.specs.SetQuery.{SetQueryValue, IsAnswerBetween, IsAskableBetween}
 use Rattle.profile_scan.specs.Everywhere.{AnswerToAny, asked_to_any, criterion_to_any, listed_to_any}
 use Rattle.profile_scan.specs.Origins.{from_stop}
 use Rattle.profile_scan.specs.Points.{Before}
@@ -54,7 +54,7 @@ in_order figures rules (point ∷ points) ordered i j d lt below =
     omega (arith, first, second, le)
 
 -- also those who may leave as late as they arrive can be asked for
-pub waiting_asked : (stops : ℕ) (b : BetweenValue) → IsAskableBetween stops b → IsAskableBetween stops (waiting b)
+pub waiting_asked : (stops : ℕ) (b : SetQueryValue) → IsAskableBetween stops b → IsAskableBetween stops (waiting b)
 waiting_asked stops b can = record {
   sources = can.sources;
   targets = can.targets;
@@ -65,7 +65,7 @@ waiting_asked stops b can = record {
 }
 
 -- if they may anyway, they are asked for
-abbrev asked_until : TravelTable → List ℕ → ℕ → BetweenValue
+abbrev asked_until : TravelTable → List ℕ → ℕ → SetQueryValue
 asked_until table targets until = record { sources = []; targets = targets; from = table.after; until = until; by = table.by }
 
 waits_as_asked : (table : TravelTable) (targets : List ℕ) → table.until ≡ table.by → waiting (destination table targets) ≡ destination table targets
@@ -73,24 +73,24 @@ waits_as_asked table targets same = ap (asked_until table targets) (sym same)
 
 module _ {V : Type 0} (figures : V → Figures) (rules : Rules V) (image : ImageValue) (table : TravelTable) (targets : List ℕ) (sources : List (Vec ℕ))
     (means : List (Option ℕ)) where
-  pub means_waited : (found : BetweenValue) → found ≡ destination table targets
+  pub means_waited : (found : SetQueryValue) → found ≡ destination table targets
       → AllZip (IsMeanFrom figures rules image (waiting (destination table targets)) table.after table.until) sources means
       → AllZip (IsMeanFrom figures rules image (waiting found) found.from found.until) sources means
   means_waited found is zipped =
-      subst (λ (d : BetweenValue). AllZip (IsMeanFrom figures rules image (waiting d) d.from d.until) sources means) (sym is) zipped
+      subst (λ (d : SetQueryValue). AllZip (IsMeanFrom figures rules image (waiting d) d.from d.until) sources means) (sym is) zipped
 
-  pub means_asked : (found : BetweenValue) → found ≡ destination table targets → table.until ≡ table.by
+  pub means_asked : (found : SetQueryValue) → found ≡ destination table targets → table.until ≡ table.by
       → AllZip (IsMeanFrom figures rules image found table.after table.until) sources means
       → AllZip (IsMeanFrom figures rules image (waiting found) found.from found.until) sources means
   means_asked found is same zipped = means_waited found is
-      (subst (λ (d : BetweenValue). AllZip (IsMeanFrom figures rules image d table.after table.until) sources means)
+      (subst (λ (d : SetQueryValue). AllZip (IsMeanFrom figures rules image d table.after table.until) sources means)
       (is ∙ sym (waits_as_asked table targets same)) zipped)
 
-  pub means_of_waiting : (found : BetweenValue) → found ≡ waiting (destination table targets)
+  pub means_of_waiting : (found : SetQueryValue) → found ≡ waiting (destination table targets)
       → AllZip (IsMeanFrom figures rules image found table.after table.until) sources means
       → AllZip (IsMeanFrom figures rules image (waiting (destination table targets)) table.after table.until) sources means
   means_of_waiting found is zipped =
-      subst (λ (d : BetweenValue). AllZip (IsMeanFrom figures rules image d table.after table.until) sources means) is zipped
+      subst (λ (d : SetQueryValue). AllZip (IsMeanFrom figures rules image d table.after table.until) sources means) is zipped
 
 -- one more pair of two lists
 pub zipped_push : {A B : Type 0} (R : A → B → Type 0) (xs : List A) (index : ℕ) (d : A) (ys now : List B) (y : B) → index < length xs
@@ -117,7 +117,7 @@ pub on_done : {T E P Q : Type 0} (r : Result T E) → (P → Q) → OnOk r P →
 on_done (Ok x) each p = each p
 on_done (Err e) each p = tt
 
--- the pair at a place of two lists
+-- the pair at an index of two lists
 pub zipped_at : {A B : Type 0} (R : A → B → Type 0) (xs : List A) (ys : List B) (i : ℕ) (d : A) (e : B) → AllZip R xs ys → i < length xs
     → R (get_or xs i d) (get_or ys i e)
 zipped_at R [] ys i d e zipped less = absurd (omega (arith, less))

@@ -9,7 +9,7 @@ use Rattle.criteria.specs.Laws.{Admits, Laws, NoWorse, Rules}
 use Rattle.bags.specs.Dominance.{Dominates, Inserted, IsBag, Stands, dominates}
 use Rattle.bags.specs.declared.point.Point.{Point}
 use Rattle.timetable.specs.TimetableValue.{TimetableValue}
-use Rattle.profile_scan.specs.Between.{BetweenValue, IsAnswerBetween, IsPointBetween}
+use Rattle.profile_scan.specs.SetQuery.{SetQueryValue, IsAnswerBetween, IsPointBetween}
 use Rattle.profile_scan.specs.LawStatements.{CanScan}
 use Rattle.profile_scan.specs.Origins.{from_stop}
 use Rattle.profile_scan.specs.Points.{Before, Covers}
@@ -140,7 +140,7 @@ the_one stop source h = elim (contains_cases source stop [] h) [
   | inr rest ↦ absurd (not_in_nil source rest)
 ]
 
-module _ {V : Type 0} (rules : Rules V) (laws : Laws rules) (t : TimetableValue) (d : BetweenValue) (can : CanScan t d) where
+module _ {V : Type 0} (rules : Rules V) (laws : Laws rules) (t : TimetableValue) (d : SetQueryValue) (can : CanScan t d) where
   can_from : (stop : ℕ) → CanScan t (from_stop d stop)
   can_from stop = record { legal = can.legal; limits = can.limits; in_time = can.in_time }
 

@@ -12,47 +12,49 @@ use Rattle.std.proofs.lemmas.Slice.Eq.{bytes_eq-Decides}
 use Rattle.std.proofs.lemmas.Option.{get_or_from_slice_get, none-some, same_Some, slice_get_within}
 use Rattle.reasoning.proofs.ListLemmas.{not_in_nil}
 use Rattle.matrix_rows.specs.Listed.{AreDifferent, HasStopTwice, IsLineTwice, ids_in}
-use Rattle.matrix_rows.specs.Repeated.{IsRepeated, place_at}
+use Rattle.matrix_rows.specs.Repeated.{IsRepeated, first_index_at}
 use Rattle.matrix_rows.proofs.Sought.{at_index, more_listed}
 
 -- the names of the first lines are all different, and each has the index of its line
-pub record ArePlaced (listed : List (List ℕ)) (below : ℕ) (places : BTreeMap (Bor (List ℕ)) ℕ) : Type 0 where
-  pub at : (name : List ℕ) (place : ℕ) → place_at places name ≡ Some place → (place < below) × (slice_get listed place ≡ Some name)
-  pub none : (name : List ℕ) → place_at places name ≡ None → Contains (take below listed) name → ⊥
+pub record ArePlaced (listed : List (List ℕ)) (below : ℕ) (list_indices : BTreeMap (Bor (List ℕ)) ℕ) : Type 0 where
+  pub at : (name : List ℕ) (list_index : ℕ) → first_index_at list_indices name ≡ Some list_index → (list_index < below)
+      × (slice_get listed list_index ≡ Some name)
+  pub none : (name : List ℕ) → first_index_at list_indices name ≡ None → Contains (take below listed) name → ⊥
   pub different : AreDifferent (take below listed)
 
-pub none_placed : (listed : List (List ℕ)) (places : BTreeMap (Bor (List ℕ)) ℕ) → IsEmpty places → ArePlaced listed 0 places
-none_placed listed places empty = record {
-  at = λ name place is. absurd (none-some place (sym (nothing name) ∙ is));
+pub none_placed : (listed : List (List ℕ)) (list_indices : BTreeMap (Bor (List ℕ)) ℕ) → IsEmpty list_indices → ArePlaced listed 0 list_indices
+none_placed listed list_indices empty = record {
+  at = λ name list_index is. absurd (none-some list_index (sym (nothing name) ∙ is));
   none = λ name is h. not_in_nil name h;
   different = λ i j d lt below. absurd (omega (arith, below));
 }
   where
-    nothing : (name : List ℕ) → place_at places name ≡ None
+    nothing : (name : List ℕ) → first_index_at list_indices name ≡ None
     nothing name = rw empty refl
 
 -- the next name isn't there yet
 module _ (listed : List (List ℕ)) (index : ℕ) (name : List ℕ) (old new : BTreeMap (Bor (List ℕ)) ℕ) (at : slice_get listed index ≡ Some name)
-    (are : ArePlaced listed index old) (not_there : place_at old name ≡ None)
-    (put : (q : List ℕ) → place_at new q ≡ (if bytes_eq name q then Some index else place_at old q)) where
-  here : (q : List ℕ) → bytes_eq name q ≡ true → place_at new q ≡ Some index
+    (are : ArePlaced listed index old) (not_there : first_index_at old name ≡ None)
+    (put : (q : List ℕ) → first_index_at new q ≡ (if bytes_eq name q then Some index else first_index_at old q)) where
+  here : (q : List ℕ) → bytes_eq name q ≡ true → first_index_at new q ≡ Some index
   here q e = put q ∙ rw e refl
 
-  apart : (q : List ℕ) → bytes_eq name q ≡ false → place_at new q ≡ place_at old q
+  apart : (q : List ℕ) → bytes_eq name q ≡ false → first_index_at new q ≡ first_index_at old q
   apart q e = put q ∙ rw e refl
 
-  placed_at : (q : List ℕ) (place : ℕ) → place_at new q ≡ Some place → (bytes_eq name q ≡ true) ⊎ (bytes_eq name q ≡ false)
-      → (place < index + 1) × (slice_get listed place ≡ Some q)
-  placed_at q place is (inl same) =
-      let this : index ≡ place = same_Some index place (sym (here q same) ∙ is) in (
+  placed_at : (q : List ℕ) (list_index : ℕ) → first_index_at new q ≡ Some list_index → (bytes_eq name q ≡ true) ⊎ (bytes_eq name q ≡ false)
+      → (list_index < index + 1) × (slice_get listed list_index ≡ Some q)
+  placed_at q list_index is (inl same) =
+      let this : index ≡ list_index = same_Some index list_index (sym (here q same) ∙ is) in (
         omega (arith, this),
         ap (slice_get listed) (sym this) ∙ at ∙ ap (λ (n : List ℕ). Some n) ((bytes_eq-Decides name q).0 same),
       )
-  placed_at q place is (inr differ) =
-      let before = are.at q place (sym (apart q differ) ∙ is) in
+  placed_at q list_index is (inr differ) =
+      let before = are.at q list_index (sym (apart q differ) ∙ is) in
       (let less = before.0 in omega (arith, less), before.1)
 
-  placed_none : (q : List ℕ) → place_at new q ≡ None → Contains (take index listed ++ name ∷ []) q → (bytes_eq name q ≡ true) ⊎ (bytes_eq name q ≡ false) → ⊥
+  placed_none : (q : List ℕ) → first_index_at new q ≡ None → Contains (take index listed ++ name ∷ []) q → (bytes_eq name q ≡ true) ⊎ (bytes_eq name q ≡ false)
+      → ⊥
   placed_none q is h (inl same) = none-some index (sym is ∙ here q same)
   placed_none q is h (inr differ) = elim (Contains-push_cases (take index listed) name q h) [
     | inl before ↦ are.none q (sym (apart q differ) ∙ is) before
@@ -65,23 +67,23 @@ module _ (listed : List (List ℕ)) (index : ℕ) (name : List ℕ) (old new : B
 
   pub name_placed : ArePlaced listed (index + 1) new
   name_placed = record {
-    at = λ q place is. placed_at q place is (cases_Bool (bytes_eq name q));
+    at = λ q list_index is. placed_at q list_index is (cases_Bool (bytes_eq name q));
     none = λ q is h. placed_none q is (subst (λ (names : List (List ℕ)). Contains names q) (more_listed listed index name at) h) (cases_Bool (bytes_eq name q));
     different = subst AreDifferent (sym (more_listed listed index name at)) all_different;
   }
 
 -- the same of the name of an item
 pub item_placed : {A : Type 0} (f : A → List ℕ) (items : List A) (index : ℕ) (d : A) (old new : BTreeMap (Bor (List ℕ)) ℕ) → index < length items
-    → ArePlaced (map f items) index old → place_at old (f (get_or items index d)) ≡ None
-    → ((q : List ℕ) → place_at new q ≡ (if bytes_eq (f (get_or items index d)) q then Some index else place_at old q))
+    → ArePlaced (map f items) index old → first_index_at old (f (get_or items index d)) ≡ None
+    → ((q : List ℕ) → first_index_at new q ≡ (if bytes_eq (f (get_or items index d)) q then Some index else first_index_at old q))
     → ArePlaced (map f items) (index + 1) new
 item_placed f items index d old new less are not_there put =
     name_placed (map f items) index (f (get_or items index d)) old new (at_index f items index d less) are not_there put
 
 -- the next name is there already
-pub item_repeated : {A : Type 0} (f : A → List ℕ) (items : List A) (index first : ℕ) (d : A) (places : BTreeMap (Bor (List ℕ)) ℕ) → index < length items
-    → ArePlaced (map f items) index places → place_at places (f (get_or items index d)) ≡ Some first → IsRepeated (map f items) first index
-item_repeated f items index first d places less are is =
+pub item_repeated : {A : Type 0} (f : A → List ℕ) (items : List A) (index first : ℕ) (d : A) (list_indices : BTreeMap (Bor (List ℕ)) ℕ) → index < length items
+    → ArePlaced (map f items) index list_indices → first_index_at list_indices (f (get_or items index d)) ≡ Some first → IsRepeated (map f items) first index
+item_repeated f items index first d list_indices less are is =
     let there = are.at (f (get_or items index d)) first is in
     record {
       name = f (get_or items index d);

@@ -89,24 +89,25 @@ rows_pushed table run old new one target stops now there same is was = λ rows h
           (subst (λ (s : List ℕ). AreRowsBy table.criterion table s one.text.items) (same ∙ ap (λ (v : Vec ℕ). v.items) sets) is))
     ]
 
--- a thread has the rows of a target at a place
-pub text_at : (part : List TargetRows) (place : ℕ) (one : TargetRows) (index : ℕ) (text : List ℕ) → place < length part → one ≡ get_or part place one
+-- a thread has the rows of a target at an index
+pub text_at : (part : List TargetRows) (list_index : ℕ) (one : TargetRows) (index : ℕ) (text : List ℕ) → list_index < length part → one
+    ≡ get_or part list_index one
     → one.index ≡ index → text ≡ one.text.items → HasText part index text
-text_at part place one index text less at same is = record {
+text_at part list_index one index text less at same is = record {
   rows = one;
-  there = subst (Contains part) (sym at) (Contains-get_or part place one less);
+  there = subst (Contains part) (sym at) (Contains-get_or part list_index one less);
   at = same;
   text_is = is;
 }
 
--- the thread at a place has the rows of a target
-pub found_in : (made : List (Vec TargetRows)) (place : ℕ) (part : Vec TargetRows) (items : List TargetRows) (index : ℕ) (o : Option (Bor (List ℕ)))
-    (text : Bor (List ℕ)) → place < length made → part ≡ get_or made place part → items ≡ part.items → IfSome o (λ t. HasText items index t.now)
+-- the thread at an index has the rows of a target
+pub found_in : (made : List (Vec TargetRows)) (list_index : ℕ) (part : Vec TargetRows) (items : List TargetRows) (index : ℕ) (o : Option (Bor (List ℕ)))
+    (text : Bor (List ℕ)) → list_index < length made → part ≡ get_or made list_index part → items ≡ part.items → IfSome o (λ t. HasText items index t.now)
     → o ≡ Some text → (k : ℕ) × (part : Vec TargetRows) × (slice_get made k ≡ Some part) × HasText part.items index text.now
-found_in made place part items index o text less at same has is = (
-  place,
+found_in made list_index part items index o text less at same has is = (
+  list_index,
   part,
-  slice_get_read made (length made) place part refl less at,
+  slice_get_read made (length made) list_index part refl less at,
   subst (λ (xs : List TargetRows). HasText xs index text.now) same (subst (λ (x : Option (Bor (List ℕ))). IfSome x (λ t. HasText items index t.now)) is has),
 )
 

@@ -5,7 +5,7 @@ use Rattle.std.proofs.lemmas.List.Elements.{Contains-append_left, Contains-appen
 use Rattle.reasoning.proofs.ListLemmas.{at_contains, contains_at, contains_first, not_in_nil}
 use Rattle.timetable.specs.TimetableValue.{TimetableValue}
 use Rattle.timetable.specs.declared.network.Footpath.{Footpath}
-use Rattle.profile_scan.specs.Between.{BetweenValue, IsDirect, IsDirectWalk, IsTakenBefore, secs_of}
+use Rattle.profile_scan.specs.SetQuery.{SetQueryValue, IsDirect, IsDirectWalk, IsTakenBefore, secs_of}
 use Rattle.profile_scan.specs.Origins.{from_stop}
 use Rattle.matrix_rows.specs.Merging.{shorter_of}
 use Rattle.matrix_rows.specs.Tables.{IsLeastWalk, LeadsBetween, from_stops}
@@ -14,7 +14,7 @@ no_longer : (i k secs m n other : ℕ) → IsTakenBefore i k secs m n other → 
 no_longer i k secs m n other (inl less) = omega (arith, less)
 no_longer i k secs m n other (inr same) = (let e = same.0 in omega (arith, e))
 
-module _ (t : TimetableValue) (d : BetweenValue) where
+module _ (t : TimetableValue) (d : SetQueryValue) where
   direct_of : (stop : ℕ) (f : Footpath) → LeadsBetween t (from_stops d (stop ∷ [])) f → (i : ℕ) × (k : ℕ) × IsDirect t (from_stop d stop) i k f
   direct_of stop f leads =
       let source = at_contains (stop ∷ []) f.from leads.leaves in

@@ -7,8 +7,8 @@ use Rattle.std.specs.Ordering.{nat_cmp}
 use Rattle.matrix_rows.specs.Listed.{AreDifferent}
 
 -- where a name is among those that were gone through, if it is
-abbrev pub place_at : BTreeMap (Bor (List ℕ)) ℕ → List ℕ → Option ℕ
-place_at places name = get_by (λ k. slice_cmp nat_cmp name k.now) places
+abbrev pub first_index_at : BTreeMap (Bor (List ℕ)) ℕ → List ℕ → Option ℕ
+first_index_at list_indices name = get_by (λ k. slice_cmp nat_cmp name k.now) list_indices
 
 -- the second of two indices is the first at which a name is there again, and the first is where it was
 pub record IsRepeated (listed : List (List ℕ)) (earlier later : ℕ) : Type 0 where
@@ -20,4 +20,4 @@ pub record IsRepeated (listed : List (List ℕ)) (earlier later : ℕ) : Type 0 
 
 abbrev pub AreTheRepeated : List (List ℕ) → Option (ℕ × ℕ) → Type 0
 AreTheRepeated listed None = AreDifferent listed
-AreTheRepeated listed (Some places) = IsRepeated listed places.0 places.1
+AreTheRepeated listed (Some list_indices) = IsRepeated listed list_indices.0 list_indices.1

@@ -15,7 +15,7 @@ use Rattle.image_layout.specs.Image.{ImageValue}
 use Rattle.answer_pictures.specs.Naming.{stop_bytes}
 use Rattle.answer_replies.specs.Valuing.{arrival_figures, by_arrival, by_trips, by_walking, trips_figures, walking_figures}
 use Rattle.criteria.specs.declared.name.CriterionName.{CriterionName}
-use Rattle.profile_scan.specs.Between.{BetweenValue, IsAnswerBetween, IsAskableBetween}
+use Rattle.profile_scan.specs.SetQuery.{SetQueryValue, IsAnswerBetween, IsAskableBetween}
 use Rattle.travel_times.specs.Fields.{pair_fields, pair_names, point_fields, point_names}
 use Rattle.travel_times.specs.Figures.{mean_wait}
 use Rattle.travel_times.specs.declared.spans.Span.{Span}
@@ -29,26 +29,26 @@ abbrev pub spans_of : {V : Type 0} → (V → Figures) → List (Point V) → Li
 spans_of figures points = map (span_of figures) points
 
 -- what a table asks of every stop for a set of targets
-abbrev pub destination : TravelTable → List ℕ → BetweenValue
+abbrev pub destination : TravelTable → List ℕ → SetQueryValue
 destination table targets = record { sources = []; targets = targets; from = table.after; until = table.until; by = table.by }
 
 -- the same for those who may leave as late as they arrive
-abbrev pub waiting : BetweenValue → BetweenValue
+abbrev pub waiting : SetQueryValue → SetQueryValue
 waiting b = record { sources = b.sources; targets = b.targets; from = b.from; until = b.by; by = b.by }
 
 -- the same from any of some stops
-abbrev pub from_stops : BetweenValue → List ℕ → BetweenValue
+abbrev pub from_stops : SetQueryValue → List ℕ → SetQueryValue
 from_stops b stops = record { sources = stops; targets = b.targets; from = b.from; until = b.until; by = b.by }
 
 -- a mean wait: that for the departures of an answer, over the seconds of a window
-pub record IsMean {V : Type 0} (figures : V → Figures) (rules : Rules V) (image : ImageValue) (b : BetweenValue) (after until : ℕ)
+pub record IsMean {V : Type 0} (figures : V → Figures) (rules : Rules V) (image : ImageValue) (b : SetQueryValue) (after until : ℕ)
     (mean : Option ℕ) : Type 0 where
   pub waited : List (Point V)
   pub answer : IsAnswerBetween rules image.timetable b waited
   pub mean_is : mean ≡ mean_wait (spans_of figures waited) after until
 
 -- the same from a set of sources, of what is asked of every stop
-abbrev pub IsMeanFrom : {V : Type 0} → (V → Figures) → Rules V → ImageValue → BetweenValue → ℕ → ℕ → Vec ℕ → Option ℕ → Type 0
+abbrev pub IsMeanFrom : {V : Type 0} → (V → Figures) → Rules V → ImageValue → SetQueryValue → ℕ → ℕ → Vec ℕ → Option ℕ → Type 0
 IsMeanFrom figures rules image d after until sources mean = IsMean figures rules image (from_stops d sources.items) after until mean
 
 -- a mean that is there
@@ -57,13 +57,13 @@ mean_in None = None
 mean_in (Some mean) = mean
 
 -- a footpath leads from one of the sources to one of the targets
-pub record LeadsBetween (t : TimetableValue) (b : BetweenValue) (f : Footpath) : Type 0 where
+pub record LeadsBetween (t : TimetableValue) (b : SetQueryValue) (f : Footpath) : Type 0 where
   pub is_footpath : Contains t.footpaths f
   pub leaves : Contains b.sources f.from
   pub leads : Contains b.targets f.to
 
 -- the seconds of the shortest such footpath, if there is one
-abbrev pub IsLeastWalk : TimetableValue → BetweenValue → Option ℕ → Type 0
+abbrev pub IsLeastWalk : TimetableValue → SetQueryValue → Option ℕ → Type 0
 IsLeastWalk t b None = (f : Footpath) → LeadsBetween t b f → ⊥
 IsLeastWalk t b (Some secs) = ((f : Footpath) × LeadsBetween t b f × (f.secs ≡ secs)) × ((f : Footpath) → LeadsBetween t b f → secs ≤ f.secs)
 
@@ -78,7 +78,7 @@ set_bytes names stops = tabbed (map (stop_bytes names) stops)
 
 -- the row of a pair of sets: the figures of the answer between them, and the mean wait for a departure of the answer that lets one leave as late as one
 -- arrives
-pub record IsPairRow {V : Type 0} (figures : V → Figures) (rules : Rules V) (image : ImageValue) (b : BetweenValue) (text : List ℕ) : Type 0 where
+pub record IsPairRow {V : Type 0} (figures : V → Figures) (rules : Rules V) (image : ImageValue) (b : SetQueryValue) (text : List ℕ) : Type 0 where
   pub points : List (Point V)
   pub mean : Option ℕ
   pub walk : Option ℕ
@@ -93,13 +93,13 @@ abbrev pub point_row : {V : Type 0} → (V → Figures) → List ℕ → List �
 point_row figures from to point = row_text default_writer (point_fields from to point.departure (figures point.value))
 
 -- the row of each departure of the answer between two sets
-pub record ArePointRows {V : Type 0} (figures : V → Figures) (rules : Rules V) (image : ImageValue) (b : BetweenValue) (text : List ℕ) : Type 0 where
+pub record ArePointRows {V : Type 0} (figures : V → Figures) (rules : Rules V) (image : ImageValue) (b : SetQueryValue) (text : List ℕ) : Type 0 where
   pub points : List (Point V)
   pub answer : IsAnswerBetween rules image.timetable b points
   pub text_is : text ≡ flat_map (point_row figures (set_bytes image.names b.sources) (set_bytes image.names b.targets)) points
 
 -- the rows of a pair of sets
-abbrev pub AreRows : {V : Type 0} → (V → Figures) → Rules V → Bool → ImageValue → BetweenValue → List ℕ → Type 0
+abbrev pub AreRows : {V : Type 0} → (V → Figures) → Rules V → Bool → ImageValue → SetQueryValue → List ℕ → Type 0
 AreRows figures rules true image b text = ArePointRows figures rules image b text
 AreRows figures rules false image b text = IsPairRow figures rules image b text
 
@@ -108,13 +108,13 @@ abbrev pub Meet : List ℕ → List ℕ → Type 0
 Meet stops others = (stop : ℕ) × Contains stops stop × Contains others stop
 
 -- what is written for a set of sources: its rows, or nothing if one of them is a target
-pub record AreRowsFrom {V : Type 0} (figures : V → Figures) (rules : Rules V) (each : Bool) (image : ImageValue) (d : BetweenValue)
+pub record AreRowsFrom {V : Type 0} (figures : V → Figures) (rules : Rules V) (each : Bool) (image : ImageValue) (d : SetQueryValue)
     (sources text : List ℕ) : Type 0 where
   pub none : Meet sources d.targets → text ≡ []
   pub rows : (Meet sources d.targets → ⊥) → AreRows figures rules each image (from_stops d sources) text
 
 -- the rows of a set of targets: those of each set of sources, one after the other
-pub record AreRowsTo {V : Type 0} (figures : V → Figures) (rules : Rules V) (each : Bool) (image : ImageValue) (d : BetweenValue)
+pub record AreRowsTo {V : Type 0} (figures : V → Figures) (rules : Rules V) (each : Bool) (image : ImageValue) (d : SetQueryValue)
     (sources : List (Vec ℕ)) (text : List ℕ) : Type 0 where
   pub parts : List (List ℕ)
   pub are : AllZip (λ set part. AreRowsFrom figures rules each image d set.items part) sources parts

@@ -3,7 +3,7 @@
 ghost use Rattle.std.specs.Prelude.{◌≡◌, ◌<◌, ◌∷◌, [], ℕ, Contains, IfOk, MatchBool, OnOk};
 ghost use Rattle.criteria.specs.Laws.{Admits};
 ghost use Rattle.bags.specs.Bag.{criterion_of, points_of};
-ghost use Rattle.profile_scan.specs.Between.{IsAnswerBetween, IsAskableBetween};
+ghost use Rattle.profile_scan.specs.SetQuery.{IsAnswerBetween, IsAskableBetween};
 ghost use Rattle.profile_scan.specs.Everywhere.{AnswerToAny, asked_to_any, criterion_to_any};
 ghost use Rattle.matrix_rows.specs.Merging.{TakesIn, shorter_of};
 ghost use Rattle.matrix_rows.specs.Tables.{IsLeastWalk, Meet, from_stops};

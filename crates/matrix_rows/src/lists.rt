@@ -64,7 +64,7 @@ pub fn sets_listed(
         return Err(SetListFault::StopTwice(number));
     }
     match named_twice(alloc, &listed)? {
-        Some(places) => Err(SetListFault::LineTwice(places.0 + 1, places.1 + 1)),
+        Some(list_indices) => Err(SetListFault::LineTwice(list_indices.0 + 1, list_indices.1 + 1)),
         None => Ok(sets),
     }
 }
@@ -162,7 +162,7 @@ fn has_repeat(alloc: Global, texts: &[&str]) -> Result<bool, AllocError>
         (AreDifferent (map (λ text. text.now) texts.now))) }
 {
     match named_twice(alloc, texts)? {
-        Some(_places) => Ok(true),
+        Some(_indices) => Ok(true),
         None => Ok(false),
     }
 }

@@ -4,7 +4,7 @@ ghost use Rattle.std.specs.Prelude.{◌≡◌, ◌<◌, ◌≤◌, ◌++◌, ◌
 ghost use Rattle.std.specs.Prelude.{slice_get, string_bytes};
 ghost use Rattle.std.specs.Global.{Vec};
 ghost use Rattle.std.specs.List.{AllZip, flat_map};
-ghost use Rattle.profile_scan.specs.Between.{BetweenValue, IsAnswerBetween, IsAskableBetween};
+ghost use Rattle.profile_scan.specs.SetQuery.{SetQueryValue, IsAnswerBetween, IsAskableBetween};
 ghost use Rattle.profile_scan.specs.Destinations.{question_to_any};
 ghost use Rattle.profile_scan.specs.Everywhere.{AnswerToAny, asked_to_any, criterion_to_any};
 ghost use Rattle.travel_times.specs.Rows.{Adds, AreWhole, text_of};
@@ -248,17 +248,17 @@ fn pair_rows_of<C: ShowsFigures>(
         to: to.as_str(),
     };
     let mut rows = Rows::new(alloc);
-    for place in 0..table.sources.len() {
-        let mean = mean_at(means, place);
-        put_pair_from(&mut rows, &answered, &table.sources[place], mean)?;
+    for list_index in 0..table.sources.len() {
+        let mean = mean_at(means, list_index);
+        put_pair_from(&mut rows, &answered, &table.sources[list_index], mean)?;
     }
     rows.into_text()
 }
 
-fn mean_at(means: &[Option<u64>], place: usize) -> Option<u64>
-    ensures { result ≡ mean_in (slice_get means.now place) }
+fn mean_at(means: &[Option<u64>], list_index: usize) -> Option<u64>
+    ensures { result ≡ mean_in (slice_get means.now list_index) }
 {
-    match means.get(place) {
+    match means.get(list_index) {
         Some(mean) => *mean,
         None => None,
     }
@@ -349,8 +349,8 @@ fn point_rows_of<C: ShowsFigures>(
         to: to.as_str(),
     };
     let mut rows = Rows::new(alloc);
-    for place in 0..table.sources.len() {
-        put_points_from(&mut rows, &answered, &table.sources[place])?;
+    for list_index in 0..table.sources.len() {
+        put_points_from(&mut rows, &answered, &table.sources[list_index])?;
     }
     rows.into_text()
 }

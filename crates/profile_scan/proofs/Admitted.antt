@@ -5,7 +5,7 @@ use Rattle.bags.specs.declared.point.Point.{Point}
 use Rattle.timetable.specs.TimetableValue.{TimetableValue}
 use Rattle.timetable.specs.JourneyValue.{RideValue, JourneyValue}
 use Rattle.timetable.specs.Journeys.{connection_at, walk_end, walk_secs, Leads, final_time, time_after, stop_after, start_end, arrival}
-use Rattle.profile_scan.specs.Between.{BetweenValue, CountsBetween, IsPointBetween}
+use Rattle.profile_scan.specs.SetQuery.{SetQueryValue, CountsBetween, IsPointBetween}
 use Rattle.profile_scan.specs.Values.{walked, ridden, journey_value}
 use Rattle.profile_scan.specs.Points.{IsPoint, Covers}
 use Rattle.profile_scan.specs.Continuations.{Onward, Aboard, IsOnward, IsAboard, onward_value, aboard_value, time_off, time_there}
@@ -17,7 +17,7 @@ use Rattle.profile_scan.proofs.Chains.{walked_admits, started_admits}
 abbrev pub AreAdmitted : {V : Type 0} → Rules V → List (Point V) → Type 0
 AreAdmitted {V} rules points = (p : Point V) → Contains points p → Admits rules p.value
 
-module _ {V : Type 0} (rules : Rules V) (laws : Laws rules) (t : TimetableValue) (q : BetweenValue) (can : CanScan t q) where
+module _ {V : Type 0} (rules : Rules V) (laws : Laws rules) (t : TimetableValue) (q : SetQueryValue) (can : CanScan t q) where
   pub ridden_admits : (goal stop time final : ℕ) (rides : List RideValue) → final ≤ q.by → Leads t goal stop time rides
       → Admits rules (ridden rules final rides)
   ridden_admits goal stop time final [] le leads = let small = can.in_time in laws.arrive_admits final (omega arith)

@@ -11,7 +11,7 @@ use Rattle.timetable.specs.TimetableValue.{TimetableValue}
 use Rattle.profile_scan.specs.Values.{journey_value}
 use Rattle.profile_scan.specs.Points.{IsUndominatedOf, Lists, Covers, Before, untagged}
 use Rattle.sources.specs.FirstAt.{IsFirstAt}
-use Rattle.profile_scan.specs.Between.{BetweenValue, IsPointBetween, IsAnswerBetween}
+use Rattle.profile_scan.specs.SetQuery.{SetQueryValue, IsPointBetween, IsAnswerBetween}
 use Rattle.profile_scan.specs.Continuations.{CountsFrom}
 use Rattle.profile_scan.specs.Plain.{IsPlainOf}
 use Rattle.profile_scan.specs.Matching.{Spelling, Matches}
@@ -35,7 +35,7 @@ only_itself rules points apart p q in_p in_q d =
           (subst (Dominates rules p) (sym (get_or_default points j p q in_q.1 ∙ in_q.2)) d)))
     ]
 
-module _ {V : Type 0} (rules : Rules V) (laws : Laws rules) (t : TimetableValue) (q : BetweenValue) (can : CanScan t q) where
+module _ {V : Type 0} (rules : Rules V) (laws : Laws rules) (t : TimetableValue) (q : SetQueryValue) (can : CanScan t q) where
   module _ (start : ℕ) (is_start : IsFirstAt t q.from start) (tags : Spelling) (found : List (Point V))
       (matches : Matches rules tags.journey (CountsFrom t q start) (IsPlainOf t (Contains q.targets)) (journey_value rules t) found)
       (bag : IsBag rules found) where

@@ -10,12 +10,12 @@ use Rattle.timetable.specs.declared.network.Footpath.{Footpath}
 use Rattle.sources.specs.FirstAt.{IsFirstAt}
 use Rattle.profile_scan.specs.Values.{journey_value}
 use Rattle.profile_scan.specs.Continuations.{CountsFrom}
-use Rattle.profile_scan.specs.Between.{BetweenValue, CountsBetween, IsDirectWalk, IsPointBetween}
+use Rattle.profile_scan.specs.SetQuery.{SetQueryValue, CountsBetween, IsDirectWalk, IsPointBetween}
 use Rattle.profile_scan.specs.Plain.{IsPlainOf}
 use Rattle.profile_scan.specs.Points.{Before, IsAnswerOf, untagged}
 use Rattle.profile_scan.specs.Matching.{Matches}
-use Rattle.profile_scan.specs.Story.{Story, spelling_of}
-use Rattle.profile_scan.specs.Telling.{IsJourneySpelled, IsSpelledAgain}
+use Rattle.profile_scan.specs.ScanRecords.{ScanRecords, spelling_of}
+use Rattle.profile_scan.specs.JourneyNodes.{IsJourneySpelled, IsSpelledAgain}
 use Rattle.profile_scan.specs.Answered.{IsAnsweredBetween}
 use Rattle.profile_scan.specs.LawStatements.{CanScan}
 use Rattle.profile_scan.specs.declared.nodes.Node.{Node}
@@ -70,10 +70,10 @@ spelled_again_answer {V} rules IsThere old new same is = record {
   ordered = spelled_again_before rules old new same is.ordered;
 }
 
--- points that match at the start of the window, listed in order and told in nodes
-pub answered : {V : Type 0} (rules : Rules V) → Laws rules → (t : TimetableValue) (q : BetweenValue) → CanScan t q
+-- points that match at the start of the window, listed in order and spelled in nodes
+pub answered : {V : Type 0} (rules : Rules V) → Laws rules → (t : TimetableValue) (q : SetQueryValue) → CanScan t q
     → (start : ℕ) → IsFirstAt t q.from start
-    → (s : Story) (nodes : List Node) (found points spelled_again : List (Point V)) (walk : Option Footpath)
+    → (s : ScanRecords) (nodes : List Node) (found points spelled_again : List (Point V)) (walk : Option Footpath)
     → Matches rules (spelling_of t.footpaths s).journey (CountsFrom t q start) (IsPlainOf t (Contains q.targets)) (journey_value rules t) found
     → IsBag rules found
     → AllPairs (Before rules) points → ((p : Point V) → Contains points p → Contains found p) → ((p : Point V) → Contains found p → Contains points p)
@@ -102,8 +102,8 @@ answered rules laws t q can start is_start s nodes found points spelled_again wa
       direct = way;
     }
 
--- each point found is told
-pub journeys_spelled : {V : Type 0} (rules : Rules V) (t : TimetableValue) (q : BetweenValue) (start : ℕ) (s : Story)
+-- each point found is spelled
+pub journeys_spelled : {V : Type 0} (rules : Rules V) (t : TimetableValue) (q : SetQueryValue) (start : ℕ) (s : ScanRecords)
     (found points : List (Point V)) → Matches rules (spelling_of t.footpaths s).journey (CountsFrom t q start)
     (IsPlainOf t (Contains q.targets)) (journey_value rules t) found → ((p : Point V) → Contains points p → Contains found p)
     → (p : Point V) → Contains points p → IsJourneySpelled t.footpaths s p.tag

@@ -12,7 +12,7 @@ use Rattle.timetable.specs.Legal.{At}
 use Rattle.timetable.specs.Limits.{IsWithinLimits}
 use Rattle.timetable.specs.Journeys.{connection_at, IsStart, start_end, start_secs}
 use Rattle.timetable.proofs.LegalLemmas.{Contains-At, At-Contains}
-use Rattle.profile_scan.specs.Between.{BetweenValue}
+use Rattle.profile_scan.specs.SetQuery.{SetQueryValue}
 use Rattle.profile_scan.specs.Values.{started}
 use Rattle.profile_scan.specs.Matching.{Spellings}
 use Rattle.profile_scan.specs.Steps.{Offer, TakesIn, boardings, settings_out, MayBoard, MaySetOut}
@@ -92,7 +92,7 @@ module _ {V : Type 0} (rules : Rules V) (laws : Laws rules) (t : TimetableValue)
       (between_more t.footpaths begin place) (place, low, omega arith, at) (λ y. between_split t.footpaths begin place x y at)
       (boarding_admits tags i c stop begin place) before here
 
-  pub starts_next : (tags : Spellings) (i : ℕ) (c : Connection) (q : BetweenValue) (begin place : ℕ) (x : Footpath)
+  pub starts_next : (tags : Spellings) (i : ℕ) (c : Connection) (q : SetQueryValue) (begin place : ℕ) (x : Footpath)
       (old mid new : List (Point V)) → begin ≤ place → At t.footpaths place x
       → TakesIn rules (each_of (IsTried t.footpaths begin place) (settings_out_by rules tags i c q labels)) old mid
       → TakesIn rules (settings_out_by rules tags i c q labels (Some x)) mid new
@@ -108,22 +108,22 @@ begins_at c None = c.from
 begins_at c (Some f) = f.from
 
 -- a start from a source
-begins_at_source : (q : BetweenValue) (c : Connection) (start : Option Footpath) → StartsFrom q c start → Contains q.sources (begins_at c start)
+begins_at_source : (q : SetQueryValue) (c : Connection) (start : Option Footpath) → StartsFrom q c start → Contains q.sources (begins_at c start)
 begins_at_source q c None s = s
 begins_at_source q c (Some f) s = s.0
 
-is_start : (t : TimetableValue) (q : BetweenValue) (c : Connection) (begin end : ℕ) (start : Option Footpath)
+is_start : (t : TimetableValue) (q : SetQueryValue) (c : Connection) (begin end : ℕ) (start : Option Footpath)
     → IsTried t.footpaths begin end start → StartsFrom q c start → IsStart t (begins_at c start) start
 is_start t q c begin end None tried s = tt
 is_start t q c begin end (Some f) tried s = (Contains-At t.footpaths tried.0 f tried.3, refl, s.1)
 
-starts_from : (t : TimetableValue) (q : BetweenValue) (c : Connection) (source : ℕ) (start : Option Footpath)
+starts_from : (t : TimetableValue) (q : SetQueryValue) (c : Connection) (source : ℕ) (start : Option Footpath)
     → Contains q.sources source → IsStart t source start → start_end source start ≡ c.from → StartsFrom q c start
 starts_from t q c source None is_source is leads = subst (Contains q.sources) leads is_source
 starts_from t q c source (Some f) is_source is leads = (subst (Contains q.sources) (sym is.1) is_source, λ e. is.2 (e ∙ is.1))
 
 -- no footpath leads to the connection from a source: only no start does
-module _ {V : Type 0} (rules : Rules V) (t : TimetableValue) (tags : Spellings) (i : ℕ) (q : BetweenValue) (labels : List (Point V))
+module _ {V : Type 0} (rules : Rules V) (t : TimetableValue) (tags : Spellings) (i : ℕ) (q : SetQueryValue) (labels : List (Point V))
     (old new : List (Point V)) where
   by_start : (start : Option Footpath) (label : Point V) → (IsLed t q.sources (connection_at t i).from → ⊥)
       → TakesIn rules (settings_out_by rules tags i (connection_at t i) q labels None) old new
@@ -242,7 +242,7 @@ module _ {V : Type 0} (rules : Rules V) (t : TimetableValue) (tags : Spellings) 
       (λ way opened. here.covered (way.walk, way.label) (between way.walk opened.is_footpath opened.leads, ((opened.leaves, opened.fits), opened.is_label)))
       here
 
-  may_set_out : (q : BetweenValue) (start : Option Footpath) (label : Point V) → IsTried t.footpaths begin end start
+  may_set_out : (q : SetQueryValue) (start : Option Footpath) (label : Point V) → IsTried t.footpaths begin end start
       → MayStart q (connection_at t i) start → Contains labels label
       → MaySetOut t q i labels (record { start = start; label = label })
   may_set_out q start label at may is = record {
@@ -257,7 +257,7 @@ module _ {V : Type 0} (rules : Rules V) (t : TimetableValue) (tags : Spellings) 
     is_label = is;
   }
 
-  pub settings_out_taken : (q : BetweenValue) (old new : List (Point V))
+  pub settings_out_taken : (q : SetQueryValue) (old new : List (Point V))
       → TakesIn rules (each_of (IsTried t.footpaths begin end) (settings_out_by rules tags i c q labels)) old new
       → TakesIn rules (settings_out rules t q tags i labels) old new
   settings_out_taken q old new takes =

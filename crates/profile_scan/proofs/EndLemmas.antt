@@ -5,20 +5,20 @@ use Rattle.bags.specs.declared.point.Point.{Point}
 use Rattle.timetable.specs.declared.network.Connection.{Connection}
 use Rattle.timetable.specs.declared.network.Footpath.{Footpath}
 use Rattle.timetable.specs.Journeys.{start_secs}
-use Rattle.profile_scan.specs.Between.{BetweenValue}
+use Rattle.profile_scan.specs.SetQuery.{SetQueryValue}
 use Rattle.profile_scan.specs.Values.{started}
 use Rattle.profile_scan.specs.Points.{Covers}
 use Rattle.profile_scan.specs.Matching.{Spellings}
 use Rattle.profile_scan.specs.Steps.{TakesIn}
-use Rattle.profile_scan.specs.Story.{IsExit}
+use Rattle.profile_scan.specs.ScanRecords.{IsExit}
 use Rattle.profile_scan.specs.Adding.{one_way, endings, IsEnding}
-use Rattle.profile_scan.specs.declared.story.Exit.TheVariants.{Ends}
-use Rattle.profile_scan.specs.declared.ways.Way.{Way}
+use Rattle.profile_scan.specs.declared.scan_records.Exit.TheVariants.{Ends}
+use Rattle.profile_scan.specs.declared.final_walks.FinalWalk.{FinalWalk}
 use Rattle.profile_scan.proofs.Offers.{takes_as, start_admits}
 
 -- the one way to end is all that is offered
-pub takes_the_end : {V : Type 0} (rules : Rules V) (tags : Spellings) (last : ℕ) (c : Connection) (q : BetweenValue)
-    (way : Option Way) (walk : Option Footpath) (value : V) (time : ℕ) (old new : List (Point V)) → IsEnding c q way walk
+pub takes_the_end : {V : Type 0} (rules : Rules V) (tags : Spellings) (last : ℕ) (c : Connection) (q : SetQueryValue)
+    (way : Option FinalWalk) (walk : Option Footpath) (value : V) (time : ℕ) (old new : List (Point V)) → IsEnding c q way walk
     → ((other : Option Footpath) → IsEnding c q way other → other ≡ walk)
     → value ≡ started rules walk (rules.arrive time) → time ≡ c.arr + start_secs walk
     → TakesIn rules (one_way 0 value (IsExit tags (Ends last walk))) old new
@@ -33,13 +33,13 @@ takes_the_end rules tags last c q way walk value time old new ends only worth at
     takes
 
 -- the seconds of a walk to a target are allowed
-pub end_secs : (c : Connection) (q : BetweenValue) (way : Option Way) (walk : Option Footpath) → IfSome way (λ w. IsSecs w.secs)
+pub end_secs : (c : Connection) (q : SetQueryValue) (way : Option FinalWalk) (walk : Option Footpath) → IfSome way (λ w. IsSecs w.secs)
     → IsEnding c q way walk → IfSome walk (λ f. IsSecs f.secs)
 end_secs c q None walk secs ends = absurd ends
 end_secs c q (Some way) None secs ends = tt
 end_secs c q (Some way) (Some f) secs ends = subst (λ (w : Footpath). IsSecs w.secs) (sym ends.1) secs
 
-end_time : (c : Connection) (q : BetweenValue) (way : Option Way) (walk : Option Footpath) → IsTime c.arr → IsTime q.by
+end_time : (c : Connection) (q : SetQueryValue) (way : Option FinalWalk) (walk : Option Footpath) → IsTime c.arr → IsTime q.by
     → IsEnding c q way walk → IsTime (c.arr + start_secs walk)
 end_time c q None walk arrival by ends = absurd ends
 end_time c q (Some way) None arrival by ends = omega arith
@@ -47,7 +47,7 @@ end_time c q (Some way) (Some f) arrival by ends = omega (arith, ends.2)
 
 -- the value of an end is admitted
 pub end_admits : {V : Type 0} (rules : Rules V) → Laws rules
-    → (c : Connection) (q : BetweenValue) (way : Option Way) (walk : Option Footpath) → IsTime c.arr → IsTime q.by
+    → (c : Connection) (q : SetQueryValue) (way : Option FinalWalk) (walk : Option Footpath) → IsTime c.arr → IsTime q.by
     → IfSome way (λ w. IsSecs w.secs) → IsEnding c q way walk
     → Admits rules (started rules walk (rules.arrive (c.arr + start_secs walk)))
 end_admits rules laws c q way walk arrival by secs ends =

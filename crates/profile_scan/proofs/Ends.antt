@@ -9,7 +9,7 @@ use Rattle.timetable.specs.Journeys.{connection_at, walk_end, walk_secs, Leads, 
 use Rattle.timetable.specs.Journeys.{first_departure, start_end, start_secs}
 use Rattle.timetable.proofs.LegalLemmas.{hop_takes_time}
 use Rattle.sources.specs.FirstAt.{IsFirstAt}
-use Rattle.profile_scan.specs.Between.{BetweenValue, CountsBetween}
+use Rattle.profile_scan.specs.SetQuery.{SetQueryValue, CountsBetween}
 use Rattle.profile_scan.specs.Continuations.{Onward, Aboard, BoardsFrom, IsOnward, IsAboard, CountsFrom, time_off}
 use Rattle.profile_scan.specs.Matching.{Matches, MatchesBut}
 use Rattle.profile_scan.specs.LawStatements.{NothingFollows, CutIsTheSources}
@@ -27,12 +27,13 @@ rides_too_late t legal goal stop time by end is_end (ride ∷ rides) from leads 
     let later = final_is_later t legal goal (stop_after t ride) (time_after t ride) rides leads.5 in
     omega arith
 
-none_onward : (t : TimetableValue) (q : BetweenValue) → IsLegal t → (end stop time : ℕ) → IsFirstAt t q.by end → (x : Onward) → IsOnward t q end stop time x → ⊥
+none_onward : (t : TimetableValue) (q : SetQueryValue) → IsLegal t → (end stop time : ℕ) → IsFirstAt t q.by end → (x : Onward) → IsOnward t q end stop time x
+    → ⊥
 none_onward t q legal end stop time is_end x on =
     rides_too_late t legal on.goal (walk_end stop x.walk) (time + walk_secs x.walk) q.by end is_end x.rides on.boards
     on.leads on.arrives
 
-none_aboard : (t : TimetableValue) (q : BetweenValue) → IsLegal t → (end trip : ℕ) → IsFirstAt t q.by end → (x : Aboard) → IsAboard t q end trip x → ⊥
+none_aboard : (t : TimetableValue) (q : SetQueryValue) → IsLegal t → (end trip : ℕ) → IsFirstAt t q.by end → (x : Aboard) → IsAboard t q end trip x → ⊥
 none_aboard t q legal end trip is_end x a =
     let late = is_end.after x.last a.later a.in_range in
     let hop = hop_takes_time t legal x.last a.in_range in
@@ -40,7 +41,7 @@ none_aboard t q legal end trip is_end x a =
     let by = a.arrives in
     omega arith
 
-none_counts : (t : TimetableValue) (q : BetweenValue) → IsLegal t → (end departure : ℕ) → IsFirstAt t q.by end
+none_counts : (t : TimetableValue) (q : SetQueryValue) → IsLegal t → (end departure : ℕ) → IsFirstAt t q.by end
     → (j : JourneyValue) → CountsFrom t q end departure j → ⊥
 none_counts t q legal end departure is_end j c =
     rides_too_late t legal c.counts.pair.target (start_end c.counts.pair.source j.start) 0 q.by end is_end j.rides c.boards
@@ -80,7 +81,7 @@ boards_in_window t time start departure secs is_start (ride ∷ rides) some earl
     ]
 
 -- a journey that counts boards in the window
-pub counts_in_window : (t : TimetableValue) (q : BetweenValue) (start departure : ℕ) (j : JourneyValue)
+pub counts_in_window : (t : TimetableValue) (q : SetQueryValue) (start departure : ℕ) (j : JourneyValue)
     → IsFirstAt t q.from start → CountsBetween t q departure j → CountsFrom t q start departure j
 counts_in_window t q start departure j is_start c =
     record {

@@ -13,22 +13,22 @@ use Rattle.bags.specs.declared.point.Point.{Point}
 use Rattle.timetable.specs.TimetableValue.{TimetableValue}
 use Rattle.timetable.specs.declared.network.Footpath.{Footpath}
 use Rattle.sources.specs.FirstAt.{IsFirstAt}
-use Rattle.profile_scan.specs.Between.{BetweenValue, CountsBetween, IsAnswerBetween, IsAskableBetween, IsDirectWalk}
-use Rattle.profile_scan.specs.Between.{IsPointBetween}
+use Rattle.profile_scan.specs.SetQuery.{SetQueryValue, CountsBetween, IsAnswerBetween, IsAskableBetween, IsDirectWalk}
+use Rattle.profile_scan.specs.SetQuery.{IsPointBetween}
 use Rattle.profile_scan.specs.Values.{journey_value}
 use Rattle.profile_scan.specs.Continuations.{CountsFrom}
 use Rattle.profile_scan.specs.Plain.{IsPlainOf}
 use Rattle.profile_scan.specs.Points.{untagged}
 use Rattle.profile_scan.specs.Matching.{IsAttained, Matches}
-use Rattle.profile_scan.specs.Story.{Story, spelling_of}
-use Rattle.profile_scan.specs.Telling.{IsJourneySpelled, IsSpelledAgain}
-use Rattle.profile_scan.specs.Kept.{IsDirectSecs}
+use Rattle.profile_scan.specs.ScanRecords.{ScanRecords, spelling_of}
+use Rattle.profile_scan.specs.JourneyNodes.{IsJourneySpelled, IsSpelledAgain}
+use Rattle.profile_scan.specs.ScanState.{IsDirectSecs}
 use Rattle.profile_scan.specs.Answered.{IsAnsweredBetween}
 use Rattle.profile_scan.specs.Destinations.{CanBeAsked, query_from, question_to}
 use Rattle.profile_scan.specs.LawStatements.{CanScan}
 use Rattle.profile_scan.specs.Origins.{found_by, found_from, from_stop}
 use Rattle.profile_scan.specs.Everywhere.{AnswerAll, AnswerToAny, AnswersFrom, AreInOrder, asked_to_any, criterion_of_profiles, listed_from, points_in}
-use Rattle.profile_scan.specs.Everywhere.{story_from, walk_from, walk_to_any}
+use Rattle.profile_scan.specs.Everywhere.{scan_records_from, walk_from, walk_to_any}
 use Rattle.profile_scan.specs.declared.destination.Destination.{Destination}
 use Rattle.profile_scan.specs.declared.nodes.Node.{Node}
 use Rattle.profile_scan.specs.declared.origin.Origin.{Origin}
@@ -91,8 +91,8 @@ all_listed_to {V} rules found n lists are past stop = elim (slice_get_cases list
     no_points = record { ordered = λ i j e lt within. absurd (omega (arith, within)); only = λ p h. h; each = λ p h. h }
 
 -- points that match at the start of the window, in order, are the answer, and each is attained by what its tag tells
-pub answered_from : {V : Type 0} (rules : Rules V) → Laws rules → (t : TimetableValue) (q : BetweenValue) → CanScan t q → (start : ℕ)
-    → IsFirstAt t q.from start → (s : Story) (found points : List (Point V))
+pub answered_from : {V : Type 0} (rules : Rules V) → Laws rules → (t : TimetableValue) (q : SetQueryValue) → CanScan t q → (start : ℕ)
+    → IsFirstAt t q.from start → (s : ScanRecords) (found points : List (Point V))
     → Matches rules (spelling_of t.footpaths s).journey (CountsFrom t q start) (IsPlainOf t (Contains q.targets)) (journey_value rules t) found
     → IsBag rules found
     → AreInOrder rules found points
@@ -109,8 +109,8 @@ answered_from rules laws t q can start is_start s found points matches bag are =
       λ p h. let a = matches.sound p (are.only p h) in record { way = a.way; spells = a.spells; there = a.there.counts; plain = a.plain; worth = a.worth },
     )
 
--- told in nodes they still are
-pub answered_in_nodes : {V : Type 0} (rules : Rules V) (t : TimetableValue) (q : BetweenValue) (s : Story) (nodes : List Node)
+-- spelled in nodes they still are
+pub answered_in_nodes : {V : Type 0} (rules : Rules V) (t : TimetableValue) (q : SetQueryValue) (s : ScanRecords) (nodes : List Node)
     (points spelled_again : List (Point V)) (walk : Option Footpath)
     → IsAnswerBetween rules t q points
     → ((p : Point V) → Contains points p → IsAttained (spelling_of t.footpaths s).journey (CountsBetween t q) (IsPlainOf t (Contains q.targets))
@@ -133,8 +133,8 @@ answered_in_nodes rules t q s nodes points spelled_again walk answer attained sa
   direct = way;
 }
 
--- of each point a journey is told
-pub attained_spelled : {V : Type 0} (rules : Rules V) (t : TimetableValue) (q : BetweenValue) (s : Story) (points : List (Point V))
+-- of each point a journey is spelled
+pub attained_spelled : {V : Type 0} (rules : Rules V) (t : TimetableValue) (q : SetQueryValue) (s : ScanRecords) (points : List (Point V))
     → ((p : Point V) → Contains points p → IsAttained (spelling_of t.footpaths s).journey (CountsBetween t q) (IsPlainOf t (Contains q.targets))
     (journey_value rules t) p)
     → (p : Point V) → Contains points p → IsJourneySpelled t.footpaths s p.tag
@@ -162,9 +162,9 @@ module _ {K V : Type 0} {c : _} (rules_of : K → Rules V) (t : TimetableValue) 
       let is = all.each stop lt in
       record {
         answer = answer_from rules t q (listed_from profiles stop)
-            (subst (λ (b : BetweenValue). IsAnswerBetween rules t (from_stop b stop) (listed_from profiles stop)) asked is.answer);
-        attained = λ p h. attained_one rules t q (spelling_of t.footpaths (story_from profiles.to_any stop)).journey p
-            (subst (λ (b : BetweenValue). IsAttained (spelling_of t.footpaths (story_from profiles.to_any stop)).journey
+            (subst (λ (b : SetQueryValue). IsAnswerBetween rules t (from_stop b stop) (listed_from profiles stop)) asked is.answer);
+        attained = λ p h. attained_one rules t q (spelling_of t.footpaths (scan_records_from profiles.to_any stop)).journey p
+            (subst (λ (b : SetQueryValue). IsAttained (spelling_of t.footpaths (scan_records_from profiles.to_any stop)).journey
             (CountsBetween t (from_stop b stop)) (IsPlainOf t (Contains b.targets)) (journey_value rules t) p) asked (is.attained p h));
         direct = way;
       }
@@ -173,15 +173,15 @@ module _ {K V : Type 0} {c : _} (rules_of : K → Rules V) (t : TimetableValue) 
   all_to_one target =
       let d = profiles.destination in
       let is_target : Contains (asked_to_any profiles.to_any).targets d.target =
-      subst (λ (b : BetweenValue). Contains b.targets d.target) (sym asked) (contains_first d.target []) in
+      subst (λ (b : SetQueryValue). Contains b.targets d.target) (sym asked) (contains_first d.target []) in
       record {
         each = λ stop lt other. from_one_stop stop lt (direct_one t (query_from d stop) (walk_to_any profiles.to_any stop)
-            (subst (λ (b : BetweenValue). IsDirectWalk t (from_stop b stop) (walk_to_any profiles.to_any stop)) asked
+            (subst (λ (b : SetQueryValue). IsDirectWalk t (from_stop b stop) (walk_to_any profiles.to_any stop)) asked
             (all.direct stop lt (λ is. other (contains_only d.target stop
-            (subst (λ (b : BetweenValue). Contains b.targets stop) asked is))))));
+            (subst (λ (b : SetQueryValue). Contains b.targets stop) asked is))))));
         at_target = from_one_stop d.target target (all.loops d.target target is_target);
         long = all.long;
-        ways = all.ways;
+        final_walks = all.final_walks;
         asked = asked;
         to_any = all;
       }

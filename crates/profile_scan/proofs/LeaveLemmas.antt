@@ -9,31 +9,31 @@ use Rattle.timetable.specs.TimetableValue.{TimetableValue}
 use Rattle.timetable.specs.Limits.{IsWithinLimits}
 use Rattle.timetable.specs.Journeys.{connection_at}
 use Rattle.timetable.proofs.LegalLemmas.{walk_limit}
-use Rattle.profile_scan.specs.Between.{BetweenValue}
+use Rattle.profile_scan.specs.SetQuery.{SetQueryValue}
 use Rattle.profile_scan.specs.Points.{Covers}
 use Rattle.profile_scan.specs.Matching.{Spellings}
 use Rattle.profile_scan.specs.Steps.{Offer, TakesIn, Leaving, ends, ends_after, changes, MayLeave, leaving_value, leavings}
 use Rattle.profile_scan.specs.LawStatements.{CanScan}
 use Rattle.profile_scan.specs.Adding.{only_if, endings_and_changes, value_in, departure_in, endings, changes_from}
-use Rattle.profile_scan.specs.Kept.{IsNearest, IsWayTo}
-use Rattle.profile_scan.specs.declared.ways.Way.{Way}
+use Rattle.profile_scan.specs.ScanState.{IsNearest, IsFinalWalk}
+use Rattle.profile_scan.specs.declared.final_walks.FinalWalk.{FinalWalk}
 use Rattle.profile_scan.proofs.Chains.{step_admits}
 use Rattle.profile_scan.proofs.Offers.{takes_as, IsPart}
 
 -- the seconds of a way are those of a footpath
-pub way_within : (t : TimetableValue) → IsWithinLimits t → (targets : List ℕ) (stop : ℕ) (way : Option Way) → IsWayTo t targets stop way
+pub way_within : (t : TimetableValue) → IsWithinLimits t → (targets : List ℕ) (stop : ℕ) (way : Option FinalWalk) → IsFinalWalk t targets stop way
     → IfSome way (λ w. IsSecs w.secs)
 way_within t limits targets stop None is = tt
 way_within t limits targets stop (Some way) is = walk_limit t limits (record { from = stop; to = way.to; secs = way.secs }) is.is_footpath
 
-module _ {V : Type 0} (rules : Rules V) (laws : Laws rules) (t : TimetableValue) (q : BetweenValue) (can : CanScan t q) (tags : Spellings) (i : ℕ)
+module _ {V : Type 0} (rules : Rules V) (laws : Laws rules) (t : TimetableValue) (q : SetQueryValue) (can : CanScan t q) (tags : Spellings) (i : ℕ)
     (bag : List (Point V)) where
   -- the ends and changes that code takes in where a connection ends
-  abbrev Taken : Option Way → Offer (Option Footpath ⊎ Point V) V
+  abbrev Taken : Option FinalWalk → Offer (Option Footpath ⊎ Point V) V
   Taken way = only_if ((connection_at t i).alight ≡ true) (endings_and_changes rules tags i (connection_at t i) q way bag)
 
   -- each is a way to leave
-  part : (way : Option Way) → IsWayTo t q.targets (connection_at t i).to way → (w : Option Footpath ⊎ Point V)
+  part : (way : Option FinalWalk) → IsFinalWalk t q.targets (connection_at t i).to way → (w : Option Footpath ⊎ Point V)
       → (Taken way).is_open w → IsPart rules (Taken way) (leavings rules t q tags i bag) w
   part None is (inl walk) opened = absurd opened.1
   part (Some way) is (inl None) opened = record {
@@ -71,7 +71,7 @@ module _ {V : Type 0} (rules : Rules V) (laws : Laws rules) (t : TimetableValue)
   }
 
   -- ending by the way covers ending by any footpath to a target
-  way_covers : (way : Way) → IsNearest t q.targets (connection_at t i).to way → (new : List (Point V))
+  way_covers : (way : FinalWalk) → IsNearest t q.targets (connection_at t i).to way → (new : List (Point V))
       → ((p : Point V) → Contains new p → Admits rules p.value)
       → ((w : Option Footpath ⊎ Point V) → (Taken (Some way)).is_open w
       → Covers rules new 0 (value_in (endings rules tags i (connection_at t i) q (Some way)) (changes_from tags i (connection_at t i).arr bag) w))
@@ -105,7 +105,7 @@ module _ {V : Type 0} (rules : Rules V) (laws : Laws rules) (t : TimetableValue)
             (omega (arith, no_longer)))),
       )
 
-  covered : (way : Option Way) → IsWayTo t q.targets (connection_at t i).to way → (new : List (Point V))
+  covered : (way : Option FinalWalk) → IsFinalWalk t q.targets (connection_at t i).to way → (new : List (Point V))
       → ((p : Point V) → Contains new p → Admits rules p.value)
       → ((w : Option Footpath ⊎ Point V) → (Taken way).is_open w
       → Covers rules new (departure_in (endings rules tags i (connection_at t i) q way) (changes_from tags i (connection_at t i).arr bag) w)
@@ -125,13 +125,13 @@ module _ {V : Type 0} (rules : Rules V) (laws : Laws rules) (t : TimetableValue)
   covered way is new admitted takes (changes p) opened = takes (inr p) (opened.0, (opened.1.0, opened.1.1))
 
 -- the nearest target is enough: labels that take in these have taken in every way to leave, to any target
-pub leavings_taken : {V : Type 0} (rules : Rules V) → Laws rules → (t : TimetableValue) (q : BetweenValue) → CanScan t q
-    → (tags : Spellings) (i : ℕ) (c : Connection) → c ≡ connection_at t i → (way : Option Way) → IsWayTo t q.targets c.to way
+pub leavings_taken : {V : Type 0} (rules : Rules V) → Laws rules → (t : TimetableValue) (q : SetQueryValue) → CanScan t q
+    → (tags : Spellings) (i : ℕ) (c : Connection) → c ≡ connection_at t i → (way : Option FinalWalk) → IsFinalWalk t q.targets c.to way
     → (bag old new : List (Point V)) → ((p : Point V) → Contains new p → Admits rules p.value)
     → TakesIn rules (only_if (c.alight ≡ true) (endings_and_changes rules tags i c q way bag)) old new
     → TakesIn rules (leavings rules t q tags i bag) old new
 leavings_taken {V} rules laws t q can tags i c is way is_way bag old new admitted takes =
-    let way_there : IsWayTo t q.targets (connection_at t i).to way = subst (λ (x : Connection). IsWayTo t q.targets x.to way) is is_way in
+    let way_there : IsFinalWalk t q.targets (connection_at t i).to way = subst (λ (x : Connection). IsFinalWalk t q.targets x.to way) is is_way in
     let here : TakesIn rules (Taken rules laws t q can tags i bag way) old new =
     subst (λ (x : Connection). TakesIn rules (only_if (x.alight ≡ true) (endings_and_changes rules tags i x q way bag)) old new) is takes in
     takes_as rules (Taken rules laws t q can tags i bag way) (leavings rules t q tags i bag) old new

@@ -1,7 +1,7 @@
 pub mod Offers
 mod PartLemmas
 pub mod NodeLemmas
-pub mod StoryLemmas
+pub mod ScanRecordLemmas
 pub mod BoundLemmas
 pub mod ChangeLemmas
 pub mod EndLemmas
@@ -9,11 +9,11 @@ pub mod LabelLemmas
 pub mod StopLemmas
 pub mod RideLemmas
 pub mod OfferedLemmas
-pub mod TellingLemmas
+pub mod JourneyNodeLemmas
 pub mod BoardLemmas
 pub mod LeaveLemmas
 pub mod StartLemmas
-pub mod WayLemmas
+pub mod FinalWalkLemmas
 pub mod StepFacts
 pub mod LogLemmas
 mod OriginLemmas

@@ -15,9 +15,9 @@ use Rattle.fronts.specs.declared.entry.Step.{Step}
 use Rattle.fronts.specs.Lists.{TakesRidden}
 use Rattle.profile_scan.specs.Matching.{from_to}
 use Rattle.profile_scan.specs.Steps.{TakesIn}
-use Rattle.profile_scan.specs.Story.{Story, Grows, spelling_of}
+use Rattle.profile_scan.specs.ScanRecords.{ScanRecords, Grows, spelling_of}
 use Rattle.profile_scan.specs.Adding.{AreRidden, boardings_after, only_if}
-use Rattle.profile_scan.specs.Kept.{IsLastOffer}
+use Rattle.profile_scan.specs.ScanState.{IsLastOffer}
 use Rattle.profile_scan.specs.declared.last_offers.LastOffer.{LastOffer}
 use Rattle.profile_scan.proofs.Admitted.{AreAdmitted}
 use Rattle.profile_scan.proofs.Offers.{takes_if, takes_unless}
@@ -111,7 +111,7 @@ pub takes_as_it_is : {V : Type 0} (rules : Rules V) (labels : List (Point V)) (w
     → AreRidden rules labels (ride ∷ []) → (points : ℕ → List (Point V)) (walk : Footpath) (place first dep : ℕ)
     → walk.secs ≤ dep → slice_get walks place ≡ Some walk
     → IsCovered rules (points walk.from) (dep - walk.secs) (rules.walk walk.secs ride.value)
-    → (stop : ℕ) (before all : Story) → Grows before all
+    → (stop : ℕ) (before all : ScanRecords) → Grows before all
     → TakesIn rules (only_if ((walk.from ≡ stop) × (walk.secs ≤ dep))
     (boardings_after rules (from_to (spelling_of walks before) (spelling_of walks all)) first (dep - walk.secs) walk labels))
     (points stop) (points stop)

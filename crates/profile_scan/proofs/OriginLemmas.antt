@@ -13,26 +13,26 @@ use Rattle.timetable.specs.declared.network.Connection.{Connection}
 use Rattle.timetable.specs.declared.network.Footpath.{Footpath}
 use Rattle.fronts.specs.Front.{Extends}
 use Rattle.fronts.specs.declared.entry.Step.{Step}
-use Rattle.profile_scan.specs.Between.{BetweenValue}
+use Rattle.profile_scan.specs.SetQuery.{SetQueryValue}
 use Rattle.profile_scan.specs.Matching.{Spellings, from_to}
 use Rattle.profile_scan.specs.Steps.{Offer}
-use Rattle.profile_scan.specs.Story.{story, spelling_of}
+use Rattle.profile_scan.specs.ScanRecords.{scan_records, spelling_of}
 use Rattle.profile_scan.specs.Adding.{IsInTime, MayStart, StartsFrom, Takes, only_if}
 use Rattle.profile_scan.specs.Parts.{ChangesOrigin, SourceTakes}
-use Rattle.profile_scan.specs.Origins.{IsLoop, AreUnder, ChangesOrigins, found_by, found_from, from_stop, kept_from, kept_of}
+use Rattle.profile_scan.specs.Origins.{IsLoop, AreUnder, ChangesOrigins, found_by, found_from, from_stop, scan_value_from, kept_of}
 use Rattle.profile_scan.specs.Origins.{set_outs_by, set_outs_from, starts_at}
 use Rattle.profile_scan.specs.declared.origin.Origin.{Origin}
 use Rattle.profile_scan.specs.declared.origins.Origins.{Origins}
-use Rattle.profile_scan.specs.declared.story.Exit.{Exit}
+use Rattle.profile_scan.specs.declared.scan_records.Exit.{Exit}
 use Rattle.profile_scan.proofs.Offers.{takes_unless}
 
 -- one sets out by a start from the stop where it begins, and from no other
-pub other_start : (q : BetweenValue) (c : Connection) (start : Option Footpath) (stop : ℕ) → stop ≢ starts_at c start → MayStart (from_stop q stop) c start → ⊥
+pub other_start : (q : SetQueryValue) (c : Connection) (start : Option Footpath) (stop : ℕ) → stop ≢ starts_at c start → MayStart (from_stop q stop) c start → ⊥
 other_start q c None stop other may = other (sym (contains_only stop c.from may.starts))
 other_start q c (Some walk) stop other may = other (sym (contains_only stop walk.from may.starts.0))
 
 -- from there one does, unless the start is a loop
-pub own_start : (q : BetweenValue) (c : Connection) (start : Option Footpath) → (IsLoop start → ⊥) → IsInTime q.from q.until c start
+pub own_start : (q : SetQueryValue) (c : Connection) (start : Option Footpath) → (IsLoop start → ⊥) → IsInTime q.from q.until c start
     → MayStart (from_stop q (starts_at c start)) c start
 own_start q c None loop is = record {
   starts = contains_first c.from [];
@@ -48,14 +48,14 @@ own_start q c (Some walk) loop is = record {
 }
 
 -- no start is a loop
-pub no_loop : (q : BetweenValue) (c : Connection) (start : Option Footpath) → IsLoop start → MayStart q c start → ⊥
+pub no_loop : (q : SetQueryValue) (c : Connection) (start : Option Footpath) → IsLoop start → MayStart q c start → ⊥
 no_loop q c None loop may = loop
 no_loop q c (Some walk) loop may = may.starts.1 loop
 
-pub may_start : (q : BetweenValue) (c : Connection) (start : Option Footpath) → StartsFrom q c start → IsInTime q.from q.until c start → MayStart q c start
+pub may_start : (q : SetQueryValue) (c : Connection) (start : Option Footpath) → StartsFrom q c start → IsInTime q.from q.until c start → MayStart q c start
 may_start q c start from is = record { starts = from; fits = is.fits; not_early = is.not_early; not_late = is.not_late }
 
-pub in_time : (q : BetweenValue) (c : Connection) (start : Option Footpath) → MayStart q c start → IsInTime q.from q.until c start
+pub in_time : (q : SetQueryValue) (c : Connection) (start : Option Footpath) → MayStart q c start → IsInTime q.from q.until c start
 in_time q c start may = record { fits = may.fits; not_early = may.not_early; not_late = may.not_late }
 
 -- no stop has changed
@@ -73,7 +73,7 @@ origins_on criterion a b c ab bc = record {
 -- what a stop has takes an offer in
 abbrev pub TakesBy : {A K V : Type 0} {d : _} → Rules V → List Footpath → (Spellings → Offer A V) → Option (Origin K V d) → Option (Origin K V d) → Type 0
 TakesBy rules walks offer old new =
-    (exits : List Exit) (steps : List Step) → Takes rules walks (story exits steps (set_outs_by old)) (story exits steps (set_outs_by new)) offer
+    (exits : List Exit) (steps : List Step) → Takes rules walks (scan_records exits steps (set_outs_by old)) (scan_records exits steps (set_outs_by new)) offer
     (found_by old) (found_by new)
 
 -- one of a list has changed
@@ -130,7 +130,7 @@ module _ {K V : Type 0} {d : _} (stop : ℕ) (old new : Origins K V d) (a b : Or
 pub source_unless : {A K V : Type 0} {d : _} (rules : Rules V) (walks : List Footpath) (stop : ℕ) (P : Type 0) (offer : Spellings → Offer A V)
     (old new : Origins K V d)
     → slice_get new.each.items stop ≡ slice_get old.each.items stop → (P → ⊥)
-    → SourceTakes rules walks (λ tags. only_if P (offer tags)) (kept_from old stop) (kept_from new stop)
+    → SourceTakes rules walks (λ tags. only_if P (offer tags)) (scan_value_from old stop) (scan_value_from new stop)
 source_unless {A} {K} {V} {d} rules walks stop P offer old new same fails =
     subst (λ (o : Option (Origin K V d)). TakesBy rules walks (λ tags. only_if P (offer tags)) (slice_get old.each.items stop) o) (sym same)
     (λ exits steps before all ext_before ext. takes_unless rules P (offer (from_to (spelling_of walks before) (spelling_of walks all)))

@@ -5,7 +5,7 @@ use Rattle.bags.specs.declared.point.Point.{Point}
 use Rattle.timetable.specs.TimetableValue.{TimetableValue}
 use Rattle.profile_scan.specs.Points.{Covers}
 use Rattle.profile_scan.specs.Matching.{IsOutdone}
-use Rattle.profile_scan.specs.Steps.{AreCarried}
+use Rattle.profile_scan.specs.Steps.{AreUnpruned}
 use Rattle.profile_scan.proofs.Admitted.{AreAdmitted}
 
 -- what a list covers, another does
@@ -45,6 +45,6 @@ module _ {V : Type 0} (rules : Rules V) (laws : Laws rules) (t : TimetableValue)
   outdone_down found i v a o = outdone_on found found (i + 1) i v a (omega arith) (λ d w b c. c) o
 
 -- all may be carried on
-pub all_carried : {V : Type 0} (rules : Rules V) (t : TimetableValue) (found : List (Point V)) (i : ℕ)
-    (points : List (Point V)) → AreCarried rules t found i points points
-all_carried rules t found i points = record { only = λ p h. h; all = λ p h. inl h }
+pub all_unpruned : {V : Type 0} (rules : Rules V) (t : TimetableValue) (found : List (Point V)) (i : ℕ)
+    (points : List (Point V)) → AreUnpruned rules t found i points points
+all_unpruned rules t found i points = record { only = λ p h. h; all = λ p h. inl h }

@@ -11,9 +11,9 @@ use Rattle.timetable.proofs.LegalLemmas.{arrival_limit}
 use Rattle.criteria.specs.Laws.{IsTime}
 use Rattle.profile_scan.specs.Hops.{IsHop, IsHopOf}
 use Rattle.profile_scan.specs.Parts.{HasTrip, ChangesTrip, ChangesOrigin, ChangesLists}
-use Rattle.profile_scan.specs.Kept.{AreStops}
+use Rattle.profile_scan.specs.ScanState.{AreStops}
 use Rattle.fronts.specs.Lists.{steps_of}
-use Rattle.profile_scan.specs.Between.{BetweenValue}
+use Rattle.profile_scan.specs.SetQuery.{SetQueryValue}
 use Rattle.profile_scan.specs.declared.stops.Stops.{Stops}
 use Rattle.profile_scan.specs.declared.hop.Hop.{Hop}
 use Rattle.profile_scan.specs.declared.origin.Origin.{Origin}
@@ -52,7 +52,7 @@ module _ {K V : Type 0} (rules_of : K → Rules V) (criterion : K) (count : ℕ)
   }
 
 -- a hop of a timetable within the limits is of times and seconds that laws speak of
-pub hop_within : {V : Type 0} (rules : Rules V) (t : TimetableValue) → IsWithinLimits t → (q : BetweenValue) (hop : Hop V) → IsHopOf rules t q hop
+pub hop_within : {V : Type 0} (rules : Rules V) (t : TimetableValue) → IsWithinLimits t → (q : SetQueryValue) (hop : Hop V) → IsHopOf rules t q hop
     → IsHop rules q hop
 hop_within rules t limits q hop is = record {
   arrival = subst (λ (x : Connection). IsTime x.arr) (sym is.stands.is) (arrival_limit t limits hop.place is.stands.in_range);

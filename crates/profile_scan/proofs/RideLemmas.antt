@@ -15,27 +15,27 @@ use Rattle.fronts.specs.Front.{Extends}
 use Rattle.profile_scan.specs.Matching.{from_to}
 use Rattle.profile_scan.specs.Steps.{TakesIn}
 use Rattle.profile_scan.specs.Points.{Covers}
-use Rattle.profile_scan.specs.Story.{Story, Grows, spelling_of}
+use Rattle.profile_scan.specs.ScanRecords.{ScanRecords, Grows, spelling_of}
 use Rattle.profile_scan.specs.Adding.{StandsBefore, AreRidden, boardings_after, only_if}
-use Rattle.profile_scan.specs.Bound.{is_bettered, carried, RidesLabel}
-use Rattle.profile_scan.proofs.BoundLemmas.{from_carried, into_carried}
+use Rattle.profile_scan.specs.Bound.{has_no_worse, unpruned, RidesLabel}
+use Rattle.profile_scan.proofs.BoundLemmas.{from_unpruned, into_unpruned}
 use Rattle.profile_scan.proofs.Admitted.{AreAdmitted}
 use Rattle.profile_scan.proofs.Offers.{stands_in, all_stand, stands_split, takes_if, takes_unless}
-use Rattle.profile_scan.proofs.StoryLemmas.{stays, step_spelled}
+use Rattle.profile_scan.proofs.ScanRecordLemmas.{stays, step_spelled}
 
 -- values are those of labels with the ride, unless one of the bound's values is no worse, and all such labels among the first n are there
 pub record RiddenBefore {V : Type 0} (rules : Rules V) (values : List V) (labels : List (Point V)) (n : ℕ) (ridden : List (RiddenLabel V)) : Type 0 where
   pub of_label : (r : RiddenLabel V) → Contains ridden r
-      → (l : Point V) × Contains (carried rules values labels) l × (r.value ≡ rules.ride l.value) × (r.label ≡ l.tag)
-  pub each : (l : Point V) → StandsBefore labels n l → is_bettered rules values (rules.ride l.value) ≡ false
+      → (l : Point V) × Contains (unpruned rules values labels) l × (r.value ≡ rules.ride l.value) × (r.label ≡ l.tag)
+  pub each : (l : Point V) → StandsBefore labels n l → has_no_worse rules values (rules.ride l.value) ≡ false
       → (r : RiddenLabel V) × Contains ridden r × (r.value ≡ rules.ride l.value)
 
 module _ {V : Type 0} (rules : Rules V) (values : List V) where
   -- one label
-  pub rides_one : (x : Point V) (r : RiddenLabel V) (old new : List (RiddenLabel V)) → is_bettered rules values r.value ≡ false
+  pub rides_one : (x : Point V) (r : RiddenLabel V) (old new : List (RiddenLabel V)) → has_no_worse rules values r.value ≡ false
       → r.value ≡ rules.ride x.value → r.label ≡ x.tag → new ≡ old ++ r ∷ [] → RidesLabel rules values x old new
   rides_one x r old new free worth label pushed =
-      let is_free : is_bettered rules values (rules.ride x.value) ≡ false = ap (is_bettered rules values) (sym worth) ∙ free in
+      let is_free : has_no_worse rules values (rules.ride x.value) ≡ false = ap (has_no_worse rules values) (sym worth) ∙ free in
       record {
         only = λ s h. elim (Contains-push_cases old r s (subst (λ rs. Contains rs s) pushed h)) [
           | inl was ↦ inl was
@@ -46,11 +46,11 @@ module _ {V : Type 0} (rules : Rules V) (values : List V) where
       }
 
   pub rides_none : (x : Point V) (v : V) (ridden : List (RiddenLabel V)) → v ≡ rules.ride x.value
-      → is_bettered rules values v ≡ true → RidesLabel rules values x ridden ridden
+      → has_no_worse rules values v ≡ true → RidesLabel rules values x ridden ridden
   rides_none x v ridden worth bettered = record {
     only = λ s h. inl h;
     kept = λ s h. h;
-    rides = λ free. absurd (true≢false (sym bettered ∙ ap (is_bettered rules values) worth ∙ free));
+    rides = λ free. absurd (true≢false (sym bettered ∙ ap (has_no_worse rules values) worth ∙ free));
   }
 
 module _ {V : Type 0} (rules : Rules V) (values : List V) (labels : List (Point V)) where
@@ -66,21 +66,21 @@ module _ {V : Type 0} (rules : Rules V) (values : List V) (labels : List (Point 
   ridden_more n x old new at takes is = record {
     of_label = λ s h. elim (takes.only s h) [
       | inl was ↦ is.of_label s was
-      | inr rides ↦ (x, into_carried rules values labels x (stands_in labels (n + 1) x (n, omega arith, at)) rides.0, rides.1, rides.2)
+      | inr rides ↦ (x, into_unpruned rules values labels x (stands_in labels (n + 1) x (n, omega arith, at)) rides.0, rides.1, rides.2)
     ];
     each = λ l s free. elim (stands_split labels n x l at s) [
       | inl before ↦ (let y = is.each l before free in (y.0, takes.kept y.0 y.1, y.2))
       | inr e ↦
-          let here = takes.rides (ap (λ (z : Point V). is_bettered rules values (rules.ride z.value)) (sym e) ∙ free) in
+          let here = takes.rides (ap (λ (z : Point V). has_no_worse rules values (rules.ride z.value)) (sym e) ∙ free) in
           (here.0, here.1, here.2 ∙ ap (λ (z : Point V). rules.ride z.value) (sym e))
     ];
   }
 
   pub ridden_all : (n : ℕ) (ridden : List (RiddenLabel V)) → length labels ≤ n → RiddenBefore rules values labels n ridden
-      → AreRidden rules (carried rules values labels) ridden
+      → AreRidden rules (unpruned rules values labels) ridden
   ridden_all n ridden long is = record {
     of_label = is.of_label;
-    each = λ l h. let in_labels = from_carried rules values labels l h in is.each l (all_stand labels n l long in_labels.0) in_labels.1;
+    each = λ l h. let in_labels = from_unpruned rules values labels l h in is.each l (all_stand labels n l long in_labels.0) in_labels.1;
   }
 
 -- a list of one element
@@ -91,22 +91,22 @@ one_alone (y ∷ z ∷ zs) x long is = absurd (omega arith)
 
 -- one label alone
 module _ {V : Type 0} (rules : Rules V) (values : List V) (x : Point V) where
-  pub alone_ridden : (r : RiddenLabel V) → is_bettered rules values r.value ≡ false → r.value ≡ rules.ride x.value
-      → r.label ≡ x.tag → AreRidden rules (carried rules values (x ∷ [])) (r ∷ [])
+  pub alone_ridden : (r : RiddenLabel V) → has_no_worse rules values r.value ≡ false → r.value ≡ rules.ride x.value
+      → r.label ≡ x.tag → AreRidden rules (unpruned rules values (x ∷ [])) (r ∷ [])
   alone_ridden r free worth label =
       ridden_all rules values (x ∷ []) (0 + 1) (r ∷ []) (omega arith)
       (ridden_more rules values (x ∷ []) 0 x [] (r ∷ []) refl (rides_one rules values x r [] (r ∷ []) free worth label refl)
       (ridden_none rules values (x ∷ []) [] refl))
 
-  pub alone_bettered : (v : V) → v ≡ rules.ride x.value → is_bettered rules values v ≡ true
-      → AreRidden rules (carried rules values (x ∷ [])) []
+  pub alone_bettered : (v : V) → v ≡ rules.ride x.value → has_no_worse rules values v ≡ true
+      → AreRidden rules (unpruned rules values (x ∷ [])) []
   alone_bettered v worth bettered =
       ridden_all rules values (x ∷ []) (0 + 1) [] (omega arith)
       (ridden_more rules values (x ∷ []) 0 x [] [] refl (rides_none rules values x v [] worth bettered)
       (ridden_none rules values (x ∷ []) [] refl))
 
-  pub alone_admitted : Admits rules x.value → (p : Point V) → Contains (carried rules values (x ∷ [])) p → Admits rules p.value
-  alone_admitted fair p h = elim (Contains-push_cases [] x p (from_carried rules values (x ∷ []) p h).0) [
+  pub alone_admitted : Admits rules x.value → (p : Point V) → Contains (unpruned rules values (x ∷ [])) p → Admits rules p.value
+  alone_admitted fair p h = elim (Contains-push_cases [] x p (from_unpruned rules values (x ∷ []) p h).0) [
     | inl n ↦ absurd (not_in_nil p n)
     | inr e ↦ subst (λ (z : Point V). Admits rules z.value) e fair
   ]
@@ -127,7 +127,7 @@ module _ {V : Type 0} (rules : Rules V) (labels : List (Point V)) where
   pub boardings_of_ridden : (walks : List Footpath) (ridden : List (RiddenLabel V)) → AreRidden rules labels ridden
       → (steps : List Step) (departure first place : ℕ) (walk : Footpath) (old new : List (Point V))
       → slice_get walks place ≡ Some walk
-      → TakesRidden rules steps departure first place walk.secs ridden old new → (before all : Story) → Grows before all → Extends steps all.steps
+      → TakesRidden rules steps departure first place walk.secs ridden old new → (before all : ScanRecords) → Grows before all → Extends steps all.steps
       → TakesIn rules (boardings_after rules (from_to (spelling_of walks before) (spelling_of walks all)) first departure walk labels) old new
   boardings_of_ridden walks ridden are steps departure first place walk old new at takes before all ext more = record {
     only = λ p h. elim (takes.only p h) [
@@ -163,7 +163,7 @@ pub boarded_at : {K V : Type 0} (rules_of : K → Rules V) (a b : K) → a ≡ b
     → (steps : List Step) (walk : Footpath) (place first dep head now : ℕ) → walk.from < length heads → walk.secs ≤ dep
     → slice_get walks place ≡ Some walk → head ≡ slice_index heads walk.from
     → TakesRidden (rules_of a) steps (dep - walk.secs) first place walk.secs ridden (old head) (new now)
-    → (stop : ℕ) (before all : Story) → Grows before all → Extends steps all.steps
+    → (stop : ℕ) (before all : ScanRecords) → Grows before all → Extends steps all.steps
     → TakesIn (rules_of b) (only_if ((walk.from ≡ stop)
     × (walk.secs ≤ dep)) (boardings_after (rules_of b) (from_to (spelling_of walks before) (spelling_of walks all)) first
     (dep - walk.secs) walk labels)) (old (slice_index heads stop))

@@ -11,12 +11,12 @@ use Rattle.timetable.specs.declared.network.Footpath.{Footpath}
 use Rattle.timetable.specs.Queries.{IsAskable}
 use Rattle.timetable.specs.declared.query.Query.{Query}
 use Rattle.profile_scan.specs.Points.{IsUndominatedOf, IsAnswerOf, IsPoint, Lists}
-use Rattle.profile_scan.specs.Between.{pair_of, between_one, IsAskableBetween, CountsBetween, IsPointBetween, IsDirectWalk, secs_of, OneIsPlain}
+use Rattle.profile_scan.specs.SetQuery.{pair_of, single_set_query, IsAskableBetween, CountsBetween, IsPointBetween, IsDirectWalk, secs_of, OneIsPlain}
 use Rattle.profile_scan.specs.Values.{journey_value}
 use Rattle.profile_scan.specs.Plain.{ArePlain, IsPlain, IsPlainOf}
 use Rattle.profile_scan.specs.Matching.{IsAttained}
 use Rattle.profile_scan.specs.Nodes.{spelling}
-use Rattle.profile_scan.specs.Kept.{IsDirectSecs}
+use Rattle.profile_scan.specs.ScanState.{IsDirectSecs}
 use Rattle.profile_scan.specs.Answered.{IsAnswered, IsAnsweredBetween}
 use Rattle.profile_scan.specs.declared.nodes.Node.{Node}
 
@@ -42,13 +42,13 @@ module _ {V : Type 0} (rules : Rules V) (There Here : ℕ → V → Type 0) (int
   }
 
 module _ (t : TimetableValue) (q : Query) where
-  pub from_one : (departure : ℕ) (j : JourneyValue) → CountsBetween t (between_one q) departure j → Counts t q departure j
+  pub from_one : (departure : ℕ) (j : JourneyValue) → CountsBetween t (single_set_query q) departure j → Counts t q departure j
   from_one departure j c =
-      subst (λ (s : ℕ). Counts t (pair_of (between_one q) s q.target) departure j) (contains_only q.source c.pair.source c.pair.is_source)
-      (subst (λ (s : ℕ). Counts t (pair_of (between_one q) c.pair.source s) departure j)
+      subst (λ (s : ℕ). Counts t (pair_of (single_set_query q) s q.target) departure j) (contains_only q.source c.pair.source c.pair.is_source)
+      (subst (λ (s : ℕ). Counts t (pair_of (single_set_query q) c.pair.source s) departure j)
       (contains_only q.target c.pair.target c.pair.is_target) c.counts)
 
-  pub to_one : (departure : ℕ) (j : JourneyValue) → Counts t q departure j → CountsBetween t (between_one q) departure j
+  pub to_one : (departure : ℕ) (j : JourneyValue) → Counts t q departure j → CountsBetween t (single_set_query q) departure j
   to_one departure j c = record {
     pair = record {
       source = q.source;
@@ -59,7 +59,7 @@ module _ (t : TimetableValue) (q : Query) where
     counts = c;
   }
 
-askable_one : (q : Query) (stops : ℕ) → IsAskableBetween stops (between_one q) → IsAskable stops q
+askable_one : (q : Query) (stops : ℕ) → IsAskableBetween stops (single_set_query q) → IsAskable stops q
 askable_one q stops a = record {
   source = a.sources q.source (contains_first q.source []);
   target = a.targets q.target (contains_first q.target []);
@@ -69,7 +69,7 @@ askable_one q stops a = record {
   small = a.small;
 }
 
-pub one_askable : (q : Query) (stops : ℕ) → IsAskable stops q → IsAskableBetween stops (between_one q)
+pub one_askable : (q : Query) (stops : ℕ) → IsAskable stops q → IsAskableBetween stops (single_set_query q)
 one_askable q stops a = record {
   sources = λ s is. subst (λ (x : ℕ). x < stops) (sym (contains_only q.source s is)) a.source;
   targets = λ s is. subst (λ (x : ℕ). x < stops) (sym (contains_only q.target s is)) a.target;
@@ -80,21 +80,21 @@ one_askable q stops a = record {
 }
 
 module _ {V : Type 0} (rules : Rules V) (t : TimetableValue) (q : Query) where
-  point_from : (d : ℕ) (v : V) → IsPointBetween rules t (between_one q) d v → IsPoint rules t q d v
+  point_from : (d : ℕ) (v : V) → IsPointBetween rules t (single_set_query q) d v → IsPoint rules t q d v
   point_from d v p = (p.0, from_one t q d p.0 p.1, p.2)
 
-  point_to : (d : ℕ) (v : V) → IsPoint rules t q d v → IsPointBetween rules t (between_one q) d v
+  point_to : (d : ℕ) (v : V) → IsPoint rules t q d v → IsPointBetween rules t (single_set_query q) d v
   point_to d v p = (p.0, to_one t q d p.0 p.1, p.2)
 
-  pub answer_from : (points : List (Point V)) → IsAnswerOf rules (IsPointBetween rules t (between_one q)) points
+  pub answer_from : (points : List (Point V)) → IsAnswerOf rules (IsPointBetween rules t (single_set_query q)) points
       → IsAnswerOf rules (IsPoint rules t q) points
-  answer_from points = answer_as rules (IsPointBetween rules t (between_one q)) (IsPoint rules t q) point_from point_to points
-      (undominated_as rules (IsPoint rules t q) (IsPointBetween rules t (between_one q)) point_to point_from)
+  answer_from points = answer_as rules (IsPointBetween rules t (single_set_query q)) (IsPoint rules t q) point_from point_to points
+      (undominated_as rules (IsPoint rules t q) (IsPointBetween rules t (single_set_query q)) point_to point_from)
 
   pub answer_to : (points : List (Point V)) → IsAnswerOf rules (IsPoint rules t q) points
-      → IsAnswerOf rules (IsPointBetween rules t (between_one q)) points
-  answer_to points = answer_as rules (IsPoint rules t q) (IsPointBetween rules t (between_one q)) point_to point_from points
-      (undominated_as rules (IsPointBetween rules t (between_one q)) (IsPoint rules t q) point_from point_to)
+      → IsAnswerOf rules (IsPointBetween rules t (single_set_query q)) points
+  answer_to points = answer_as rules (IsPoint rules t q) (IsPointBetween rules t (single_set_query q)) point_to point_from points
+      (undominated_as rules (IsPointBetween rules t (single_set_query q)) (IsPoint rules t q) point_from point_to)
 
   pub one_is_plain : OneIsPlain rules t q
   one_is_plain = record {
@@ -121,7 +121,7 @@ plain_at t IsGoal goal stop time (ride ∷ next ∷ rides) leads is plain =
 
 -- a point that is attained for a query between single stops
 pub attained_one : {V : Type 0} (rules : Rules V) (t : TimetableValue) (q : Query) (spelled : ℕ → Option JourneyValue) (p : Point V)
-    → IsAttained spelled (CountsBetween t (between_one q)) (IsPlainOf t (Contains (q.target ∷ []))) (journey_value rules t) p
+    → IsAttained spelled (CountsBetween t (single_set_query q)) (IsPlainOf t (Contains (q.target ∷ []))) (journey_value rules t) p
     → IsAttained spelled (Counts t q) (IsPlain t q.target) (journey_value rules t) p
 attained_one rules t q spelled p a =
     let counts = from_one t q p.departure a.way a.there in
@@ -135,7 +135,7 @@ attained_one rules t q spelled p a =
     }
 
 -- the direct walk between single stops is the footpath from the one to the other
-pub direct_one : (t : TimetableValue) (q : Query) (walk : Option Footpath) → IsDirectWalk t (between_one q) walk
+pub direct_one : (t : TimetableValue) (q : Query) (walk : Option Footpath) → IsDirectWalk t (single_set_query q) walk
     → IsDirectSecs t q.target q.source (secs_of walk)
 direct_one t q None none = λ f is from to. none 0 0 f (record {
   is_footpath = is;
@@ -150,7 +150,7 @@ direct_one t q (Some f) is =
 
 -- an answer between single stops is an answer of the plain query
 pub answered_one : {V : Type 0} (rules : Rules V) (t : TimetableValue) (q : Query) (points : List (Point V)) (nodes : List Node)
-    (walk : Option Footpath) → IsAnsweredBetween rules t (between_one q) points nodes walk → IsAnswered rules t q points nodes (secs_of walk)
+    (walk : Option Footpath) → IsAnsweredBetween rules t (single_set_query q) points nodes walk → IsAnswered rules t q points nodes (secs_of walk)
 answered_one rules t q points nodes walk is = record {
   answer = answer_from rules t q points is.answer;
   attained = λ p h. attained_one rules t q (spelling nodes).journey p (is.attained p h);

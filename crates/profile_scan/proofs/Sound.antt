@@ -6,7 +6,7 @@ use Rattle.timetable.specs.declared.network.Footpath.{Footpath}
 use Rattle.timetable.specs.TimetableValue.{TimetableValue}
 use Rattle.timetable.specs.JourneyValue.{RideValue, JourneyValue}
 use Rattle.timetable.specs.Journeys.{connection_at, walk_end, walk_secs, Leads, final_time, start_secs}
-use Rattle.profile_scan.specs.Between.{BetweenValue, CountsBetween}
+use Rattle.profile_scan.specs.SetQuery.{SetQueryValue, CountsBetween}
 use Rattle.profile_scan.specs.Values.{walked, ridden, started, journey_value}
 use Rattle.profile_scan.specs.Continuations.{Onward, Aboard, BoardsFrom, IsOnward, IsAboard, CountsFrom, onward_value, aboard_value}
 use Rattle.profile_scan.specs.Plain.{IsOneFootpath, HasPlainWalk, IsPlainOnward, IsPlainAboard, IsPlainOf}
@@ -19,7 +19,7 @@ boards_more : (i : ℕ) (rides : List RideValue) → BoardsFrom (i + 1) rides �
 boards_more i [] from = from
 boards_more i (ride ∷ rides) from = omega arith
 
-pub onward_more : (t : TimetableValue) (q : BetweenValue) (i stop time : ℕ) (x : Onward) → IsOnward t q (i + 1) stop time x → IsOnward t q i stop time x
+pub onward_more : (t : TimetableValue) (q : SetQueryValue) (i stop time : ℕ) (x : Onward) → IsOnward t q (i + 1) stop time x → IsOnward t q i stop time x
 onward_more t q i stop time x on = record {
   walks = on.walks;
   is_walk = on.is_walk;
@@ -31,7 +31,7 @@ onward_more t q i stop time x on = record {
   arrives = on.arrives;
 }
 
-pub aboard_more : (t : TimetableValue) (q : BetweenValue) (i trip : ℕ) (x : Aboard) → IsAboard t q (i + 1) trip x → IsAboard t q i trip x
+pub aboard_more : (t : TimetableValue) (q : SetQueryValue) (i trip : ℕ) (x : Aboard) → IsAboard t q (i + 1) trip x → IsAboard t q i trip x
 aboard_more t q i trip x a = record {
   later = omega (arith, a.later);
   in_range = a.in_range;
@@ -46,7 +46,7 @@ aboard_more t q i trip x a = record {
   arrives = a.arrives;
 }
 
-pub counts_more : (t : TimetableValue) (q : BetweenValue) (i departure : ℕ) (j : JourneyValue) → CountsFrom t q (i + 1) departure j
+pub counts_more : (t : TimetableValue) (q : SetQueryValue) (i departure : ℕ) (j : JourneyValue) → CountsFrom t q (i + 1) departure j
     → CountsFrom t q i departure j
 counts_more t q i departure j c = record { counts = c.counts; boards = boards_more i j.rides c.boards }
 
@@ -61,7 +61,7 @@ final_same : (t : TimetableValue) (time other i : ℕ) (rides : List RideValue) 
 final_same t time other i [] from = absurd from
 final_same t time other i (ride ∷ rides) from = refl
 
-module _ (t : TimetableValue) (q : BetweenValue) (i : ℕ) where
+module _ (t : TimetableValue) (q : SetQueryValue) (i : ℕ) where
   -- leaving the trip at place i, and ending there or going onward
   pub arrives_aboard : i < length t.connections → (connection_at t i).alight ≡ true → Contains q.targets (connection_at t i).to
       → (connection_at t i).arr ≤ q.by → IsAboard t q i (connection_at t i).trip (record {
@@ -163,7 +163,7 @@ plain_before : (t : TimetableValue) (IsGoal : ℕ → Type 0) (last i : ℕ) (wa
 plain_before t IsGoal last i walk [] from one = absurd from
 plain_before t IsGoal last i walk (ride ∷ rides) from one = one
 
-module _ {V : Type 0} (rules : Rules V) (t : TimetableValue) (q : BetweenValue) (tags : Spellings) (i : ℕ) where
+module _ {V : Type 0} (rules : Rules V) (t : TimetableValue) (q : SetQueryValue) (tags : Spellings) (i : ℕ) where
   -- what changing is worth
   change_value : (time : ℕ) (x : Onward) → IsOnward t q (i + 1) (connection_at t i).to time x
       → onward_value rules t x ≡ aboard_value rules t (record { last = i; walk = x.walk; rides = x.rides })

@@ -13,9 +13,9 @@ use Rattle.timetable.specs.TimetableValue.{TimetableValue}
 use Rattle.timetable.specs.Legal.{At, IsLegal}
 use Rattle.timetable.proofs.LegalLemmas.{At-Contains}
 use Rattle.profile_scan.specs.Adding.{StandsBetween, StartsFrom}
-use Rattle.profile_scan.specs.Between.{BetweenValue}
-use Rattle.profile_scan.specs.Starts.{AreMarked, IsAmong, IsFromMarked, IsFromSource, IsLead, IsLeadBy, IsLed, IsLedBy, SaysLed, SaysSource}
-use Rattle.profile_scan.specs.declared.starts.Lead.{Lead}
+use Rattle.profile_scan.specs.SetQuery.{SetQueryValue}
+use Rattle.profile_scan.specs.Starts.{AreMarked, IsAmong, IsFromMarked, IsFromSource, IsStopAccess, IsStopAccessBy, IsLed, IsLedBy, SaysLed, SaysSource}
+use Rattle.profile_scan.specs.declared.starts.StopAccess.{StopAccess}
 use Rattle.profile_scan.proofs.BoardLemmas.{between_split}
 
 -- whether one thing or another holds, where either follows from the other
@@ -24,7 +24,7 @@ says_as true P Q into back is = into is
 says_as false P Q into back is = λ q. is (back q)
 
 -- whether one sets out by a footpath that isn't a loop, where it is known whether that begins at a source
-pub starts_as : (q : BetweenValue) (c : Connection) (walk : Footpath) (start : Option Footpath) (b : Bool) → start ≡ Some walk → walk.to ≢ walk.from
+pub starts_as : (q : SetQueryValue) (c : Connection) (walk : Footpath) (start : Option Footpath) (b : Bool) → start ≡ Some walk → walk.to ≢ walk.from
     → SaysSource q.sources walk.from b → MatchBool b (StartsFrom q c start) (StartsFrom q c start → ⊥)
 starts_as q c walk start b is other says = subst (λ (s : Option Footpath). MatchBool b (StartsFrom q c s) (StartsFrom q c s → ⊥)) (sym is)
     (says_as b (Contains q.sources walk.from) (StartsFrom q c (Some walk)) (λ at. (at, other)) (λ from. from.0) says)
@@ -89,12 +89,12 @@ not_led t marked stop begin end into none led =
     none led.0 (at.0, place.0, place.1, at.1) led.2
 
 -- one stop more
-pub leads_more : (t : TimetableValue) (marked : List Bool) (leads new : List Lead) (lead : Lead) → new ≡ leads ++ lead ∷ []
-    → IsLeadBy t marked (length leads) lead
-    → ((k : ℕ) (l : Lead) → slice_get leads k ≡ Some l → IsLeadBy t marked k l)
-    → (k : ℕ) (l : Lead) → slice_get new k ≡ Some l → IsLeadBy t marked k l
+pub leads_more : (t : TimetableValue) (marked : List Bool) (leads new : List StopAccess) (lead : StopAccess) → new ≡ leads ++ lead ∷ []
+    → IsStopAccessBy t marked (length leads) lead
+    → ((k : ℕ) (l : StopAccess) → slice_get leads k ≡ Some l → IsStopAccessBy t marked k l)
+    → (k : ℕ) (l : StopAccess) → slice_get new k ≡ Some l → IsStopAccessBy t marked k l
 leads_more t marked leads new lead e here before k l at =
-    let at_k : slice_get (leads ++ lead ∷ []) k ≡ Some l = subst (λ (xs : List Lead). slice_get xs k ≡ Some l) e at in
+    let at_k : slice_get (leads ++ lead ∷ []) k ≡ Some l = subst (λ (xs : List StopAccess). slice_get xs k ≡ Some l) e at in
     elim (cases_lt k (length leads)) [
       | inl lt ↦ before k l (sym (slice_get-front leads (lead ∷ []) k lt) ∙ at_k)
       | inr ge ↦
@@ -102,7 +102,7 @@ leads_more t marked leads new lead e here before k l at =
           let long : length (leads ++ lead ∷ []) ≡ length leads + 1 = length-append leads (lead ∷ []) in
           let same : length leads ≡ k = omega (arith, lt, long, ge) in
           let is : lead ≡ l = same_Some lead l (sym (slice_get-last leads lead) ∙ ap (λ (n : ℕ). slice_get (leads ++ lead ∷ []) n) same ∙ at_k) in
-          subst (λ (n : ℕ). IsLeadBy t marked n l) same (subst (IsLeadBy t marked (length leads)) is here)
+          subst (λ (n : ℕ). IsStopAccessBy t marked n l) same (subst (IsStopAccessBy t marked (length leads)) is here)
     ]
 
 -- where all sources are marked, what is said of marked stops is said of sources
@@ -123,7 +123,7 @@ source_is sources stop true says is = refl
 source_is sources stop false says is = absurd (says is)
 
 pub leads_of_sources : (t : TimetableValue) → IsLegal t → (sources : List ℕ) (marked : List Bool) → AreMarked sources (length sources) t.stops marked
-    → (stop : ℕ) (lead : Lead) → stop < t.stops → IsLeadBy t marked stop lead → IsLead t sources stop lead
+    → (stop : ℕ) (lead : StopAccess) → stop < t.stops → IsStopAccessBy t marked stop lead → IsStopAccess t sources stop lead
 leads_of_sources t legal sources marked are stop lead lt is =
     let from_in : (f : Footpath) → Contains t.footpaths f → f.from < t.stops =
     λ f in_f. let at = At-Contains t.footpaths f in_f in (legal.ends_in_range at.0 f at.1).0 in

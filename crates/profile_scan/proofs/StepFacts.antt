@@ -7,20 +7,20 @@ use Rattle.bags.specs.declared.point.Point.{Point}
 use Rattle.timetable.specs.declared.network.Connection.{Connection}
 use Rattle.timetable.specs.TimetableValue.{TimetableValue}
 use Rattle.timetable.specs.Journeys.{connection_at}
-use Rattle.profile_scan.specs.Between.{BetweenValue}
+use Rattle.profile_scan.specs.SetQuery.{SetQueryValue}
 use Rattle.profile_scan.specs.Values.{journey_value}
 use Rattle.profile_scan.specs.Continuations.{IsOnward, CountsFrom, onward_value, aboard_value}
 use Rattle.profile_scan.specs.Plain.{IsPlainOnward, IsPlainAboard, IsPlainOf}
 use Rattle.profile_scan.specs.Matching.{Spelling, from_to, ScanValue, Matches, MatchesBut, MatchesFrom, IsLabelled, IsOutdone}
 use Rattle.profile_scan.specs.Steps.{Leaving, ends, ends_after, changes, MayLeave, leavings, boardings, settings_out, IsIdle, IsStep}
-use Rattle.profile_scan.specs.Kept.{IsWayTo}
-use Rattle.profile_scan.specs.declared.ways.Way.{Way}
+use Rattle.profile_scan.specs.ScanState.{IsFinalWalk}
+use Rattle.profile_scan.specs.declared.final_walks.FinalWalk.{FinalWalk}
 use Rattle.profile_scan.proofs.Offers.{takes_none}
-use Rattle.profile_scan.proofs.Outdone.{all_carried}
+use Rattle.profile_scan.proofs.Outdone.{all_unpruned}
 use Rattle.profile_scan.proofs.StepLemmas.{keeps_none}
 
 -- what is kept alike matches alike
-module _ {V : Type 0} (rules : Rules V) (t : TimetableValue) (q : BetweenValue) (tags : Spelling) (i : ℕ) where
+module _ {V : Type 0} (rules : Rules V) (t : TimetableValue) (q : SetQueryValue) (tags : Spelling) (i : ℕ) where
   pub matches_alike : (old new : ScanValue V) → ((stop : ℕ) → new.bag stop ≡ old.bag stop)
       → ((trip : ℕ) → new.labels trip ≡ old.labels trip) → new.found ≡ old.found → MatchesFrom rules t q tags i old
       → MatchesFrom rules t q tags i new
@@ -45,16 +45,16 @@ module _ {V : Type 0} (rules : Rules V) (t : TimetableValue) (q : BetweenValue) 
 none_in : {X : Type 0} (xs : List X) → xs ≡ [] → (x : X) → Contains xs x → ⊥
 none_in xs e x h = let long = ap length e in omega (arith, h.1, long)
 
-no_leave : {V : Type 0} (t : TimetableValue) (q : BetweenValue) (i : ℕ) (bag : List (Point V)) (way : Option Way)
-    → IsWayTo t q.targets (connection_at t i).to way → (way ≡ None) × (bag ≡ [])
+no_leave : {V : Type 0} (t : TimetableValue) (q : SetQueryValue) (i : ℕ) (bag : List (Point V)) (way : Option FinalWalk)
+    → IsFinalWalk t q.targets (connection_at t i).to way → (way ≡ None) × (bag ≡ [])
     → (leaving : Leaving V) → MayLeave t q i bag leaving → ⊥
-no_leave t q i bag way is none ends may = (subst (IsWayTo t q.targets (connection_at t i).to) none.0 is).0 may.0
-no_leave t q i bag way is none (ends_after f) may = (subst (IsWayTo t q.targets (connection_at t i).to) none.0 is).1 f may.0 may.1 may.2
+no_leave t q i bag way is none ends may = (subst (IsFinalWalk t q.targets (connection_at t i).to) none.0 is).0 may.0
+no_leave t q i bag way is none (ends_after f) may = (subst (IsFinalWalk t q.targets (connection_at t i).to) none.0 is).1 f may.0 may.1 may.2
 no_leave t q i bag way is none (changes p) may = none_in bag none.1 p may.0
 
 -- where nothing is offered, all stays
-step_idle : {V : Type 0} (rules : Rules V) (t : TimetableValue) (q : BetweenValue) (a : Spelling) (i : ℕ) (scan : ScanValue V)
-    (way : Option Way) → IsWayTo t q.targets (connection_at t i).to way
+step_idle : {V : Type 0} (rules : Rules V) (t : TimetableValue) (q : SetQueryValue) (a : Spelling) (i : ℕ) (scan : ScanValue V)
+    (way : Option FinalWalk) → IsFinalWalk t q.targets (connection_at t i).to way
     → IsIdle (connection_at t i) way (scan.labels (connection_at t i).trip) (scan.bag (connection_at t i).to)
     → IsStep rules t q (from_to a a) i scan scan
 step_idle rules t q a i scan way is idle =
@@ -65,9 +65,9 @@ step_idle rules t q a i scan way is idle =
       kept_first = keeps_none a;
       kept_then = keeps_none a;
       changing = scan.bag stop;
-      changing_are = all_carried rules t scan.found i (scan.bag stop);
+      changing_are = all_unpruned rules t scan.found i (scan.bag stop);
       boarding = scan.labels trip;
-      boarding_are = all_carried rules t scan.found i (scan.labels trip);
+      boarding_are = all_unpruned rules t scan.found i (scan.labels trip);
       leaves = takes_none rules (leavings rules t q (from_to a a) i (scan.bag stop)) (scan.labels trip)
           (λ leaving opened. no_leave t q i (scan.bag stop) way is (idle.ends_here opened.0) leaving opened.1);
       other_trips = λ k other. refl;
@@ -78,11 +78,11 @@ step_idle rules t q a i scan way is idle =
     }
 
 -- the same, of the connection by another name
-pub step_idle_at : {V : Type 0} (rules : Rules V) (t : TimetableValue) (q : BetweenValue) (a : Spelling) (i : ℕ)
-    (scan : ScanValue V) (way : Option Way) (c : Connection) → c ≡ connection_at t i → IsWayTo t q.targets c.to way
+pub step_idle_at : {V : Type 0} (rules : Rules V) (t : TimetableValue) (q : SetQueryValue) (a : Spelling) (i : ℕ)
+    (scan : ScanValue V) (way : Option FinalWalk) (c : Connection) → c ≡ connection_at t i → IsFinalWalk t q.targets c.to way
     → IsIdle c way (scan.labels c.trip) (scan.bag c.to) → IsStep rules t q (from_to a a) i scan scan
 step_idle_at rules t q a i scan way c e is idle =
-    step_idle rules t q a i scan way (subst (λ (x : Connection). IsWayTo t q.targets x.to way) e is)
+    step_idle rules t q a i scan way (subst (λ (x : Connection). IsFinalWalk t q.targets x.to way) e is)
     (subst (λ (x : Connection). IsIdle x way (scan.labels x.trip) (scan.bag x.to)) e idle)
 
 -- where a connection of a legal timetable begins and ends, and its trip, are of that timetable

@@ -8,13 +8,13 @@ use Rattle.timetable.specs.TimetableValue.{TimetableValue}
 use Rattle.timetable.specs.Journeys.{connection_at}
 use Rattle.fronts.specs.Front.{Extends}
 use Rattle.fronts.specs.Lists.{steps_of}
-use Rattle.profile_scan.specs.Between.{BetweenValue, asked_from}
+use Rattle.profile_scan.specs.SetQuery.{SetQueryValue, asked_from}
 use Rattle.profile_scan.specs.Matching.{Spellings, from_to}
 use Rattle.profile_scan.specs.Steps.{IsStep, Leaving, MayLeave, TakesIn, boardings, changes, ends, ends_after, leavings, settings_out}
-use Rattle.profile_scan.specs.Bound.{AreBounds, carried}
-use Rattle.profile_scan.specs.Story.{SourceValue, story, spelling_of}
+use Rattle.profile_scan.specs.Bound.{AreBounds, unpruned}
+use Rattle.profile_scan.specs.ScanRecords.{SourceValue, scan_records, spelling_of}
 use Rattle.profile_scan.specs.Adding.{changes_from, endings, endings_and_changes, label_points, only_if, trip_points}
-use Rattle.profile_scan.specs.Kept.{kept_by, points_at, story_of}
+use Rattle.profile_scan.specs.ScanState.{scan_value_of, points_at, scan_records_of}
 use Rattle.profile_scan.specs.Hops.{IsHop, IsHopOf}
 use Rattle.profile_scan.specs.Parts.{ChangesTrip, HasTrip, SourceTakes, StopTakes, TripTakes}
 use Rattle.profile_scan.specs.LawStatements.{CanScan}
@@ -24,16 +24,16 @@ use Rattle.profile_scan.specs.declared.stops.Stops.{Stops}
 use Rattle.profile_scan.specs.declared.trips.Trips.{Trips}
 use Rattle.reasoning.proofs.ListLemmas.{extends_none}
 use Rattle.profile_scan.proofs.Admitted.{AreAdmitted}
-use Rattle.profile_scan.proofs.BoundLemmas.{bounds_on, carried_by_bounds, from_carried}
+use Rattle.profile_scan.proofs.BoundLemmas.{bounds_on, unpruned_by_bounds, from_unpruned}
 use Rattle.profile_scan.proofs.EndLemmas.{end_admits}
 use Rattle.profile_scan.proofs.LabelLemmas.{trip_admitted}
 use Rattle.profile_scan.proofs.LeaveLemmas.{leavings_taken}
 use Rattle.profile_scan.proofs.Offers.{takes_as, takes_either, takes_if, takes_none, takes_unless}
 use Rattle.profile_scan.proofs.PartLemmas.{changes_none, changes_on}
-use Rattle.profile_scan.proofs.StoryLemmas.{exits_grow, grows_keeps, grows_none, grows_on, set_outs_grow, steps_grow}
+use Rattle.profile_scan.proofs.ScanRecordLemmas.{exits_grow, grows_keeps, grows_none, grows_on, set_outs_grow, steps_grow}
 
 -- where one may leave a trip doesn't depend on where one set out
-module _ {V : Type 0} (t : TimetableValue) (sources : List ℕ → ℕ → List ℕ) (q : BetweenValue) (index i : ℕ) (bag : List (Point V)) where
+module _ {V : Type 0} (t : TimetableValue) (sources : List ℕ → ℕ → List ℕ) (q : SetQueryValue) (index i : ℕ) (bag : List (Point V)) where
   leave_from : (way : Leaving V) → MayLeave t q i bag way → MayLeave t (asked_from sources q index) i bag way
   leave_from ends may = may
   leave_from (ends_after f) may = may
@@ -53,31 +53,31 @@ module _ {V : Type 0} (t : TimetableValue) (sources : List ℕ → ℕ → List 
       takes
 
 -- the labels of a hop's trip have taken in the ways to leave it
-pub record HasLeft {K V : Type 0} (rules : Rules V) (q : BetweenValue) (hop : Hop V) (stops : Stops K V) (old new : Trips K V) : Type 0 where
+pub record HasLeft {K V : Type 0} (rules : Rules V) (q : SetQueryValue) (hop : Hop V) (stops : Stops K V) (old new : Trips K V) : Type 0 where
   pub trip : ChangesTrip rules hop.connection.trip old new
   pub takes : TripTakes rules hop.connection.trip
       (λ tags. only_if (hop.connection.alight ≡ true) (endings_and_changes rules tags hop.place hop.connection q hop.way
-      (carried rules hop.bound.now (points_at stops hop.connection.to))))
+      (unpruned rules hop.bound.now (points_at stops hop.connection.to))))
       old new
 
-module _ {K V : Type 0} (rules : Rules V) (laws : Laws rules) (q : BetweenValue) (hop : Hop V) (stops : Stops K V) where
+module _ {K V : Type 0} (rules : Rules V) (laws : Laws rules) (q : SetQueryValue) (hop : Hop V) (stops : Stops K V) where
   -- to end, and then to change
   pub left_by : IsHop rules q hop → (old mid new : Trips K V) → hop.connection.alight ≡ true
       → ChangesTrip rules hop.connection.trip old mid
       → TripTakes rules hop.connection.trip (λ tags. endings rules tags hop.place hop.connection q hop.way) old mid
       → ChangesTrip rules hop.connection.trip mid new
       → TripTakes rules hop.connection.trip (λ tags. changes_from tags hop.place hop.connection.arr
-      (carried rules hop.bound.now (points_at stops hop.connection.to))) mid new
+      (unpruned rules hop.bound.now (points_at stops hop.connection.to))) mid new
       → HasLeft rules q hop stops old new
   left_by within old mid new alights ended ends_in changed changes_in = record {
     trip = changes_on rules hop.connection.trip old mid new ended changed;
     takes = λ walks steps set_outs before all ext_before ext.
         let cn = hop.connection in
         let tags = from_to (spelling_of walks before) (spelling_of walks all) in
-        let bag = carried rules hop.bound.now (points_at stops cn.to) in
-        let first = story old.exits.items steps set_outs in
-        let second = story mid.exits.items steps set_outs in
-        let third = story new.exits.items steps set_outs in
+        let bag = unpruned rules hop.bound.now (points_at stops cn.to) in
+        let first = scan_records old.exits.items steps set_outs in
+        let second = scan_records mid.exits.items steps set_outs in
+        let third = scan_records new.exits.items steps set_outs in
         takes_if rules (cn.alight ≡ true) (endings_and_changes rules tags hop.place cn q hop.way bag)
         (trip_points old.labels cn.trip) (trip_points new.labels cn.trip) alights
         (takes_either rules (endings rules tags hop.place cn q hop.way) (changes_from tags hop.place cn.arr bag)
@@ -96,23 +96,23 @@ module _ {K V : Type 0} (rules : Rules V) (laws : Laws rules) (q : BetweenValue)
     takes = λ walks steps set_outs before all ext_before ext.
         takes_unless rules (hop.connection.alight ≡ true)
         (endings_and_changes rules (from_to (spelling_of walks before) (spelling_of walks all)) hop.place hop.connection q hop.way
-        (carried rules hop.bound.now (points_at stops hop.connection.to))) (trip_points old.labels hop.connection.trip)
+        (unpruned rules hop.bound.now (points_at stops hop.connection.to))) (trip_points old.labels hop.connection.trip)
         (λ alights. true≢false (sym alights ∙ stays));
   }
 
 -- by the labels of a hop's trip one has set out, and boarded
 pub record HasBoarded {K V O : Type 0} (rules : Rules V) (t : TimetableValue) (sources : List ℕ → ℕ → List ℕ) (kept : O → ℕ → SourceValue V)
-    (q : BetweenValue) (hop : Hop V) (labels : List (Point V)) (old new : State K O V) : Type 0 where
+    (q : SetQueryValue) (hop : Hop V) (labels : List (Point V)) (old new : State K O V) : Type 0 where
   pub set_outs : (index : ℕ) → Extends (kept old.origin index).set_outs (kept new.origin index).set_outs
   pub sets_out : (index : ℕ) → SourceTakes rules t.footpaths
       (λ tags. settings_out rules t (asked_from sources q index) tags hop.place labels) (kept old.origin index) (kept new.origin index)
   pub steps : Extends (steps_of old.stops.lists) (steps_of new.stops.lists)
   pub boards : (stop : ℕ) → StopTakes rules t.footpaths stop
-      (λ tags. boardings rules t tags hop.place stop (carried rules hop.bound.now labels)) old.stops new.stops
+      (λ tags. boardings rules t tags hop.place stop (unpruned rules hop.bound.now labels)) old.stops new.stops
 
 -- without labels, nothing
 pub boarded_none : {K V O : Type 0} (rules : Rules V) (t : TimetableValue) (sources : List ℕ → ℕ → List ℕ) (kept : O → ℕ → SourceValue V)
-    (q : BetweenValue) (hop : Hop V) (labels : List (Point V)) (state : State K O V) → ((p : Point V) → Contains labels p → ⊥)
+    (q : SetQueryValue) (hop : Hop V) (labels : List (Point V)) (state : State K O V) → ((p : Point V) → Contains labels p → ⊥)
     → HasBoarded rules t sources kept q hop labels state state
 boarded_none rules t sources kept q hop labels state none = record {
   set_outs = λ index. extends_none (kept state.origin index).set_outs;
@@ -123,12 +123,12 @@ boarded_none rules t sources kept q hop labels state none = record {
   steps = extends_none (steps_of state.stops.lists);
   boards = λ stop exits set_outs before all ext_before ext.
       takes_none rules (boardings rules t (from_to (spelling_of t.footpaths before) (spelling_of t.footpaths all)) hop.place stop
-      (carried rules hop.bound.now labels)) (points_at state.stops stop)
-      (λ way may. none way.label (from_carried rules hop.bound.now labels way.label may.is_label).0);
+      (unpruned rules hop.bound.now labels)) (points_at state.stops stop)
+      (λ way may. none way.label (from_unpruned rules hop.bound.now labels way.label may.is_label).0);
 }
 
 -- so a connection's step is made
-module _ {K V O : Type 0} (rules : Rules V) (laws : Laws rules) (t : TimetableValue) (q : BetweenValue) (can : CanScan t q)
+module _ {K V O : Type 0} (rules : Rules V) (laws : Laws rules) (t : TimetableValue) (q : SetQueryValue) (can : CanScan t q)
     (sources : List ℕ → ℕ → List ℕ) (kept : O → ℕ → SourceValue V) (hop : Hop V) (is_hop : IsHopOf rules t q hop) where
   pub is_step : (old new : State K O V) → HasLeft rules q hop old.stops old.trips new.trips
       → HasBoarded rules t sources kept q hop (trip_points new.trips.labels hop.connection.trip)
@@ -137,8 +137,8 @@ module _ {K V O : Type 0} (rules : Rules V) (laws : Laws rules) (t : TimetableVa
       → AreAdmitted rules (kept old.origin index).found → AreAdmitted rules (kept new.origin index).found
       → AreBounds rules t (kept old.origin index).found (hop.place + 1) hop.bound.now
       → IsStep rules t (asked_from sources q index)
-      (from_to (spelling_of t.footpaths (story_of kept old index)) (spelling_of t.footpaths (story_of kept new index)))
-      hop.place (kept_by kept old index) (kept_by kept new index)
+      (from_to (spelling_of t.footpaths (scan_records_of kept old index)) (spelling_of t.footpaths (scan_records_of kept new index)))
+      hop.place (scan_value_of kept old index) (scan_value_of kept new index)
   is_step old new left boarded index bag_adm found_adm now_adm bounds =
       let i = hop.place in
       let values = hop.bound.now in
@@ -147,10 +147,10 @@ module _ {K V O : Type 0} (rules : Rules V) (laws : Laws rules) (t : TimetableVa
       let trip = (connection_at t i).trip in
       let was_labels = trip_points old.trips.labels in
       let labels = trip_points new.trips.labels in
-      let was = story_of kept old index in
-      let between = story new.trips.exits.items (steps_of old.stops.lists) (kept old.origin index).set_outs in
-      let set_out = story new.trips.exits.items (steps_of old.stops.lists) (kept new.origin index).set_outs in
-      let now = story_of kept new index in
+      let was = scan_records_of kept old index in
+      let between = scan_records new.trips.exits.items (steps_of old.stops.lists) (kept old.origin index).set_outs in
+      let set_out = scan_records new.trips.exits.items (steps_of old.stops.lists) (kept new.origin index).set_outs in
+      let now = scan_records_of kept new index in
       let grows_first = exits_grow old.trips.exits.items new.trips.exits.items (steps_of old.stops.lists)
       (kept old.origin index).set_outs left.trip.exits in
       let out_grows = set_outs_grow new.trips.exits.items (steps_of old.stops.lists) (kept old.origin index).set_outs
@@ -159,9 +159,9 @@ module _ {K V O : Type 0} (rules : Rules V) (laws : Laws rules) (t : TimetableVa
       (kept new.origin index).set_outs boarded.steps in
       let first = from_to (spelling_of t.footpaths was) (spelling_of t.footpaths between) in
       let second = from_to (spelling_of t.footpaths between) (spelling_of t.footpaths now) in
-      let here = carried rules values (points_at old.stops cn.to) in
+      let here = unpruned rules values (points_at old.stops cn.to) in
       let bag = points_at old.stops (connection_at t i).to in
-      let bag_is = ap (λ (x : Connection). carried rules values (points_at old.stops x.to)) at in
+      let bag_is = ap (λ (x : Connection). unpruned rules values (points_at old.stops x.to)) at in
       let sets_out =
       subst (λ (x : Connection). TakesIn rules (settings_out rules t (asked_from sources q index) second i (labels x.trip))
       (kept old.origin index).found (kept new.origin index).found) at
@@ -172,13 +172,13 @@ module _ {K V O : Type 0} (rules : Rules V) (laws : Laws rules) (t : TimetableVa
         between = spelling_of t.footpaths between;
         kept_first = grows_keeps t.footpaths was between grows_first;
         kept_then = grows_keeps t.footpaths between now (grows_on between set_out now out_grows in_grows);
-        changing = carried rules values bag;
-        changing_are = carried_by_bounds rules laws t (kept old.origin index).found found_adm i values bounds bag bag_adm;
-        boarding = carried rules values (labels trip);
-        boarding_are = carried_by_bounds rules laws t (kept new.origin index).found now_adm i values new_bounds (labels trip)
+        changing = unpruned rules values bag;
+        changing_are = unpruned_by_bounds rules laws t (kept old.origin index).found found_adm i values bounds bag bag_adm;
+        boarding = unpruned rules values (labels trip);
+        boarding_are = unpruned_by_bounds rules laws t (kept new.origin index).found now_adm i values new_bounds (labels trip)
             (trip_admitted rules new.trips.labels left.trip.labels.labels trip);
         leaves =
-            subst (λ (x : Connection). TakesIn rules (leavings rules t (asked_from sources q index) first i (carried rules values bag))
+            subst (λ (x : Connection). TakesIn rules (leavings rules t (asked_from sources q index) first i (unpruned rules values bag))
             (was_labels x.trip) (labels x.trip)) at
             (subst (λ (points : List (Point V)). TakesIn rules (leavings rules t (asked_from sources q index) first i points)
             (was_labels cn.trip) (labels cn.trip)) bag_is
@@ -188,7 +188,7 @@ module _ {K V O : Type 0} (rules : Rules V) (laws : Laws rules) (t : TimetableVa
             (left.takes t.footpaths (steps_of old.stops.lists) (kept old.origin index).set_outs was between (grows_none was) (grows_none between)))));
         other_trips = λ k other. ap label_points (left.trip.labels.same k (λ e. other (e ∙ ap (λ (x : Connection). x.trip) at)));
         boards = λ k lt.
-            subst (λ (x : Connection). TakesIn rules (boardings rules t second i k (carried rules values (labels x.trip)))
+            subst (λ (x : Connection). TakesIn rules (boardings rules t second i k (unpruned rules values (labels x.trip)))
             (points_at old.stops k) (points_at new.stops k)) at
             (boarded.boards k new.trips.exits.items (kept new.origin index).set_outs between now out_grows (grows_none now));
         sets_out = sets_out;

@@ -1,4 +1,4 @@
--- Offers made of smaller ones, and lists that take them in while records (a `Story`) are added.
+-- Offers made of smaller ones, and lists that take them in while records (`ScanRecords`) are added.
 use Rattle.std.specs.Prelude.{◌≡◌, ◌≢◌, ◌⊎◌, ℕ, ◌+◌, ◌-◌, ◌<◌, ◌≤◌, List, [], ◌∷◌, length, map, Contains, slice_get}
 use Rattle.std.specs.Prelude.{Option, Some, None}
 use Rattle.std.proofs.Common.{inl, inr}
@@ -14,14 +14,14 @@ use Rattle.profile_scan.specs.Continuations.{Aboard}
 use Rattle.profile_scan.specs.Matching.{Spellings, from_to}
 use Rattle.profile_scan.specs.Steps.{Offer, TakesIn, boarded}
 use Rattle.profile_scan.specs.Nodes.{SpellsEnd, SpellsChange}
-use Rattle.profile_scan.specs.Story.{Story, Grows, spelling_of}
-use Rattle.profile_scan.specs.declared.story.SetOut.{SetOut}
-use Rattle.profile_scan.specs.declared.ways.Way.{Way}
+use Rattle.profile_scan.specs.ScanRecords.{ScanRecords, Grows, spelling_of}
+use Rattle.profile_scan.specs.declared.scan_records.SetOut.{SetOut}
+use Rattle.profile_scan.specs.declared.final_walks.FinalWalk.{FinalWalk}
 use Rattle.fronts.specs.declared.entry.RiddenLabel.{RiddenLabel}
 use Rattle.fronts.specs.declared.labels.Label.{Label}
 use Rattle.fronts.specs.declared.labels.Labels.{Labels}
 use Rattle.fronts.specs.Labels.{AreLabels, labels_at, trips_of}
-use Rattle.profile_scan.specs.Between.{BetweenValue}
+use Rattle.profile_scan.specs.SetQuery.{SetQueryValue}
 
 -- an offer of one way
 abbrev pub one_way : {V : Type 0} → ℕ → V → (ℕ → Type 0) → Offer (Unit {0}) V
@@ -57,12 +57,12 @@ pub record IsRelabelled {V : Type 0} (rules : Rules V) (trip : ℕ) (old new : L
   pub long : trips_of new ≡ trips_of old
   pub same : (k : ℕ) → (k ≡ trip → ⊥) → labels_at new k ≡ labels_at old k
 
--- a list takes an offer in while records grow from `was` to `now`, for every story `before` that grew into `was` and every story `all` that `now` grows
+-- a list takes an offer in while records grow from `was` to `now`, for all records `before` that grew into `was` and all records `all` that `now` grows
 -- into: `tags.earlier` are read in `before`, `tags.later` in `all`
-abbrev pub Takes : {A V : Type 0} → Rules V → List Footpath → Story → Story → (Spellings → Offer A V) → List (Point V)
+abbrev pub Takes : {A V : Type 0} → Rules V → List Footpath → ScanRecords → ScanRecords → (Spellings → Offer A V) → List (Point V)
     → List (Point V) → Type 0
 Takes rules walks was now offer old new =
-    (before all : Story) → Grows before was → Grows now all
+    (before all : ScanRecords) → Grows before was → Grows now all
     → TakesIn rules (offer (from_to (spelling_of walks before) (spelling_of walks all))) old new
 
 -- the element is among the first n
@@ -141,14 +141,14 @@ only_if P offer = record {
 }
 
 -- how one may end by a way from where a connection ends, in time for the query: at once, if the way is the loop there, or else after its footpath
-abbrev pub IsEnding : Connection → BetweenValue → Option Way → Option Footpath → Type 0
+abbrev pub IsEnding : Connection → SetQueryValue → Option FinalWalk → Option Footpath → Type 0
 IsEnding c q None walk = ⊥
 IsEnding c q (Some way) None = (way.to ≡ c.to) × (c.arr ≤ q.by)
 IsEnding c q (Some way) (Some f) = (way.to ≢ c.to) × (f ≡ record { from = c.to; to = way.to; secs = way.secs })
     × (c.arr + f.secs ≤ q.by)
 
 -- offered to labels: each way to end where a connection ends; the trip is left at connection i
-abbrev pub endings : {V : Type 0} → Rules V → Spellings → ℕ → Connection → BetweenValue → Option Way → Offer (Option Footpath) V
+abbrev pub endings : {V : Type 0} → Rules V → Spellings → ℕ → Connection → SetQueryValue → Option FinalWalk → Offer (Option Footpath) V
 endings rules tags i c q way = record {
   is_open = IsEnding c q way;
   departure = λ _. 0;
@@ -157,12 +157,12 @@ endings rules tags i c q way = record {
 }
 
 -- the two ways to leave a trip where a connection ends: to end, or to change
-abbrev pub endings_and_changes : {V : Type 0} → Rules V → Spellings → ℕ → Connection → BetweenValue → Option Way
+abbrev pub endings_and_changes : {V : Type 0} → Rules V → Spellings → ℕ → Connection → SetQueryValue → Option FinalWalk
     → List (Point V) → Offer (Option Footpath ⊎ Point V) V
 endings_and_changes rules tags i c q way bag = either (endings rules tags i c q way) (changes_from tags i c.arr bag)
 
 -- how one starts at a source: on no footpath, if the connection begins there; or on one from a source to another stop, possibly a source as well
-abbrev pub StartsFrom : BetweenValue → Connection → Option Footpath → Type 0
+abbrev pub StartsFrom : SetQueryValue → Connection → Option Footpath → Type 0
 StartsFrom q c None = Contains q.sources c.from
 StartsFrom q c (Some f) = Contains q.sources f.from × (f.to ≢ f.from)
 
@@ -173,7 +173,7 @@ pub record IsInTime (from until : ℕ) (c : Connection) (start : Option Footpath
   pub not_late : c.dep - start_secs start ≤ until
 
 -- a start begins at a source, fits before the connection, and departs when the query allows
-pub record MayStart (q : BetweenValue) (c : Connection) (start : Option Footpath) : Type 0 where
+pub record MayStart (q : SetQueryValue) (c : Connection) (start : Option Footpath) : Type 0 where
   pub starts : StartsFrom q c start
   pub fits : start_secs start ≤ c.dep
   pub not_early : q.from ≤ c.dep - start_secs start
@@ -202,7 +202,7 @@ boardings_by rules tags i c stop labels walk = only_if ((walk.from ≡ stop) × 
     (boardings_after rules tags i (c.dep - walk.secs) walk labels)
 
 -- what one start offers to the points found: nothing, unless `MayStart` allows it
-abbrev pub settings_out_by : {V : Type 0} → Rules V → Spellings → ℕ → Connection → BetweenValue → List (Point V)
+abbrev pub settings_out_by : {V : Type 0} → Rules V → Spellings → ℕ → Connection → SetQueryValue → List (Point V)
     → Option Footpath → Offer (Point V) V
 settings_out_by rules tags i c q labels start = only_if (MayStart q c start)
     (settings_out_after rules tags i (c.dep - start_secs start) start labels)

@@ -6,13 +6,13 @@ use Rattle.timetable.specs.TimetableValue.{TimetableValue}
 use Rattle.timetable.specs.declared.query.Query.{Query}
 use Rattle.timetable.specs.Journeys.{Counts}
 use Rattle.timetable.specs.declared.network.Footpath.{Footpath}
-use Rattle.profile_scan.specs.Between.{BetweenValue, CountsBetween, IsAnswerBetween, IsDirectWalk}
+use Rattle.profile_scan.specs.SetQuery.{SetQueryValue, CountsBetween, IsAnswerBetween, IsDirectWalk}
 use Rattle.profile_scan.specs.Points.{IsAnswer}
 use Rattle.profile_scan.specs.Values.{journey_value}
 use Rattle.profile_scan.specs.Plain.{IsPlain, IsPlainOf}
 use Rattle.profile_scan.specs.Matching.{IsAttained}
 use Rattle.profile_scan.specs.Nodes.{spelling}
-use Rattle.profile_scan.specs.Kept.{IsDirectSecs}
+use Rattle.profile_scan.specs.ScanState.{IsDirectSecs}
 use Rattle.profile_scan.specs.declared.nodes.Node.{Node}
 
 -- points are the answer of a query over a timetable; each point's tag spells, by the nodes, a plain journey that counts, with the point's departure and value;
@@ -27,7 +27,7 @@ pub record IsAnswered {V : Type 0} (rules : Rules V) (t : TimetableValue) (q : Q
 -- points are the answer of a query between sets over a timetable; each point's tag spells, by the nodes, a journey that counts for a pair, with the point's
 -- departure and value, and is plain with regard to all targets: after its last leg it walks on only if that leg ends at none of them; and `walk` is the direct
 -- walk
-pub record IsAnsweredBetween {V : Type 0} (rules : Rules V) (t : TimetableValue) (b : BetweenValue) (points : List (Point V))
+pub record IsAnsweredBetween {V : Type 0} (rules : Rules V) (t : TimetableValue) (b : SetQueryValue) (points : List (Point V))
     (nodes : List Node) (walk : Option Footpath) : Type 0 where
   pub answer : IsAnswerBetween rules t b points
   pub attained : (p : Point V) → Contains points p
@@ -40,5 +40,5 @@ abbrev pub Answer : {V : Type 0}
 Answer rules t q points nodes walk = ∥ IsAnswered rules t q points nodes walk ∥₁
 
 abbrev pub AnswerBetween : {V : Type 0}
-    → Rules V → TimetableValue → BetweenValue → List (Point V) → List Node → Option Footpath → Type 0
+    → Rules V → TimetableValue → SetQueryValue → List (Point V) → List Node → Option Footpath → Type 0
 AnswerBetween rules t b points nodes walk = ∥ IsAnsweredBetween rules t b points nodes walk ∥₁

@@ -5,7 +5,7 @@ use Rattle.timetable.specs.declared.network.Footpath.{Footpath}
 use Rattle.timetable.specs.TimetableValue.{TimetableValue}
 use Rattle.timetable.specs.JourneyValue.{RideValue, JourneyValue}
 use Rattle.timetable.specs.Journeys.{connection_at, IsWalk, walk_end, walk_secs, Leads, final_time}
-use Rattle.profile_scan.specs.Between.{BetweenValue, CountsBetween}
+use Rattle.profile_scan.specs.SetQuery.{SetQueryValue, CountsBetween}
 use Rattle.profile_scan.specs.Values.{walked, ridden}
 
 -- from a stop: a walk, and rides after it
@@ -25,7 +25,7 @@ BoardsFrom i [] = ⊥
 BoardsFrom i (ride ∷ rides) = i ≤ ride.leg.first
 
 -- from the stop, at the time, one walks over one or more footpaths, boards connection i or a later one, and is at a target by the query's latest arrival
-pub record IsOnward (t : TimetableValue) (q : BetweenValue) (i stop time : ℕ) (x : Onward) : Type 0 where
+pub record IsOnward (t : TimetableValue) (q : SetQueryValue) (i stop time : ℕ) (x : Onward) : Type 0 where
   pub walks : x.walk ≢ []
   pub is_walk : IsWalk t stop x.walk
   pub boards : BoardsFrom i x.rides
@@ -42,7 +42,7 @@ abbrev pub time_there : TimetableValue → Aboard → ℕ
 time_there t x = final_time t (time_off t x) x.rides
 
 -- in the trip, one stays up to connection i or a later one, gets off there, and is at a target by the query's latest arrival; before a further ride one walks
-pub record IsAboard (t : TimetableValue) (q : BetweenValue) (i trip : ℕ) (x : Aboard) : Type 0 where
+pub record IsAboard (t : TimetableValue) (q : SetQueryValue) (i trip : ℕ) (x : Aboard) : Type 0 where
   pub later : i ≤ x.last
   pub in_range : x.last < length t.connections
   pub on_trip : (connection_at t x.last).trip ≡ trip
@@ -55,7 +55,7 @@ pub record IsAboard (t : TimetableValue) (q : BetweenValue) (i trip : ℕ) (x : 
   pub arrives : time_there t x ≤ q.by
 
 -- a journey that counts and boards connection i or a later one
-pub record CountsFrom (t : TimetableValue) (q : BetweenValue) (i departure : ℕ) (j : JourneyValue) : Type 0 where
+pub record CountsFrom (t : TimetableValue) (q : SetQueryValue) (i departure : ℕ) (j : JourneyValue) : Type 0 where
   pub counts : CountsBetween t q departure j
   pub boards : BoardsFrom i j.rides
 

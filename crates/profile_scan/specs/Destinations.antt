@@ -5,7 +5,7 @@ use Rattle.timetable.specs.declared.query.Query.{Query}
 use Rattle.timetable.specs.declared.query.QueryFault.{QueryFault}
 use Rattle.timetable.specs.declared.query.QueryFault.TheVariants.{UnknownStop, SameStop, BadWindow}
 use Rattle.timetable.specs.Queries.{HasBadWindow}
-use Rattle.profile_scan.specs.Between.{BetweenValue}
+use Rattle.profile_scan.specs.SetQuery.{SetQueryValue}
 use Rattle.profile_scan.specs.declared.destination.Destination.{Destination}
 use Rattle.profile_scan.specs.declared.destinations.Destinations.{Destinations}
 
@@ -14,11 +14,11 @@ abbrev pub query_from : Destination → ℕ → Query
 query_from d stop = record { source = stop; target = d.target; from = d.from; until = d.until; by = d.by }
 
 -- the query between no source and the targets, for a scan that finds answers from every stop
-abbrev pub question_to_any : Destinations → BetweenValue
+abbrev pub question_to_any : Destinations → SetQueryValue
 question_to_any d = record { sources = []; targets = d.targets.items; from = d.from; until = d.until; by = d.by }
 
 -- the same to a single target
-abbrev pub question_to : Destination → BetweenValue
+abbrev pub question_to : Destination → SetQueryValue
 question_to d = record { sources = []; targets = d.target ∷ []; from = d.from; until = d.until; by = d.by }
 
 -- the target is a stop of a timetable with this many stops, and the times are possible

@@ -8,22 +8,22 @@ use Rattle.timetable.specs.TimetableValue.{TimetableValue}
 use Rattle.timetable.specs.declared.query.Query.{Query}
 use Rattle.timetable.specs.declared.network.Footpath.{Footpath}
 use Rattle.timetable.specs.Journeys.{Counts}
-use Rattle.profile_scan.specs.Between.{BetweenValue, CountsBetween, IsAnswerBetween, IsDirectWalk, question, secs_of}
+use Rattle.profile_scan.specs.SetQuery.{SetQueryValue, CountsBetween, IsAnswerBetween, IsDirectWalk, question, secs_of}
 use Rattle.profile_scan.specs.Values.{journey_value}
 use Rattle.profile_scan.specs.Plain.{IsPlain, IsPlainOf}
 use Rattle.profile_scan.specs.Points.{Before, IsAnswer}
 use Rattle.profile_scan.specs.Matching.{IsAttained}
-use Rattle.profile_scan.specs.Story.{Story, spelling_of}
-use Rattle.profile_scan.specs.Kept.{IsDirectSecs, story_of, walk_by, ways_of}
+use Rattle.profile_scan.specs.ScanRecords.{ScanRecords, spelling_of}
+use Rattle.profile_scan.specs.ScanState.{IsDirectSecs, scan_records_of, walk_by, final_walks_of}
 use Rattle.profile_scan.specs.Destinations.{query_from, question_to}
-use Rattle.profile_scan.specs.Origins.{AreOrigins, from_stop, kept_from}
+use Rattle.profile_scan.specs.Origins.{AreOrigins, from_stop, scan_value_from}
 use Rattle.profile_scan.specs.declared.destination.Destination.{Destination}
 use Rattle.profile_scan.specs.declared.profiles.Profiles.{Profiles}
 use Rattle.profile_scan.specs.declared.to_any.ProfilesToAny.{ProfilesToAny}
 
 -- what is written down, as one source sees it
-abbrev pub story_from : {K V : Type 0} {c : _} → ProfilesToAny K V c → ℕ → Story
-story_from profiles = story_of kept_from profiles.state
+abbrev pub scan_records_from : {K V : Type 0} {c : _} → ProfilesToAny K V c → ℕ → ScanRecords
+scan_records_from profiles = scan_records_of scan_value_from profiles.state
 
 -- points are those of another list, in order
 pub record AreInOrder {V : Type 0} (rules : Rules V) (found points : List (Point V)) : Type 0 where
@@ -40,7 +40,7 @@ abbrev pub listed_to_any : {K V : Type 0} {c : _} → ProfilesToAny K V c → �
 listed_to_any profiles stop = points_in (slice_get profiles.lists.items stop)
 
 -- what was asked from every stop, by which criterion, and how many stops there are
-abbrev pub asked_to_any : {K V : Type 0} {c : _} → ProfilesToAny K V c → BetweenValue
+abbrev pub asked_to_any : {K V : Type 0} {c : _} → ProfilesToAny K V c → SetQueryValue
 asked_to_any profiles = question profiles.asked.query
 
 abbrev pub criterion_to_any : {K V : Type 0} {c : _} → ProfilesToAny K V c → K
@@ -51,7 +51,7 @@ stops_to_any profiles = length profiles.lists.items
 
 -- the footpath from a stop to the nearest target, if there is one
 abbrev pub walk_to_any : {K V : Type 0} {c : _} → ProfilesToAny K V c → ℕ → Option Footpath
-walk_to_any profiles stop = walk_by stop (slice_index_or (ways_of profiles.asked.ways) stop None)
+walk_to_any profiles stop = walk_by stop (slice_index_or (final_walks_of profiles.asked.final_walks) stop None)
 
 -- from a stop alone: its list is the answer of the query from there to the targets, and each point's tag tells a journey that counts, with the point's
 -- departure and value, and is plain with regard to all targets: after its last leg it walks on only if that leg ends at none of them
@@ -59,7 +59,7 @@ pub record AnswersFromStop {K V : Type 0} {c : _} (rules : Rules V) (t : Timetab
     (stop : ℕ) : Type 0 where
   pub answer : IsAnswerBetween rules t (from_stop (asked_to_any profiles) stop) (listed_to_any profiles stop)
   pub attained : (p : Point V) → Contains (listed_to_any profiles stop) p
-      → IsAttained (spelling_of t.footpaths (story_from profiles stop)).journey
+      → IsAttained (spelling_of t.footpaths (scan_records_from profiles stop)).journey
       (CountsBetween t (from_stop (asked_to_any profiles) stop)) (IsPlainOf t (Contains (asked_to_any profiles).targets)) (journey_value rules t) p
 
 -- the same from every stop, also from a target, for which no query can be asked: there the journeys are those that come back to it or go on to another. And the
@@ -72,7 +72,7 @@ pub record AnswerToAny {K V : Type 0} {c : _} (rules_of : K → Rules V) (t : Ti
   pub loops : (stop : ℕ) → stop < t.stops → Contains (asked_to_any profiles).targets stop → IsDirectSecs t stop stop (secs_of (walk_to_any profiles stop))
   pub long : stops_to_any profiles ≡ t.stops
   pub origins : AreOrigins (criterion_to_any profiles) t.stops profiles.state.origin
-  pub ways : length (ways_of profiles.asked.ways) ≡ t.stops
+  pub final_walks : length (final_walks_of profiles.asked.final_walks) ≡ t.stops
 
 -- answers to a single target: the points of a stop, what was asked from every stop, by which criterion, and how many stops there are
 abbrev pub listed_from : {K V : Type 0} {c : _} → Profiles K V c → ℕ → List (Point V)
@@ -97,7 +97,7 @@ pub record AnswersFrom {K V : Type 0} {c : _} (rules : Rules V) (t : TimetableVa
     (profiles : Profiles K V c) : Type 0 where
   pub answer : IsAnswer rules t q (listed_from profiles q.source)
   pub attained : (p : Point V) → Contains (listed_from profiles q.source) p
-      → IsAttained (spelling_of t.footpaths (story_from profiles.to_any q.source)).journey
+      → IsAttained (spelling_of t.footpaths (scan_records_from profiles.to_any q.source)).journey
       (Counts t q) (IsPlain t q.target) (journey_value rules t) p
   pub direct : IsDirectSecs t q.target q.source (walk_from profiles q.source)
 
@@ -110,6 +110,6 @@ pub record AnswerAll {K V : Type 0} {c : _} (rules_of : K → Rules V) (t : Time
   pub at_target : AnswersFrom (rules_of (criterion_of_profiles profiles)) t
       (query_from (destination_of profiles) (destination_of profiles).target) profiles
   pub long : stops_of profiles ≡ t.stops
-  pub ways : length (ways_of profiles.to_any.asked.ways) ≡ t.stops
+  pub final_walks : length (final_walks_of profiles.to_any.asked.final_walks) ≡ t.stops
   pub asked : asked_to_any profiles.to_any ≡ question_to (destination_of profiles)
   pub to_any : AnswerToAny rules_of t profiles.to_any

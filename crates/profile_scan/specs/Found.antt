@@ -10,10 +10,10 @@ use Rattle.profile_scan.specs.Values.{journey_value}
 use Rattle.profile_scan.specs.Plain.{IsPlain}
 use Rattle.profile_scan.specs.Matching.{IsAttained}
 use Rattle.profile_scan.specs.Nodes.{spelling}
-use Rattle.profile_scan.specs.Kept.{IsDirectSecs}
+use Rattle.profile_scan.specs.ScanState.{IsDirectSecs}
 use Rattle.timetable.specs.declared.network.Footpath.{Footpath}
 use Rattle.profile_scan.specs.Answered.{IsAnsweredBetween}
-use Rattle.profile_scan.specs.Between.{BetweenValue, question}
+use Rattle.profile_scan.specs.SetQuery.{SetQueryValue, question}
 use Rattle.profile_scan.specs.declared.found.Found.{Found}
 use Rattle.profile_scan.specs.declared.found_between.FoundBetween.{FoundBetween}
 use Rattle.profile_scan.specs.declared.nodes.Node.{Node}
@@ -65,14 +65,14 @@ walk_between found = found.walk
 abbrev pub timetable_between : {K V : Type 0} {c : _} → FoundBetween K V c → TimetableValue
 timetable_between found = found.timetable.value
 
-abbrev pub query_between : {K V : Type 0} {c : _} → FoundBetween K V c → BetweenValue
+abbrev pub query_between : {K V : Type 0} {c : _} → FoundBetween K V c → SetQueryValue
 query_between found = question found.query.value
 
 abbrev pub criterion_between : {K V : Type 0} {c : _} → FoundBetween K V c → K
 criterion_between found = found.criterion
 
 -- it is the answer of a query between sets over a timetable, under a criterion
-pub record AnswersBetween {K V : Type 0} {c : _} (criterion : K) (rules : Rules V) (t : TimetableValue) (b : BetweenValue)
+pub record AnswersBetween {K V : Type 0} {c : _} (criterion : K) (rules : Rules V) (t : TimetableValue) (b : SetQueryValue)
     (found : FoundBetween K V c) : Type 0 where
   pub answered : IsAnsweredBetween rules t b (listed_between found) (nodes_between found) (walk_between found)
   pub keeps : (criterion_between found ≡ criterion) × (timetable_between found ≡ t) × (query_between found ≡ b)

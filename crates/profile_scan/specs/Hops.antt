@@ -6,19 +6,19 @@ use Rattle.timetable.specs.declared.network.Footpath.{Footpath}
 use Rattle.timetable.specs.TimetableValue.{TimetableValue}
 use Rattle.timetable.specs.Journeys.{connection_at}
 use Rattle.sources.specs.FirstAt.{IsFirstAt}
-use Rattle.profile_scan.specs.Between.{BetweenValue, question}
-use Rattle.profile_scan.specs.Kept.{AreWays, IsWayTo, ways_of}
-use Rattle.profile_scan.specs.Starts.{AreStarts, IsLead, SaysSource}
+use Rattle.profile_scan.specs.SetQuery.{SetQueryValue, question}
+use Rattle.profile_scan.specs.ScanState.{AreFinalWalks, IsFinalWalk, final_walks_of}
+use Rattle.profile_scan.specs.Starts.{AreStarts, IsStopAccess, SaysSource}
 use Rattle.profile_scan.specs.declared.hop.ScanQuery.{ScanQuery}
 use Rattle.profile_scan.specs.declared.hop.Hop.{Hop}
-use Rattle.profile_scan.specs.declared.starts.Lead.{Lead}
+use Rattle.profile_scan.specs.declared.starts.StopAccess.{StopAccess}
 use Rattle.profile_scan.specs.declared.starts.Starts.{Starts}
 
 -- the query's latest arrival is a time, the starts lead from its sources, and the ways to its targets
 pub record IsAsked {K : Type 0} (t : TimetableValue) (asked : ScanQuery K) : Type 0 where
   pub by : IsTime asked.query.by
   pub starts : AreStarts t (question asked.query).sources asked.starts
-  pub ways : AreWays t (question asked.query).targets (ways_of asked.ways)
+  pub final_walks : AreFinalWalks t (question asked.query).targets (final_walks_of asked.final_walks)
 
 -- the indices from `start` on, before `end`, which is the first of a connection that departs at the latest arrival or later
 pub record IsWindow {K : Type 0} (t : TimetableValue) (asked : ScanQuery K) (start end : ℕ) : Type 0 where
@@ -32,7 +32,7 @@ pub record StandsAt (t : TimetableValue) (place : ℕ) (c : Connection) : Type 0
   pub is : c ≡ connection_at t place
 
 -- the hop's numbers and values are within what the laws are about; nothing here ties them to a timetable
-pub record IsHop {V : Type 0} (rules : Rules V) (q : BetweenValue) (hop : Hop V) : Type 0 where
+pub record IsHop {V : Type 0} (rules : Rules V) (q : SetQueryValue) (hop : Hop V) : Type 0 where
   pub arrival : IsTime hop.connection.arr
   pub by : IsTime q.by
   pub secs : IfSome hop.way (λ way. IsSecs way.secs)
@@ -42,13 +42,13 @@ pub record IsHop {V : Type 0} (rules : Rules V) (q : BetweenValue) (hop : Hop V)
 pub record KnowsSources {V : Type 0} (sources : List ℕ) (hop : Hop V) (starts : Starts) (start : Option Footpath) : Type 0 where
   pub here : SaysSource sources hop.connection.from hop.lead.here
   pub within : IfSome start (λ walk. walk.from < length starts.leads.items)
-  pub says : (stop : ℕ) (lead : Lead) → slice_get starts.leads.items stop ≡ Some lead → SaysSource sources stop lead.here
+  pub says : (stop : ℕ) (lead : StopAccess) → slice_get starts.leads.items stop ≡ Some lead → SaysSource sources stop lead.here
 
 -- the connection is at its index, it is known whether it begins at a source and whether a footpath leads there from one, and the way leads from where it ends
 -- to a target
-pub record IsHopOf {V : Type 0} (rules : Rules V) (t : TimetableValue) (q : BetweenValue) (hop : Hop V) : Type 0 where
+pub record IsHopOf {V : Type 0} (rules : Rules V) (t : TimetableValue) (q : SetQueryValue) (hop : Hop V) : Type 0 where
   pub stands : StandsAt t hop.place hop.connection
   pub by : IsTime q.by
-  pub lead : IsLead t q.sources hop.connection.from hop.lead
-  pub way : IsWayTo t q.targets hop.connection.to hop.way
+  pub lead : IsStopAccess t q.sources hop.connection.from hop.lead
+  pub way : IsFinalWalk t q.targets hop.connection.to hop.way
   pub bound : (b : V) → Contains hop.bound.now b → Admits rules b

@@ -16,13 +16,13 @@ use Rattle.profile_scan.specs.Values.{walked, journey_value}
 use Rattle.profile_scan.specs.Points.{Before, untagged}
 use Rattle.profile_scan.specs.Window.{window, falling}
 use Rattle.sources.specs.FirstAt.{IsFirstAt}
-use Rattle.profile_scan.specs.Between.{BetweenValue, IsAnswerBetween}
+use Rattle.profile_scan.specs.SetQuery.{SetQueryValue, IsAnswerBetween}
 use Rattle.profile_scan.specs.Continuations.{Onward, Aboard, BoardsFrom, IsOnward, IsAboard, CountsFrom}
 use Rattle.profile_scan.specs.Plain.{IsPlainOf}
 use Rattle.profile_scan.specs.Matching.{Spelling, Spellings, Matches, ScanValue, MatchesFrom}
 
 -- a legal timetable within the limits, and a query whose latest arrival is a time
-pub record CanScan (t : TimetableValue) (q : BetweenValue) : Type 0 where
+pub record CanScan (t : TimetableValue) (q : SetQueryValue) : Type 0 where
   pub legal : IsLegal t
   pub limits : IsWithinLimits t
   pub in_time : q.by < TIME_END
@@ -59,9 +59,9 @@ TogetherNeverContinue = (t : TimetableValue) → IsLegal t → DeparturesRise t
 
 -- if what is kept matches all ways to go on over the later connections, then after the step of one connection it matches those that begin with this one, too
 abbrev pub OneIndexDown : {V : Type 0} → Rules V
-    → (TimetableValue → BetweenValue → Spellings → ℕ → ScanValue V → ScanValue V → Type 0) → Type 0
+    → (TimetableValue → SetQueryValue → Spellings → ℕ → ScanValue V → ScanValue V → Type 0) → Type 0
 OneIndexDown {V} rules Step =
-    (t : TimetableValue) (q : BetweenValue) → CanScan t q
+    (t : TimetableValue) (q : SetQueryValue) → CanScan t q
     → (tags : Spellings) (i : ℕ) → i < length t.connections
     → (old new : ScanValue V) → MatchesFrom rules t q tags.earlier (i + 1) old → Step t q tags i old new
     → MatchesFrom rules t q tags.later i new
@@ -78,25 +78,25 @@ pub record StaySpelled {V : Type 0} (a b : Spelling) (scan : ScanValue V) : Type
 -- what matches goes on matching when more tags spell something
 abbrev pub TagsMayCome : {V : Type 0} → Rules V → Type 0
 TagsMayCome {V} rules =
-    (t : TimetableValue) (q : BetweenValue) (a b : Spelling) (i : ℕ) (scan : ScanValue V)
+    (t : TimetableValue) (q : SetQueryValue) (a b : Spelling) (i : ℕ) (scan : ScanValue V)
     → StaySpelled a b scan → MatchesFrom rules t q a i scan → MatchesFrom rules t q b i scan
 
 -- the latest departure matters only at the source: ways to go on from a stop or in a trip don't depend on it; a journey that counts departs no later, and
 -- counts for any other latest departure that isn't before its own
-pub record CutIsTheSources (JourneyCounts : TimetableValue → BetweenValue → ℕ → JourneyValue → Type 0) : Type 0 where
-  pub onward : (t : TimetableValue) (q : BetweenValue) (until i stop time : ℕ) (x : Onward) → IsOnward t q i stop time x
+pub record CutIsTheSources (JourneyCounts : TimetableValue → SetQueryValue → ℕ → JourneyValue → Type 0) : Type 0 where
+  pub onward : (t : TimetableValue) (q : SetQueryValue) (until i stop time : ℕ) (x : Onward) → IsOnward t q i stop time x
       → IsOnward t (record q { until = until }) i stop time x
-  pub aboard : (t : TimetableValue) (q : BetweenValue) (until i trip : ℕ) (x : Aboard) → IsAboard t q i trip x
+  pub aboard : (t : TimetableValue) (q : SetQueryValue) (until i trip : ℕ) (x : Aboard) → IsAboard t q i trip x
       → IsAboard t (record q { until = until }) i trip x
-  pub is_cut : (t : TimetableValue) (q : BetweenValue) (departure : ℕ) (j : JourneyValue) → JourneyCounts t q departure j
+  pub is_cut : (t : TimetableValue) (q : SetQueryValue) (departure : ℕ) (j : JourneyValue) → JourneyCounts t q departure j
       → departure ≤ q.until
-  pub at_source : (t : TimetableValue) (q : BetweenValue) (until departure : ℕ) (j : JourneyValue) → departure ≤ until
+  pub at_source : (t : TimetableValue) (q : SetQueryValue) (until departure : ℕ) (j : JourneyValue) → departure ≤ until
       → JourneyCounts t q departure j → JourneyCounts t (record q { until = until }) departure j
 
 -- points found that match at the window's start, none of which dominates another, in order, are the answer
 abbrev pub MatchIsTheAnswer : {V : Type 0} → Rules V → Type 0
 MatchIsTheAnswer {V} rules =
-    (t : TimetableValue) (q : BetweenValue) → CanScan t q
+    (t : TimetableValue) (q : SetQueryValue) → CanScan t q
     → (start : ℕ) → IsFirstAt t q.from start
     → (tags : Spelling) (found : List (Point V))
     → Matches rules tags.journey (CountsFrom t q start) (IsPlainOf t (Contains q.targets)) (journey_value rules t) found
@@ -106,14 +106,14 @@ MatchIsTheAnswer {V} rules =
 -- past the window's end nothing follows, so empty lists match
 abbrev pub NothingFollows : {V : Type 0} → Rules V → Type 0
 NothingFollows {V} rules =
-    (t : TimetableValue) (q : BetweenValue) → CanScan t q
+    (t : TimetableValue) (q : SetQueryValue) → CanScan t q
     → (end : ℕ) → IsFirstAt t q.by end
     → (tags : Spelling) → MatchesFrom rules t q tags end (record { bag = λ _. []; labels = λ _. []; found = [] })
 
 -- there is only one answer, tags aside
 abbrev pub OneAnswer : {V : Type 0} → Rules V → Type 0
 OneAnswer {V} rules =
-    (t : TimetableValue) (q : BetweenValue) → CanScan t q
+    (t : TimetableValue) (q : SetQueryValue) → CanScan t q
     → (a b : List (Point V)) → IsAnswerBetween rules t q a → IsAnswerBetween rules t q b
     → map untagged a ≡ map untagged b
 

@@ -1,7 +1,7 @@
 pub mod Values
 pub mod Points
 pub mod Window
-pub mod Between
+pub mod SetQuery
 pub mod Continuations
 pub mod Parts
 pub mod Plain
@@ -10,13 +10,13 @@ pub mod Steps
 pub mod Bound
 pub mod LawStatements
 pub mod Nodes
-pub mod Story
+pub mod ScanRecords
 pub mod Adding
 pub mod Starts
 pub mod Hops
-pub mod Kept
+pub mod ScanState
 pub mod Nearest
-pub mod Telling
+pub mod JourneyNodes
 pub mod Answered
 pub mod Found
 pub mod Views

@@ -5,7 +5,7 @@ use Rattle.bags.specs.declared.point.Point.{Point}
 use Rattle.timetable.specs.TimetableValue.{TimetableValue}
 use Rattle.timetable.specs.JourneyValue.{JourneyValue}
 use Rattle.timetable.specs.Journeys.{connection_at}
-use Rattle.profile_scan.specs.Between.{BetweenValue}
+use Rattle.profile_scan.specs.SetQuery.{SetQueryValue}
 use Rattle.profile_scan.specs.Values.{journey_value}
 use Rattle.profile_scan.specs.Points.{Covers}
 use Rattle.profile_scan.specs.Continuations.{Onward, Aboard, IsOnward, IsAboard, CountsFrom, onward_value, aboard_value}
@@ -64,7 +64,7 @@ pub record MatchesBut {V X : Type 0} (rules : Rules V) (spelled : ℕ → Option
       ⊎ Outdone (value x)
 
 -- passengers in a trip have departed, so labels have departure 0
-pub record IsLabelled (t : TimetableValue) (q : BetweenValue) (i trip departure : ℕ) (x : Aboard) : Type 0 where
+pub record IsLabelled (t : TimetableValue) (q : SetQueryValue) (i trip departure : ℕ) (x : Aboard) : Type 0 where
   pub departed : departure ≡ 0
   pub aboard : IsAboard t q i trip x
 
@@ -75,7 +75,7 @@ pub record ScanValue (V : Type 0) : Type 0 where
   pub found : List (Point V)
 
 -- it matches every way to go on over the connections from index i on, except, at stops and in trips (there with the ride), those outdone
-pub record MatchesFrom {V : Type 0} (rules : Rules V) (t : TimetableValue) (q : BetweenValue) (tags : Spelling) (i : ℕ)
+pub record MatchesFrom {V : Type 0} (rules : Rules V) (t : TimetableValue) (q : SetQueryValue) (tags : Spelling) (i : ℕ)
     (scan : ScanValue V) : Type 0 where
   pub at_stops : (stop : ℕ) → stop < t.stops
       → MatchesBut rules tags.onward (IsOnward t q i stop) (IsPlainOnward t (Contains q.targets)) (onward_value rules t)

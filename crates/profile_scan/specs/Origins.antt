@@ -5,14 +5,14 @@ use Rattle.bags.specs.declared.point.Point.{Point}
 use Rattle.timetable.specs.declared.network.Connection.{Connection}
 use Rattle.timetable.specs.declared.network.Footpath.{Footpath}
 use Rattle.fronts.specs.Front.{Extends}
-use Rattle.profile_scan.specs.Between.{BetweenValue}
-use Rattle.profile_scan.specs.Story.{SourceValue}
+use Rattle.profile_scan.specs.SetQuery.{SetQueryValue}
+use Rattle.profile_scan.specs.ScanRecords.{SourceValue}
 use Rattle.profile_scan.specs.declared.origin.Origin.{Origin}
 use Rattle.profile_scan.specs.declared.origins.Origins.{Origins}
-use Rattle.profile_scan.specs.declared.story.SetOut.{SetOut}
+use Rattle.profile_scan.specs.declared.scan_records.SetOut.{SetOut}
 
 -- the same query from another stop
-abbrev pub from_stop : BetweenValue → ℕ → BetweenValue
+abbrev pub from_stop : SetQueryValue → ℕ → SetQueryValue
 from_stop q stop = record q { sources = stop ∷ [] }
 
 -- the stop where one sets out by a start to board a connection
@@ -44,8 +44,8 @@ abbrev pub set_outs_from : {K V : Type 0} {c : _} → Origins K V c → ℕ → 
 set_outs_from origins stop = set_outs_by (slice_get origins.each.items stop)
 
 -- both
-abbrev pub kept_from : {K V : Type 0} {c : _} → Origins K V c → ℕ → SourceValue V
-kept_from origins stop = record { found = found_from origins stop; set_outs = set_outs_from origins stop }
+abbrev pub scan_value_from : {K V : Type 0} {c : _} → Origins K V c → ℕ → SourceValue V
+scan_value_from origins stop = record { found = found_from origins stop; set_outs = set_outs_from origins stop }
 
 -- the points found from each stop are under a criterion
 abbrev pub AreUnder : {K V : Type 0} {c : _} → K → Origins K V c → Type 0

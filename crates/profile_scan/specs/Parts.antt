@@ -14,13 +14,13 @@ use Rattle.profile_scan.specs.Matching.{Spellings}
 use Rattle.profile_scan.specs.Steps.{Offer}
 use Rattle.profile_scan.specs.Adding.{Takes, IsRelabelled, AreRidden, StandsBetween, each_of, boardings_by}
 use Rattle.profile_scan.specs.Adding.{label_points, trip_points}
-use Rattle.profile_scan.specs.Story.{SourceValue, story}
-use Rattle.profile_scan.specs.Kept.{AreStops, points_at}
+use Rattle.profile_scan.specs.ScanRecords.{SourceValue, scan_records}
+use Rattle.profile_scan.specs.ScanState.{AreStops, points_at}
 use Rattle.profile_scan.specs.declared.hop.Hop.{Hop}
 use Rattle.profile_scan.specs.declared.origin.Origin.{Origin}
 use Rattle.profile_scan.specs.declared.stops.Stops.{Stops}
-use Rattle.profile_scan.specs.declared.story.Exit.{Exit}
-use Rattle.profile_scan.specs.declared.story.SetOut.{SetOut}
+use Rattle.profile_scan.specs.declared.scan_records.Exit.{Exit}
+use Rattle.profile_scan.specs.declared.scan_records.SetOut.{SetOut}
 use Rattle.profile_scan.specs.declared.trips.Trips.{Trips}
 
 -- there is such a trip, and the values of labels are admitted
@@ -37,7 +37,7 @@ pub record ChangesTrip {K V : Type 0} (rules : Rules V) (trip : ℕ) (old new : 
 abbrev pub TripTakes : {A K V : Type 0} → Rules V → ℕ → (Spellings → Offer A V) → Trips K V → Trips K V → Type 0
 TripTakes rules trip offer old new =
     (walks : List Footpath) (steps : List Step) (set_outs : List SetOut)
-    → Takes rules walks (story old.exits.items steps set_outs) (story new.exits.items steps set_outs)
+    → Takes rules walks (scan_records old.exits.items steps set_outs) (scan_records new.exits.items steps set_outs)
     offer (trip_points old.labels trip) (trip_points new.labels trip)
 
 -- the values of labels are admitted
@@ -53,7 +53,7 @@ pub record ChangesOrigin {K V : Type 0} {c : _} (criterion : K) (old new : Origi
 abbrev pub SourceTakes : {A V : Type 0} → Rules V → List Footpath → (Spellings → Offer A V) → SourceValue V → SourceValue V → Type 0
 SourceTakes rules walks offer old new =
     (exits : List Exit) (steps : List Step)
-    → Takes rules walks (story exits steps old.set_outs) (story exits steps new.set_outs) offer old.found new.found
+    → Takes rules walks (scan_records exits steps old.set_outs) (scan_records exits steps new.set_outs) offer old.found new.found
 
 -- `count` stops, and the ridden values are admitted
 pub record AreReady {K V : Type 0} (rules_of : K → Rules V) (criterion : K) (count : ℕ)
@@ -79,7 +79,7 @@ abbrev pub StopTakes : {A K V : Type 0}
     → Rules V → List Footpath → ℕ → (Spellings → Offer A V) → Stops K V → Stops K V → Type 0
 StopTakes rules walks stop offer old new =
     (exits : List Exit) (set_outs : List SetOut)
-    → Takes rules walks (story exits (steps_of old.lists) set_outs) (story exits (steps_of new.lists) set_outs)
+    → Takes rules walks (scan_records exits (steps_of old.lists) set_outs) (scan_records exits (steps_of new.lists) set_outs)
     offer (points_at old stop) (points_at new stop)
 
 -- the points of each stop take in what the footpath at an index offers them; the ridden values are those of the labels

@@ -2,7 +2,7 @@
 use Rattle.std.specs.Prelude.{◌≡◌, ◌≢◌, ℕ, ◌<◌, List, Contains, length, slice_get, slice_index_or, Some, Bool, true, false, MatchBool}
 use Rattle.timetable.specs.declared.network.Footpath.{Footpath}
 use Rattle.timetable.specs.TimetableValue.{TimetableValue}
-use Rattle.profile_scan.specs.declared.starts.Lead.{Lead}
+use Rattle.profile_scan.specs.declared.starts.StopAccess.{StopAccess}
 use Rattle.profile_scan.specs.declared.starts.Starts.{Starts}
 
 -- a Boolean says whether a stop is a source
@@ -38,16 +38,16 @@ IsFromMarked marked f = (slice_index_or marked f.from false ≡ true) × (f.to �
 abbrev pub IsLedBy : TimetableValue → List Bool → ℕ → Type 0
 IsLedBy t marked stop = (f : Footpath) × Contains t.footpaths f × IsFromMarked marked f × (f.to ≡ stop)
 
-pub record IsLeadBy (t : TimetableValue) (marked : List Bool) (stop : ℕ) (lead : Lead) : Type 0 where
+pub record IsStopAccessBy (t : TimetableValue) (marked : List Bool) (stop : ℕ) (lead : StopAccess) : Type 0 where
   pub here : lead.here ≡ slice_index_or marked stop false
   pub led : MatchBool lead.led (IsLedBy t marked stop) (IsLedBy t marked stop → ⊥)
 
 -- what is known of a stop
-pub record IsLead (t : TimetableValue) (sources : List ℕ) (stop : ℕ) (lead : Lead) : Type 0 where
+pub record IsStopAccess (t : TimetableValue) (sources : List ℕ) (stop : ℕ) (lead : StopAccess) : Type 0 where
   pub here : SaysSource sources stop lead.here
   pub led : SaysLed t sources stop lead.led
 
 -- the same for each stop
 pub record AreStarts (t : TimetableValue) (sources : List ℕ) (starts : Starts) : Type 0 where
   pub long : length starts.leads.items ≡ t.stops
-  pub each : (stop : ℕ) (lead : Lead) → slice_get starts.leads.items stop ≡ Some lead → IsLead t sources stop lead
+  pub each : (stop : ℕ) (lead : StopAccess) → slice_get starts.leads.items stop ≡ Some lead → IsStopAccess t sources stop lead

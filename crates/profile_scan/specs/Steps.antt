@@ -7,11 +7,11 @@ use Rattle.timetable.specs.declared.network.Footpath.{Footpath}
 use Rattle.timetable.specs.TimetableValue.{TimetableValue}
 use Rattle.timetable.specs.JourneyValue.{RideValue}
 use Rattle.timetable.specs.Journeys.{connection_at, IsStart, start_end, start_secs}
-use Rattle.profile_scan.specs.Between.{BetweenValue}
+use Rattle.profile_scan.specs.SetQuery.{SetQueryValue}
 use Rattle.profile_scan.specs.Values.{started}
 use Rattle.profile_scan.specs.Points.{Covers}
 use Rattle.profile_scan.specs.Continuations.{Onward, Aboard}
-use Rattle.profile_scan.specs.declared.ways.Way.{Way}
+use Rattle.profile_scan.specs.declared.final_walks.FinalWalk.{FinalWalk}
 use Rattle.profile_scan.specs.Matching.{Spelling, Spellings, Keeps, from_to, IsOutdone, ScanValue}
 
 -- an offer to a list of points. Each element of A is something that could be offered; `is_open` says which are; the other fields give the point's departure,
@@ -43,7 +43,7 @@ pub data Leaving (V : Type 0) : Type 0 where
   changes : Point V → Leaving V
 
 -- whether that way is open, given the points of the stop
-abbrev pub MayLeave : {V : Type 0} → TimetableValue → BetweenValue → ℕ → List (Point V) → Leaving V → Type 0
+abbrev pub MayLeave : {V : Type 0} → TimetableValue → SetQueryValue → ℕ → List (Point V) → Leaving V → Type 0
 MayLeave t q i bag ends = Contains q.targets (connection_at t i).to × ((connection_at t i).arr ≤ q.by)
 MayLeave t q i bag (ends_after f) =
     Contains t.footpaths f
@@ -68,7 +68,7 @@ LeavingTag tags i (changes p) tag =
     → tags.later.aboard tag ≡ Some (record { last = i; walk = x.walk; rides = x.rides })
 
 -- offered to the labels of the connection's trip: each way to leave it, if passengers may get off
-abbrev pub leavings : {V : Type 0} → Rules V → TimetableValue → BetweenValue → Spellings → ℕ → List (Point V)
+abbrev pub leavings : {V : Type 0} → Rules V → TimetableValue → SetQueryValue → Spellings → ℕ → List (Point V)
     → Offer (Leaving V) V
 leavings rules t q tags i bag = record {
   is_open = λ way. ((connection_at t i).alight ≡ true) × MayLeave t q i bag way;
@@ -113,7 +113,7 @@ pub record SettingOut (V : Type 0) : Type 0 where
   pub label : Point V
 
 -- one may set out from a source by a start of some kind; this is the only part of a step that reads the query's `from` and `until`
-pub record MaySetOutBy {V : Type 0} (IsOfKind : ℕ → Option Footpath → Type 0) (t : TimetableValue) (q : BetweenValue) (i : ℕ)
+pub record MaySetOutBy {V : Type 0} (IsOfKind : ℕ → Option Footpath → Type 0) (t : TimetableValue) (q : SetQueryValue) (i : ℕ)
     (labels : List (Point V))
     (way : SettingOut V) : Type 0 where
   pub boards : (connection_at t i).board ≡ true
@@ -127,11 +127,11 @@ pub record MaySetOutBy {V : Type 0} (IsOfKind : ℕ → Option Footpath → Type
   pub is_label : Contains labels way.label
 
 -- the start is none or one footpath to another stop, never a loop
-abbrev pub MaySetOut : {V : Type 0} → TimetableValue → BetweenValue → ℕ → List (Point V) → SettingOut V → Type 0
+abbrev pub MaySetOut : {V : Type 0} → TimetableValue → SetQueryValue → ℕ → List (Point V) → SettingOut V → Type 0
 MaySetOut t q = MaySetOutBy (IsStart t) t q
 
 -- offered to the points found: for each label, boarding the connection with it after each start
-abbrev pub settings_out : {V : Type 0} → Rules V → TimetableValue → BetweenValue → Spellings → ℕ → List (Point V)
+abbrev pub settings_out : {V : Type 0} → Rules V → TimetableValue → SetQueryValue → Spellings → ℕ → List (Point V)
     → Offer (SettingOut V) V
 settings_out rules t q tags i labels = record {
   is_open = MaySetOut t q i labels;
@@ -143,23 +143,23 @@ settings_out rules t q tags i labels = record {
 
 -- the points carried on: a point may be left out if a point found outdoes its value with the ride. Index i + 1 makes that point depart no earlier than
 -- connection i and those before it
-pub record AreCarried {V : Type 0} (rules : Rules V) (t : TimetableValue) (found : List (Point V)) (i : ℕ)
-    (points carried : List (Point V)) : Type 0 where
-  pub only : (p : Point V) → Contains carried p → Contains points p
-  pub all : (p : Point V) → Contains points p → Contains carried p
+pub record AreUnpruned {V : Type 0} (rules : Rules V) (t : TimetableValue) (found : List (Point V)) (i : ℕ)
+    (points unpruned : List (Point V)) : Type 0 where
+  pub only : (p : Point V) → Contains unpruned p → Contains points p
+  pub all : (p : Point V) → Contains points p → Contains unpruned p
       ⊎ IsOutdone rules t found (i + 1) (rules.ride p.value)
 
 -- the step of one connection, from what a scan keeps of the later ones. First the labels of its trip take in the ways to leave it where the connection ends;
 -- `between` is what tags spell then. Then all of the trip's labels, new and old, are offered to the points found, and those not outdone to every stop
-pub record IsStep {V : Type 0} (rules : Rules V) (t : TimetableValue) (q : BetweenValue) (tags : Spellings) (i : ℕ)
+pub record IsStep {V : Type 0} (rules : Rules V) (t : TimetableValue) (q : SetQueryValue) (tags : Spellings) (i : ℕ)
     (old new : ScanValue V) : Type 0 where
   pub between : Spelling
   pub kept_first : Keeps tags.earlier between
   pub kept_then : Keeps between tags.later
   pub changing : List (Point V)
-  pub changing_are : AreCarried rules t old.found i (old.bag (connection_at t i).to) changing
+  pub changing_are : AreUnpruned rules t old.found i (old.bag (connection_at t i).to) changing
   pub boarding : List (Point V)
-  pub boarding_are : AreCarried rules t new.found i (new.labels (connection_at t i).trip) boarding
+  pub boarding_are : AreUnpruned rules t new.found i (new.labels (connection_at t i).trip) boarding
   pub leaves : TakesIn rules (leavings rules t q (from_to tags.earlier between) i changing)
       (old.labels (connection_at t i).trip) (new.labels (connection_at t i).trip)
   pub other_trips : (trip : ℕ) → trip ≢ (connection_at t i).trip → new.labels trip ≡ old.labels trip
@@ -169,7 +169,7 @@ pub record IsStep {V : Type 0} (rules : Rules V) (t : TimetableValue) (q : Betwe
       (settings_out rules t q (from_to between tags.later) i (new.labels (connection_at t i).trip)) old.found new.found
 
 -- a connection at which nothing is offered: its trip has no labels, and who gets off is neither at a target nor a footpath away, and finds no point at the stop
-pub record IsIdle {V : Type 0} (c : Connection) (way : Option Way)
+pub record IsIdle {V : Type 0} (c : Connection) (way : Option FinalWalk)
     (labels bag : List (Point V)) : Type 0 where
   pub no_labels : labels ≡ []
   pub ends_here : c.alight ≡ true → (way ≡ None) × (bag ≡ [])

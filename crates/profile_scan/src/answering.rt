@@ -2,21 +2,21 @@
 
 ghost use Rattle.std.specs.Prelude.{◌≡◌, ◌++◌, ℕ, IfOk, OnOk, OnErr, reverse, take};
 ghost use Rattle.timetable.specs.Queries.{IsAskable};
-ghost use Rattle.profile_scan.specs.Between.{IsAskableBetween, question};
+ghost use Rattle.profile_scan.specs.SetQuery.{IsAskableBetween, question};
 ghost use Rattle.profile_scan.specs.Window.{window, window_of};
 ghost use Rattle.profile_scan.specs.Found.{Answers, AnswersBetween};
 ghost use Rattle.profile_scan.specs.Hops.{IsAsked};
 
-use crate::between::Between;
+use crate::final_walks::final_walks_to;
 use crate::found::{Found, in_order};
 use crate::found_between::FoundBetween;
 use crate::hop::ScanQuery;
+use crate::journey_nodes::journeys_as_nodes;
 use crate::origin::Origin;
 use crate::scan::scan_window;
+use crate::set_query::SetQuery;
 use crate::starts::starts_from;
-use crate::telling::tell_journeys;
 use crate::view::ScanView;
-use crate::ways::ways_to;
 use criteria::Criterion;
 use sources::ConnSource;
 use std::alloc::{AllocError, Global};
@@ -51,7 +51,7 @@ pub fn profile<S: ConnSource, C: Criterion>(
     ensures err { OnErr result ((n : ℕ)
         × (S.log source.new ≡ S.log source.old ++ take n (reverse (window (S.timetable source.old) query.now)))) }
 {
-    let between = Between::one(alloc, query)?;
+    let between = SetQuery::one(alloc, query)?;
     let found = profile_between(alloc, source, criterion, &between)?;
     Ok(found.of_one(query))
 }
@@ -68,7 +68,7 @@ pub fn profile_between<S: ConnSource, C: Criterion>(
     alloc: Global,
     source: &mut S,
     criterion: &C,
-    query: &Between,
+    query: &SetQuery,
 ) -> Result<FoundBetween<C>, AllocError>
     requires { IsAskableBetween (S.timetable source.old).stops (question query.now) }
     ensures timetable { S.timetable source.new ≡ S.timetable source.old }
@@ -89,12 +89,12 @@ pub fn profile_between<S: ConnSource, C: Criterion>(
         stops: &scan.state.stops,
         origin: &scan.state.origin,
     };
-    let spelled = tell_journeys(alloc, source, &view, &points)?;
+    let spelled = journeys_as_nodes(alloc, source, &view, &points)?;
     Ok(FoundBetween {
         criterion: *criterion,
         points: spelled.points,
         nodes: spelled.nodes,
-        walk: asked.ways.direct_walk(&query.sources),
+        walk: asked.final_walks.direct_walk(&query.sources),
         timetable: timetable_of(source),
         query: GhostValue::of(query),
     })
@@ -105,7 +105,7 @@ fn ask<S: ConnSource, C: Criterion>(
     alloc: Global,
     source: &S,
     criterion: &C,
-    query: &Between,
+    query: &SetQuery,
 ) -> Result<ScanQuery<C>, AllocError>
     requires { IsAskableBetween (S.timetable source.now).stops (question query.now) }
     ensures asked { IfOk result (λ asked. IsAsked (S.timetable source.now) asked) }
@@ -113,12 +113,12 @@ fn ask<S: ConnSource, C: Criterion>(
         × (question asked.query ≡ question query.now)) }
 {
     let starts = starts_from(alloc, source, &query.sources)?;
-    let ways = ways_to(alloc, source, &query.targets)?;
+    let final_walks = final_walks_to(alloc, source, &query.targets)?;
     let query = query.copy()?;
     Ok(ScanQuery {
         criterion: *criterion,
         query,
         starts,
-        ways,
+        final_walks,
     })
 }

@@ -4,13 +4,13 @@ ghost use Rattle.std.specs.Prelude.{◌≡◌, [], ℕ, List, IfOk, OnOk, Contai
 ghost use Rattle.criteria.specs.Laws.{Admits};
 ghost use Rattle.bags.specs.Dominance.{IsBag};
 ghost use Rattle.fronts.specs.Front.{Extends};
-ghost use Rattle.profile_scan.specs.Story.{SourceValue};
+ghost use Rattle.profile_scan.specs.ScanRecords.{SourceValue};
 ghost use Rattle.profile_scan.specs.Adding.{label_points};
 ghost use Rattle.profile_scan.specs.Steps.{settings_out};
 ghost use Rattle.profile_scan.specs.Bound.{IsRenewed};
 ghost use Rattle.profile_scan.specs.Hops.{IsHopOf};
 ghost use Rattle.profile_scan.specs.Starts.{AreStarts};
-ghost use Rattle.profile_scan.specs.Between.{asked_from, question};
+ghost use Rattle.profile_scan.specs.SetQuery.{asked_from, question};
 ghost use Rattle.profile_scan.specs.Parts.{AdmitsLabels, SourceTakes};
 
 use crate::bound::Bound;

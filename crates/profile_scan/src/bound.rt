@@ -5,7 +5,7 @@ ghost use Rattle.std.specs.Prelude.{◌≡◌, ◌⊎◌, ◌<◌, ◌≤◌, �
 ghost use Rattle.std.specs.Prelude.{Contains};
 ghost use Rattle.criteria.specs.Laws.{Admits, RidingWorsens};
 ghost use Rattle.bags.specs.Bag.{criterion_of, points_of};
-ghost use Rattle.profile_scan.specs.Bound.{IsLateValue, TakesPoints, TakesValue, is_bettered};
+ghost use Rattle.profile_scan.specs.Bound.{IsLateValue, TakesPoints, TakesValue, has_no_worse};
 
 use bags::Bag;
 use criteria::Criterion;
@@ -97,23 +97,23 @@ impl<C: Criterion> Bound<C> {
 /// Whether one of some values is no worse than a value (an equal one counts, unlike in `is_bettered_by` of `bags`,
 /// which asks for a strictly better one). It is `some_no_worse` of bare values, under the name of its definition in
 /// specs/Bound.antt.
-pub fn is_bettered<C: Criterion>(criterion: &C, values: &[C::V], value: &C::V) -> bool
+pub fn has_no_worse<C: Criterion>(criterion: &C, values: &[C::V], value: &C::V) -> bool
     requires values { (b : _) → Contains values.now b → Admits (C.rules criterion.now) b }
     requires value { Admits (C.rules criterion.now) value.now }
-    ensures { result ≡ is_bettered (C.rules criterion.now) values.now value.now }
+    ensures { result ≡ has_no_worse (C.rules criterion.now) values.now value.now }
 {
     if criterion.is_total() {
-        return first_betters(criterion, values, value);
+        return first_has_no_worse(criterion, values, value);
     }
     some_no_worse(criterion, values, value)
 }
 
 // The same, but the first value is asked before the others. Under a total criterion there are hardly ever others.
 #[inline(always)]
-fn first_betters<C: Criterion>(criterion: &C, values: &[C::V], value: &C::V) -> bool
+fn first_has_no_worse<C: Criterion>(criterion: &C, values: &[C::V], value: &C::V) -> bool
     requires values { (b : _) → Contains values.now b → Admits (C.rules criterion.now) b }
     requires value { Admits (C.rules criterion.now) value.now }
-    ensures { result ≡ is_bettered (C.rules criterion.now) values.now value.now }
+    ensures { result ≡ has_no_worse (C.rules criterion.now) values.now value.now }
 {
     let Some((first, others)) = values.split_first() else {
         return false;
@@ -134,7 +134,7 @@ fn stays<C: Criterion>(criterion: &C, value: &C::V, other: &C::V) -> bool
 }
 
 // Drops each value that the given one is no worse than.
-fn drop_bettered<C: Criterion>(criterion: &C, values: &mut Vec<C::V>, value: &C::V)
+fn drop_no_better<C: Criterion>(criterion: &C, values: &mut Vec<C::V>, value: &C::V)
     requires values { (b : _) → Contains values.old.items b → Admits (C.rules criterion.now) b }
     requires value { Admits (C.rules criterion.now) value.now }
     ensures { values.new.items ≡ filter (λ b. not ((C.rules criterion.now).no_worse value.now b)) values.old.items }
@@ -160,10 +160,10 @@ fn take_value<C: Criterion>(
     requires value { Admits (C.rules criterion.now) value }
     ensures { OnOk result (TakesValue (C.rules criterion.now) value values.old.items values.new.items) }
 {
-    if is_bettered(criterion, values, &value) {
+    if has_no_worse(criterion, values, &value) {
         return Ok(());
     }
-    drop_bettered(criterion, values, &value);
+    drop_no_better(criterion, values, &value);
     values.push(value)?;
     Ok(())
 }

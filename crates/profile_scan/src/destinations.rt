@@ -1,7 +1,7 @@
 //! Queries from every stop at once, to any of several targets.
 
-use crate::between::Between;
 use crate::destination::Destination;
+use crate::set_query::SetQuery;
 use std::alloc::{AllocError, Global};
 
 /// A query from every stop to any of several targets, as the platforms of a station: journeys that depart between two
@@ -19,14 +19,14 @@ pub struct Destinations {
 
 impl Destinations {
     ghost use Rattle.std.specs.Prelude.{◌≡◌, IfOk};
-    ghost use Rattle.profile_scan.specs.Between.{question};
+    ghost use Rattle.profile_scan.specs.SetQuery.{question};
     ghost use Rattle.profile_scan.specs.Destinations.{question_to, question_to_any};
 
     // The query between no source and the targets.
-    pub(crate) fn query(&self, alloc: Global) -> Result<Between, AllocError>
+    pub(crate) fn query(&self, alloc: Global) -> Result<SetQuery, AllocError>
         ensures { IfOk result (λ query. question query ≡ question_to_any self.now) }
     {
-        Ok(Between {
+        Ok(SetQuery {
             sources: Vec::new(alloc),
             targets: self.targets.clone()?,
             from: self.from,

@@ -2,11 +2,11 @@
 
 ghost use Rattle.std.specs.Prelude.{◌≡◌};
 ghost use Rattle.profile_scan.specs.Answered.{AnswerBetween};
-ghost use Rattle.profile_scan.specs.Between.{question, secs_of};
+ghost use Rattle.profile_scan.specs.SetQuery.{question, secs_of};
 
-use crate::between::Between;
 use crate::found::Found;
 use crate::nodes::Node;
+use crate::set_query::SetQuery;
 use bags::Point;
 use criteria::Criterion;
 use timetable::{Footpath, GhostValue, Query, Timetable};
@@ -23,7 +23,7 @@ pub struct FoundBetween<C: Criterion> {
     pub(crate) nodes: Vec<Node>,
     pub(crate) walk: Option<Footpath>,
     pub(crate) timetable: GhostValue<Timetable>,
-    pub(crate) query: GhostValue<Between>,
+    pub(crate) query: GhostValue<SetQuery>,
     pub(crate) ghost answered: { AnswerBetween (C.rules criterion) timetable.value (question query.value)
         points.items nodes.items walk },
 }
@@ -31,7 +31,7 @@ pub struct FoundBetween<C: Criterion> {
 impl<C: Criterion> FoundBetween<C> {
     ghost use Rattle.std.specs.Prelude.{◌≡◌, ◌<◌, length, slice_get, Some};
     ghost use Rattle.timetable.specs.TimetableValue.{TimetableValue};
-    ghost use Rattle.profile_scan.specs.Between.{between_one};
+    ghost use Rattle.profile_scan.specs.SetQuery.{single_set_query};
     ghost use Rattle.profile_scan.specs.Found.{Answers, AnswersBetween, listed_between, nodes_between};
     ghost use Rattle.profile_scan.specs.Found.{query_between, walk_between};
 
@@ -74,9 +74,9 @@ impl<C: Criterion> FoundBetween<C> {
 
     // The answer of a query, where it was asked as one between a single source and a single target.
     pub(crate) fn of_one(self, query: &Query) -> Found<C>
-        requires { query_between self ≡ between_one query.now }
+        requires { query_between self ≡ single_set_query query.now }
         ensures { (criterion : _) (t : TimetableValue)
-            → AnswersBetween criterion (C.rules criterion) t (between_one query.now) self
+            → AnswersBetween criterion (C.rules criterion) t (single_set_query query.now) self
             → Answers criterion (C.rules criterion) t query.now result }
     {
         Found {

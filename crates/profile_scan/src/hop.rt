@@ -1,8 +1,8 @@
 //! What a scan is asked, and one connection of it.
 
-use crate::between::Between;
-use crate::starts::{Lead, Starts};
-use crate::ways::{Way, Ways};
+use crate::final_walks::{FinalWalk, FinalWalks};
+use crate::set_query::SetQuery;
+use crate::starts::{Starts, StopAccess};
 use timetable::Connection;
 
 /// What a scan is asked, the same at each connection.
@@ -11,11 +11,11 @@ pub struct ScanQuery<C> {
     // by which values are compared
     pub criterion: C,
     // in a scan for all sources its list of sources is empty
-    pub query: Between,
+    pub query: SetQuery,
     // for each stop whether it is a source, and whether a footpath that isn't a loop leads there from one
     pub starts: Starts,
     // for each stop the footpath from there to the nearest target
-    pub ways: Ways,
+    pub final_walks: FinalWalks,
 }
 
 /// One connection, as a scan comes to it.
@@ -26,10 +26,10 @@ pub struct Hop<'a, V> {
     // the connection's index in the timetable
     pub place: u32,
     // how one may set out for the stop where the connection begins; read only by `Origin::set_out`
-    pub lead: Lead,
+    pub lead: StopAccess,
     // the footpath from the stop where the connection ends to the nearest target (its loop, if it is one), or `None` if
     // there is none
-    pub way: Option<Way>,
+    pub way: Option<FinalWalk>,
     // the bound, renewed before this connection is taken in: values of points found that depart no earlier than it. A
     // stop's point isn't offered to labels, nor a label to stops, if a value of the bound is no worse than the point's
     // or label's value with the ride. Empty in a scan for all sources

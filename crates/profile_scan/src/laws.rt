@@ -6,7 +6,7 @@
 ghost use Rattle.std.specs.Prelude.{◌≡◌, ◌++◌, ℕ, IfOk, OnOk, OnErr, map, reverse, take};
 ghost use Rattle.timetable.specs.TimetableValue.{TimetableValue};
 ghost use Rattle.timetable.specs.declared.query.Query.{Query};
-ghost use Rattle.profile_scan.specs.Between.{CountsBetween, OneIsPlain};
+ghost use Rattle.profile_scan.specs.SetQuery.{CountsBetween, OneIsPlain};
 ghost use Rattle.timetable.specs.Queries.{IsAskable};
 ghost use Rattle.profile_scan.specs.Answered.{IsAnswered};
 ghost use Rattle.profile_scan.specs.Found.{Answers, criterion_of_found, listed, nodes_of, query_of, timetable_of};

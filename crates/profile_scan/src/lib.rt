@@ -1,13 +1,14 @@
 //! The answer of a profile query, and the laws by which one backward scan finds it.
 //!
 //! A profile query asks for all best departures of a window: of the points (departure, value) of all journeys, those
-//! that no other dominates. `IsAnswerBetween` (specs/Between.antt) defines it. The scan goes once over the connections,
-//! from the last to the first, as the profile variant of the Connection Scan Algorithm does (Dibbelt, Pajor, Strasser,
-//! Wagner, ACM Journal of Experimental Algorithmics, 2018). `profile` is that scan, reading from any `ConnSource`,
-//! under any criterion. The window is the connections that depart at `from` or later and before `by`, since a later leg
-//! may depart after `until`. The loop is `scan::scan_window`. It reads each index of the window once, in falling order,
-//! as its clause `log` says, and calls `Scan::step`. A step returns at once if it sees that the connection can add
-//! nothing; else it renews the bound for the connection's departure, makes a `Hop` and calls `State::take`:
+//! that no other dominates. `IsAnswerBetween` (specs/SetQuery.antt) defines it. The scan goes once over the
+//! connections, from the last to the first, as the profile variant of the Connection Scan Algorithm does (Dibbelt,
+//! Pajor, Strasser, Wagner, ACM Journal of Experimental Algorithmics, 2018). `profile` is that scan, reading from any
+//! `ConnSource`, under any criterion. The window is the connections that depart at `from` or later and before `by`,
+//! since a later leg may depart after `until`. The loop is `scan::scan_window`. It reads each index of the window once,
+//! in falling order, as its clause `log` says, and calls `Scan::step`. A step returns at once if it sees that the
+//! connection can add nothing; else it renews the bound for the connection's departure, makes a `Hop` and calls
+//! `State::take`:
 //!
 //! 1. Leave the trip, if passengers may get off. The journey may end there, or one footpath on (`hop.way`):
 //!    `Trips::end` offers that to the labels of the connection's trip, with the value that `value_at_end` makes. Or
@@ -36,7 +37,7 @@
 //!
 //! `hop.bound` has values of points found that depart no earlier than the connection. 1 leaves out a point of the stop,
 //! and 3 a label, if one of these values is no worse than that point's or label's own value with the ride in this trip.
-//! What remains is `carried` (specs/Bound.antt); `AreCarried` (specs/Steps.antt) says what a step may leave out. The
+//! What remains is `unpruned` (specs/Bound.antt); `AreUnpruned` (specs/Steps.antt) says what a step may leave out. The
 //! bound is renewed before 1, so 3 doesn't see what 2 has just found. It stays empty for `Origins`, and unless the
 //! criterion says `riding_worsens`.
 //!
@@ -54,19 +55,20 @@
 //! A tag is an index: of a label, into `Trips::exits`; of a stop's point, into the steps of `Stops::lists`; of a point
 //! found, into `Origin::set_outs`, and once it is in `Found`, into its nodes. An offer's tag is the vector's length
 //! before the offer, and the record is pushed only if the offer is accepted; these vectors only grow while a scan runs,
-//! so a tag keeps its meaning. `spelling_of` (specs/Story.antt) says what a tag spells; `telling` makes nodes of it,
-//! and `journeys::extract` a journey of these.
+//! so a tag keeps its meaning. `spelling_of` (specs/ScanRecords.antt) says what a tag spells; `journey_nodes` makes
+//! nodes of it, and `journeys::extract` a journey of these.
 #![tactic(auto)]
 
 mod answering;
 mod at_source;
-mod between;
 mod bound;
 mod destination;
 mod destinations;
+mod final_walks;
 mod found;
 mod found_between;
 mod hop;
+mod journey_nodes;
 mod last_offers;
 pub mod laws;
 mod nodes;
@@ -75,22 +77,21 @@ mod origins;
 mod profiles;
 mod riding;
 mod scan;
+mod scan_records;
+mod set_query;
 mod starts;
 mod stops;
-mod story;
-mod telling;
 mod to_any;
 mod trips;
 mod view;
-mod ways;
 
 pub use answering::{profile, profile_between};
-pub use between::Between;
 pub use destination::Destination;
 pub use destinations::Destinations;
 pub use found::{Found, in_order};
 pub use found_between::FoundBetween;
 pub use nodes::Node;
 pub use profiles::{Profiles, profiles_to};
+pub use set_query::SetQuery;
 pub use sources::{ConnSource, Decoded, InPlace};
 pub use to_any::{ProfilesToAny, profiles_to_any};

@@ -5,15 +5,15 @@ ghost use Rattle.criteria.specs.Laws.{Admits, IsSecs};
 ghost use Rattle.timetable.specs.Journeys.{start_secs};
 ghost use Rattle.profile_scan.specs.Values.{started};
 ghost use Rattle.profile_scan.specs.Adding.{IsInTime, StartsFrom};
-ghost use Rattle.profile_scan.specs.Between.{question};
+ghost use Rattle.profile_scan.specs.SetQuery.{question};
 ghost use Rattle.profile_scan.specs.Hops.{KnowsSources};
 
 use crate::at_source::AtSource;
-use crate::between::Between;
 use crate::bound::Bound;
 use crate::hop::{Hop, ScanQuery};
 use crate::riding::label_at;
-use crate::story::SetOut;
+use crate::scan_records::SetOut;
+use crate::set_query::SetQuery;
 use bags::Bag;
 use criteria::Criterion;
 use fronts::Label;
@@ -29,7 +29,7 @@ pub struct Origin<C: Criterion> {
 }
 
 impl<C: Criterion> Origin<C> {
-    ghost use Rattle.profile_scan.specs.Between.{question};
+    ghost use Rattle.profile_scan.specs.SetQuery.{question};
     ghost use Rattle.std.specs.Prelude.{◌≡◌, ◌-◌, [], List, OnOk, IfSome, Contains};
     ghost use Rattle.criteria.specs.Laws.{Admits, IsSecs};
     ghost use Rattle.bags.specs.Bag.{criterion_of, points_of};
@@ -212,7 +212,7 @@ fn is_from_source<C: Criterion>(
             if walk.to == walk.from {
                 return false;
             }
-            asked.starts.lead_to(walk.from).here
+            asked.starts.access_to(walk.from).here
         },
     }
 }
@@ -220,7 +220,7 @@ fn is_from_source<C: Criterion>(
 /// The departure of a start that leads to a connection, if the query allows it.
 #[inline(always)]
 pub fn departure_with(
-    query: &Between,
+    query: &SetQuery,
     connection: &Connection,
     start: Option<Footpath>,
 ) -> Option<SourceDeparture>

@@ -20,7 +20,7 @@ pub struct Origins<C: Criterion> {
 }
 
 impl<C: Criterion> Origins<C> {
-    ghost use Rattle.profile_scan.specs.Between.{question};
+    ghost use Rattle.profile_scan.specs.SetQuery.{question};
     ghost use Rattle.std.specs.Prelude.{◌≡◌, ◌≢◌, ◌-◌, ◌<◌, [], ℕ, List, IfOk, IfSome, OnOk, vec_len, slice_get};
     ghost use Rattle.criteria.specs.Laws.{IsSecs};
     ghost use Rattle.timetable.specs.declared.network.Footpath.{Footpath};
@@ -29,7 +29,7 @@ impl<C: Criterion> Origins<C> {
     ghost use Rattle.profile_scan.specs.Steps.{settings_out};
     ghost use Rattle.profile_scan.specs.Hops.{IsHopOf};
     ghost use Rattle.profile_scan.specs.Parts.{AdmitsLabels, SourceTakes};
-    ghost use Rattle.profile_scan.specs.Origins.{AreUnder, ChangesOrigins, kept_from};
+    ghost use Rattle.profile_scan.specs.Origins.{AreUnder, ChangesOrigins, scan_value_from};
     ghost use Rattle.profile_scan.specs.Origins.{from_stop, starts_at};
 
     // Offers to the points found from a stop, for each label of the connection's trip, the point of boarding the
@@ -50,7 +50,7 @@ impl<C: Criterion> Origins<C> {
         ensures takes { OnOk result ((walks : List Footpath) → SourceTakes (C.rules asked.now.criterion) walks
             (λ tags. settings_out_after (C.rules asked.now.criterion) tags hop.now.place
             departure.time departure.start (label_points labels.now))
-            (kept_from self.old stop) (kept_from self.new stop)) }
+            (scan_value_from self.old stop) (scan_value_from self.new stop)) }
         ensures others { OnOk result ((other : ℕ) → other ≢ stop
             → slice_get self.new.each.items other ≡ slice_get self.old.each.items other) }
     {
@@ -77,7 +77,7 @@ impl<C: Criterion> Origins<C> {
             (λ tags. only_if (MayStart (from_stop (question asked.now.query) stop) hop.now.connection start)
             (settings_out_after (C.rules asked.now.criterion) tags hop.now.place
             (hop.now.connection.dep - start_secs start) start (label_points labels.now)))
-            (kept_from self.old stop) (kept_from self.new stop)) }
+            (scan_value_from self.old stop) (scan_value_from self.new stop)) }
     {
         if is_loop(start) {
             return Ok(());
@@ -95,9 +95,9 @@ impl<C: Criterion> Origins<C> {
 impl<C: Criterion> AtSource<C> for Origins<C> {
     ghost use Rattle.std.specs.Prelude.{[], ◌∷◌, ℕ};
     ghost use Rattle.bags.specs.Dominance.{IsBag};
-    ghost use Rattle.profile_scan.specs.Origins.{AreOrigins, found_from, kept_from};
+    ghost use Rattle.profile_scan.specs.Origins.{AreOrigins, found_from, scan_value_from};
 
-    ghost kept = { kept_from };
+    ghost kept = { scan_value_from };
 
     ghost sources = { λ sources stop. stop ∷ [] };
 

@@ -15,7 +15,7 @@ use criteria::Criterion;
 use sources::ConnSource;
 use std::alloc::{AllocError, Global};
 
-/// The answers from every stop, for one target, window and criterion. The scan's story of how journeys go is kept as
+/// The answers from every stop, for one target, window and criterion. The scan's records of how journeys go is kept as
 /// it is; `found_from` spells those from one stop.
 #[derive(Drop)]
 pub struct Profiles<C: Criterion> {
@@ -27,7 +27,7 @@ pub struct Profiles<C: Criterion> {
 impl<C: Criterion> Profiles<C> {
     ghost use Rattle.std.specs.Prelude.{◌≡◌, ◌≢◌, ◌<◌, IfOk, length};
     ghost use Rattle.profile_scan.specs.Destinations.{query_from};
-    ghost use Rattle.profile_scan.specs.Kept.{ways_of};
+    ghost use Rattle.profile_scan.specs.ScanState.{final_walks_of};
     ghost use Rattle.profile_scan.specs.Found.{Answers};
     ghost use Rattle.profile_scan.specs.Everywhere.{AnswerAll, criterion_of_profiles, destination_of, listed_from};
     ghost use Rattle.profile_scan.specs.Everywhere.{stops_of};
@@ -51,7 +51,7 @@ impl<C: Criterion> Profiles<C> {
 
     /// The seconds of the footpath from a stop to the target, if there is one; of the target itself those of its loop.
     pub fn direct_walk(&self, stop: u32) -> Option<u32>
-        requires { stop < length (ways_of self.now.to_any.asked.ways) }
+        requires { stop < length (final_walks_of self.now.to_any.asked.final_walks) }
         ensures { result ≡ walk_from self.now stop }
     {
         let walk = self.to_any.direct_walk(stop);

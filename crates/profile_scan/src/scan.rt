@@ -4,10 +4,10 @@ ghost use Rattle.std.specs.Prelude.{◌≡◌, ◌↔◌, None, true};
 
 use crate::at_source::AtSource;
 use crate::bound::Bound;
+use crate::final_walks::FinalWalk;
 use crate::hop::{Hop, ScanQuery};
 use crate::stops::Stops;
 use crate::trips::Trips;
-use crate::ways::Way;
 use criteria::Criterion;
 use fronts::{label_count, labels_of};
 use sources::ConnSource;
@@ -24,14 +24,14 @@ pub struct State<C: Criterion, O> {
 }
 
 impl<C: Criterion, O: AtSource<C>> State<C, O> {
-    ghost use Rattle.profile_scan.specs.Between.{asked_from, question};
+    ghost use Rattle.profile_scan.specs.SetQuery.{asked_from, question};
     ghost use Rattle.std.specs.Prelude.{◌≡◌, ◌+◌, [], ℕ, IfOk, OnOk, Contains, true};
     ghost use Rattle.profile_scan.specs.Matching.{from_to};
     ghost use Rattle.profile_scan.specs.Steps.{IsIdle, IsStep};
     ghost use Rattle.profile_scan.specs.Adding.{trip_points};
     ghost use Rattle.profile_scan.specs.Bound.{AreBounds};
-    ghost use Rattle.profile_scan.specs.Story.{spelling_of};
-    ghost use Rattle.profile_scan.specs.Kept.{HasStop, IsState, kept_by, points_at, story_of};
+    ghost use Rattle.profile_scan.specs.ScanRecords.{spelling_of};
+    ghost use Rattle.profile_scan.specs.ScanState.{HasStop, IsState, scan_value_of, points_at, scan_records_of};
     ghost use Rattle.profile_scan.specs.Hops.{IsHopOf};
     ghost use Rattle.profile_scan.specs.Starts.{AreStarts};
     ghost use Rattle.profile_scan.specs.Parts.{HasTrip};
@@ -54,7 +54,7 @@ impl<C: Criterion, O: AtSource<C>> State<C, O> {
     }
 
     // Returns true only if the connection can add nothing; false is always safe.
-    fn is_idle(&self, asked: &ScanQuery<C>, connection: &Connection, way: Option<Way>) -> bool
+    fn is_idle(&self, asked: &ScanQuery<C>, connection: &Connection, way: Option<FinalWalk>) -> bool
         requires trip { HasTrip (C.rules asked.now.criterion) connection.now.trip self.now.trips }
         requires stop { HasStop C.rules asked.now.criterion connection.now.to self.now.stops }
         ensures { result ≡ true → IsIdle connection.now way
@@ -87,9 +87,9 @@ impl<C: Criterion, O: AtSource<C>> State<C, O> {
         ensures step { OnOk result ((index : ℕ)
             → IsStep (C.rules asked.now.criterion) (S.timetable source.now)
             (asked_from O.sources (question asked.now.query) index)
-            (from_to (spelling_of (S.timetable source.now).footpaths (story_of O.kept self.old index))
-            (spelling_of (S.timetable source.now).footpaths (story_of O.kept self.new index)))
-            hop.now.place (kept_by O.kept self.old index) (kept_by O.kept self.new index)) }
+            (from_to (spelling_of (S.timetable source.now).footpaths (scan_records_of O.kept self.old index))
+            (spelling_of (S.timetable source.now).footpaths (scan_records_of O.kept self.new index)))
+            hop.now.place (scan_value_of O.kept self.old index) (scan_value_of O.kept self.new index)) }
     {
         if hop.connection.alight {
             self.trips.end(asked, hop)?;
@@ -109,7 +109,7 @@ impl<C: Criterion, O: AtSource<C>> State<C, O> {
 /// has neither a footpath to a target (a target's own loop counts) nor points.
 /// `way` is that footpath, `head` the head of the stop's list, which is 0 if it has no points. It ignores the labels of
 /// the connection's trip.
-fn alighting_leads_nowhere(connection: &Connection, way: Option<Way>, head: u32) -> bool
+fn alighting_leads_nowhere(connection: &Connection, way: Option<FinalWalk>, head: u32) -> bool
     ensures { (result ≡ true) ↔ (connection.now.alight ≡ true → (way ≡ None) × (head ≡ 0)) }
 {
     if !connection.alight {
@@ -132,12 +132,12 @@ pub struct Scan<C: Criterion, O> {
 }
 
 impl<C: Criterion, O: AtSource<C>> Scan<C, O> {
-    ghost use Rattle.profile_scan.specs.Between.{asked_from, question};
+    ghost use Rattle.profile_scan.specs.SetQuery.{asked_from, question};
     ghost use Rattle.std.specs.Prelude.{◌≡◌, ◌+◌, ℕ, OnOk};
     ghost use Rattle.profile_scan.specs.Matching.{from_to};
     ghost use Rattle.profile_scan.specs.Steps.{IsStep};
-    ghost use Rattle.profile_scan.specs.Story.{spelling_of};
-    ghost use Rattle.profile_scan.specs.Kept.{IsScan, kept_by, story_of};
+    ghost use Rattle.profile_scan.specs.ScanRecords.{spelling_of};
+    ghost use Rattle.profile_scan.specs.ScanState.{IsScan, scan_value_of, scan_records_of};
     ghost use Rattle.profile_scan.specs.Hops.{IsAsked, StandsAt};
 
     // Unless the connection at index `place` can add nothing, renews the bound and takes the connection in.
@@ -157,11 +157,11 @@ impl<C: Criterion, O: AtSource<C>> Scan<C, O> {
         ensures step { OnOk result ((index : ℕ)
             → IsStep (C.rules asked.now.criterion) (S.timetable source.now)
             (asked_from O.sources (question asked.now.query) index)
-            (from_to (spelling_of (S.timetable source.now).footpaths (story_of O.kept self.old.state index))
-            (spelling_of (S.timetable source.now).footpaths (story_of O.kept self.new.state index)))
-            place (kept_by O.kept self.old.state index) (kept_by O.kept self.new.state index)) }
+            (from_to (spelling_of (S.timetable source.now).footpaths (scan_records_of O.kept self.old.state index))
+            (spelling_of (S.timetable source.now).footpaths (scan_records_of O.kept self.new.state index)))
+            place (scan_value_of O.kept self.old.state index) (scan_value_of O.kept self.new.state index)) }
     {
-        let way = asked.ways.way_from(connection.to);
+        let way = asked.final_walks.final_walk_from(connection.to);
         if self.state.is_idle(asked, connection, way) {
             return Ok(());
         }
@@ -171,7 +171,7 @@ impl<C: Criterion, O: AtSource<C>> Scan<C, O> {
         let hop = Hop {
             connection: *connection,
             place,
-            lead: asked.starts.lead_to(connection.from),
+            lead: asked.starts.access_to(connection.from),
             way,
             bound: &self.bound.values,
         };
@@ -181,10 +181,10 @@ impl<C: Criterion, O: AtSource<C>> Scan<C, O> {
 }
 
 ghost use Rattle.std.specs.Prelude.{◌-◌, ◌++◌, ℕ, IfOk, OnOk, OnErr, take};
-ghost use Rattle.profile_scan.specs.Between.{asked_from, question};
+ghost use Rattle.profile_scan.specs.SetQuery.{asked_from, question};
 ghost use Rattle.profile_scan.specs.Hops.{IsWindow};
 ghost use Rattle.profile_scan.specs.Window.{falling};
-ghost use Rattle.profile_scan.specs.Kept.{HasFound, story_of};
+ghost use Rattle.profile_scan.specs.ScanState.{HasFound, scan_records_of};
 
 /// Scans the connections of a window, the last first. For each question, the points found match every journey that
 /// boards a connection of the window or a later one.
@@ -200,7 +200,7 @@ pub fn scan_window<S: ConnSource, C: Criterion, O: AtSource<C>>(
         O.IsUnder asked.now.criterion (S.timetable source.old).stops scan.state.origin) }
     ensures found { IfOk result (λ scan. (index : ℕ) → HasFound (C.rules asked.now.criterion)
         (S.timetable source.old) (asked_from O.sources (question asked.now.query) index) window.start
-        (story_of O.kept scan.state index) (O.kept scan.state.origin index).found) }
+        (scan_records_of O.kept scan.state index) (O.kept scan.state.origin index).found) }
     ensures log { OnOk result
         (S.log source.new ≡ S.log source.old ++ falling window.start (window.end - window.start)) }
     ensures err { OnErr result ((n : ℕ)

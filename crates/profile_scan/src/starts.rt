@@ -1,7 +1,7 @@
 //! Where one may set out: at a query's sources, and after a footpath from one.
 
 ghost use Rattle.std.specs.Prelude.{◌≡◌, ◌<◌, ℕ, IfOk, MatchBool, Some, Contains, length, slice_get};
-ghost use Rattle.profile_scan.specs.Starts.{AreMarked, AreStarts, IsFromMarked, IsLeadBy, IsLedBy};
+ghost use Rattle.profile_scan.specs.Starts.{AreMarked, AreStarts, IsFromMarked, IsStopAccessBy, IsLedBy};
 
 use fronts::copies;
 use sources::ConnSource;
@@ -10,7 +10,7 @@ use timetable::Footpath;
 
 /// How one may set out for the connections that begin at a stop.
 #[derive(Clone, Copy, Drop)]
-pub struct Lead {
+pub struct StopAccess {
     /// whether the stop is a source
     pub here: bool,
     /// whether a footpath that isn't a loop leads there from a source
@@ -21,12 +21,12 @@ pub struct Lead {
 /// source, so setting out mostly skips the footpaths.
 #[derive(Drop)]
 pub struct Starts {
-    leads: Vec<Lead>,
+    leads: Vec<StopAccess>,
 }
 
 impl Starts {
     /// How one may set out for the connections that begin at a stop.
-    pub fn lead_to(&self, stop: u32) -> Lead
+    pub fn access_to(&self, stop: u32) -> StopAccess
         requires { stop < length self.now.leads.items }
         ensures { slice_get self.now.leads.items stop ≡ Some result }
     {
@@ -73,12 +73,12 @@ fn is_led<S: ConnSource>(source: &S, marked: &[bool], stop: u32) -> bool
 }
 
 // How one may set out for the connections that begin at a stop, from the marked stops.
-fn lead_of<S: ConnSource>(source: &S, marked: &[bool], stop: u32) -> Lead
+fn access_of<S: ConnSource>(source: &S, marked: &[bool], stop: u32) -> StopAccess
     requires stop { stop < (S.timetable source.now).stops }
     requires long { length marked.now ≡ (S.timetable source.now).stops }
-    ensures { IsLeadBy (S.timetable source.now) marked.now stop result }
+    ensures { IsStopAccessBy (S.timetable source.now) marked.now stop result }
 {
-    Lead {
+    StopAccess {
         here: marked[stop as usize],
         led: is_led(source, marked, stop),
     }
@@ -96,7 +96,7 @@ pub fn starts_from<S: ConnSource>(
     let marked = marks(alloc, sources, source.stops() as usize)?;
     let mut leads = Vec::new(alloc);
     for stop in 0..source.stops() {
-        let lead = lead_of(source, &marked, stop);
+        let lead = access_of(source, &marked, stop);
         leads.push(lead)?;
     }
     Ok(Starts { leads })

@@ -2,7 +2,7 @@
 
 ghost use Rattle.std.specs.Prelude.{◌≡◌, ℕ, IfOk, replicate};
 
-use crate::bound::is_bettered;
+use crate::bound::has_no_worse;
 use crate::hop::{Hop, ScanQuery};
 use crate::last_offers::{LastOffer, none_offered};
 use crate::riding::{number_of, ride_labels};
@@ -30,11 +30,11 @@ impl<C: Criterion> Stops<C> {
     ghost use Rattle.bags.specs.declared.point.Point.{Point};
     ghost use Rattle.bags.specs.Dominance.{IsCovered};
     ghost use Rattle.profile_scan.specs.Adding.{label_points, AreWalksInto};
-    ghost use Rattle.profile_scan.specs.Bound.{carried};
+    ghost use Rattle.profile_scan.specs.Bound.{unpruned};
     ghost use Rattle.profile_scan.specs.Steps.{boardings};
-    ghost use Rattle.profile_scan.specs.Kept.{AreStops, points_at};
+    ghost use Rattle.profile_scan.specs.ScanState.{AreStops, points_at};
     ghost use Rattle.profile_scan.specs.Hops.{IsHopOf};
-    ghost use Rattle.profile_scan.specs.Between.{question};
+    ghost use Rattle.profile_scan.specs.SetQuery.{question};
     ghost use Rattle.profile_scan.specs.Parts.{AdmitsLabels, AreReady, ChangesLists, ChangesStops, StopTakes};
     ghost use Rattle.profile_scan.specs.Parts.{BoardsAfter};
     ghost use Rattle.profile_scan.specs.Parts.{BoardsAfterEach};
@@ -228,11 +228,11 @@ impl<C: Criterion> Stops<C> {
         ensures takes { OnOk result ((stop : ℕ)
             → StopTakes (C.rules asked.now.criterion) (S.timetable source.now).footpaths stop
             (λ tags. boardings (C.rules asked.now.criterion) (S.timetable source.now) tags hop.now.place stop
-            (carried (C.rules asked.now.criterion) hop.now.bound.now (label_points (label.now ∷ []))))
+            (unpruned (C.rules asked.now.criterion) hop.now.bound.now (label_points (label.now ∷ []))))
             self.old self.new) }
     {
         let value = asked.criterion.ride(&label.value);
-        if is_bettered(&asked.criterion, hop.bound, &value) {
+        if has_no_worse(&asked.criterion, hop.bound, &value) {
             return Ok(());
         }
         let ride = RiddenLabel {
@@ -264,7 +264,7 @@ impl<C: Criterion> Stops<C> {
         ensures takes { OnOk result ((stop : ℕ)
             → StopTakes (C.rules asked.now.criterion) (S.timetable source.now).footpaths stop
             (λ tags. boardings (C.rules asked.now.criterion) (S.timetable source.now) tags hop.now.place stop
-            (carried (C.rules asked.now.criterion) hop.now.bound.now (label_points labels.now)))
+            (unpruned (C.rules asked.now.criterion) hop.now.bound.now (label_points labels.now)))
             self.old self.new) }
     {
         if !hop.connection.board {

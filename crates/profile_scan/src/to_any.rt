@@ -1,7 +1,7 @@
 //! The answers from all stops to any of several targets, by one scan.
 
 ghost use Rattle.std.specs.Prelude.{◌≡◌, ◌++◌, ℕ, IfOk, OnOk, OnErr, length, reverse, slice_get, take};
-ghost use Rattle.profile_scan.specs.Between.{IsAskableBetween, question};
+ghost use Rattle.profile_scan.specs.SetQuery.{IsAskableBetween, question};
 ghost use Rattle.profile_scan.specs.Destinations.{question_to_any};
 ghost use Rattle.profile_scan.specs.Hops.{IsAsked};
 ghost use Rattle.profile_scan.specs.Window.{window_of};
@@ -10,22 +10,22 @@ ghost use Rattle.profile_scan.specs.Everywhere.{AnswerToAny, AreInOrder, asked_t
 
 use crate::answering::timetable_of;
 use crate::destinations::Destinations;
+use crate::final_walks::final_walks_to;
 use crate::found::in_order;
 use crate::found_between::FoundBetween;
 use crate::hop::ScanQuery;
+use crate::journey_nodes::journeys_as_nodes;
 use crate::origins::Origins;
 use crate::scan::{State, scan_window};
 use crate::starts::starts_from;
-use crate::telling::tell_journeys;
 use crate::view::ScanView;
-use crate::ways::ways_to;
 use bags::Point;
 use criteria::Criterion;
 use sources::ConnSource;
 use std::alloc::{AllocError, Global};
 use timetable::{Footpath, GhostValue};
 
-/// The answers from every stop to any of several targets, for one window and criterion. The scan's story of how
+/// The answers from every stop to any of several targets, for one window and criterion. The scan's records of how
 /// journeys go is kept as it is; `found_from` spells those from one stop.
 #[derive(Drop)]
 pub struct ProfilesToAny<C: Criterion> {
@@ -37,7 +37,7 @@ pub struct ProfilesToAny<C: Criterion> {
 
 impl<C: Criterion> ProfilesToAny<C> {
     ghost use Rattle.std.specs.Prelude.{◌≡◌, ◌<◌, IfOk, Contains, length};
-    ghost use Rattle.profile_scan.specs.Kept.{ways_of};
+    ghost use Rattle.profile_scan.specs.ScanState.{final_walks_of};
     ghost use Rattle.profile_scan.specs.Found.{AnswersBetween};
     ghost use Rattle.profile_scan.specs.Origins.{from_stop};
     ghost use Rattle.profile_scan.specs.Everywhere.{AnswerToAny, asked_to_any, criterion_to_any, listed_to_any};
@@ -62,10 +62,10 @@ impl<C: Criterion> ProfilesToAny<C> {
     /// The shortest footpath from a stop to a target, if there is one, and of equal ones that to the target that was
     /// named first; from a target its loop.
     pub fn direct_walk(&self, stop: u32) -> Option<Footpath>
-        requires { stop < length (ways_of self.now.asked.ways) }
+        requires { stop < length (final_walks_of self.now.asked.final_walks) }
         ensures { result ≡ walk_to_any self.now stop }
     {
-        self.asked.ways.walk_from(stop)
+        self.asked.final_walks.walk_from(stop)
     }
 
     /// Returns the answer of the query from one stop, which is no target, to any of the targets, with its journeys.
@@ -90,13 +90,13 @@ impl<C: Criterion> ProfilesToAny<C> {
             origin,
         };
         let points = self.points(stop);
-        let spelled = tell_journeys(alloc, source, &view, points)?;
+        let spelled = journeys_as_nodes(alloc, source, &view, points)?;
         let query = self.asked.query.from_stop(alloc, stop)?;
         Ok(FoundBetween {
             criterion: self.asked.criterion,
             points: spelled.points,
             nodes: spelled.nodes,
-            walk: self.asked.ways.walk_from(stop),
+            walk: self.asked.final_walks.walk_from(stop),
             timetable: timetable_of(source),
             query: GhostValue::of(&query),
         })
@@ -117,12 +117,12 @@ fn ask_from_all<S: ConnSource, C: Criterion>(
 {
     let query = destinations.query(alloc)?;
     let starts = starts_from(alloc, source, &query.sources)?;
-    let ways = ways_to(alloc, source, &query.targets)?;
+    let final_walks = final_walks_to(alloc, source, &query.targets)?;
     Ok(ScanQuery {
         criterion: *criterion,
         query,
         starts,
-        ways,
+        final_walks,
     })
 }
 

@@ -9,18 +9,18 @@ ghost use Rattle.timetable.specs.declared.network.Footpath.{Footpath};
 ghost use Rattle.timetable.specs.Journeys.{start_secs};
 ghost use Rattle.fronts.specs.Labels.{AreLabels, trips_of};
 ghost use Rattle.profile_scan.specs.Values.{started};
-ghost use Rattle.profile_scan.specs.Bound.{is_bettered, carried};
-ghost use Rattle.profile_scan.specs.Story.{IsExit};
-ghost use Rattle.profile_scan.specs.declared.story.Exit.TheVariants.{Changes};
+ghost use Rattle.profile_scan.specs.Bound.{has_no_worse, unpruned};
+ghost use Rattle.profile_scan.specs.ScanRecords.{IsExit};
+ghost use Rattle.profile_scan.specs.declared.scan_records.Exit.TheVariants.{Changes};
 ghost use Rattle.profile_scan.specs.Adding.{IsEnding, trip_points};
-ghost use Rattle.profile_scan.specs.Between.{question};
+ghost use Rattle.profile_scan.specs.SetQuery.{question};
 
-use crate::between::Between;
-use crate::bound::is_bettered;
+use crate::bound::has_no_worse;
+use crate::final_walks::FinalWalk;
 use crate::hop::{Hop, ScanQuery};
+use crate::scan_records::Exit;
+use crate::set_query::SetQuery;
 use crate::stops::Stops;
-use crate::story::Exit;
-use crate::ways::Way;
 use bags::Point;
 use criteria::Criterion;
 use fronts::{Labels, labels_of, no_labels, offer_label, some_no_worse};
@@ -35,16 +35,16 @@ pub struct Trips<C: Criterion> {
 }
 
 impl<C: Criterion> Trips<C> {
-    ghost use Rattle.profile_scan.specs.Between.{question};
+    ghost use Rattle.profile_scan.specs.SetQuery.{question};
     ghost use Rattle.std.specs.Prelude.{◌≡◌, [], ℕ, true, false, IfOk, OnOk};
     ghost use Rattle.criteria.specs.Laws.{Admits};
     ghost use Rattle.fronts.specs.Labels.{AreLabels, trips_of};
-    ghost use Rattle.profile_scan.specs.Bound.{is_bettered, carried};
-    ghost use Rattle.profile_scan.specs.Story.{IsExit};
-    ghost use Rattle.profile_scan.specs.declared.story.Exit.TheVariants.{Changes};
+    ghost use Rattle.profile_scan.specs.Bound.{has_no_worse, unpruned};
+    ghost use Rattle.profile_scan.specs.ScanRecords.{IsExit};
+    ghost use Rattle.profile_scan.specs.declared.scan_records.Exit.TheVariants.{Changes};
     ghost use Rattle.profile_scan.specs.Adding.{one_way, only_if, changes_from, endings};
     ghost use Rattle.profile_scan.specs.Adding.{trip_points};
-    ghost use Rattle.profile_scan.specs.Kept.{HasStop, points_at};
+    ghost use Rattle.profile_scan.specs.ScanState.{HasStop, points_at};
     ghost use Rattle.profile_scan.specs.Hops.{IsHop};
     ghost use Rattle.profile_scan.specs.Parts.{HasTrip, ChangesTrip, TripTakes};
 
@@ -118,7 +118,7 @@ impl<C: Criterion> Trips<C> {
             (ChangesTrip (C.rules asked.now.criterion) hop.now.connection.trip self.old self.new) }
         ensures takes { OnOk result (TripTakes (C.rules asked.now.criterion) hop.now.connection.trip
             (λ tags. only_if
-            (is_bettered (C.rules asked.now.criterion) hop.now.bound.now
+            (has_no_worse (C.rules asked.now.criterion) hop.now.bound.now
             ((C.rules asked.now.criterion).ride point.now.value) ≡ false)
             (one_way 0 point.now.value (IsExit tags (Changes hop.now.place point.now.tag))))
             self.old self.new) }
@@ -128,7 +128,7 @@ impl<C: Criterion> Trips<C> {
             return Ok(());
         }
         let ridden = asked.criterion.ride(&point.value);
-        if is_bettered(&asked.criterion, hop.bound, &ridden) {
+        if has_no_worse(&asked.criterion, hop.bound, &ridden) {
             return Ok(());
         }
         let exit = Exit::Changes {
@@ -156,7 +156,7 @@ impl<C: Criterion> Trips<C> {
             (ChangesTrip (C.rules asked.now.criterion) hop.now.connection.trip self.old self.new) }
         ensures takes { OnOk result (TripTakes (C.rules asked.now.criterion) hop.now.connection.trip
             (λ tags. changes_from tags hop.now.place hop.now.connection.arr
-            (carried (C.rules asked.now.criterion) hop.now.bound.now (points_at stops.now hop.now.connection.to)))
+            (unpruned (C.rules asked.now.criterion) hop.now.bound.now (points_at stops.now hop.now.connection.to)))
             self.old self.new) }
     {
         let head = stops.head(hop.connection.to);
@@ -185,7 +185,7 @@ struct Ending {
 
 // The end of a journey that gets off where a connection ends, if it reaches a target by `query.by`; `way` is the
 // footpath from that stop to the nearest target, which is its loop if it is a target itself.
-fn end_of(connection: &Connection, query: &Between, way: Option<Way>) -> Option<Ending>
+fn end_of(connection: &Connection, query: &SetQuery, way: Option<FinalWalk>) -> Option<Ending>
     requires arrival { IsTime connection.now.arr }
     requires secs { IfSome way (λ way. IsSecs way.secs) }
     ensures { MatchOption result ((walk : Option Footpath) → IsEnding connection.now (question query.now) way walk → ⊥)

@@ -17,7 +17,7 @@ or_and false true true e = inr (refl, refl)
 or_and false true false e = absurd (false≢true e)
 or_and false false z e = absurd (false≢true e)
 
--- what is told by cases, where the case is known
+-- what is said by cases, where the case is known
 pub where_true : (b : Bool) (P Q : Type 0) → b ≡ true → MatchBool b P Q → P
 where_true true P Q e h = h
 where_true false P Q e h = absurd (false≢true e)

@@ -128,7 +128,7 @@ pub first_below-start : {X : Type 0} (f : ℕ → Option X) → first_below f 0 
 unfolding first_below
 first_below-start f = refl
 
--- a search that looks at one place after the other
+-- a search that looks at one index after the other
 pub ruleset searches = (
   any_between-empty,
   any_between-more,
@@ -190,7 +190,7 @@ any_between-some p a b e =
     let h = any_below-some (λ k. p (a + k)) (b - a) e in
     (a + h.0, omega arith, omega (arith, h.1), h.2)
 
--- the last place below n is i, where p stands at i and at no place between
+-- the last index below n is i, where p stands at i and at no index between
 pub last_below-is : (p : ℕ → Bool) (i n : ℕ) → i < n → p i ≡ true → ((k : ℕ) → i < k → k < n → p k ≡ false) → last_below p n ≡ Some i
 unfolding last_below
 last_below-is p i zero lt e none = absurd (omega arith)
@@ -221,7 +221,7 @@ pub any_between-all : (p : ℕ → Bool) (a b : ℕ) → ((i : ℕ) → a ≤ i 
 unfolding any_between
 any_between-all p a b h = any_below-all (λ k. p (a + k)) (b - a) (λ k lt. h (a + k) (omega arith) (omega arith))
 
--- what the last place below n is
+-- what the last index below n is
 pub record IsLastBelow (p : ℕ → Bool) (n j : ℕ) : Type 0 where
   pub below : j < n
   pub stands : p j ≡ true

@@ -21,7 +21,7 @@ pub contains_cases : {X : Type 0} (x y : X) (xs : List X) → Contains (y ∷ xs
 contains_cases x y xs (zero, below, is) = inl is
 contains_cases x y xs (suc k, below, is) = inr (k, omega (arith, below), is)
 
--- what stands at a place is an element, and the other way round
+-- what stands at an index is an element, and the other way round
 pub contains_at : {X : Type 0} (xs : List X) (i : ℕ) (x : X) → slice_get xs i ≡ Some x → Contains xs x
 contains_at xs i x at = (i, slice_get_within xs i x at, get_or_from_slice_get xs i x x at)
 
@@ -108,7 +108,7 @@ slice_get-set_other (x ∷ xs) zero (suc j) y other = refl
 slice_get-set_other (x ∷ xs) (suc i) zero y other = refl
 slice_get-set_other (x ∷ xs) (suc i) (suc j) y other = slice_get-set_other xs i j y (λ e. other (ap (λ n. suc n) e))
 
--- at each place of a list something stands
+-- at each index of a list something stands
 pub at_below : {X : Type 0} (xs : List X) (i : ℕ) → i < length xs → (x : X) × (slice_get xs i ≡ Some x)
 at_below [] i below = absurd (omega (arith, below))
 at_below (x ∷ xs) zero below = (x, refl)

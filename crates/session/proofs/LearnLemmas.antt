@@ -13,13 +13,13 @@ use Rattle.epochs.proofs.GrowthLemmas.{grows_same, growths_join, published_stay}
 use Rattle.orders.specs.Ordering.{OrderValue}
 use Rattle.session_texts.specs.Requests.{AskValue, pin, release, profile, load}
 use Rattle.session.specs.declared.reply_form.ReplyForm.{ReplyForm}
-use Rattle.session.specs.Lines.{Asked, too_long, no_json, no_request, asks, IsAsked, memory_line}
+use Rattle.session.specs.Lines.{LineMeaning, too_long, no_json, no_request, asks, IsLineMeaning, memory_line}
 use Rattle.session.specs.SeatSteps.{Follows, SeatMove, answered, joined, answers_in}
-use Rattle.session.specs.Sessions.{AreTurns, LastRelease, moves_of}
-use Rattle.session.specs.Turns.{Deed, DeskState, Meets, ProfileIsMet, Turn, WantsMemory, deed_of, desk_state}
+use Rattle.session.specs.Sessions.{AreExchanges, LastRelease, moves_of}
+use Rattle.session.specs.Exchanges.{Deed, SeatState, Meets, ProfileIsMet, Exchange, WantsMemory, deed_of, seat_state}
 use Rattle.session.specs.Learning.{AreFromPublished, ArePublished, GoesOn, IsFromPublished, IsPublishedIfHeld, Learns, LearningTells}
 use Rattle.session.proofs.SeatLemmas.{answers_grow, step_grows}
-use Rattle.session.proofs.TurnLemmas.{moves_follow}
+use Rattle.session.proofs.ExchangeLemmas.{moves_follow}
 
 -- what was published stays so
 published_later : (k later : KnownHistory) (answers : List SeatAnswer) → Grows k later → ArePublished k answers → ArePublished later answers
@@ -161,7 +161,7 @@ profile_from k form None ask moves reply (inl met) held are =
     inl (met.version, met.image, subst (λ (i : ImageValue). IsPublished k met.version i) met.once.image_is once.0, met.replied)
 profile_from k form None ask moves reply (inr refused) held are = inr (refused.fault, refused.reply_is)
 
-request_from : (k : KnownHistory) (form : ReplyForm) (held : Option (ℕ × ImageValue)) (asked : Asked) (d : Deed) → Meets form held asked d
+request_from : (k : KnownHistory) (form : ReplyForm) (held : Option (ℕ × ImageValue)) (asked : LineMeaning) (d : Deed) → Meets form held asked d
     → IsPublishedIfHeld k held → ArePublished k (answers_in d.moves) → IsFromPublished k form asked d.reply
 request_from k form held too_long d met is are = tt
 request_from k form held no_json d met is are = tt
@@ -176,42 +176,42 @@ answers_in-append [] ys = refl
 answers_in-append (answered answer ∷ xs) ys = ap (λ (zs : List SeatAnswer). answer ∷ zs) (answers_in-append xs ys)
 answers_in-append (joined version ∷ xs) ys = answers_in-append xs ys
 
-asked_from : (k : KnownHistory) (form : ReplyForm) (held : Option (ℕ × ImageValue)) (asked : Asked) (t : Turn) → IsAsked form.sets t.line asked
+asked_from : (k : KnownHistory) (form : ReplyForm) (held : Option (ℕ × ImageValue)) (asked : LineMeaning) (t : Exchange) → IsLineMeaning form.sets t.line asked
     → WantsMemory asked (deed_of t.moves t.orders t.reply) ⊎ Meets form held asked (deed_of t.moves t.orders t.reply)
     → IsPublishedIfHeld k held → ArePublished k (answers_in t.moves)
-    → (t.reply ≡ memory_line) ⊎ ((asked : Asked) × IsAsked form.sets t.line asked × IsFromPublished k form asked t.reply)
+    → (t.reply ≡ memory_line) ⊎ ((asked : LineMeaning) × IsLineMeaning form.sets t.line asked × IsFromPublished k form asked t.reply)
 asked_from k form held asked t is (inl memory) published are = inl memory.0
 asked_from k form held asked t is (inr met) published are =
     inr (asked, is, request_from k form held asked (deed_of t.moves t.orders t.reply) met published are)
 
-turns_from : (k : KnownHistory) (form : ReplyForm) (number : ℕ) (a b : DeskState) (turns : List Turn)
-    → AreTurns form number a turns b → IsPublishedIfHeld k a.seat.held → ArePublished k (answers_in (moves_of turns))
-    → AreFromPublished k form turns
-turns_from k form number a b [] same held are = tt
-turns_from k form number a b (t ∷ turns) (m, turn, rest) held are =
-    let parts = published_parts k (answers_in t.moves) (answers_in (moves_of turns))
-    (subst (λ (xs : List SeatAnswer). ArePublished k xs) (answers_in-append t.moves (moves_of turns)) are) in
-    let first : (t.reply ≡ memory_line) ⊎ ((asked : Asked) × IsAsked form.sets t.line asked × IsFromPublished k form asked t.reply) =
-    elim turn.is [
+exchanges_from : (k : KnownHistory) (form : ReplyForm) (number : ℕ) (a b : SeatState) (exchanges : List Exchange)
+    → AreExchanges form number a exchanges b → IsPublishedIfHeld k a.seat.held → ArePublished k (answers_in (moves_of exchanges))
+    → AreFromPublished k form exchanges
+exchanges_from k form number a b [] same held are = tt
+exchanges_from k form number a b (t ∷ exchanges) (m, exchange, rest) held are =
+    let parts = published_parts k (answers_in t.moves) (answers_in (moves_of exchanges))
+    (subst (λ (xs : List SeatAnswer). ArePublished k xs) (answers_in-append t.moves (moves_of exchanges)) are) in
+    let first : (t.reply ≡ memory_line) ⊎ ((asked : LineMeaning) × IsLineMeaning form.sets t.line asked × IsFromPublished k form asked t.reply) =
+    elim exchange.is [
       | inl memory ↦ inl memory.0
       | inr met ↦ asked_from k form a.seat.held met.0 t met.1 met.2 held parts.0
     ] in
-    (first, turns_from k form number m b turns rest (held_published number k a.seat m.seat t.moves turn.seat held parts.0) parts.1)
+    (first, exchanges_from k form number m b exchanges rest (held_published number k a.seat m.seat t.moves exchange.seat held parts.0) parts.1)
 
--- what was answered in the turns, and by the release behind them
+-- what was answered in the exchanges, and by the release behind them
 released_too : (number : ℕ) (last b : SeatValue) → LastRelease number last b → (rest : List SeatAnswer) × (b.answers ≡ last.answers ++ rest)
 released_too number last b (inl kept) = ([], ap answers_of kept.1 ∙ sym (append-nil last.answers))
 released_too number last b (inr gave) = (gave.1.0 ∷ [], step_grows number last b gave.1.0 gave.1.2)
 
--- what turns tell, by what the seat learned in them
+-- what exchanges tell, by what the seat learned in them
 pub learning_tells : LearningTells
-learning_tells k l a b learns = λ form number asked turns last does released held.
-    let moves = answers_in (moves_of turns) in
-    let grown = answers_grow number a last.seat (moves_of turns) (moves_follow form number (desk_state a asked) last turns does) in
+learning_tells k l a b learns = λ form number asked exchanges last does released held.
+    let moves = answers_in (moves_of exchanges) in
+    let grown = answers_grow number a last.seat (moves_of exchanges) (moves_follow form number (seat_state a asked) last exchanges does) in
     let rest = released_too number last.seat b released in
     let all : b.answers ≡ a.answers ++ (moves ++ rest.0) =
     rest.1 ∙ ap (λ (xs : List SeatAnswer). xs ++ rest.0) grown ∙ append_assoc a.answers moves rest.0 in
     let same : learns.answers ≡ moves ++ rest.0 =
     append_cancel_left a.answers learns.answers (moves ++ rest.0) (sym learns.answers_are ∙ all) in
     let parts = published_parts l moves rest.0 (subst (λ (xs : List SeatAnswer). ArePublished l xs) same learns.published) in
-    turns_from l form number (desk_state a asked) last turns does held parts.0
+    exchanges_from l form number (seat_state a asked) last exchanges does held parts.0

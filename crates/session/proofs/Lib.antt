@@ -2,7 +2,7 @@ pub mod SeatLemmas
 pub mod LearnLemmas
 mod MetLemmas
 mod AskedLemmas
-pub mod TurnLemmas
+pub mod ExchangeLemmas
 mod LineLemmas
 mod LoadLemmas
 pub mod SideLemmas

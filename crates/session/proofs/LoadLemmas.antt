@@ -6,9 +6,9 @@ use Rattle.orders.specs.Ordering.{waited_value}
 use Rattle.session_texts.specs.Replies.{line_of, loaded_data}
 use Rattle.session.specs.Lines.{memory_line, order_fault_line}
 use Rattle.session.specs.SeatSteps.{joined}
-use Rattle.session.specs.Turns.{IsLoaded, NoVersionIsMet, VersionIsMet, deed_of}
+use Rattle.session.specs.Exchanges.{IsLoaded, NoVersionIsMet, VersionIsMet, deed_of}
 
--- the notice is of the version that is told
+-- the notice is of the version that is reported
 pub version_met : (number : ℕ) (a b : SeatValue) (feed : List ℕ) (version noted : ℕ) (reply : List ℕ) → noted ≡ version → JoinStep a noted b
     → (reply ≡ line_of (loaded_data feed version)) ⊎ (reply ≡ memory_line)
     → IsLoaded number a feed (deed_of (joined version ∷ []) (waited_value feed (Ok version) ∷ []) reply) b

@@ -8,13 +8,13 @@ use Rattle.epochs.specs.Seats.{SeatValue, PinStep, ReleaseStep}
 use Rattle.session_texts.specs.Replies.{pin_text, release_text}
 use Rattle.session_texts.specs.Requests.{AskValue, pin, release, profile}
 use Rattle.session.specs.declared.reply_form.ReplyForm.{ReplyForm}
-use Rattle.session.specs.Lines.{Asked, asks, memory_line, pin_fault_line}
+use Rattle.session.specs.Lines.{LineMeaning, asks, memory_line, pin_fault_line}
 use Rattle.session.specs.Profiles.{IsProfileReply}
 use Rattle.session.specs.SeatSteps.{answered}
-use Rattle.session.specs.Turns.{IsMet, MayPin, PinIsMet, PinIsRefused, ProfileIsMet, ProfileIsMetOnce, ReleaseIsRefused, replied_to}
+use Rattle.session.specs.Exchanges.{IsMet, MayPin, PinIsMet, PinIsRefused, ProfileIsMet, ProfileIsMetOnce, ReleaseIsRefused, replied_to}
 use Rattle.session.proofs.SeatLemmas.{is_pinned, is_released, pins_once, some_is_held}
 
--- a pin is told
+-- a pin is reported
 pub pin_met : {form : ReplyForm} (number : ℕ) (a m : SeatValue) (v : ℕ) (image : ImageValue) (reply : List ℕ) → PinStep a (Ok tt) m
     → HoldsInSome number m.held → m.held ≡ Some (v, image)
     → reply ≡ pin_text image.names.base v ++ 10 ∷ [] → IsMet form number a (replied_to (asks pin) reply) m
@@ -35,7 +35,7 @@ pin_refused {form} number a b fault reply step fact =
     record { moves = answered (SeatAnswer.PinRefused fault) ∷ []; meets = inr (refl, inr met); seat = (b, step, refl) }
 
 -- where memory is wanting, what was pinned is given back
-given_back : {form : ReplyForm} (number : ℕ) (asked : Asked) → MayPin asked → (a m b : SeatValue) (v : ℕ) (image : ImageValue)
+given_back : {form : ReplyForm} (number : ℕ) (asked : LineMeaning) → MayPin asked → (a m b : SeatValue) (v : ℕ) (image : ImageValue)
     (r : Result (Unit {0}) PinFault) (reply : List ℕ) → PinStep a (Ok tt) m → HoldsInSome number m.held → m.held ≡ Some (v, image)
     → ReleaseStep m r b → reply ≡ memory_line → IsMet form number a (replied_to asked reply) b
 given_back {form} number asked may a m b v image r reply step known held back fact =
@@ -48,7 +48,7 @@ given_back {form} number asked may a m b v image r reply step known held back fa
       seat = both.1;
     }
 
--- a pin that can't be told
+-- a pin that can't be reported
 pub pin_given_back : {form : ReplyForm} (number : ℕ) (a m b : SeatValue) (v : ℕ) (image : ImageValue) (r : Result (Unit {0}) PinFault) (reply : List ℕ)
     → PinStep a (Ok tt) m → HoldsInSome number m.held → m.held ≡ Some (v, image)
     → ReleaseStep m r b → reply ≡ memory_line → IsMet form number a (replied_to (asks pin) reply) b

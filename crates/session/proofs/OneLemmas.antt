@@ -7,7 +7,7 @@ use Rattle.timetable.specs.Queries.{IsFirstFault as IsFirstFaultOne}
 use Rattle.timetable.specs.declared.query.Query.{Query}
 use Rattle.timetable.specs.declared.query.QueryFault.{QueryFault}
 use Rattle.image_layout.specs.Image.{ImageValue}
-use Rattle.profile_scan.specs.Between.{BetweenValue, IsAskableBetween, between_one}
+use Rattle.profile_scan.specs.SetQuery.{SetQueryValue, IsAskableBetween, single_set_query}
 use Rattle.profile_scan.proofs.Single.{one_is_plain}
 use Rattle.journeys.specs.Questions.{Asks, IsNamed, IsRefused, NamesNone}
 use Rattle.journeys.specs.declared.question.Window.{Window}
@@ -23,7 +23,7 @@ use Rattle.session.specs.declared.reply_form.ReplyForm.{ReplyForm}
 -- the law of replies
 abbrev pub OneIsAnswered : Type 0
 OneIsAnswered = (form : _) (criterion : _) (image : ImageValue) (version : ℕ) (q : Query) (reply : List ℕ)
-    → IsAnsweredBy form criterion image version (between_one q) reply → IsAnsweredOneBy form criterion image version q reply
+    → IsAnsweredBy form criterion image version (single_set_query q) reply → IsAnsweredOneBy form criterion image version q reply
 
 -- one of a list of one
 single : {A B : Type 0} (R : A → B → Type 0) (x : A) (ys : List B) → AllZip R (x ∷ []) ys → (y : B) × (ys ≡ y ∷ []) × R x y
@@ -32,17 +32,17 @@ single R x (y ∷ []) zip = (y, refl, zip.0)
 single R x (y ∷ z ∷ zs) zip = absurd zip.1
 
 -- a question between single names is one between single stops
-pub record IsOne (names : NamesValue) (from to : List ℕ) (window : Window) (b : BetweenValue) : Type 0 where
+pub record IsOne (names : NamesValue) (from to : List ℕ) (window : Window) (b : SetQueryValue) : Type 0 where
   pub query : Query
   pub asked : Asks names from to window query
-  pub is : b ≡ between_one query
+  pub is : b ≡ single_set_query query
 
-one_question : (names : NamesValue) (from to : List ℕ) (window : Window) (b : BetweenValue)
+one_question : (names : NamesValue) (from to : List ℕ) (window : Window) (b : SetQueryValue)
     → AsksBetween names (from ∷ []) (to ∷ []) window b → IsOne names from to window b
 one_question names from to window b asks =
     let s = single (IsNamed names) from b.sources asks.sources in
     let t = single (IsNamed names) to b.targets asks.targets in
-    let with_sides : List ℕ → List ℕ → BetweenValue =
+    let with_sides : List ℕ → List ℕ → SetQueryValue =
     λ xs ys. record { sources = xs; targets = ys; from = b.from; until = b.until; by = b.by } in
     let q : Query = record { source = s.0; target = t.0; from = b.from; until = b.until; by = b.by } in
     record {
@@ -51,7 +51,7 @@ one_question names from to window b asks =
       is = ap (λ (xs : List ℕ). with_sides xs b.targets) s.1 ∙ ap (λ (ys : List ℕ). with_sides (s.0 ∷ []) ys) t.1;
     }
 
-first_of_one : (stops : ℕ) (q : Query) (fault : QueryFault) → IsFirstFault stops (between_one q) fault → IsFirstFaultOne stops q fault
+first_of_one : (stops : ℕ) (q : Query) (fault : QueryFault) → IsFirstFault stops (single_set_query q) fault → IsFirstFaultOne stops q fault
 first_of_one stops q QueryFault.UnknownStop (inl (s, has, out)) = inl (subst (λ (x : ℕ). stops ≤ x) (contains_only q.source s has) out)
 first_of_one stops q QueryFault.UnknownStop (inr (s, has, out)) = inr (subst (λ (x : ℕ). stops ≤ x) (contains_only q.target s has) out)
 first_of_one stops q QueryFault.SameStop (sources, targets, (s, is_source, is_target)) = (
@@ -78,18 +78,18 @@ refused_one image from to window QueryFault.SameStop (b, asks, first) =
       one.query,
       one.asked,
       first_of_one image.timetable.stops one.query QueryFault.SameStop
-          (subst (λ (x : BetweenValue). IsFirstFault image.timetable.stops x QueryFault.SameStop) one.is first),
+          (subst (λ (x : SetQueryValue). IsFirstFault image.timetable.stops x QueryFault.SameStop) one.is first),
     )
 refused_one image from to window QueryFault.BadWindow (b, asks, first) =
     let one = one_question image.names from to window b asks in (
       one.query,
       one.asked,
       first_of_one image.timetable.stops one.query QueryFault.BadWindow
-          (subst (λ (x : BetweenValue). IsFirstFault image.timetable.stops x QueryFault.BadWindow) one.is first),
+          (subst (λ (x : SetQueryValue). IsFirstFault image.timetable.stops x QueryFault.BadWindow) one.is first),
     )
 
 module _ (form : ReplyForm) (image : ImageValue) (version : ℕ) (one : OneAsk) (reply : List ℕ) where
-  asks_of_one : (b : BetweenValue) → AsksBetween image.names one.ask.from one.ask.to (window_of one.ask) b
+  asks_of_one : (b : SetQueryValue) → AsksBetween image.names one.ask.from one.ask.to (window_of one.ask) b
       → IsOne image.names one.from one.to (window_of one.ask) b
   asks_of_one b asks = one_question image.names one.from one.to (window_of one.ask) b
       (subst (λ (xs : List (List ℕ)). AsksBetween image.names xs (one.to ∷ []) (window_of one.ask) b) one.from_one
@@ -128,7 +128,7 @@ module _ (form : ReplyForm) (image : ImageValue) (version : ℕ) (one : OneAsk) 
         asked = asked.asked;
         short = answers.short;
         answered = law form.points one.ask.criterion image version q reply
-            (subst (λ (x : BetweenValue). IsAnsweredBy form.points one.ask.criterion image version x reply) asked.is answers.answered);
+            (subst (λ (x : SetQueryValue). IsAnsweredBy form.points one.ask.criterion image version x reply) asked.is answers.answered);
       }
 
   pub tells_of_one : OneIsAnswered → TellsOfOne form image version one reply

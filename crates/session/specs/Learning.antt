@@ -10,10 +10,10 @@ use Rattle.epochs.specs.Words.{SeatWords}
 use Rattle.orders.specs.Ordering.{OrderValue}
 use Rattle.session_texts.specs.Requests.{profile}
 use Rattle.session.specs.declared.reply_form.ReplyForm.{ReplyForm}
-use Rattle.session.specs.Lines.{Asked, asks, IsAsked, memory_line, pin_fault_line}
+use Rattle.session.specs.Lines.{LineMeaning, asks, IsLineMeaning, memory_line, pin_fault_line}
 use Rattle.session.specs.Profiles.{IsProfileReply}
-use Rattle.session.specs.Sessions.{AreTurns, LastRelease}
-use Rattle.session.specs.Turns.{DeskState, Turn, desk_state}
+use Rattle.session.specs.Sessions.{AreExchanges, LastRelease}
+use Rattle.session.specs.Exchanges.{SeatState, Exchange, seat_state}
 
 -- each version among these answers was published with that image in this history
 abbrev pub ArePublished : KnownHistory → List SeatAnswer → Type 0
@@ -42,26 +42,26 @@ pub record GoesOn {T S N : Type 0} (words : SeatWords T S N) (shelves : T) (a b 
   pub learns : Learns (words.known a) (words.shown a) (words.known b) (words.shown b)
 
 -- a profile is answered over the image that this history published as the version that the reply names; or no version could be pinned
-abbrev pub IsFromPublished : KnownHistory → ReplyForm → Asked → List ℕ → Type 0
+abbrev pub IsFromPublished : KnownHistory → ReplyForm → LineMeaning → List ℕ → Type 0
 IsFromPublished known form (asks (profile ask)) reply =
     ((version : ℕ) × (image : ImageValue) × IsPublished known version image × IsProfileReply form image version ask reply)
     ⊎ ((fault : PinFault) × (reply ≡ pin_fault_line fault))
 IsFromPublished known form _ reply = Unit {0}
 
--- each profile that is asked for in these turns is answered so, or want of memory is replied
-abbrev pub AreFromPublished : KnownHistory → ReplyForm → List Turn → Type 0
+-- each profile that is asked for in these exchanges is answered so, or want of memory is replied
+abbrev pub AreFromPublished : KnownHistory → ReplyForm → List Exchange → Type 0
 AreFromPublished known form [] = Unit {0}
-AreFromPublished known form (t ∷ turns) =
-    ((t.reply ≡ memory_line) ⊎ ((asked : Asked) × IsAsked form.sets t.line asked × IsFromPublished known form asked t.reply))
-    × AreFromPublished known form turns
+AreFromPublished known form (t ∷ exchanges) =
+    ((t.reply ≡ memory_line) ⊎ ((asked : LineMeaning) × IsLineMeaning form.sets t.line asked × IsFromPublished known form asked t.reply))
+    × AreFromPublished known form exchanges
 
--- for all turns that, with the last release after them, lead the seat from `a` to `b`: each profile in them is answered from what this history
+-- for all exchanges that, with the last release after them, lead the seat from `a` to `b`: each profile in them is answered from what this history
 -- published, if what the seat held before them was published in it
 abbrev pub TellPublished : KnownHistory → SeatValue → SeatValue → Type 0
 TellPublished known a b =
-    (form : ReplyForm) (number : ℕ) (asked : List OrderValue) (turns : List Turn) (last : DeskState)
-    → AreTurns form number (desk_state a asked) turns last → LastRelease number last.seat b → IsPublishedIfHeld known a.held
-    → AreFromPublished known form turns
+    (form : ReplyForm) (number : ℕ) (asked : List OrderValue) (exchanges : List Exchange) (last : SeatState)
+    → AreExchanges form number (seat_state a asked) exchanges last → LastRelease number last.seat b → IsPublishedIfHeld known a.held
+    → AreFromPublished known form exchanges
 
 -- a seat that learns from `a` to `b` what `Learns` says answers profiles from what was published in the history that it knows at `b`
 abbrev pub LearningTells : Type 0

@@ -2,7 +2,7 @@ pub mod FaultNumber
 pub mod SeatSteps
 pub mod Lines
 pub mod Profiles
-pub mod Turns
+pub mod Exchanges
 pub mod Sessions
 pub mod Learning
 pub mod Forms

@@ -15,18 +15,18 @@ use Rattle.session_texts.specs.declared.refusals.Refusal.{Refusal}
 use Rattle.session.specs.declared.reply.SessionReply.{SessionReply}
 use Rattle.session.specs.declared.reply.ReplyLine.{ReplyLine}
 
-pub data Asked : Type 0 where
-  too_long : Asked
-  no_json : Asked
-  no_request : Asked
-  asks : RequestValue → Asked
+pub data LineMeaning : Type 0 where
+  too_long : LineMeaning
+  no_json : LineMeaning
+  no_request : LineMeaning
+  asks : RequestValue → LineMeaning
 
 -- a line asks this, where `sets` says whether a profile may name several stops on a side
-abbrev pub IsAsked : Bool → List ℕ → Asked → Type 0
-IsAsked sets line too_long = 65_536 < length line
-IsAsked sets line no_json = (length line ≤ 65_536) × IsNoJson line
-IsAsked sets line no_request = (length line ≤ 65_536) × ((d : Data) × IsJson line d × ((request : RequestValue) → ¬ Asks sets d request))
-IsAsked sets line (asks request) = (length line ≤ 65_536) × ((d : Data) × IsJson line d × Asks sets d request)
+abbrev pub IsLineMeaning : Bool → List ℕ → LineMeaning → Type 0
+IsLineMeaning sets line too_long = 65_536 < length line
+IsLineMeaning sets line no_json = (length line ≤ 65_536) × IsNoJson line
+IsLineMeaning sets line no_request = (length line ≤ 65_536) × ((d : Data) × IsJson line d × ((request : RequestValue) → ¬ Asks sets d request))
+IsLineMeaning sets line (asks request) = (length line ≤ 65_536) × ((d : Data) × IsJson line d × Asks sets d request)
 
 abbrev pub refusal_line : Refusal → List ℕ
 refusal_line refusal = error_line (refusal_number refusal) (refusal_name refusal)

@@ -2,7 +2,7 @@
 use Rattle.std.specs.Prelude.{◌≡◌, ◌⊎◌, ◌-◌, ℕ, List}
 use Rattle.timetable.specs.declared.query.QueryFault.{QueryFault}
 use Rattle.image_layout.specs.Image.{HasImage, ImageValue}
-use Rattle.profile_scan.specs.Between.{BetweenValue, IsAskableBetween}
+use Rattle.profile_scan.specs.SetQuery.{SetQueryValue, IsAskableBetween}
 use Rattle.journeys.specs.declared.question.Window.{Window}
 use Rattle.station_answers.specs.Naming.{AsksBetween, IsFaultBetween}
 use Rattle.session_texts.specs.Requests.{AskValue}
@@ -22,7 +22,7 @@ pub record IsNoQuery (image : ImageValue) (ask : AskValue) (reply : List ℕ) : 
 
 -- the request is a query of this image, but its window is longer than windows may be, and the reply says that it is none
 pub record IsTooLong (form : ReplyForm) (image : ImageValue) (ask : AskValue) (reply : List ℕ) : Type 0 where
-  pub query : BetweenValue
+  pub query : SetQueryValue
   pub can_be : IsAskableBetween image.timetable.stops query
   pub asked : AsksBetween image.names ask.from ask.to (window_of ask) query
   pub longer : IsLonger form.longest (ask.by - ask.after)
@@ -30,7 +30,7 @@ pub record IsTooLong (form : ReplyForm) (image : ImageValue) (ask : AskValue) (r
 
 -- the request is a query of this image, with a window that isn't too long, and the reply answers it
 pub record AnswersQuery (form : ReplyForm) (image : ImageValue) (version : ℕ) (ask : AskValue) (reply : List ℕ) : Type 0 where
-  pub query : BetweenValue
+  pub query : SetQueryValue
   pub can_be : IsAskableBetween image.timetable.stops query
   pub asked : AsksBetween image.names ask.from ask.to (window_of ask) query
   pub short : ¬ (IsLonger form.longest (ask.by - ask.after))

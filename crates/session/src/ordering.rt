@@ -5,15 +5,15 @@ ghost use Rattle.epochs.specs.Seats.{JoinStep};
 ghost use Rattle.orders.specs.Ordering.{OrderValue};
 ghost use Rattle.session.specs.Learning.{GoesOn};
 ghost use Rattle.session.specs.Lines.{memory_line, text_of_reply};
-ghost use Rattle.session.specs.Turns.{AgreeOnNotices, Deed, IsLoaded, OrderIsMet};
+ghost use Rattle.session.specs.Exchanges.{AgreeOnNotices, Deed, IsLoaded, OrderIsMet};
 
-use crate::desk::Desk;
 use crate::reply::SessionReply;
+use crate::session_server::SessionServer;
 use epochs::Versions;
 use orders::Orders;
 use session_texts::{Refusal, load_line, loaded_line};
 
-impl<'a, N: Drop, T: Versions<Notice = N>, G> Desk<'a, T, G> {
+impl<'a, N: Drop, T: Versions<Notice = N>, G> SessionServer<'a, T, G> {
     /// Orders the feed. The reply is made first, so that no order is put for whose reply there is no memory.
     pub(crate) fn order_feed<O: Orders>(&self, orders: &mut O, feed: &str) -> SessionReply
         ensures route { O.route orders.new ≡ O.route orders.old }
@@ -30,8 +30,8 @@ impl<'a, N: Drop, T: Versions<Notice = N>, G> Desk<'a, T, G> {
         }
     }
 
-    /// Orders the feed and waits for its version. The seat joins the notice of that version before the client is told
-    /// of it, so that no later pin by this seat gives an older one.
+    /// Orders the feed and waits for its version. The seat joins the notice of that version before the client is
+    /// reported of it, so that no later pin by this seat gives an older one.
     pub(crate) fn load_feed<O: Orders<Notice = N>>(
         &self,
         seat: &mut T::Seat,

@@ -4,14 +4,14 @@ ghost use Rattle.std.specs.Prelude.{◌≡◌};
 ghost use Rattle.session_texts.specs.Requests.{pin, release};
 ghost use Rattle.session.specs.Learning.{GoesOn};
 ghost use Rattle.session.specs.Lines.{asks, text_of_reply};
-ghost use Rattle.session.specs.Turns.{IsMet, replied_to};
+ghost use Rattle.session.specs.Exchanges.{IsMet, replied_to};
 
-use crate::desk::Desk;
 use crate::reply::SessionReply;
+use crate::session_server::SessionServer;
 use epochs::Versions;
 use session_texts::{Refusal, pin_line, release_line};
 
-impl<'a, T: Versions, G> Desk<'a, T, G> {
+impl<'a, T: Versions, G> SessionServer<'a, T, G> {
     /// Pins the current version, and names it in the reply. If there is no memory for the reply, the version is given
     /// back.
     pub(crate) fn pin(&self, seat: &mut T::Seat) -> SessionReply

@@ -2,29 +2,29 @@
 
 ghost use Rattle.std.specs.Prelude.{◌≡◌, ◌⊎◌, MatchResult, None};
 ghost use Rattle.std.specs.Arc.{arc_value};
-ghost use Rattle.profile_scan.specs.Between.{IsAskableBetween, question};
+ghost use Rattle.profile_scan.specs.SetQuery.{IsAskableBetween, question};
 ghost use Rattle.station_answers.specs.Naming.{AsksBetween, IsNoQuestion};
 ghost use Rattle.session_texts.specs.Requests.{ask_value, profile};
 ghost use Rattle.session.specs.Learning.{GoesOn};
 ghost use Rattle.session.specs.Lines.{asks, memory_line, text_of_reply};
 ghost use Rattle.session.specs.Profiles.{IsProfileReply, window_of};
-ghost use Rattle.session.specs.Turns.{IsMet, replied_to};
+ghost use Rattle.session.specs.Exchanges.{IsMet, replied_to};
 
-use crate::desk::Desk;
 use crate::reply::SessionReply;
 use crate::reply_form::ReplyForm;
+use crate::session_server::SessionServer;
 use answer_replies::reply_by_name;
 use epochs::{Edition, Versions};
 use image_verifier::Verified;
 use journeys::Window;
 use orders::Gate;
-use profile_scan::Between;
+use profile_scan::SetQuery;
 use session_texts::{Ask, Refusal};
 use station_answers::{NoQuestion, question_between};
 use std::alloc::Global;
 use timetable::QueryFault;
 
-impl<'a, T: Versions, G: Gate> Desk<'a, T, G> {
+impl<'a, T: Versions, G: Gate> SessionServer<'a, T, G> {
     /// Answers from the version that the seat holds. If it holds none, the current one is pinned for this answer, and
     /// released after it.
     pub(crate) fn answer_profile(&self, seat: &mut T::Seat, ask: &Ask<'_>) -> SessionReply
@@ -97,7 +97,7 @@ fn answer_from<G: Gate>(
 }
 
 // The query that a profile asks of an image, from any of its stops to any others.
-fn question_of(alloc: Global, image: &Verified, ask: &Ask<'_>) -> Result<Between, NoQuestion>
+fn question_of(alloc: Global, image: &Verified, ask: &Ask<'_>) -> Result<SetQuery, NoQuestion>
     ensures { MatchResult result
         (λ query. IsAskableBetween image.now.timetable.stops (question query)
         × AsksBetween image.now.names (ask_value ask.now).from (ask_value ask.now).to (window_of (ask_value ask.now))

@@ -1,4 +1,4 @@
-//! Sessions: turn after turn.
+//! Sessions: exchange after exchange.
 
 ghost use Rattle.std.specs.Prelude.{◌≡◌, ◌<◌, ◌-◌, ◌^◌, ℕ, List, None, MatchResult, take};
 ghost use Rattle.std.specs.Io.KnownBytes.{Appends};
@@ -8,10 +8,10 @@ ghost use Rattle.epochs.specs.Seats.{SeatValue};
 ghost use Rattle.session.specs.Forms.{bare};
 ghost use Rattle.session.specs.Learning.{GoesOn, TellPublished};
 ghost use Rattle.session.specs.Sessions.{LastRelease, Serves, state_of};
-ghost use Rattle.session.specs.Turns.{AgreeOnNotices, Turn, TurnsTo, desk_state};
+ghost use Rattle.session.specs.Exchanges.{AgreeOnNotices, Exchange, ExchangeLeadsTo, seat_state};
 
-use crate::desk::{Desk, Streams};
 use crate::fault::{Ended, SessionFault};
+use crate::session_server::{SessionServer, Streams};
 use epochs::Versions;
 use lines::{Counted, Line, LineReader, NextLine, WriteFailed};
 use orders::{Gate, Orders};
@@ -21,8 +21,8 @@ use std::io::{Read, Write};
 /// How many requests of a session are answered.
 pub const MOST_REQUESTS: u32 = 1_000_000;
 
-/// Serves a session as [`Desk::serve`] does, with the parts of a desk and of its streams one by one. Its replies are
-/// bare.
+/// Serves a session as [`SessionServer::serve`] does, with the parts of a server and of its streams one by one. Its
+/// replies are bare.
 pub fn serve<
     In: Read,
     Out: Write,
@@ -50,17 +50,17 @@ pub fn serve<
     ensures session { (last : SeatValue) × LastRelease (T.words.number seat.old) last (T.words.shown seat.new)
         × Serves bare (T.words.number seat.old) result
         (state_of In.remaining Out.contents reader.old writer.old
-        (desk_state (T.words.shown seat.old) (O.asked orders.old)))
-        (state_of In.remaining Out.contents reader.new writer.new (desk_state last (O.asked orders.new))) }
+        (seat_state (T.words.shown seat.old) (O.asked orders.old)))
+        (state_of In.remaining Out.contents reader.new writer.new (seat_state last (O.asked orders.new))) }
     ensures stops { StopsAtFailure reader.old reader.new × StopsAtFailure writer.old writer.new }
 {
-    let desk = Desk::new(alloc, shelves, gate);
-    let outcome = desk.answer_lines(reader, writer, seat, orders);
-    desk.release_last(seat);
+    let session_server = SessionServer::new(alloc, shelves, gate);
+    let outcome = session_server.answer_lines(reader, writer, seat, orders);
+    session_server.release_last(seat);
     outcome
 }
 
-impl<'a, N: Drop, T: Versions<Notice = N>, G: Gate> Desk<'a, T, G> {
+impl<'a, N: Drop, T: Versions<Notice = N>, G: Gate> SessionServer<'a, T, G> {
     /// Answers the lines that the reader gives, until there are no more, a line goes on for too long, a read or a write
     /// fails, or a million lines are answered. Then what the seat holds is given back.
     pub fn serve<In: Read, Out: Write, O: Orders<Notice = N>>(
@@ -80,9 +80,9 @@ impl<'a, N: Drop, T: Versions<Notice = N>, G: Gate> Desk<'a, T, G> {
         ensures session { (last : SeatValue) × LastRelease (T.words.number seat.old) last (T.words.shown seat.new)
             × Serves self.now.form (T.words.number seat.old) result
             (state_of In.remaining Out.contents streams.old.reader streams.old.writer
-            (desk_state (T.words.shown seat.old) (O.asked orders.old)))
+            (seat_state (T.words.shown seat.old) (O.asked orders.old)))
             (state_of In.remaining Out.contents streams.new.reader streams.new.writer
-            (desk_state last (O.asked orders.new))) }
+            (seat_state last (O.asked orders.new))) }
         ensures stops { StopsAtFailure streams.old.reader streams.new.reader
             × StopsAtFailure streams.old.writer streams.new.writer }
     {
@@ -91,7 +91,7 @@ impl<'a, N: Drop, T: Versions<Notice = N>, G: Gate> Desk<'a, T, G> {
         outcome
     }
 
-    // Gives back what the seat holds, if anything. If the seat turns out to be lost, nobody is told.
+    // Gives back what the seat holds, if anything. If the seat turns out to be lost, nobody is notified.
     fn release_last(&self, seat: &mut T::Seat)
         requires { T.words.fits self.now.shelves.now seat.old }
         ensures seat { GoesOn T.words self.now.shelves.now seat.old seat.new }
@@ -118,9 +118,9 @@ impl<'a, N: Drop, T: Versions<Notice = N>, G: Gate> Desk<'a, T, G> {
         ensures route { O.route orders.new ≡ O.route orders.old }
         ensures session { Serves self.now.form (T.words.number seat.old) result
             (state_of In.remaining Out.contents reader.old writer.old
-            (desk_state (T.words.shown seat.old) (O.asked orders.old)))
+            (seat_state (T.words.shown seat.old) (O.asked orders.old)))
             (state_of In.remaining Out.contents reader.new writer.new
-            (desk_state (T.words.shown seat.new) (O.asked orders.new))) }
+            (seat_state (T.words.shown seat.new) (O.asked orders.new))) }
         ensures stops { StopsAtFailure reader.old reader.new × StopsAtFailure writer.old writer.new }
     {
         let mut lines = LineReader::new(self.alloc);
@@ -166,16 +166,16 @@ impl<'a, N: Drop, T: Versions<Notice = N>, G: Gate> Desk<'a, T, G> {
         ensures failures { MatchResult result
             (λ _. failures_of writer.new ≡ failures_of writer.old)
             (λ _. HasFailed writer.old writer.new) }
-        ensures turn { (l : List ℕ) → ShowsLine line.entry l
-            → (t : Turn) × (t.line ≡ l) × TurnsTo self.now.form (T.words.number seat.old)
-            (desk_state (T.words.shown seat.old) (O.asked orders.old)) t
-            (desk_state (T.words.shown seat.new) (O.asked orders.new))
+        ensures exchange { (l : List ℕ) → ShowsLine line.entry l
+            → (t : Exchange) × (t.line ≡ l) × ExchangeLeadsTo self.now.form (T.words.number seat.old)
+            (seat_state (T.words.shown seat.old) (O.asked orders.old)) t
+            (seat_state (T.words.shown seat.new) (O.asked orders.new))
             × MatchResult result
             (λ _. Appends (Out.contents (inner_of writer.old)) (Out.contents (inner_of writer.new)) t.reply)
             (λ _. (n : ℕ) × Appends (Out.contents (inner_of writer.old)) (Out.contents (inner_of writer.new))
             (take n t.reply)) }
     {
-        let reply = self.turn(line, seat, orders);
+        let reply = self.exchange(line, seat, orders);
         let written = writer.write_line(reply.bytes());
         if reply.has_scanned() {
             self.gate.leave();

@@ -75,7 +75,7 @@ one_name_of key d names p =
     stands_text : (key : List ℕ) (d value : Data) (name : List ℕ) → get key d ≡ Some value → as_str value ≡ Some name → text_at key d ≡ Some name
     stands_text key d value name at is = rw at is
 
--- no text stands at a place
+-- no text stands at an index
 pub no_text : (ds : List Data) (i : ℕ) (d : Data) (texts : List (List ℕ)) → i < length ds → as_str (get_or ds i d) ≡ None
     → AreTexts (items_of ds) texts → ⊥
 no_text [] i d texts lt none are = absurd (omega (arith, lt))
@@ -83,7 +83,7 @@ no_text (x ∷ xs) i d [] lt none are = absurd are
 no_text (x ∷ xs) zero d (t ∷ ts) lt none are = let some = are.0 in cc
 no_text (x ∷ xs) (suc i) d (t ∷ ts) lt none are = no_text xs i d ts (omega (arith, lt)) none are.1
 
--- the text at a place
+-- the text at an index
 text_there : (ds : List Data) (i : ℕ) (d : Data) (e : List ℕ) (texts : List (List ℕ)) → i < length ds → AreTexts (items_of ds) texts
     → as_str (get_or ds i d) ≡ Some (get_or texts i e)
 text_there [] i d e texts lt are = absurd (omega (arith, lt))
@@ -202,15 +202,15 @@ one_more_read vs i v text before after lt is some read new pushed =
     }
 
 -- what is read of an array tells its side
-pub array_told : {A : Type 0} (shows : A → List (List ℕ)) (d : Data) (ds : List Data) (o : Option A) → as_array d ≡ Some (items_of ds)
+pub array_is_side : {A : Type 0} (shows : A → List (List ℕ)) (d : Data) (ds : List Data) (o : Option A) → as_array d ≡ Some (items_of ds)
     → 1 ≤ length ds → length ds ≤ 1_000
     → MatchOption o ((texts : List (List ℕ)) → AreTexts (items_of ds) texts → AllPairs ◌≢◌ texts → ⊥)
     (λ (texts : A). AreTexts (items_of ds) (shows texts) × AllPairs ◌≢◌ (shows texts))
     → MatchOption o ((names : List (List ℕ)) → ¬ NamesSide true d names) (λ (names : A). NamesSide true d (shows names))
-array_told shows d ds None is some few none = λ names side.
+array_is_side shows d ds None is some few none = λ names side.
     let texts = texts_in true d (items_of ds) names is side in
     none names texts.0 texts.1.once
-array_told shows d ds (Some texts) is some few read = array_side d ds (shows texts) is some few read
+array_is_side shows d ds (Some texts) is some few read = array_side d ds (shows texts) is some few read
 
 -- a text is among others, or isn't
 pub text_among : (texts read : List (Bor (List ℕ))) (text : Bor (List ℕ)) → read ≡ texts

@@ -11,18 +11,18 @@ use Rattle.version_core.specs.declared.event.Reply.{Reply}
 use Rattle.version_core.specs.declared.state.Worker.{Worker}
 use Rattle.version_core.specs.State.{State, start, newest}
 use Rattle.version_core.specs.Steps.{Step}
-use Rattle.version_core.specs.Kept.{KeepsInvariants}
+use Rattle.version_core.specs.Invariants.{KeepsInvariants}
 use Rattle.version_core.proofs.Runs.{reached_kept, list_grows_with_replies}
 use Rattle.shelf_steps.specs.declared.edition.Edition.{Edition}
 use Rattle.shelf_steps.specs.declared.views.KnownHistory.{KnownHistory}
 use Rattle.shelf_steps.specs.declared.views.WorkerView.{WorkerView}
 use Rattle.shelf_steps.specs.declared.views.LoaderView.{LoaderView}
 use Rattle.version_core.specs.Shown.{WorkerShows}
-use Rattle.shelf_steps.specs.Course.{Course, Goes, extended, all_of, Begins, Happened, image_of, IsEdition}
-use Rattle.shelf_steps.specs.Course.{note_of, notes_in, join_of, joined_by, HasDoneNothing, IsOfSixteen, AreOfSixteen}
+use Rattle.shelf_steps.specs.EventHistory.{EventHistory, LeadsToItsState, extended, all_of, IsKnownBeginning, Happened, image_of, IsEdition}
+use Rattle.shelf_steps.specs.EventHistory.{note_of, notes_in, join_of, joined_by, HasDoneNothing, IsOfSixteen, AreOfSixteen}
 use Rattle.shelf_steps.specs.Seats.{HasEdition, WorkerFits, LoaderFits}
 
-pub kept_of : (c : Course) → Goes c → KeepsInvariants c.state
+pub kept_of : (c : EventHistory) → LeadsToItsState c → KeepsInvariants c.state
 kept_of c g = reached_kept c.state (c.events, record { replies = c.replies; run = g.run })
 
 pub none_snoc : (a : Option ℕ) (es : List Event) (e : Event) → actor e ≢ a → NoneOf a es → NoneOf a (es ++ e ∷ [])
@@ -115,8 +115,9 @@ module _ {A : Type 0} where
   pub prefix_snoc : (xs ys : List A) (a : A) → IsPrefix xs ys → IsPrefix xs (ys ++ a ∷ [])
   prefix_snoc xs ys a p = prefix_trans xs ys (ys ++ a ∷ []) p (a ∷ [], refl)
 
-module _ (c : Course) (e : Event) (r : Reply) (t : State) (images : List ImageValue) where
-  pub begins_longer : (k : KnownHistory) (a : Option ℕ) → actor e ≢ a → IsPrefix c.images images → Begins k a c → Begins k a (extended c e r t images)
+module _ (c : EventHistory) (e : Event) (r : Reply) (t : State) (images : List ImageValue) where
+  pub begins_longer : (k : KnownHistory) (a : Option ℕ) → actor e ≢ a → IsPrefix c.images images → IsKnownBeginning k a c
+      → IsKnownBeginning k a (extended c e r t images)
   begins_longer k a other more b = record {
     events = (
       b.events.0 ++ e ∷ [],
@@ -128,7 +129,7 @@ module _ (c : Course) (e : Event) (r : Reply) (t : State) (images : List ImageVa
     images = prefix_trans k.images c.images images b.images more;
   }
 
-  pub happened : (k : KnownHistory) → Begins k (actor e) c → Goes (extended c e r t images) → IsPrefix c.images images
+  pub happened : (k : KnownHistory) → IsKnownBeginning k (actor e) c → LeadsToItsState (extended c e r t images) → IsPrefix c.images images
       → Happened k e r (all_of (extended c e r t images))
   happened k b g more = record {
     state = t;
@@ -138,8 +139,8 @@ module _ (c : Course) (e : Event) (r : Reply) (t : State) (images : List ImageVa
     images = prefix_trans k.images c.images images b.images more;
   }
 
-  pub goes_on : Goes c → Step c.state e r t → IsOfSixteen e → length images ≡ newest t
-      → ((i edition : ℕ) → slice_get t.editions i ≡ Some edition → edition ≡ i) → Goes (extended c e r t images)
+  pub goes_on : LeadsToItsState c → Step c.state e r t → IsOfSixteen e → length images ≡ newest t
+      → ((i edition : ℕ) → slice_get t.editions i ≡ Some edition → edition ≡ i) → LeadsToItsState (extended c e r t images)
   goes_on g stepped one many numbered = record {
     run = list_grows_with_replies start c.state t c.events (c.events ++ e ∷ []) e c.replies (c.replies ++ r ∷ []) r g.run refl refl stepped;
     workers = sixteen_snoc c.events e g.workers one;
@@ -147,13 +148,13 @@ module _ (c : Course) (e : Event) (r : Reply) (t : State) (images : List ImageVa
     numbered = numbered;
   }
 
-pub goes_same : (c : Course) (e : Event) (r : Reply) (t : State) → Goes c → Step c.state e r t → IsOfSixteen e
-    → t.editions ≡ c.state.editions → Goes (extended c e r t c.images)
+pub goes_same : (c : EventHistory) (e : Event) (r : Reply) (t : State) → LeadsToItsState c → Step c.state e r t → IsOfSixteen e
+    → t.editions ≡ c.state.editions → LeadsToItsState (extended c e r t c.images)
 goes_same c e r t g stepped one same =
     goes_on c e r t c.images g stepped one (g.as_many ∙ sym (ap (λ (l : List ℕ). length l) same))
     (λ i edition at. g.numbered i edition (ap (λ (l : List ℕ). slice_get l i) (sym same) ∙ at))
 
-pub begins_all : (c : Course) (a : Option ℕ) → Begins (all_of c) a c
+pub begins_all : (c : EventHistory) (a : Option ℕ) → IsKnownBeginning (all_of c) a c
 begins_all c a = record { events = ([], append-nil c.events, tt); replies = prefix_same c.replies; images = prefix_same c.images }
 
 image_later : (images more : List ImageValue) (v : ℕ) (x : ImageValue) → IsPrefix images more → image_of images v ≡ Some x → image_of more v ≡ Some x
@@ -172,10 +173,10 @@ has_later images more (Worker.Looked v k) edition p h = h
 has_later images more (Worker.Late k) edition p h = h
 
 -- what another worker knows after a step that leaves it alone
-pub other_fits : (c d : Course) (u : WorkerView)
+pub other_fits : (c d : EventHistory) (u : WorkerView)
     → slice_get d.state.workers u.number ≡ slice_get c.state.workers u.number
     → get_or d.state.seen u.number 0 ≡ get_or c.state.seen u.number 0
-    → c.state.current ≤ d.state.current → IsPrefix c.images d.images → Begins u.known (Some u.number) d
+    → c.state.current ≤ d.state.current → IsPrefix c.images d.images → IsKnownBeginning u.known (Some u.number) d
     → joined_by u.number d.events ≡ joined_by u.number c.events → WorkerFits c u → WorkerFits d u
 other_fits c d u now seen up more known joined f = record {
   shows = record { now = now ∙ f.shows.now; seen = seen ∙ f.shows.seen };
@@ -187,7 +188,7 @@ other_fits c d u now seen up more known joined f = record {
 }
 
 -- what a worker knows after a step of its own, which takes in no notice
-pub worker_next : (c d : Course) (e : Event) (v v' : WorkerView) → WorkerFits c v → d.events ≡ c.events ++ e ∷ [] → join_of v.number e ≡ []
+pub worker_next : (c d : EventHistory) (e : Event) (v v' : WorkerView) → WorkerFits c v → d.events ≡ c.events ++ e ∷ [] → join_of v.number e ≡ []
     → v'.known ≡ all_of d → (v'.number ≡ v.number) × (v'.joined ≡ v.joined)
     → WorkerShows v'.number v'.now v'.seen d.state → (v'.last ≤ d.state.current) × (v'.last ≤ v'.seen)
     → (v'.passed ≡ true → v'.last < d.state.current) → HasEdition d.images v'.now v'.edition → WorkerFits d v'
@@ -196,13 +197,13 @@ worker_next c d e v v' f more none known kept shows last passed edition = record
   last = last;
   passed = passed;
   edition = edition;
-  known = subst (λ (x : KnownHistory). Begins x (Some v'.number) d) (sym known) (begins_all d (Some v'.number));
+  known = subst (λ (x : KnownHistory). IsKnownBeginning x (Some v'.number) d) (sym known) (begins_all d (Some v'.number));
   joined = kept.1 ∙ (f.joined ∙ (sym (ap (λ (es : List Event). joined_by v.number es) more ∙ joined_same v.number c.events e none)
       ∙ ap (λ (n : ℕ). joined_by n d.events) (sym kept.0)));
 }
 
 -- what the loader knows after a step of its own, which gives no notice
-pub loader_next : (c d : Course) (e : Event) (l l' : LoaderView) → LoaderFits c l → d.events ≡ c.events ++ e ∷ [] → note_of e ≡ 0 → l'.known ≡ all_of d
+pub loader_next : (c d : EventHistory) (e : Event) (l l' : LoaderView) → LoaderFits c l → d.events ≡ c.events ++ e ∷ [] → note_of e ≡ 0 → l'.known ≡ all_of d
     → l'.notes ≡ l.notes → length d.images ≡ newest d.state
     → l'.current ≡ d.state.current → l'.current_shelf ≡ d.state.current_shelf → l'.shelves ≡ d.state.shelves → LoaderFits d l'
 loader_next c d e l l' f more none known notes as_many current current_shelf shelves = record {
@@ -214,12 +215,12 @@ loader_next c d e l l' f more none known notes as_many current current_shelf she
         ∙ as_many;
   };
   images = ap (λ (x : KnownHistory). x.images) known;
-  known = subst (λ (x : KnownHistory). Begins x None d) (sym known) (begins_all d None);
+  known = subst (λ (x : KnownHistory). IsKnownBeginning x None d) (sym known) (begins_all d None);
   notes = notes ∙ (f.notes ∙ sym (ap (λ (es : List Event). notes_in es) more ∙ notes_same c.events e none));
 }
 
 -- and after one that is another's, or that gives a notice
-pub loader_apart : (c : Course) (e : Event) (reply : Reply) (t : State) (l : LoaderView) (count : ℕ) → actor e ≢ None
+pub loader_apart : (c : EventHistory) (e : Event) (reply : Reply) (t : State) (l : LoaderView) (count : ℕ) → actor e ≢ None
     → t.current ≡ c.state.current → t.current_shelf ≡ c.state.current_shelf → t.shelves ≡ c.state.shelves → t.editions ≡ c.state.editions
     → count ≡ l.notes + note_of e → LoaderFits c l → LoaderFits (extended c e reply t c.images) (record l { notes = count })
 loader_apart c e reply t l count others current current_shelf shelves editions counted f = record {

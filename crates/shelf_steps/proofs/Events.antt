@@ -9,8 +9,8 @@ use Rattle.shelf_steps.specs.declared.edition.Edition.{Edition}
 use Rattle.shelf_steps.specs.declared.views.WorkerView.{WorkerView}
 use Rattle.shelf_steps.specs.declared.views.LoaderView.{LoaderView}
 use Rattle.shelf_steps.specs.declared.views.View.{View}
-use Rattle.shelf_steps.specs.Ruled.{Ruled}
-use Rattle.shelf_steps.specs.Plays.{OfWorker, Mine, Looks, Takes, TakesFound, TakesAs, Leaves, GivesBack, OpensOn}
+use Rattle.shelf_steps.specs.Rule.{KeepsRule}
+use Rattle.shelf_steps.specs.Plays.{OfWorker, SeatAndSlots, Looks, Takes, TakesFound, TakesAs, Leaves, GivesBack, OpensOn}
 use Rattle.shelf_steps.specs.Plays.{PublishesOn, ClosesOn, CollectsOn, CollectsFound, GathersOn, PutsBackOn, IsLate}
 use Rattle.shelf_steps.specs.Plays.{looked_at, is_open, newest_of}
 use Rattle.shelf_steps.specs.Laws.{Shelved, IsLoader}
@@ -19,12 +19,13 @@ use Rattle.shelf_steps.specs.Events.{PublishesAreEvents, ClosesAreEvents, Collec
 use Rattle.shelf_steps.specs.Events.{LateTakesTell, LateTakesRise}
 use Rattle.shelf_steps.proofs.Says.{looks_are}
 
-looks_so : (u : View) (c : List (ℕ × Option Edition)) (m' : Mine) (n : ℕ) → Looks (u, c) n m' → IsWorkers Event.Look (Reply.Looked (n / 8) (n % 8)) u m'.0
+looks_so : (u : View) (c : List (ℕ × Option Edition)) (m' : SeatAndSlots) (n : ℕ) → Looks (u, c) n m'
+    → IsWorkers Event.Look (Reply.Looked (n / 8) (n % 8)) u m'.0
 looks_so (View.Loading l) c m' n h = absurd h
 looks_so (View.Noting x') c m' n h = absurd h
 looks_so View.Spent c m' n h = absurd h
 looks_so (View.Working v) c m' n h = subst
-    (λ (m : Mine). IsWorkers Event.Look (Reply.Looked (n / 8) (n % 8)) (View.Working v) m.0) (sym h.1) (
+    (λ (m : SeatAndSlots). IsWorkers Event.Look (Reply.Looked (n / 8) (n % 8)) (View.Working v) m.0) (sym h.1) (
       v.number,
       refl,
       refl,
@@ -34,21 +35,21 @@ looks_so (View.Working v) c m' n h = subst
 pub looks_events : LooksAreEvents
 looks_events m m' n h = looks_so m.0 m.1 m' n h
 
-takes_found_so : (v : WorkerView) (c : List (ℕ × Option Edition)) (version k n : ℕ) (b : Bool) (m' : Mine) → TakesFound v c version k n b m'
+takes_found_so : (v : WorkerView) (c : List (ℕ × Option Edition)) (version k n : ℕ) (b : Bool) (m' : SeatAndSlots) → TakesFound v c version k n b m'
     → ((held : ℕ) × IsWorkers Event.Take (Reply.Holds held) (View.Working v) m'.0) ⊎ IsWorkers Event.Take Reply.Late (View.Working v) m'.0
 takes_found_so v c version k n true m' h =
-    inl (version, subst (λ (m : Mine). IsWorkers Event.Take (Reply.Holds version) (View.Working v) m.0) (sym h.2) (v.number, refl, refl, h.3))
+    inl (version, subst (λ (m : SeatAndSlots). IsWorkers Event.Take (Reply.Holds version) (View.Working v) m.0) (sym h.2) (v.number, refl, refl, h.3))
 takes_found_so v c version k n false m' h =
-    inr (subst (λ (m : Mine). IsWorkers Event.Take Reply.Late (View.Working v) m.0) (sym h.1) (v.number, refl, refl, h.2))
+    inr (subst (λ (m : SeatAndSlots). IsWorkers Event.Take Reply.Late (View.Working v) m.0) (sym h.1) (v.number, refl, refl, h.2))
 
-takes_as_so : (v : WorkerView) (c : List (ℕ × Option Edition)) (now : Worker) (n : ℕ) (m' : Mine) → TakesAs v c now n m'
+takes_as_so : (v : WorkerView) (c : List (ℕ × Option Edition)) (now : Worker) (n : ℕ) (m' : SeatAndSlots) → TakesAs v c now n m'
     → ((held : ℕ) × IsWorkers Event.Take (Reply.Holds held) (View.Working v) m'.0) ⊎ IsWorkers Event.Take Reply.Late (View.Working v) m'.0
 takes_as_so v c (Worker.Looked version k) n m' h = takes_found_so v c version k n (is_open n version) m' h
 takes_as_so v c Worker.Idle n m' h = absurd h
 takes_as_so v c (Worker.Late k) n m' h = absurd h
 takes_as_so v c (Worker.Holding k x) n m' h = absurd h
 
-takes_so : (u : View) (c : List (ℕ × Option Edition)) (m' : Mine) (n : ℕ) → Takes (u, c) n m'
+takes_so : (u : View) (c : List (ℕ × Option Edition)) (m' : SeatAndSlots) (n : ℕ) → Takes (u, c) n m'
     → ((held : ℕ) × IsWorkers Event.Take (Reply.Holds held) u m'.0) ⊎ IsWorkers Event.Take Reply.Late u m'.0
 takes_so (View.Loading l) c m' n h = absurd h
 takes_so (View.Noting x') c m' n h = absurd h
@@ -58,19 +59,19 @@ takes_so (View.Working v) c m' n h = takes_as_so v c v.now n m' h
 pub takes_events : TakesAreEvents
 takes_events m m' n h = takes_so m.0 m.1 m' n h
 
-drops_so : (u : View) (c : List (ℕ × Option Edition)) (m' : Mine) → Leaves (u, c) m' ⊎ GivesBack (u, c) m' → IsWorkers Event.Drop Reply.Dropped u m'.0
+drops_so : (u : View) (c : List (ℕ × Option Edition)) (m' : SeatAndSlots) → Leaves (u, c) m' ⊎ GivesBack (u, c) m' → IsWorkers Event.Drop Reply.Dropped u m'.0
 drops_so (View.Loading l) c m' h = elim h [ inl a ↦ absurd a | inr b ↦ absurd b ]
 drops_so (View.Noting x') c m' h = elim h [ inl a ↦ absurd a | inr b ↦ absurd b ]
 drops_so View.Spent c m' h = elim h [ inl a ↦ absurd a | inr b ↦ absurd b ]
 drops_so (View.Working v) c m' h = elim h [
-  | inl a ↦ subst (λ (m : Mine). IsWorkers Event.Drop Reply.Dropped (View.Working v) m.0) (sym a.1) (v.number, refl, refl, a.2)
-  | inr b ↦ subst (λ (m : Mine). IsWorkers Event.Drop Reply.Dropped (View.Working v) m.0) (sym b.1) (v.number, refl, refl, b.2)
+  | inl a ↦ subst (λ (m : SeatAndSlots). IsWorkers Event.Drop Reply.Dropped (View.Working v) m.0) (sym a.1) (v.number, refl, refl, a.2)
+  | inr b ↦ subst (λ (m : SeatAndSlots). IsWorkers Event.Drop Reply.Dropped (View.Working v) m.0) (sym b.1) (v.number, refl, refl, b.2)
 ]
 
 pub drops_events : DropsAreEvents
 drops_events m m' h = drops_so m.0 m.1 m' h
 
-opens_so : (u : View) (c : List (ℕ × Option Edition)) (m' : Mine) (k : ℕ) → OpensOn k (u, c) m'
+opens_so : (u : View) (c : List (ℕ × Option Edition)) (m' : SeatAndSlots) (k : ℕ) → OpensOn k (u, c) m'
     → (edition version : ℕ) × IsEvent u (Event.Open edition) (Reply.Opened version k) m'.0
 opens_so (View.Working v) c m' k h = absurd h
 opens_so (View.Noting x') c m' k h = absurd h
@@ -78,38 +79,40 @@ opens_so View.Spent c m' k h = absurd h
 opens_so (View.Loading l) c m' k h = (
   newest_of l,
   newest_of l + 1,
-  subst (λ (m : Mine).
+  subst (λ (m : SeatAndSlots).
       IsEvent (View.Loading l) (Event.Open (newest_of l)) (Reply.Opened (newest_of l + 1) k) m.0) (sym h.5) h.6,
 )
 
 pub opens_events : OpensAreEvents
 opens_events m m' k h = opens_so m.0 m.1 m' k h
 
-publishes_so : (u : View) (c : List (ℕ × Option Edition)) (m' : Mine) (version k : ℕ) → PublishesOn version k (u, c) m'
+publishes_so : (u : View) (c : List (ℕ × Option Edition)) (m' : SeatAndSlots) (version k : ℕ) → PublishesOn version k (u, c) m'
     → IsEvent u Event.Publish (Reply.Published version) m'.0
 publishes_so (View.Working v) c m' version k h = absurd h
 publishes_so (View.Noting x') c m' version k h = absurd h
 publishes_so View.Spent c m' version k h = absurd h
-publishes_so (View.Loading l) c m' version k h = subst (λ (m : Mine). IsEvent (View.Loading l) Event.Publish (Reply.Published version) m.0) (sym h.1) h.2.0
+publishes_so (View.Loading l) c m' version k h = subst (λ (m : SeatAndSlots). IsEvent (View.Loading l) Event.Publish (Reply.Published version) m.0) (sym h.1)
+    h.2.0
 
 pub publishes_events : PublishesAreEvents
 publishes_events m m' version k h = publishes_so m.0 m.1 m' version k h
 
-closes_so : (u : View) (c : List (ℕ × Option Edition)) (m' : Mine) (k : ℕ) → ClosesOn k (u, c) m' → IsEvent u (Event.Close k) Reply.Closing m'.0
+closes_so : (u : View) (c : List (ℕ × Option Edition)) (m' : SeatAndSlots) (k : ℕ) → ClosesOn k (u, c) m' → IsEvent u (Event.Close k) Reply.Closing m'.0
 closes_so (View.Working v) c m' k h = absurd h
 closes_so (View.Noting x') c m' k h = absurd h
 closes_so View.Spent c m' k h = absurd h
-closes_so (View.Loading l) c m' k h = subst (λ (m : Mine). IsEvent (View.Loading l) (Event.Close k) Reply.Closing m.0) (sym h.3) h.4.0
+closes_so (View.Loading l) c m' k h = subst (λ (m : SeatAndSlots). IsEvent (View.Loading l) (Event.Close k) Reply.Closing m.0) (sym h.3) h.4.0
 
 pub closes_events : ClosesAreEvents
 closes_events m m' k h = closes_so m.0 m.1 m' k h
 
-collects_found_so : (l : LoaderView) (m' : Mine) (k version n : ℕ) (b : Bool) → CollectsFound l k version n b m'
+collects_found_so : (l : LoaderView) (m' : SeatAndSlots) (k version n : ℕ) (b : Bool) → CollectsFound l k version n b m'
     → IsEvent (View.Loading l) (Event.Collect k) Reply.Freed m'.0 ⊎ IsEvent (View.Loading l) (Event.Collect k) (Reply.Busy (n % 256)) m'.0
-collects_found_so l m' k version n true h = inl (subst (λ (m : Mine). IsEvent (View.Loading l) (Event.Collect k) Reply.Freed m.0) (sym h.2) h.3.0)
-collects_found_so l m' k version n false h = inr (subst (λ (m : Mine). IsEvent (View.Loading l) (Event.Collect k) (Reply.Busy (n % 256)) m.0) (sym h.1) h.2.0)
+collects_found_so l m' k version n true h = inl (subst (λ (m : SeatAndSlots). IsEvent (View.Loading l) (Event.Collect k) Reply.Freed m.0) (sym h.2) h.3.0)
+collects_found_so l m' k version n false h = inr (subst (λ (m : SeatAndSlots). IsEvent (View.Loading l) (Event.Collect k) (Reply.Busy (n % 256)) m.0) (sym h.1)
+    h.2.0)
 
-collects_so : (u : View) (c : List (ℕ × Option Edition)) (m' : Mine) (k version n : ℕ) → CollectsOn k version n (u, c) m'
+collects_so : (u : View) (c : List (ℕ × Option Edition)) (m' : SeatAndSlots) (k version n : ℕ) → CollectsOn k version n (u, c) m'
     → IsEvent u (Event.Collect k) Reply.Freed m'.0 ⊎ IsEvent u (Event.Collect k) (Reply.Busy (n % 256)) m'.0
 collects_so (View.Working v) c m' k version n h = absurd h
 collects_so (View.Noting x') c m' k version n h = absurd h
@@ -119,14 +122,14 @@ collects_so (View.Loading l) c m' k version n h = collects_found_so l m' k versi
 pub collects_events : CollectsAreEvents
 collects_events m m' k version n h = collects_so m.0 m.1 m' k version n h
 
-spares_so : (u : View) (c : List (ℕ × Option Edition)) (m' : Mine) (k : ℕ)
+spares_so : (u : View) (c : List (ℕ × Option Edition)) (m' : SeatAndSlots) (k : ℕ)
     → GathersOn k (u, c) m' ⊎ PutsBackOn k (u, c) m' → IsEvent u (Event.Collect k) Reply.NotNow m'.0
 spares_so (View.Working v) c m' k h = elim h [ inl a ↦ absurd a | inr b ↦ absurd b ]
 spares_so (View.Noting x') c m' k h = elim h [ inl a ↦ absurd a | inr b ↦ absurd b ]
 spares_so View.Spent c m' k h = elim h [ inl a ↦ absurd a | inr b ↦ absurd b ]
 spares_so (View.Loading l) c m' k h = elim h [
-  | inl a ↦ subst (λ (m : Mine). IsEvent (View.Loading l) (Event.Collect k) Reply.NotNow m.0) (sym a.1) a.2.0
-  | inr b ↦ subst (λ (m : Mine). IsEvent (View.Loading l) (Event.Collect k) Reply.NotNow m.0) (sym b.1) b.2.0
+  | inl a ↦ subst (λ (m : SeatAndSlots). IsEvent (View.Loading l) (Event.Collect k) Reply.NotNow m.0) (sym a.1) a.2.0
+  | inr b ↦ subst (λ (m : SeatAndSlots). IsEvent (View.Loading l) (Event.Collect k) Reply.NotNow m.0) (sym b.1) b.2.0
 ]
 
 pub spares_events : SpareTriesAreEvents
@@ -136,21 +139,21 @@ spares_events m m' k h = spares_so m.0 m.1 m' k h
 abbrev Passed : ℕ → View → Type 0
 Passed version u = OfWorker u (λ v. (v.last ≡ version) × (v.passed ≡ true))
 
-late_found : (v : WorkerView) (c : List (ℕ × Option Edition)) (version k n : ℕ) (b : Bool) (m' : Mine)
+late_found : (v : WorkerView) (c : List (ℕ × Option Edition)) (version k n : ℕ) (b : Bool) (m' : SeatAndSlots)
     → TakesFound v c version k n b m' → IsLate k m'.0 → OfWorker m'.0 (λ x. (x.last ≡ v.last) × (x.passed ≡ true))
-late_found v c version k n true m' h late = absurd (let z = subst (λ (m : Mine). IsLate k m.0) h.2 late in cc)
-late_found v c version k n false m' h late = subst (λ (m : Mine). OfWorker m.0 (λ x. (x.last ≡ v.last) × (x.passed ≡ true))) (sym h.1) (refl, refl)
+late_found v c version k n true m' h late = absurd (let z = subst (λ (m : SeatAndSlots). IsLate k m.0) h.2 late in cc)
+late_found v c version k n false m' h late = subst (λ (m : SeatAndSlots). OfWorker m.0 (λ x. (x.last ≡ v.last) × (x.passed ≡ true))) (sym h.1) (refl, refl)
 
-late_so : (u : View) (c : List (ℕ × Option Edition)) (m1 m2 : Mine) (n word : ℕ) → Looks (u, c) n m1 → Takes m1 word m2
+late_so : (u : View) (c : List (ℕ × Option Edition)) (m1 m2 : SeatAndSlots) (n word : ℕ) → Looks (u, c) n m1 → Takes m1 word m2
     → IsLate (n % 8) m2.0 → Passed (n / 8) m2.0
 late_so (View.Loading l) c m1 m2 n word look take late = absurd look
 late_so (View.Noting x') c m1 m2 n word look take late = absurd look
 late_so View.Spent c m1 m2 n word look take late = absurd look
 late_so (View.Working v) c m1 m2 n word look take late =
-    let t : TakesFound (looked_at v n look.0) c (n / 8) (n % 8) word (is_open word (n / 8)) m2 = subst (λ (m : Mine). Takes m word m2) look.1 take in
+    let t : TakesFound (looked_at v n look.0) c (n / 8) (n % 8) word (is_open word (n / 8)) m2 = subst (λ (m : SeatAndSlots). Takes m word m2) look.1 take in
     late_found (looked_at v n look.0) c (n / 8) (n % 8) word (is_open word (n / 8)) m2 t late
 
-tells_so : (u : View) (version : ℕ) → Passed version u → (table : Shelved) (l : LoaderView) (i : ℕ) → Ruled table
+tells_so : (u : View) (version : ℕ) → Passed version u → (table : Shelved) (l : LoaderView) (i : ℕ) → KeepsRule table
     → IsLoader table l → get_elem? table.views i ≡ some u → version < l.current
 tells_so (View.Loading x) version p table l i r loads at = absurd p
 tells_so (View.Noting x') version p table l i r loads at = absurd p
@@ -160,13 +163,13 @@ tells_so (View.Working v) version p table l i r loads at = subst (λ n. n < l.cu
 pub late_tells : LateTakesTell
 late_tells m m1 m2 n word look take late table l i r loads at = tells_so m2.0 (n / 8) (late_so m.0 m.1 m1 m2 n word look take late) table l i r loads at
 
-left_so : (u : View) (c : List (ℕ × Option Edition)) (version : ℕ) (m' : Mine) → Passed version u → Leaves (u, c) m' → Passed version m'.0
+left_so : (u : View) (c : List (ℕ × Option Edition)) (version : ℕ) (m' : SeatAndSlots) → Passed version u → Leaves (u, c) m' → Passed version m'.0
 left_so (View.Loading l) c version m' p h = absurd p
 left_so (View.Noting x') c version m' p h = absurd p
 left_so View.Spent c version m' p h = absurd p
-left_so (View.Working v) c version m' p h = subst (λ (m : Mine). Passed version m.0) (sym h.1) p
+left_so (View.Working v) c version m' p h = subst (λ (m : SeatAndSlots). Passed version m.0) (sym h.1) p
 
-rises_so : (u : View) (c : List (ℕ × Option Edition)) (version n : ℕ) (m' : Mine) → Passed version u → Looks (u, c) n m' → version < n / 8
+rises_so : (u : View) (c : List (ℕ × Option Edition)) (version n : ℕ) (m' : SeatAndSlots) → Passed version u → Looks (u, c) n m' → version < n / 8
 rises_so (View.Loading l) c version n m' p h = absurd p
 rises_so (View.Noting x') c version n m' p h = absurd p
 rises_so View.Spent c version n m' p h = absurd p

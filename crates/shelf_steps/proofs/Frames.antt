@@ -9,7 +9,7 @@ use Rattle.version_core.specs.declared.state.Worker.{Worker}
 use Rattle.shelf_steps.specs.declared.views.WorkerView.{WorkerView}
 use Rattle.shelf_steps.specs.declared.views.LoaderView.{LoaderView}
 use Rattle.shelf_steps.specs.declared.views.View.{View}
-use Rattle.shelf_steps.specs.Course.{Course, HasDoneNothing}
+use Rattle.shelf_steps.specs.EventHistory.{EventHistory, HasDoneNothing}
 use Rattle.shelf_steps.specs.Seats.{WorkerFits, LoaderFits, SeatFits, SeatsFit}
 
 pub there : {A : Type 0} (l : List A) (i : ℕ) (a : A) → get_elem? l i ≡ some a → i < length l
@@ -17,7 +17,7 @@ there [] i a e = absurd (some-ne-none a (sym e))
 there (x ∷ xs) zero a e = omega arith
 there (x ∷ xs) (suc i) a e = let r = there xs i a e in omega arith
 
-module _ (c d : Course) (views : List View) (loader : LoaderView) (fit : SeatsFit c views loader) (id : ℕ)
+module _ (c d : EventHistory) (views : List View) (loader : LoaderView) (fit : SeatsFit c views loader) (id : ℕ)
     (v v' : WorkerView) (at : get_elem? views id ≡ some (View.Working v)) (named : v'.number ≡ v.number)
     (others : (u : WorkerView) → u.number ≢ v.number → WorkerFits c u → WorkerFits d u) where
   mine : SeatFits c loader fit.owner id (View.Working v)
@@ -70,7 +70,7 @@ module _ (c d : Course) (views : List View) (loader : LoaderView) (fit : SeatsFi
         (z.0 ∙ o.0, z.1 ∙ o.1, unmoved w small other o.2);
   }
 
-module _ (c d : Course) (views : List View) (loader : LoaderView) (fit : SeatsFit c views loader) (id : ℕ)
+module _ (c d : EventHistory) (views : List View) (loader : LoaderView) (fit : SeatsFit c views loader) (id : ℕ)
     (l l' : LoaderView) (at : get_elem? views id ≡ some (View.Loading l)) (as_many : l'.handed ≡ l.handed)
     (others : (u : WorkerView) → WorkerFits c u → WorkerFits d u) where
   pub loader_is : (id ≡ 0) × (l ≡ loader)

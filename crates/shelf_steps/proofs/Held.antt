@@ -12,7 +12,7 @@ use Rattle.version_core.specs.Actors.{actor, NoneOf}
 use Rattle.version_core.specs.State.{State, start}
 use Rattle.version_core.specs.Steps.{Step, Holds, LookStep, TakeStep, DropStep, OpenStep, PublishStep, CloseStep, CollectStep, AskStep, NoteStep, JoinStep}
 use Rattle.version_core.specs.Runs.{Run}
-use Rattle.version_core.specs.Kept.{KeepsInvariants, version_of}
+use Rattle.version_core.specs.Invariants.{KeepsInvariants, version_of}
 use Rattle.version_core.specs.Shown.{shelf_word}
 use Rattle.version_core.proofs.Keeps.{start_kept, step_kept, held_known, stays_fits}
 use Rattle.version_core.proofs.Runs.{run_kept, runs_part}
@@ -20,10 +20,10 @@ use Rattle.shelf_steps.specs.declared.views.WorkerView.{WorkerView}
 use Rattle.shelf_steps.specs.declared.views.LoaderView.{LoaderView}
 use Rattle.shelf_steps.specs.declared.views.View.{View}
 use Rattle.image_layout.specs.Image.{ImageValue}
-use Rattle.shelf_steps.specs.Course.{Begins, NeverFreed}
+use Rattle.shelf_steps.specs.EventHistory.{IsKnownBeginning, NeverFreed}
 use Rattle.shelf_steps.specs.Seats.{WorkerFits}
 use Rattle.shelf_steps.specs.Slots.{Slot, SlotFits, IsSpare}
-use Rattle.shelf_steps.specs.Ruled.{Ruled}
+use Rattle.shelf_steps.specs.Rule.{KeepsRule}
 use Rattle.shelf_steps.specs.Laws.{Shelved, HoldersSlotsAreOut, FreeSlotsAreTheLoaders, HeldShelvesAreInUse, HeldShelvesStay}
 use Rattle.shelf_steps.proofs.Courses.{kept_of}
 use Rattle.shelf_steps.proofs.Works.{held_on}
@@ -52,25 +52,25 @@ slot_out (Shelf.Closing x) images workers hand k w v slot e here f =
       f.0,
     )
 
-module _ (table : Shelved) (i k v : ℕ) (w : WorkerView) (r : Ruled table)
+module _ (table : Shelved) (i k v : ℕ) (w : WorkerView) (r : KeepsRule table)
     (at : get_elem? table.views i ≡ some (View.Working w)) (now : w.now ≡ Worker.Holding k v) where
-  fits : WorkerFits r.course w
+  fits : WorkerFits r.history w
   fits = (r.seats.each i (View.Working w) at).2
 
-  kept : KeepsInvariants r.course.state
-  kept = kept_of r.course r.goes
+  kept : KeepsInvariants r.history.state
+  kept = kept_of r.history r.goes
 
-  here : slice_get r.course.state.workers w.number ≡ Some (Worker.Holding k v)
+  here : slice_get r.history.state.workers w.number ≡ Some (Worker.Holding k v)
   here = fits.shows.now ∙ ap (λ (x : Worker). Some x) now
 
-  stays : (w.number < 16) × (k < 8) × (1 ≤ get_or r.course.state.counts k 0)
-  stays = stays_fits r.course.state w.number k kept (inr (v, here))
+  stays : (w.number < 16) × (k < 8) × (1 ≤ get_or r.history.state.counts k 0)
+  stays = stays_fits r.history.state w.number k kept (inr (v, here))
 
-  stands : (y : Shelf) × (slice_get r.course.state.shelves k ≡ Some y) × (version_of y ≡ Some v)
-  stands = held_on r.course.state.shelves k v (held_known r.course.state w.number k v kept here).0
+  stands : (y : Shelf) × (slice_get r.history.state.shelves k ≡ Some y) × (version_of y ≡ Some v)
+  stands = held_on r.history.state.shelves k v (held_known r.history.state w.number k v kept here).0
 
   out_here : (get_elem? table.homes (16 * k + w.number) ≡ some none) × (r.loader.hand ≢ Some k)
-  out_here = slot_out stands.0 r.course.images r.course.state.workers r.loader.hand k w.number v
+  out_here = slot_out stands.0 r.history.images r.history.state.workers r.loader.hand k w.number v
       (get_elem? table.homes (16 * k + w.number)) stands.2 here (r.slots k w.number stands.0 stands.1 stays.0)
 
 pub slots_are_out : HoldersSlotsAreOut
@@ -92,8 +92,8 @@ counted (Shelf.Closing x) count version least few q = omega arith
 pub in_use : HeldShelvesAreInUse
 in_use table l i k v version w r loads at now q =
     let s = stays table i k v w r at now in let y = stands table i k v w r at now in
-    counted y.0 (get_or r.course.state.counts k 0) version s.2
-    (few_counted r.course.state k (kept table i k v w r at now) s.1) (sym (r.words.each k y.0 y.1) ∙ q)
+    counted y.0 (get_or r.history.state.counts k 0) version s.2
+    (few_counted r.history.state k (kept table i k v w r at now) s.1) (sym (r.words.each k y.0 y.1) ∙ q)
 
 same_state : (s t : State) (w : ℕ) → t ≡ s → slice_get t.workers w ≡ slice_get s.workers w
 same_state s t w is = ap (λ (x : State). slice_get x.workers w) is
@@ -203,8 +203,8 @@ held_along s t (e ∷ es) [] w k v fit run apart' holds = absurd run
 
 pub held_stay : HeldShelvesStay
 held_stay table i k v w r at now =
-    let c = r.course in
-    let b : Begins w.known (Some w.number) c = (fits table i k v w r at now).known in
+    let c = r.history in
+    let b : IsKnownBeginning w.known (Some w.number) c = (fits table i k v w r at now).known in
     let rest = b.events.0 in
     let p = runs_part start c.state w.known.events rest c.replies
     (subst (λ (es : List Event). Run start es c.replies c.state) (sym b.events.1) r.goes.run) in

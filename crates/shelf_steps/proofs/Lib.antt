@@ -6,7 +6,7 @@ pub mod NoteLists
 pub mod Works
 pub mod Chains
 pub mod Loads
-pub mod PlaceLemmas
+pub mod TableLemmas
 pub mod Opens
 pub mod NoteSteps
 pub mod Pinned

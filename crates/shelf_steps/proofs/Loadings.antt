@@ -12,9 +12,9 @@ use Rattle.shelf_steps.specs.declared.edition.Edition.{Edition}
 use Rattle.shelf_steps.specs.declared.views.KnownHistory.{KnownHistory}
 use Rattle.shelf_steps.specs.declared.views.LoaderView.{LoaderView}
 use Rattle.shelf_steps.specs.declared.views.View.{View}
-use Rattle.shelf_steps.specs.Course.{Happened}
+use Rattle.shelf_steps.specs.EventHistory.{Happened}
 use Rattle.shelf_steps.specs.Slots.{down_from, nothings}
-use Rattle.shelf_steps.specs.Plays.{OfLoader, Mine, newest_of, with_open, with_free, with_hand, HasImage, IsBlock}
+use Rattle.shelf_steps.specs.Plays.{OfLoader, SeatAndSlots, newest_of, with_open, with_free, with_hand, HasImage, IsBlock}
 use Rattle.shelf_steps.specs.Plays.{AllHave, OpensOn, PublishesOn, ClosesOn, CollectsFound, CollectsOn, GathersOn}
 use Rattle.shelf_steps.specs.Plays.{PutsBackOn, MayOpenOn, MayPublish, MayClose, MayCollect, MayGather, MayPutBack}
 use Rattle.shelf_steps.specs.Loading.{MayLoad, Loads, Frees, FindsBusy}
@@ -28,11 +28,11 @@ may_gather shelf version before (View.Noting x') c may none = absurd may
 may_gather shelf version before View.Spent c may none = absurd may
 may_gather shelf version before (View.Loading l) c may none = (may.free, may.empty, none)
 
-pub gathered_block : (shelf : ℕ) (u : View) (c : List (ℕ × Option Edition)) (m1 : Mine) → GathersOn shelf (u, c) m1 → IsBlock nothings shelf m1.1
+pub gathered_block : (shelf : ℕ) (u : View) (c : List (ℕ × Option Edition)) (m1 : SeatAndSlots) → GathersOn shelf (u, c) m1 → IsBlock nothings shelf m1.1
 gathered_block shelf (View.Working v) c m1 g = absurd g
 gathered_block shelf (View.Noting x') c m1 g = absurd g
 gathered_block shelf View.Spent c m1 g = absurd g
-gathered_block shelf (View.Loading l) c m1 g = ap (λ (m : Mine). m.1) g.1
+gathered_block shelf (View.Loading l) c m1 g = ap (λ (m : SeatAndSlots). m.1) g.1
 
 abbrev front_of : List (ℕ × Option Edition) → Option Edition
 front_of [] = None
@@ -49,16 +49,16 @@ one_image version version' image image' x a b = let z : Some a.0 ≡ Some b.0 = 
 
 module _ (shelf version before : ℕ) (l : LoaderView) (image : ImageValue) (f : ℕ
     → Option Edition) (may : MayLoad shelf version before l) (all : AllHave version image shelf f) (c : List (ℕ
-    × Option Edition)) (m1 m2 : Mine)
+    × Option Edition)) (m1 m2 : SeatAndSlots)
     (g : GathersOn shelf (View.Loading l, c) m1) (filled : m2 ≡ (m1.0, down_from f (16 * shelf) 16 [])) where
   second : m2 ≡ (View.Loading (with_hand l (Some shelf) g.0), down_from f (16 * shelf) 16 [])
-  second = filled ∙ ap (λ (m : Mine). (m.0, down_from f (16 * shelf) 16 [])) g.1
+  second = filled ∙ ap (λ (m : SeatAndSlots). (m.0, down_from f (16 * shelf) 16 [])) g.1
 
   same_newest : length g.0.images ≡ newest_of l
   same_newest = ap (λ (x : List ImageValue). length x) g.2.1
 
   may_open_now : version ≤ 1000000000 → MayOpenOn shelf version m2.0 m2.1
-  may_open_now few = subst (λ (m : Mine). MayOpenOn shelf version m.0 m.1) (sym second) (
+  may_open_now few = subst (λ (m : SeatAndSlots). MayOpenOn shelf version m.0 m.1) (sym second) (
     may.free,
     refl,
     may.current ∙ sym same_newest,
@@ -67,13 +67,13 @@ module _ (shelf version before : ℕ) (l : LoaderView) (image : ImageValue) (f :
     (image, f, refl, all),
   )
 
-  opened_so : (m3 : Mine) → OpensOn shelf m2 m3
+  opened_so : (m3 : SeatAndSlots) → OpensOn shelf m2 m3
       → (known : KnownHistory) × (m3 ≡ (View.Loading (with_open (with_hand l (Some shelf) g.0) shelf version known), []))
       × Happened g.0 (Event.Open (newest_of l)) (Reply.Opened version shelf) known
       × (known.images ≡ l.known.images ++ image ∷ [])
   opened_so m3 o =
       let h : OpensOn shelf (View.Loading (with_hand l (Some shelf) g.0), down_from f (16 * shelf) 16 []) m3 =
-      subst (λ (m : Mine). OpensOn shelf m m3) second o in
+      subst (λ (m : SeatAndSlots). OpensOn shelf m m3) second o in
       let next : length g.0.images + 1 ≡ version = ap (λ n. n + 1) same_newest ∙ sym may.next in
       let is : f (16 * shelf + 15) ≡ h.1 (16 * shelf + 15) = block_front f h.1 shelf h.3 in
       let one : h.0 ≡ image = one_image version (length g.0.images + 1) image h.0 (h.1 (16 * shelf + 15))
@@ -89,8 +89,8 @@ module _ (shelf version before : ℕ) (l : LoaderView) (image : ImageValue) (f :
   older : l.current < version
   older = let a = may.current in let b = may.next in omega arith
 
-  may_publish_now : (m3 : Mine) → OpensOn shelf m2 m3 → MayPublish version shelf m3.0
-  may_publish_now m3 o = subst (λ (m : Mine). MayPublish version shelf m.0) (sym (opened_so m3 o).1)
+  may_publish_now : (m3 : SeatAndSlots) → OpensOn shelf m2 m3 → MayPublish version shelf m3.0
+  may_publish_now m3 o = subst (λ (m : SeatAndSlots). MayPublish version shelf m.0) (sym (opened_so m3 o).1)
       (slice_get-set_same l.shelves shelf (Shelf.Open version) (slice_get_within l.shelves shelf _ may.free), older)
 
   other_shelf : before ≢ shelf
@@ -99,19 +99,19 @@ module _ (shelf version before : ℕ) (l : LoaderView) (image : ImageValue) (f :
   still_open : slice_get (set l.shelves shelf (Shelf.Open version)) before ≡ Some (Shelf.Open l.current)
   still_open = slice_get-set_other l.shelves shelf before (Shelf.Open version) other_shelf ∙ may.before_open
 
-  module _ (m3 m4 : Mine) (o : OpensOn shelf m2 m3) (p : PublishesOn version shelf m3 m4) where
+  module _ (m3 m4 : SeatAndSlots) (o : OpensOn shelf m2 m3) (p : PublishesOn version shelf m3 m4) where
     published_so : PublishesOn version shelf (View.Loading (with_open (with_hand l (Some shelf) g.0) shelf version (opened_so m3 o).0), []) m4
-    published_so = subst (λ (m : Mine). PublishesOn version shelf m m4) (opened_so m3 o).1 p
+    published_so = subst (λ (m : SeatAndSlots). PublishesOn version shelf m m4) (opened_so m3 o).1 p
 
     may_close_now : MayClose before m4.0
-    may_close_now = subst (λ (m : Mine). MayClose before m.0) (sym published_so.1) (l.current, still_open, older)
+    may_close_now = subst (λ (m : SeatAndSlots). MayClose before m.0) (sym published_so.1) (l.current, still_open, older)
 
-    loaded_so : (m5 : Mine) → ClosesOn before m4 m5 → Loads shelf version before image (View.Loading l) m5.0 × (m5.1 ≡ [])
+    loaded_so : (m5 : SeatAndSlots) → ClosesOn before m4 m5 → Loads shelf version before image (View.Loading l) m5.0 × (m5.1 ≡ [])
     loaded_so m5 k =
         let p' = published_so in
-        let h = subst (λ (m : Mine). ClosesOn before m m5) p'.1 k in
+        let h = subst (λ (m : SeatAndSlots). ClosesOn before m m5) p'.1 k in
         let z : Some (Shelf.Open l.current) ≡ Some (Shelf.Open h.0) = sym still_open ∙ h.2 in let same : l.current ≡ h.0 = cc in
-        subst (λ (m : Mine). Loads shelf version before image (View.Loading l) m.0 × (m.1 ≡ [])) (sym h.3) (
+        subst (λ (m : SeatAndSlots). Loads shelf version before image (View.Loading l) m.0 × (m.1 ≡ [])) (sym h.3) (
           record {
             gathered = g.0;
             opened = (opened_so m3 o).0;
@@ -131,7 +131,7 @@ module _ (shelf version before : ℕ) (l : LoaderView) (image : ImageValue) (f :
         )
 
 pub may_open_then : (shelf version before : ℕ) (u : View) (image : ImageValue) (f : ℕ
-    → Option Edition) (c : List (ℕ × Option Edition)) (m1 m2 : Mine) → IsReady shelf version before u
+    → Option Edition) (c : List (ℕ × Option Edition)) (m1 m2 : SeatAndSlots) → IsReady shelf version before u
     → version ≤ 1000000000 → AllHave version image shelf f
     → GathersOn shelf (u, c) m1 → m2 ≡ (m1.0, down_from f (16 * shelf) 16 []) → MayOpenOn shelf version m2.0 m2.1
 may_open_then shelf version before (View.Working v) image f c m1 m2 may few all g filled = absurd may
@@ -141,7 +141,7 @@ may_open_then shelf version before (View.Loading l) image f c m1 m2 may few all 
     may_open_now shelf version before l image f may all c m1 m2 g filled few
 
 pub may_publish_then : (shelf version before : ℕ) (u : View) (image : ImageValue) (f : ℕ
-    → Option Edition) (c : List (ℕ × Option Edition)) (m1 m2 m3 : Mine) → IsReady shelf version before u
+    → Option Edition) (c : List (ℕ × Option Edition)) (m1 m2 m3 : SeatAndSlots) → IsReady shelf version before u
     → AllHave version image shelf f
     → GathersOn shelf (u, c) m1 → m2 ≡ (m1.0, down_from f (16 * shelf) 16 []) → OpensOn shelf m2 m3 → MayPublish version shelf m3.0
 may_publish_then shelf version before (View.Working v) image f c m1 m2 m3 may all g filled o = absurd may
@@ -151,7 +151,7 @@ may_publish_then shelf version before (View.Loading l) image f c m1 m2 m3 may al
     may_publish_now shelf version before l image f may all c m1 m2 g filled m3 o
 
 pub may_close_then : (shelf version before : ℕ) (u : View) (image : ImageValue) (f : ℕ
-    → Option Edition) (c : List (ℕ × Option Edition)) (m1 m2 m3 m4 : Mine) → IsReady shelf version before u
+    → Option Edition) (c : List (ℕ × Option Edition)) (m1 m2 m3 m4 : SeatAndSlots) → IsReady shelf version before u
     → AllHave version image shelf f
     → GathersOn shelf (u, c) m1 → m2 ≡ (m1.0, down_from f (16 * shelf) 16 []) → OpensOn shelf m2 m3 → PublishesOn version shelf m3 m4 → MayClose before m4.0
 may_close_then shelf version before (View.Working v) image f c m1 m2 m3 m4 may all g filled o p = absurd may
@@ -161,7 +161,7 @@ may_close_then shelf version before (View.Loading l) image f c m1 m2 m3 m4 may a
     may_close_now shelf version before l image f may all c m1 m2 g filled m3 m4 o p
 
 pub loads_then : (shelf version before : ℕ) (u : View) (image : ImageValue) (f : ℕ
-    → Option Edition) (c : List (ℕ × Option Edition)) (m1 m2 m3 m4 m5 : Mine) → IsReady shelf version before u
+    → Option Edition) (c : List (ℕ × Option Edition)) (m1 m2 m3 m4 m5 : SeatAndSlots) → IsReady shelf version before u
     → AllHave version image shelf f
     → GathersOn shelf (u, c) m1 → m2 ≡ (m1.0, down_from f (16 * shelf) 16 []) → OpensOn shelf m2 m3
     → PublishesOn version shelf m3 m4 → ClosesOn before m4 m5
@@ -173,16 +173,16 @@ loads_then shelf version before (View.Loading l) image f c m1 m2 m3 m4 m5 may al
     loaded_so shelf version before l image f may all c m1 m2 g filled m3 m4 o p m5 k
 
 -- a shelf that was found with no worker
-pub freed_block : (shelf version n : ℕ) (u : View) (c : List (ℕ × Option Edition)) (m1 : Mine)
+pub freed_block : (shelf version n : ℕ) (u : View) (c : List (ℕ × Option Edition)) (m1 : SeatAndSlots)
     → CollectsOn shelf version n (u, c) m1 → (n == 512 + 65536 * version) ≡ true
     → (f : ℕ → Option Edition) × IsBlock f shelf m1.1
 freed_block shelf version n (View.Working v) c m1 h is = absurd h
 freed_block shelf version n (View.Noting x') c m1 h is = absurd h
 freed_block shelf version n View.Spent c m1 h is = absurd h
 freed_block shelf version n (View.Loading l) c m1 h is =
-    let k = subst (λ (b : Bool). CollectsFound l shelf version n b m1) is h in (k.0, ap (λ (m : Mine). m.1) k.2)
+    let k = subst (λ (b : Bool). CollectsFound l shelf version n b m1) is h in (k.0, ap (λ (m : SeatAndSlots). m.1) k.2)
 
-pub may_put_back : (shelf version n : ℕ) (u : View) (c : List (ℕ × Option Edition)) (m1 m2 : Mine)
+pub may_put_back : (shelf version n : ℕ) (u : View) (c : List (ℕ × Option Edition)) (m1 m2 : SeatAndSlots)
     → MayCollect shelf version u c → CollectsOn shelf version n (u, c) m1 → (n == 512 + 65536 * version) ≡ true
     → m2 ≡ (m1.0, down_from nothings (16 * shelf) 16 []) → MayPutBack shelf m2.0 m2.1
 may_put_back shelf version n (View.Working v) c m1 m2 may h is e = absurd h
@@ -191,11 +191,11 @@ may_put_back shelf version n View.Spent c m1 m2 may h is e = absurd h
 may_put_back shelf version n (View.Loading l) c m1 m2 may h is e =
     let k = subst (λ (b : Bool). CollectsFound l shelf version n b m1) is h in
     let second : m2 ≡ (View.Loading (with_free l shelf k.1), down_from nothings (16 * shelf) 16 []) =
-    e ∙ ap (λ (m : Mine). (m.0, down_from nothings (16 * shelf) 16 [])) k.2 in
-    subst (λ (m : Mine). MayPutBack shelf m.0 m.1) (sym second)
+    e ∙ ap (λ (m : SeatAndSlots). (m.0, down_from nothings (16 * shelf) 16 [])) k.2 in
+    subst (λ (m : SeatAndSlots). MayPutBack shelf m.0 m.1) (sym second)
     (slice_get-set_same l.shelves shelf Shelf.Free (slice_get_within l.shelves shelf _ may.0), refl, refl)
 
-pub frees_then : (shelf version n : ℕ) (u : View) (c : List (ℕ × Option Edition)) (m1 m2 m3 : Mine)
+pub frees_then : (shelf version n : ℕ) (u : View) (c : List (ℕ × Option Edition)) (m1 m2 m3 : SeatAndSlots)
     → MayCollect shelf version u c → CollectsOn shelf version n (u, c) m1 → (n == 512 + 65536 * version) ≡ true
     → m2 ≡ (m1.0, down_from nothings (16 * shelf) 16 []) → PutsBackOn shelf m2 m3 → Frees shelf u m3.0 × (m3.1 ≡ [])
 frees_then shelf version n (View.Working v) c m1 m2 m3 may h is e p = absurd h
@@ -204,10 +204,10 @@ frees_then shelf version n View.Spent c m1 m2 m3 may h is e p = absurd h
 frees_then shelf version n (View.Loading l) c m1 m2 m3 may h is e p =
     let k = subst (λ (b : Bool). CollectsFound l shelf version n b m1) is h in
     let second : m2 ≡ (View.Loading (with_free l shelf k.1), down_from nothings (16 * shelf) 16 []) =
-    e ∙ ap (λ (m : Mine). (m.0, down_from nothings (16 * shelf) 16 [])) k.2 in
+    e ∙ ap (λ (m : SeatAndSlots). (m.0, down_from nothings (16 * shelf) 16 [])) k.2 in
     let q : PutsBackOn shelf (View.Loading (with_free l shelf k.1), down_from nothings (16 * shelf) 16 []) m3 =
-    subst (λ (m : Mine). PutsBackOn shelf m m3) second p in
-    subst (λ (m : Mine). Frees shelf (View.Loading l) m.0 × (m.1 ≡ [])) (sym q.1) (
+    subst (λ (m : SeatAndSlots). PutsBackOn shelf m m3) second p in
+    subst (λ (m : SeatAndSlots). Frees shelf (View.Loading l) m.0 × (m.1 ≡ [])) (sym q.1) (
       record {
         freed = k.1;
         collect = k.3.0;
@@ -222,7 +222,7 @@ frees_then shelf version n (View.Loading l) c m1 m2 m3 may h is e p =
       refl,
     )
 
-pub busy_then : (shelf version n : ℕ) (u : View) (c : List (ℕ × Option Edition)) (m1 : Mine)
+pub busy_then : (shelf version n : ℕ) (u : View) (c : List (ℕ × Option Edition)) (m1 : SeatAndSlots)
     → CollectsOn shelf version n (u, c) m1 → (n == 512 + 65536 * version) ≡ false
     → FindsBusy shelf (n % 256) u m1.0 × (m1.1 ≡ [])
 busy_then shelf version n (View.Working v) c m1 h is = absurd h
@@ -230,5 +230,5 @@ busy_then shelf version n (View.Noting x') c m1 h is = absurd h
 busy_then shelf version n View.Spent c m1 h is = absurd h
 busy_then shelf version n (View.Loading l) c m1 h is =
     let k = subst (λ (b : Bool). CollectsFound l shelf version n b m1) is h in
-    subst (λ (m : Mine). FindsBusy shelf (n % 256) (View.Loading l) m.0 × (m.1 ≡ [])) (sym k.1)
+    subst (λ (m : SeatAndSlots). FindsBusy shelf (n % 256) (View.Loading l) m.0 × (m.1 ≡ [])) (sym k.1)
     (record { collect = k.2.0; some_one = k.3; images = k.2.1; current = (refl, refl); shelves = refl; handed = refl; notes = refl; hand = refl }, refl)

@@ -18,7 +18,7 @@ use Rattle.version_core.specs.declared.state.Shelf.{Shelf}
 use Rattle.version_core.specs.declared.state.Worker.{Worker}
 use Rattle.version_core.specs.State.{State, newest, opened, published, shelved}
 use Rattle.version_core.specs.Steps.{IsFree, IsOpen, IsClosing, IsOutdated, MayOpen, Step}
-use Rattle.version_core.specs.Kept.{KeepsInvariants, is_at}
+use Rattle.version_core.specs.Invariants.{KeepsInvariants, is_at}
 use Rattle.version_core.proofs.Keeps.{none_waits, held_known}
 use Rattle.version_core.proofs.Shelves.{version_at}
 use Rattle.version_core.proofs.Counts.{no_one_at}
@@ -27,12 +27,12 @@ use Rattle.shelf_steps.specs.declared.views.KnownHistory.{KnownHistory}
 use Rattle.shelf_steps.specs.declared.views.WorkerView.{WorkerView}
 use Rattle.shelf_steps.specs.declared.views.LoaderView.{LoaderView}
 use Rattle.shelf_steps.specs.declared.views.View.{View}
-use Rattle.shelf_steps.specs.Course.{Course, Goes, IsLonger, extended, all_of, Begins, Happened, image_of}
+use Rattle.shelf_steps.specs.EventHistory.{EventHistory, LeadsToItsState, IsLonger, extended, all_of, IsKnownBeginning, Happened, image_of}
 use Rattle.version_core.specs.Shown.{WordsShow, shelf_word}
 use Rattle.shelf_steps.specs.Seats.{WorkerFits, LoaderFits}
 use Rattle.shelf_steps.specs.Slots.{SlotsFit, SlotFits, down_from, nothings}
-use Rattle.shelf_steps.specs.Ruled.{Ruled}
-use Rattle.shelf_steps.specs.Plays.{OfLoader, Mine, newest_of, with_open, with_current, with_closing, with_free}
+use Rattle.shelf_steps.specs.Rule.{KeepsRule}
+use Rattle.shelf_steps.specs.Plays.{OfLoader, SeatAndSlots, newest_of, with_open, with_current, with_closing, with_free}
 use Rattle.shelf_steps.specs.Plays.{with_hand, AllHave, IsLastEvent, Opens, Publishes, Closes, CollectsFound, Collects}
 use Rattle.shelf_steps.specs.Plays.{Gathers, PutsBack, MayOpenOn, MayPublish, MayClose, MayCollect, MayGather}
 use Rattle.shelf_steps.specs.Plays.{MayPutBack}
@@ -48,57 +48,59 @@ use Rattle.shelf_steps.proofs.SlotsAfter.{slots_block}
 use Rattle.shelf_steps.proofs.Chains.{take_block, give_block, IsHome, block_valid, block_else, block_out, carried_down}
 use Rattle.shelf_steps.proofs.Chains.{gives_valid, given_else, given_home, given_rest}
 
-module _ (table : Table (Option Edition) View) (r : Ruled table) (id : ℕ) (l : LoaderView) (at : get_elem? table.views id ≡ some (View.Loading l)) where
+module _ (table : Table (Option Edition) View) (r : KeepsRule table) (id : ℕ) (l : LoaderView) (at : get_elem? table.views id ≡ some (View.Loading l)) where
   is_loader : l ≡ r.loader
   is_loader = (r.seats.each id (View.Loading l) at).1
 
-  loader_knows : LoaderFits r.course l
-  loader_knows = subst (λ (x : LoaderView). LoaderFits r.course x) (sym is_loader) r.seats.loads
+  loader_knows : LoaderFits r.history l
+  loader_knows = subst (λ (x : LoaderView). LoaderFits r.history x) (sym is_loader) r.seats.loads
 
-  loader_slots : SlotsFit table.homes r.course.state.shelves r.course.state.workers r.course.images l.hand
-  loader_slots = subst (λ (x : LoaderView). SlotsFit table.homes r.course.state.shelves r.course.state.workers r.course.images x.hand) (sym is_loader) r.slots
+  loader_slots : SlotsFit table.homes r.history.state.shelves r.history.state.workers r.history.images l.hand
+  loader_slots = subst (λ (x : LoaderView). SlotsFit table.homes r.history.state.shelves r.history.state.workers r.history.images x.hand) (sym is_loader)
+      r.slots
 
-  shelf_is : (k : ℕ) (x : Shelf) → slice_get l.shelves k ≡ Some x → slice_get r.course.state.shelves k ≡ Some x
+  shelf_is : (k : ℕ) (x : Shelf) → slice_get l.shelves k ≡ Some x → slice_get r.history.state.shelves k ≡ Some x
   shelf_is k x e = ap (λ (xs : List Shelf). slice_get xs k) (sym loader_knows.shows.shelves) ∙ e
 
-  newest_is : newest_of l ≡ newest r.course.state
+  newest_is : newest_of l ≡ newest r.history.state
   newest_is = ap (λ (xs : List ImageValue). length xs) loader_knows.images ∙ r.goes.as_many
 
 -- a step of the loader leaves what the workers do
-module _ (table : Table (Option Edition) View) (r : Ruled table) (id : ℕ) (l l' : LoaderView)
+module _ (table : Table (Option Edition) View) (r : KeepsRule table) (id : ℕ) (l l' : LoaderView)
     (at : get_elem? table.views id ≡ some (View.Loading l)) (as_many : l'.handed ≡ l.handed)
     (e : Event) (reply : Reply) (t : State) (images : List ImageValue) (whose : actor e
-    ≡ None) (goes : Goes (extended r.course e reply t images)) (more : IsPrefix r.course.images images)
-    (workers : t.workers ≡ r.course.state.workers) (seen : t.seen ≡ r.course.state.seen) (notices : t.notices ≡ r.course.state.notices)
-    (up : r.course.state.current ≤ t.current) where
+    ≡ None) (goes : LeadsToItsState (extended r.history e reply t images)) (more : IsPrefix r.history.images images)
+    (workers : t.workers ≡ r.history.state.workers) (seen : t.seen ≡ r.history.state.seen) (notices : t.notices ≡ r.history.state.notices)
+    (up : r.history.state.current ≤ t.current) where
   not_of : (u : ℕ) → actor e ≢ Some u
   not_of u q = let z : None ≡ Some u = sym whose ∙ q in cc
 
   not_nobodys : actor e ≢ no_actor
   not_nobodys q = let z : None ≡ Some 16 = sym whose ∙ q in cc
 
-  others : (u : WorkerView) → WorkerFits r.course u → WorkerFits (extended r.course e reply t images) u
+  others : (u : WorkerView) → WorkerFits r.history u → WorkerFits (extended r.history e reply t images) u
   others u f =
-      other_fits r.course (extended r.course e reply t images) u
+      other_fits r.history (extended r.history e reply t images) u
       (ap (λ (x : List Worker). slice_get x u.number) workers) (ap (λ (x : List ℕ). get_or x u.number 0) seen) up
       more
-      (begins_longer r.course e reply t images u.known (Some u.number) (not_of u.number) more f.known)
-      (joined_same u.number r.course.events e (no_join u.number e not_nobodys)) f
+      (begins_longer r.history e reply t images u.known (Some u.number) (not_of u.number) more f.known)
+      (joined_same u.number r.history.events e (no_join u.number e not_nobodys)) f
 
-  loader_ruled : (words' : List ℕ) (homes' : List (Maybe (Option Edition))) → Step r.course.state e reply t
-      → l'.known ≡ all_of (extended r.course e reply t images)
-      → LoaderFits (extended r.course e reply t images) l' → WordsShow words' t
+  loader_ruled : (words' : List ℕ) (homes' : List (Maybe (Option Edition))) → Step r.history.state e reply t
+      → l'.known ≡ all_of (extended r.history e reply t images)
+      → LoaderFits (extended r.history e reply t images) l' → WordsShow words' t
       → SlotsFit homes' t.shelves t.workers images l'.hand
-      → (after : Ruled record { words = words'; homes = homes'; views = set table.views id (View.Loading l') })
-      × IsLonger r.course e reply after.course × (l'.known ≡ all_of after.course)
+      → (after : KeepsRule record { words = words'; homes = homes'; views = set table.views id (View.Loading l') })
+      × IsLonger r.history e reply after.history × (l'.known ≡ all_of after.history)
   loader_ruled words' homes' is_step known fits words slots = (
     record {
-      course = extended r.course e reply t images;
+      history = extended r.history e reply t images;
       loader = l';
       goes = goes;
       words = words;
-      seats = loader_moves r.course (extended r.course e reply t images) table.views r.loader r.seats id l l' at as_many others fits workers seen (λ w small h.
-          nothing_snoc w r.course.events e (not_of w) (no_join w e not_nobodys) h);
+      seats = loader_moves r.history (extended r.history e reply t images) table.views r.loader r.seats id l l' at as_many others fits workers seen
+          (λ w small h.
+          nothing_snoc w r.history.events e (not_of w) (no_join w e not_nobodys) h);
       notices = notices_loader table.views id l l' at ∙ (r.notices ∙ sym notices);
       slots = slots;
     },
@@ -106,9 +108,9 @@ module _ (table : Table (Option Edition) View) (r : Ruled table) (id : ℕ) (l l
     known,
   )
 
-  loader_happened : Happened l.known e reply (all_of (extended r.course e reply t images))
-  loader_happened = happened r.course e reply t images l.known
-      (subst (λ (a : Option ℕ). Begins l.known a r.course) (sym whose) (loader_knows table r id l at).known) goes more
+  loader_happened : Happened l.known e reply (all_of (extended r.history e reply t images))
+  loader_happened = happened r.history e reply t images l.known
+      (subst (λ (a : Option ℕ). IsKnownBeginning l.known a r.history) (sym whose) (loader_knows table r id l at).known) goes more
 
 -- the shelf k becomes another, and its word with it
 words_shelved : (words : List ℕ) (k new : ℕ) (y : Shelf) (s t : State) → WordsShow words s → k < 8
@@ -163,8 +165,8 @@ opens_as : (slots id k version : ℕ) (l : LoaderView) (image : ImageValue) (f :
     ) (k + 1) (λ n. (n + (256 + 65536 * version)) % 18446744073709551616) (Event.Open (newest_of l)) (λ _. Reply.Opened version k)
     (Opens (step slots (k + 1) (256 + 65536 * version) 0 none) (View.Loading l, down_from f (16 * k) 16 []))
 opens_as slots id k version l image f many small free hand current next few all table r full at fits =
-    let s = r.course.state in let n = get_or table.words (k + 1) 0 in let top = newest_of l in
-    let kept : KeepsInvariants s = kept_of r.course r.goes in
+    let s = r.history.state in let n = get_or table.words (k + 1) 0 in let top = newest_of l in
+    let kept : KeepsInvariants s = kept_of r.history r.goes in
     let knows = loader_knows table r id l at in
     let is_free : IsFree s k = shelf_is table r id l at k Shelf.Free free in
     let is_newest : top ≡ newest s = newest_is table r id l at in
@@ -173,12 +175,12 @@ opens_as slots id k version l image f many small free hand current next few all 
     let e : Event = Event.Open top in let reply : Reply = Reply.Opened (top + 1) k in
     let may : MayOpen s = (none_waits s kept current_is, (omega arith)) in
     let is_step : Step s e reply t = (may, is_free, ap (λ m. m + 1) is_newest, refl) in
-    let images : List ImageValue = r.course.images ++ image ∷ [] in
-    let more : IsPrefix r.course.images images = (image ∷ [], refl) in
-    let a1 = length-append r.course.images (image ∷ []) in let a2 = length-append s.editions (top ∷ []) in let a3 = r.goes.as_many in
-    let goes' : Goes (extended r.course e reply t images) = goes_on r.course e reply t images r.goes is_step tt (omega arith)
+    let images : List ImageValue = r.history.images ++ image ∷ [] in
+    let more : IsPrefix r.history.images images = (image ∷ [], refl) in
+    let a1 = length-append r.history.images (image ∷ []) in let a2 = length-append s.editions (top ∷ []) in let a3 = r.goes.as_many in
+    let goes' : LeadsToItsState (extended r.history e reply t images) = goes_on r.history e reply t images r.goes is_step tt (omega arith)
     (λ i edition q. elim (got_snoc s.editions top edition i q) [ inl a ↦ r.goes.numbered i edition a | inr b ↦ sym b.1 ∙ (is_newest ∙ sym b.0) ]) in
-    let d : Course = extended r.course e reply t images in
+    let d : EventHistory = extended r.history e reply t images in
     let l' : LoaderView = with_open l k (top + 1) (all_of d) in
     let eight = kept.shelves.eight in
     let counted = few_counted s k kept small in
@@ -196,12 +198,12 @@ opens_as slots id k version l image f many small free hand current next few all 
           h.0,
           h.1,
           h.2 ∙ (next ∙ ap (λ m. m + 1) is_newest),
-          image_last r.course.images image (newest s + 1) (omega arith) ∙ ap (λ (x : ImageValue). Some x) (sym h.3),
+          image_last r.history.images image (newest s + 1) (omega arith) ∙ ap (λ (x : ImageValue). Some x) (sym h.3),
         ),
         none_hold s k (newest s + 1) u kept is_free,
       ),
     ) in
-    let fits' : LoaderFits d l' = loader_next r.course d e l l' knows refl refl refl refl goes'.as_many knows.shows.current knows.shows.current_shelf
+    let fits' : LoaderFits d l' = loader_next r.history d e l l' knows refl refl refl refl goes'.as_many knows.shows.current knows.shows.current_shelf
     (λ i. set (knows.shows.shelves i) k (Shelf.Open (is_newest i + 1))) in
     let after =
     loader_ruled table r id l l' at refl e reply t images refl goes' more refl refl refl (omega arith)
@@ -210,7 +212,7 @@ opens_as slots id k version l image f many small free hand current next few all 
     (words_shelved table.words k ((n + (256 + 65536 * version)) % 18446744073709551616)
     (Shelf.Open (newest s + 1)) s t r.words small eight refl refl refl refl word)
     (slots_block table.homes (homes_after table.homes (down_from f (16 * k) 16 []) (give_block 16)) s.shelves
-    t.shelves s.workers r.course.images images l.hand None k (Shelf.Open (newest s + 1))
+    t.shelves s.workers r.history.images images l.hand None k (Shelf.Open (newest s + 1))
     (slice_get-set_same s.shelves k (Shelf.Open (newest s + 1)) (omega arith)) (λ j ne. slice_get-set_other s.shelves k j (Shelf.Open (newest s + 1)) ne)
     (λ i h. given_else table.homes [] f (16 * k) 16 i h) more
     (λ j ne q. let z : Some k ≡ Some j = sym hand ∙ q in absurd (ne (cc))) (λ j ne q. absurd (cc)) here (loader_slots table r id l at)) in (
@@ -218,7 +220,7 @@ opens_as slots id k version l image f many small free hand current next few all 
       give_block 16,
       gives_valid table.homes (down_from f (16 * k) 16 []) 16,
       after.0,
-      subst (λ m. IsLonger r.course e (Reply.Opened m k) after.0.course) (sym next) after.1,
+      subst (λ m. IsLonger r.history e (Reply.Opened m k) after.0.history) (sym next) after.1,
       after.2,
       (
         k,
@@ -247,7 +249,7 @@ opens_add slots id k version l c many small may =
     (opens_as slots id k version l block.0 block.1 many small may.0 may.1 may.2 may.3 may.4 block.3)
 
 openings_as : (slots id k version : ℕ) (u : View) (c : List (ℕ × Option Edition)) → slots ≡ 128 → k < 8 → MayOpenOn k version u c
-    → Allows Ruled slots id (u, c) (k + 1) (λ n. (n + (256 + 65536 * version)) % 18446744073709551616)
+    → Allows KeepsRule slots id (u, c) (k + 1) (λ n. (n + (256 + 65536 * version)) % 18446744073709551616)
     (Opens (step slots (k + 1) (256 + 65536 * version) 0 none) (u, c))
 openings_as slots id k version (View.Working v) c many small may = absurd may
 openings_as slots id k version (View.Noting x') c many small may = absurd may
@@ -257,49 +259,50 @@ openings_as slots id k version (View.Loading l) c many small may =
     (λ _. Reply.Opened version k) (Opens (step slots (k + 1) (256 + 65536 * version) 0 none) (View.Loading l, c))
     (opens_add slots id k version l c many small may)
 
-pub openings : (slots id k version : ℕ) (me : Mine) → slots ≡ 128 → k < 8 → MayOpenOn k version me.0 me.1
-    → Allows Ruled slots id me (k + 1) (λ n. (n + (256 + 65536 * version)) % 18446744073709551616)
+pub openings : (slots id k version : ℕ) (me : SeatAndSlots) → slots ≡ 128 → k < 8 → MayOpenOn k version me.0 me.1
+    → Allows KeepsRule slots id me (k + 1) (λ n. (n + (256 + 65536 * version)) % 18446744073709551616)
     (Opens (step slots (k + 1) (256 + 65536 * version) 0 none) me)
 openings slots id k version me many small may = openings_as slots id k version me.0 me.1 many small may
 
 -- a step that adds no version
-module _ (table : Table (Option Edition) View) (r : Ruled table) (id : ℕ) (l l' : LoaderView)
+module _ (table : Table (Option Edition) View) (r : KeepsRule table) (id : ℕ) (l l' : LoaderView)
     (at : get_elem? table.views id ≡ some (View.Loading l)) (as_many : l'.handed ≡ l.handed)
-    (e : Event) (reply : Reply) (t : State) (whose : actor e ≡ None) (is_step : Step r.course.state e reply t) (editions : t.editions ≡ r.course.state.editions)
-    (workers : t.workers ≡ r.course.state.workers) (seen : t.seen ≡ r.course.state.seen) (notices : t.notices ≡ r.course.state.notices)
-    (up : r.course.state.current ≤ t.current) where
-  goes' : Goes (extended r.course e reply t r.course.images)
-  goes' = goes_same r.course e reply t r.goes is_step (loaders_event e whose) editions
+    (e : Event) (reply : Reply) (t : State) (whose : actor e ≡ None) (is_step : Step r.history.state e reply t)
+    (editions : t.editions ≡ r.history.state.editions)
+    (workers : t.workers ≡ r.history.state.workers) (seen : t.seen ≡ r.history.state.seen) (notices : t.notices ≡ r.history.state.notices)
+    (up : r.history.state.current ≤ t.current) where
+  goes' : LeadsToItsState (extended r.history e reply t r.history.images)
+  goes' = goes_same r.history e reply t r.goes is_step (loaders_event e whose) editions
 
   pub noted_ruled : (words' : List ℕ) (homes' : List (Maybe (Option Edition)))
-      → l'.known ≡ all_of (extended r.course e reply t r.course.images)
-      → LoaderFits (extended r.course e reply t r.course.images) l' → WordsShow words' t
-      → SlotsFit homes' t.shelves t.workers r.course.images l'.hand
-      → (after : Ruled record { words = words'; homes = homes'; views = set table.views id (View.Loading l') })
-      × IsLonger r.course e reply after.course × (l'.known ≡ all_of after.course)
+      → l'.known ≡ all_of (extended r.history e reply t r.history.images)
+      → LoaderFits (extended r.history e reply t r.history.images) l' → WordsShow words' t
+      → SlotsFit homes' t.shelves t.workers r.history.images l'.hand
+      → (after : KeepsRule record { words = words'; homes = homes'; views = set table.views id (View.Loading l') })
+      × IsLonger r.history e reply after.history × (l'.known ≡ all_of after.history)
   noted_ruled words' homes' known fits words slots =
-      loader_ruled table r id l l' at as_many e reply t r.course.images whose goes'
-      (prefix_same r.course.images) workers seen notices up words' homes' is_step known fits words slots
+      loader_ruled table r id l l' at as_many e reply t r.history.images whose goes'
+      (prefix_same r.history.images) workers seen notices up words' homes' is_step known fits words slots
 
-  pub noted : IsLastEvent l e reply (all_of (extended r.course e reply t r.course.images))
+  pub noted : IsLastEvent l e reply (all_of (extended r.history e reply t r.history.images))
   noted = (
-    loader_happened table r id l l' at as_many e reply t r.course.images whose goes'
-        (prefix_same r.course.images) workers seen notices up,
+    loader_happened table r id l l' at as_many e reply t r.history.images whose goes'
+        (prefix_same r.history.images) workers seen notices up,
     sym (loader_knows table r id l at).images,
   )
 
 pub publishes_add : PublishesAdd
 publishes_add slots id k version l c small may table r full at fits =
-    let s = r.course.state in
+    let s = r.history.state in
     let knows = loader_knows table r id l at in
     let stands : IsOpen s k version = shelf_is table r id l at k (Shelf.Open version) may.0 in
     let later : s.current < version = let a = knows.shows.current in let b = may.1 in omega arith in
     let t : State = published s k version in
     let e : Event = Event.Publish in let reply : Reply = Reply.Published version in
     let is_step : Step s e reply t = (k, (stands, later), refl) in
-    let d : Course = extended r.course e reply t r.course.images in
+    let d : EventHistory = extended r.history e reply t r.history.images in
     let l' : LoaderView = with_current l version k (all_of d) in
-    let fits' : LoaderFits d l' = loader_next r.course d e l l' knows refl refl refl refl r.goes.as_many refl refl knows.shows.shelves in
+    let fits' : LoaderFits d l' = loader_next r.history d e l l' knows refl refl refl refl r.goes.as_many refl refl knows.shows.shelves in
     let after =
     noted_ruled table r id l l' at refl e reply t refl is_step refl refl refl refl (omega arith) (set table.words 0 (8 * version + k)) table.homes refl fits'
     (words_current table.words (8 * version + k) s t r.words refl refl refl) (loader_slots table r id l at) in (
@@ -313,7 +316,7 @@ publishes_add slots id k version l c small may table r full at fits =
     )
 
 publishings_as : (slots id k version : ℕ) (u : View) (c : List (ℕ × Option Edition)) → k < 8 → MayPublish version k u
-    → Allows Ruled slots id (u, c) 0 (λ _. 8 * version + k) (λ _. Publishes (step slots 0 (8 * version + k) 0 none) (u, c) (8 * version + k))
+    → Allows KeepsRule slots id (u, c) 0 (λ _. 8 * version + k) (λ _. Publishes (step slots 0 (8 * version + k) 0 none) (u, c) (8 * version + k))
 publishings_as slots id k version (View.Working v) c small may = absurd may
 publishings_as slots id k version (View.Noting x') c small may = absurd may
 publishings_as slots id k version View.Spent c small may = absurd may
@@ -321,14 +324,14 @@ publishings_as slots id k version (View.Loading l) c small may =
     allows slots id (View.Loading l, c) 0 (λ _. 8 * version + k) Event.Publish (λ _. Reply.Published version)
     (λ _. Publishes (step slots 0 (8 * version + k) 0 none) (View.Loading l, c) (8 * version + k)) (publishes_add slots id k version l c small may)
 
-pub publishings : (slots id k version : ℕ) (me : Mine) → k < 8 → MayPublish version k me.0
-    → Allows Ruled slots id me 0 (λ _. 8 * version + k) (λ _. Publishes (step slots 0 (8 * version + k) 0 none) me (8 * version + k))
+pub publishings : (slots id k version : ℕ) (me : SeatAndSlots) → k < 8 → MayPublish version k me.0
+    → Allows KeepsRule slots id me 0 (λ _. 8 * version + k) (λ _. Publishes (step slots 0 (8 * version + k) 0 none) me (8 * version + k))
 publishings slots id k version me small may = publishings_as slots id k version me.0 me.1 small may
 
 pub closes_add : ClosesAdd
 closes_add slots id k l c small may table r full at fits =
-    let s = r.course.state in let version = may.0 in let n = get_or table.words (k + 1) 0 in
-    let kept : KeepsInvariants s = kept_of r.course r.goes in
+    let s = r.history.state in let version = may.0 in let n = get_or table.words (k + 1) 0 in
+    let kept : KeepsInvariants s = kept_of r.history r.goes in
     let knows = loader_knows table r id l at in
     let stands : IsOpen s k version = shelf_is table r id l at k (Shelf.Open version) may.1 in
     let old : version < s.current = let a = knows.shows.current in let b = may.2 in omega arith in
@@ -336,20 +339,20 @@ closes_add slots id k l c small may table r full at fits =
     let t : State = shelved s k (Shelf.Closing version) in
     let e : Event = Event.Close k in let reply : Reply = Reply.Closing in
     let is_step : Step s e reply t = (version, outdated, refl) in
-    let d : Course = extended r.course e reply t r.course.images in
+    let d : EventHistory = extended r.history e reply t r.history.images in
     let l' : LoaderView = with_closing l k version (all_of d) in
     let eight = kept.shelves.eight in
     let bound = version_bound s k (Shelf.Open version) kept stands version (inl refl) in
     let word = close_word n (get_or s.counts k 0) version (r.words.each k (Shelf.Open version) stands) (few_counted s k kept small) bound in
-    let fits' : LoaderFits d l' = loader_next r.course d e l l' knows refl refl refl refl r.goes.as_many knows.shows.current knows.shows.current_shelf
+    let fits' : LoaderFits d l' = loader_next r.history d e l l' knows refl refl refl refl r.goes.as_many knows.shows.current knows.shows.current_shelf
     (λ i. set (knows.shows.shelves i) k (Shelf.Closing version)) in
     let after =
     noted_ruled table r id l l' at refl e reply t refl is_step refl refl refl refl (omega arith) (set table.words (k + 1)
     ((n + 256) % 18446744073709551616)) table.homes refl fits'
     (words_shelved table.words k ((n + 256) % 18446744073709551616) (Shelf.Closing version) s t r.words small eight refl refl refl refl word)
-    (slots_block table.homes table.homes s.shelves t.shelves s.workers r.course.images r.course.images l.hand l.hand k (Shelf.Closing version)
+    (slots_block table.homes table.homes s.shelves t.shelves s.workers r.history.images r.history.images l.hand l.hand k (Shelf.Closing version)
     (slice_get-set_same s.shelves k (Shelf.Closing version) (omega arith)) (λ j ne. slice_get-set_other s.shelves k j (Shelf.Closing version) ne)
-    (λ i h. refl) (prefix_same r.course.images) (λ j ne q. q) (λ j ne q. q)
+    (λ i h. refl) (prefix_same r.history.images) (λ j ne q. q) (λ j ne q. q)
     (λ u less. loader_slots table r id l at k u (Shelf.Open version) stands less)
     (loader_slots table r id l at)) in (
       View.Loading l',
@@ -362,7 +365,7 @@ closes_add slots id k l c small may table r full at fits =
     )
 
 closings_as : (slots id k : ℕ) (u : View) (c : List (ℕ × Option Edition)) → k < 8 → MayClose k u
-    → Allows Ruled slots id (u, c) (k + 1) (λ n. (n + 256) % 18446744073709551616) (Closes (step slots (k + 1) 256 0 none) (u, c))
+    → Allows KeepsRule slots id (u, c) (k + 1) (λ n. (n + 256) % 18446744073709551616) (Closes (step slots (k + 1) 256 0 none) (u, c))
 closings_as slots id k (View.Working v) c small may = absurd may
 closings_as slots id k (View.Noting x') c small may = absurd may
 closings_as slots id k View.Spent c small may = absurd may
@@ -370,8 +373,8 @@ closings_as slots id k (View.Loading l) c small may =
     allows slots id (View.Loading l, c) (k + 1) (λ n. (n + 256) % 18446744073709551616) (Event.Close k) (λ _. Reply.Closing)
     (Closes (step slots (k + 1) 256 0 none) (View.Loading l, c)) (closes_add slots id k l c small may)
 
-pub closings : (slots id k : ℕ) (me : Mine) → k < 8 → MayClose k me.0
-    → Allows Ruled slots id me (k + 1) (λ n. (n + 256) % 18446744073709551616)
+pub closings : (slots id k : ℕ) (me : SeatAndSlots) → k < 8 → MayClose k me.0
+    → Allows KeepsRule slots id me (k + 1) (λ n. (n + 256) % 18446744073709551616)
     (Closes (step slots (k + 1) 256 0 none) me)
 closings slots id k me small may = closings_as slots id k me.0 me.1 small may
 
@@ -412,46 +415,46 @@ count_found n zero version is few false found = absurd (is_other n (512 + 65536 
 count_found n (suc count) version is few false found = (omega arith, omega arith)
 
 -- a closing shelf, and how many are there by the word that it has
-closing_at : (id k version : ℕ) (l : LoaderView) (table : Table (Option Edition) View) (r : Ruled table) → get_elem? table.views id ≡ some (View.Loading l)
+closing_at : (id k version : ℕ) (l : LoaderView) (table : Table (Option Edition) View) (r : KeepsRule table) → get_elem? table.views id ≡ some (View.Loading l)
     → k < 8 → slice_get l.shelves k ≡ Some (Shelf.Closing version) → (b : Bool) → (get_or table.words (k + 1) 0 == 512 + 65536 * version) ≡ b
-    → IsClosing r.course.state k version × IsCountFound b (get_or r.course.state.counts k 0) (get_or table.words (k + 1) 0)
+    → IsClosing r.history.state k version × IsCountFound b (get_or r.history.state.counts k 0) (get_or table.words (k + 1) 0)
 closing_at id k version l table r at small shelf b found =
     let closing = shelf_is table r id l at k (Shelf.Closing version) shelf in let word = r.words.each k (Shelf.Closing version) closing in
-    let few = few_counted r.course.state k (kept_of r.course r.goes) small in
-    (closing, count_found (get_or table.words (k + 1) 0) (get_or r.course.state.counts k 0) version word few b found)
+    let few = few_counted r.history.state k (kept_of r.history r.goes) small in
+    (closing, count_found (get_or table.words (k + 1) 0) (get_or r.history.state.counts k 0) version word few b found)
 
-collects_found : (id k version : ℕ) (l : LoaderView) (table : Table (Option Edition) View) (r : Ruled table)
+collects_found : (id k version : ℕ) (l : LoaderView) (table : Table (Option Edition) View) (r : KeepsRule table)
     → get_elem? table.views id ≡ some (View.Loading l) → length table.homes ≡ 128 → k < 8
     → slice_get l.shelves k ≡ Some (Shelf.Closing version) → l.hand ≡ None → (b : Bool) → (get_or table.words (k + 1) 0 == 512 + 65536 * version) ≡ b
     → (w : View) × (a : Act (Option Edition)) × Valid table.homes [] a
-    × (after : Ruled (stepped table (k + 1) (either b 0 (get_or table.words (k + 1) 0)) id [] w a))
-    × IsLonger r.course (Event.Collect k) (cond b Reply.Freed (Reply.Busy (get_or table.words (k + 1) 0 % 256))) after.course
-    × (known_of w ≡ all_of after.course)
+    × (after : KeepsRule (stepped table (k + 1) (either b 0 (get_or table.words (k + 1) 0)) id [] w a))
+    × IsLonger r.history (Event.Collect k) (cond b Reply.Freed (Reply.Busy (get_or table.words (k + 1) 0 % 256))) after.history
+    × (known_of w ≡ all_of after.history)
     × CollectsFound l k version (get_or table.words (k + 1) 0) b (w, carried_after [] a)
 collects_found id k version l table r at many small shelf hand true found =
-    let s = r.course.state in let kept : KeepsInvariants s = kept_of r.course r.goes in
+    let s = r.history.state in let kept : KeepsInvariants s = kept_of r.history r.goes in
     let knows = loader_knows table r id l at in
     let here = closing_at id k version l table r at small shelf true found in let no_actor = here.1 in
     let t : State = shelved s k Shelf.Free in
     let e : Event = Event.Collect k in let reply : Reply = Reply.Freed in
     let is_step : Step s e reply t = (version, here.0, no_actor, refl) in
-    let d : Course = extended r.course e reply t r.course.images in
+    let d : EventHistory = extended r.history e reply t r.history.images in
     let l' : LoaderView = with_free l k (all_of d) in
     let eight = kept.shelves.eight in
     let f : ℕ → Option Edition = λ j. value_at (get_elem? table.homes j) in
     let home : IsHome table.homes f (16 * k) 16 =
-    all_home table.homes s.shelves s.counts s.workers r.course.images l.hand k version
+    all_home table.homes s.shelves s.counts s.workers r.history.images l.hand k version
     (no_one_at s.counts s.workers k kept.counts small no_actor) here.0 (loader_slots table r id l at) in
-    let fits' : LoaderFits d l' = loader_next r.course d e l l' knows refl refl refl refl r.goes.as_many knows.shows.current knows.shows.current_shelf
+    let fits' : LoaderFits d l' = loader_next r.history d e l l' knows refl refl refl refl r.goes.as_many knows.shows.current knows.shows.current_shelf
     (λ i. set (knows.shows.shelves i) k Shelf.Free) in
     let after =
     noted_ruled table r id l l' at refl e reply t refl is_step refl refl refl refl (omega arith) (set table.words (k + 1) 0) (homes_after table.homes []
     (take_block f (16 * k) 16)) refl fits'
     (words_shelved table.words k 0 Shelf.Free s t r.words small eight refl refl refl refl (sym no_actor))
     (slots_block table.homes (homes_after table.homes [] (take_block f (16 * k) 16)) s.shelves t.shelves s.workers
-    r.course.images r.course.images l.hand (Some k) k Shelf.Free
+    r.history.images r.history.images l.hand (Some k) k Shelf.Free
     (slice_get-set_same s.shelves k Shelf.Free (omega arith)) (λ j ne. slice_get-set_other s.shelves k j Shelf.Free ne)
-    (λ i h. block_else table.homes [] f (16 * k) 16 i h) (prefix_same r.course.images)
+    (λ i h. block_else table.homes [] f (16 * k) 16 i h) (prefix_same r.history.images)
     (λ j ne q. let z : None ≡ Some j = sym hand ∙ q in absurd (cc)) (λ j ne q. absurd (ne (cc)))
     (λ u less. inr (refl, block_out table.homes [] f (16 * k) 16 (16 * k + u) (omega arith) (omega arith) (omega arith)))
     (loader_slots table r id l at)) in (
@@ -466,23 +469,23 @@ collects_found id k version l table r at many small shelf hand true found =
         all_of d,
         (λ i. (View.Loading l', carried_down f (16 * k) 16 [] i)),
         noted table r id l l' at refl e reply t refl is_step refl refl refl refl (omega arith),
-        found_at table.words r.course r.goes r.words k e d refl small,
+        found_at table.words r.history r.goes r.words k e d refl small,
       ),
     )
 collects_found id k version l table r at many small shelf hand false found =
-    let s = r.course.state in let n = get_or table.words (k + 1) 0 in
+    let s = r.history.state in let n = get_or table.words (k + 1) 0 in
     let knows = loader_knows table r id l at in
     let here = closing_at id k version l table r at small shelf false found in
     let e : Event = Event.Collect k in let reply : Reply = Reply.Busy (n % 256) in
     let is_step : Step s e reply s = (version, here.0, here.1.0, here.1.1, refl) in
-    let d : Course = extended r.course e reply s r.course.images in
+    let d : EventHistory = extended r.history e reply s r.history.images in
     let l' : LoaderView = with_hand l None (all_of d) in
-    let fits' : LoaderFits d l' = loader_next r.course d e l l' knows refl refl refl refl r.goes.as_many knows.shows.current knows.shows.current_shelf
+    let fits' : LoaderFits d l' = loader_next r.history d e l l' knows refl refl refl refl r.goes.as_many knows.shows.current knows.shows.current_shelf
     knows.shows.shelves in
     let after =
     noted_ruled table r id l l' at refl e reply s refl is_step refl refl refl refl (omega arith) (set table.words (k + 1) n) table.homes refl fits'
     (words_same table.words (k + 1) s s r.words refl refl refl refl)
-    (subst (λ (x : Option ℕ). SlotsFit table.homes s.shelves s.workers r.course.images x) hand (loader_slots table r id l at)) in (
+    (subst (λ (x : Option ℕ). SlotsFit table.homes s.shelves s.workers r.history.images x) hand (loader_slots table r id l at)) in (
       View.Loading l',
       keeps,
       tt,
@@ -494,7 +497,7 @@ collects_found id k version l table r at many small shelf hand false found =
         refl,
         noted table r id l l' at refl e reply s refl is_step refl refl refl refl (omega arith),
         here.1.1,
-        found_at table.words r.course r.goes r.words k e d refl small,
+        found_at table.words r.history r.goes r.words k e d refl small,
       ),
     )
 
@@ -512,7 +515,8 @@ collects_add slots id k version l c many small may =
     (z.0, z.1, z.2, z.3, z.4, z.5, (k, version, refl, refl, z.6)))
 
 collectings_as : (slots id k version : ℕ) (u : View) (c : List (ℕ × Option Edition)) → slots ≡ 128 → k < 8 → MayCollect k version u c
-    → Allows Ruled slots id (u, c) (k + 1) (λ n. either (n == 512 + 65536 * version) 0 n) (Collects (step slots (k + 1) (512 + 65536 * version) 0 none) (u, c))
+    → Allows KeepsRule slots id (u, c) (k + 1) (λ n. either (n == 512 + 65536 * version) 0 n)
+    (Collects (step slots (k + 1) (512 + 65536 * version) 0 none) (u, c))
 collectings_as slots id k version (View.Working v) c many small may = absurd may
 collectings_as slots id k version (View.Noting x') c many small may = absurd may
 collectings_as slots id k version View.Spent c many small may = absurd may
@@ -521,8 +525,8 @@ collectings_as slots id k version (View.Loading l) c many small may =
     (λ n. cond (n == 512 + 65536 * version) Reply.Freed (Reply.Busy (n % 256)))
     (Collects (step slots (k + 1) (512 + 65536 * version) 0 none) (View.Loading l, c)) (collects_add slots id k version l c many small may)
 
-pub collectings : (slots id k version : ℕ) (me : Mine) → slots ≡ 128 → k < 8 → MayCollect k version me.0 me.1
-    → Allows Ruled slots id me (k + 1) (λ n. either (n == 512 + 65536 * version) 0 n) (Collects (step slots (k + 1) (512 + 65536 * version) 0 none) me)
+pub collectings : (slots id k version : ℕ) (me : SeatAndSlots) → slots ≡ 128 → k < 8 → MayCollect k version me.0 me.1
+    → Allows KeepsRule slots id me (k + 1) (λ n. either (n == 512 + 65536 * version) 0 n) (Collects (step slots (k + 1) (512 + 65536 * version) 0 none) me)
 collectings slots id k version me many small may = collectings_as slots id k version me.0 me.1 many small may
 
 -- the slots of a free shelf, where they are not out
@@ -540,15 +544,15 @@ spares_home homes shelves workers images hand k empty free fit j from to =
 -- a step that finds a free shelf, and moves its empty slots
 tries_free : (id k : ℕ) (l : LoaderView) (c : List (ℕ
     × Option Edition)) (hand' : Option ℕ) (a : Act (Option Edition)) (table : Table (Option Edition) View)
-    (r : Ruled table) → get_elem? table.views id ≡ some (View.Loading l) → k < 8
+    (r : KeepsRule table) → get_elem? table.views id ≡ some (View.Loading l) → k < 8
     → slice_get l.shelves k ≡ Some Shelf.Free
-    → SlotsFit (homes_after table.homes c a) r.course.state.shelves r.course.state.workers r.course.images hand'
+    → SlotsFit (homes_after table.homes c a) r.history.state.shelves r.history.state.workers r.history.images hand'
     → (b : Bool) → (get_or table.words (k + 1) 0 == 512) ≡ b
-    → (known : KnownHistory) × (after : Ruled (stepped table (k + 1) (either b 0 (get_or table.words (k + 1) 0)) id c
-    (View.Loading (with_hand l hand' known)) a)) × IsLonger r.course (Event.Collect k) Reply.NotNow after.course
-    × (known ≡ all_of after.course) × IsLastEvent l (Event.Collect k) Reply.NotNow known
+    → (known : KnownHistory) × (after : KeepsRule (stepped table (k + 1) (either b 0 (get_or table.words (k + 1) 0)) id c
+    (View.Loading (with_hand l hand' known)) a)) × IsLonger r.history (Event.Collect k) Reply.NotNow after.history
+    × (known ≡ all_of after.history) × IsLastEvent l (Event.Collect k) Reply.NotNow known
 tries_free id k l c hand' a table r at small free slots true found =
-    let s = r.course.state in let n = get_or table.words (k + 1) 0 in let kept : KeepsInvariants s = kept_of r.course r.goes in
+    let s = r.history.state in let n = get_or table.words (k + 1) 0 in let kept : KeepsInvariants s = kept_of r.history r.goes in
     let word = r.words.each k Shelf.Free (shelf_is table r id l at k Shelf.Free free) in let few =
     few_counted s k kept
     small in let is =
@@ -557,14 +561,14 @@ tries_free id k l c hand' a table r at small free slots true found =
     in absurd
     (omega arith)
 tries_free id k l c hand' a table r at small free slots false found =
-    let s = r.course.state in let n = get_or table.words (k + 1) 0 in
+    let s = r.history.state in let n = get_or table.words (k + 1) 0 in
     let knows = loader_knows table r id l at in
     let is_free : IsFree s k = shelf_is table r id l at k Shelf.Free free in
     let e : Event = Event.Collect k in let reply : Reply = Reply.NotNow in
     let is_step : Step s e reply s = ((λ v q. let z : Some Shelf.Free ≡ Some (Shelf.Closing v) = sym is_free ∙ q in cc), refl) in
-    let d : Course = extended r.course e reply s r.course.images in
+    let d : EventHistory = extended r.history e reply s r.history.images in
     let l' : LoaderView = with_hand l hand' (all_of d) in
-    let fits' : LoaderFits d l' = loader_next r.course d e l l' knows refl refl refl refl r.goes.as_many knows.shows.current knows.shows.current_shelf
+    let fits' : LoaderFits d l' = loader_next r.history d e l l' knows refl refl refl refl r.goes.as_many knows.shows.current knows.shows.current_shelf
     knows.shows.shelves in
     let after =
     noted_ruled table r id l l' at refl e reply s refl is_step refl refl refl refl (omega arith) (set table.words (k + 1) n)
@@ -584,7 +588,7 @@ of_loader P Q (View.Noting n) each h = absurd h
 of_loader P Q View.Spent each h = absurd h
 
 -- after such a try the loader has this in its hand, and these slots
-abbrev SparedOn : LoaderView → (ℕ → Option ℕ) → (ℕ → List (ℕ × Option Edition)) → ℕ → Mine → Type 0
+abbrev SparedOn : LoaderView → (ℕ → Option ℕ) → (ℕ → List (ℕ × Option Edition)) → ℕ → SeatAndSlots → Type 0
 SparedOn l hand after j m' = (known : KnownHistory) × (m' ≡ (View.Loading (with_hand l (hand j) known), after j)) × IsLastEvent l
     (Event.Collect j) Reply.NotNow known
 
@@ -592,9 +596,9 @@ SparedOn l hand after j m' = (known : KnownHistory) × (m' ≡ (View.Loading (wi
 spare_tries : (slots id k : ℕ) (l : LoaderView) (c was : List (ℕ × Option Edition)) (hand : ℕ → Option ℕ) (after : ℕ
     → List (ℕ × Option Edition)) (a : Act (Option Edition)) → c ≡ was → k < 8 → slice_get l.shelves k ≡ Some Shelf.Free
     → carried_after was a ≡ after k
-    → ((table : Table (Option Edition) View) (r : Ruled table) → length table.homes ≡ slots
-    → get_elem? table.views id ≡ some (View.Loading l) → IsFree r.course.state k
-    → Valid table.homes was a × SlotsFit (homes_after table.homes was a) r.course.state.shelves r.course.state.workers r.course.images (hand k))
+    → ((table : Table (Option Edition) View) (r : KeepsRule table) → length table.homes ≡ slots
+    → get_elem? table.views id ≡ some (View.Loading l) → IsFree r.history.state k
+    → Valid table.homes was a × SlotsFit (homes_after table.homes was a) r.history.state.shelves r.history.state.workers r.history.images (hand k))
     → Adds slots id (View.Loading l, c) (k + 1) (λ n. either (n == 512) 0 n) (Event.Collect k) (λ _. Reply.NotNow)
     (λ n m'. (j : ℕ) × (k + 1 ≡ j + 1) × SparedOn l hand after j m')
 spare_tries slots id k l c was hand after a is small free moves moved =
@@ -610,13 +614,13 @@ gathers_add slots id k l c many small may =
     spare_tries slots id k l c [] (λ j. Some j) (λ j. down_from nothings (16 * j) 16 [])
     (take_block nothings (16 * k) 16) may.2 small may.0 (carried_down nothings (16 * k) 16 [])
     (λ table r full at is_free.
-    let s = r.course.state in (
+    let s = r.history.state in (
       block_valid table.homes [] nothings (16 * k) 16
-          (spares_home table.homes s.shelves s.workers r.course.images l.hand k may.1 is_free
+          (spares_home table.homes s.shelves s.workers r.history.images l.hand k may.1 is_free
           (loader_slots table r id l at)),
       slots_block table.homes (homes_after table.homes [] (take_block nothings (16 * k) 16)) s.shelves s.shelves
-          s.workers r.course.images r.course.images l.hand (Some k) k Shelf.Free is_free (λ j ne. refl)
-          (λ i h. block_else table.homes [] nothings (16 * k) 16 i h) (prefix_same r.course.images)
+          s.workers r.history.images r.history.images l.hand (Some k) k Shelf.Free is_free (λ j ne. refl)
+          (λ i h. block_else table.homes [] nothings (16 * k) 16 i h) (prefix_same r.history.images)
           (λ j ne q. let y : None ≡ Some j = sym may.1 ∙ q in absurd (cc)) (λ j ne q. absurd (ne (cc)))
           (λ w less. inr (
             refl,
@@ -625,10 +629,10 @@ gathers_add slots id k l c many small may =
           )) (loader_slots table r id l at),
     ))
 
-pub gatherings : (slots id k : ℕ) (me : Mine) → slots ≡ 128 → k < 8 → MayGather k me.0 me.1
-    → Allows Ruled slots id me (k + 1) (λ n. either (n == 512) 0 n) (Gathers (step slots (k + 1) 512 0 none) me)
+pub gatherings : (slots id k : ℕ) (me : SeatAndSlots) → slots ≡ 128 → k < 8 → MayGather k me.0 me.1
+    → Allows KeepsRule slots id me (k + 1) (λ n. either (n == 512) 0 n) (Gathers (step slots (k + 1) 512 0 none) me)
 gatherings slots id k me many small may =
-    of_loader (λ l. MayGather k (View.Loading l) me.1) (λ u. Allows Ruled slots id (
+    of_loader (λ l. MayGather k (View.Loading l) me.1) (λ u. Allows KeepsRule slots id (
       u,
       me.1,
     ) (k + 1) (λ n. either (n == 512) 0 n) (Gathers (step slots (k + 1) 512 0 none) (u, me.1))) me.0
@@ -640,11 +644,11 @@ puts_add slots id k l c many small may =
     let full = down_from nothings (16 * k) 16 [] in
     spare_tries slots id k l c full (λ j. None) (λ j. []) (give_block 16) may.2 small may.0 (given_rest nothings (16 * k) 16 [])
     (λ table r long at is_free.
-    let s = r.course.state in (
+    let s = r.history.state in (
       gives_valid table.homes full 16,
-      slots_block table.homes (homes_after table.homes full (give_block 16)) s.shelves s.shelves s.workers r.course.images
-          r.course.images l.hand None k Shelf.Free is_free (λ j ne. refl)
-          (λ i h. given_else table.homes [] nothings (16 * k) 16 i h) (prefix_same r.course.images)
+      slots_block table.homes (homes_after table.homes full (give_block 16)) s.shelves s.shelves s.workers r.history.images
+          r.history.images l.hand None k Shelf.Free is_free (λ j ne. refl)
+          (λ i h. given_else table.homes [] nothings (16 * k) 16 i h) (prefix_same r.history.images)
           (λ j ne q. let y : Some k ≡ Some j = sym may.1 ∙ q in absurd (ne (cc))) (λ j ne q. absurd (cc))
           (λ w less. inl (
             (λ q. cc),
@@ -653,10 +657,10 @@ puts_add slots id k l c many small may =
           )) (loader_slots table r id l at),
     ))
 
-pub puttings : (slots id k : ℕ) (me : Mine) → slots ≡ 128 → k < 8 → MayPutBack k me.0 me.1
-    → Allows Ruled slots id me (k + 1) (λ n. either (n == 512) 0 n) (PutsBack (step slots (k + 1) 512 0 none) me)
+pub puttings : (slots id k : ℕ) (me : SeatAndSlots) → slots ≡ 128 → k < 8 → MayPutBack k me.0 me.1
+    → Allows KeepsRule slots id me (k + 1) (λ n. either (n == 512) 0 n) (PutsBack (step slots (k + 1) 512 0 none) me)
 puttings slots id k me many small may =
-    of_loader (λ l. MayPutBack k (View.Loading l) me.1) (λ u. Allows Ruled slots id (
+    of_loader (λ l. MayPutBack k (View.Loading l) me.1) (λ u. Allows KeepsRule slots id (
       u,
       me.1,
     ) (k + 1) (λ n. either (n == 512) 0 n) (PutsBack (step slots (k + 1) 512 0 none) (u, me.1))) me.0

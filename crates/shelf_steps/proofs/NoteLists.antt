@@ -6,7 +6,7 @@ use lib.ListN.{get_elem?}
 use Rattle.shelf_steps.specs.declared.views.WorkerView.{WorkerView}
 use Rattle.shelf_steps.specs.declared.views.LoaderView.{LoaderView}
 use Rattle.shelf_steps.specs.declared.views.View.{View}
-use Rattle.shelf_steps.specs.Ruled.{notice_of, notices_of}
+use Rattle.shelf_steps.specs.Rule.{notice_of, notices_of}
 
 -- a seat that is no notice's, before and after
 notices_same : (views : List View) (id : ℕ) (u u' : View) → get_elem? views id ≡ some u → notice_of u ≡ [] → notice_of u' ≡ []

@@ -14,29 +14,29 @@ use Rattle.atomic_table.proofs.Lists.{at_map, at_set, set_here, set_else, at_las
 use Rattle.version_core.specs.declared.state.Shelf.{Shelf}
 use Rattle.version_core.specs.declared.state.Worker.{Worker}
 use Rattle.version_core.specs.State.{start}
-use Rattle.version_core.specs.Kept.{KeepsInvariants}
+use Rattle.version_core.specs.Invariants.{KeepsInvariants}
 use Rattle.shelf_steps.specs.declared.edition.Edition.{Edition}
 use Rattle.shelf_steps.specs.declared.views.LoaderView.{LoaderView}
 use Rattle.shelf_steps.specs.declared.views.View.{View}
-use Rattle.shelf_steps.specs.Course.{Course, Goes, HasDoneNothing}
+use Rattle.shelf_steps.specs.EventHistory.{EventHistory, LeadsToItsState, HasDoneNothing}
 use Rattle.version_core.specs.Shown.{shelf_word}
 use Rattle.shelf_steps.specs.Seats.{WorkerFits, SeatsFit, SeatFits}
 use Rattle.shelf_steps.specs.Slots.{SlotsFit, SlotFits}
-use Rattle.shelf_steps.specs.Ruled.{Ruled, notices_of, first_loader, first_words, FirstSlot, FirstSlots}
+use Rattle.shelf_steps.specs.Rule.{KeepsRule, notices_of, first_loader, first_words, FirstSlot, FirstSlots}
 use Rattle.shelf_steps.specs.Steps.{StartIsRuled, HandingsAddNothing}
 use Rattle.shelf_steps.specs.Plays.{MayHandOut, one_more, newcomer, keeps_loading, new_worker_view}
 use Rattle.shelf_steps.proofs.Courses.{kept_of, begins_all}
 use Rattle.shelf_steps.proofs.Frames.{there}
 use Rattle.shelf_steps.proofs.NoteLists.{notices_loader, notices_more}
 
-abbrev first_course : ImageValue → Course
+abbrev first_course : ImageValue → EventHistory
 first_course image = record { state = start; events = []; replies = []; images = image ∷ [] }
 
 only_first : (i edition : ℕ) → slice_get (0 ∷ []) i ≡ Some edition → edition ≡ i
 only_first zero edition e = cc
 only_first (suc i) edition e = absurd (cc)
 
-first_goes : (image : ImageValue) → Goes (first_course image)
+first_goes : (image : ImageValue) → LeadsToItsState (first_course image)
 first_goes image = record { run = refl; workers = tt; as_many = refl; numbered = only_first }
 
 first_each : (k : ℕ) (x : Shelf) → slice_get start.shelves k ≡ Some x → get_or first_words (k + 1) 0 ≡ shelf_word x (get_or start.counts k 0)
@@ -86,7 +86,7 @@ first_at image items f (suc k) w x at less =
 pub start_ruled : StartIsRuled
 start_ruled image items f = (
   record {
-    course = first_course image;
+    history = first_course image;
     loader = first_loader image;
     goes = first_goes image;
     words = record { nine = refl; cur = refl; each = first_each };
@@ -111,7 +111,7 @@ start_ruled image items f = (
 )
 
 pub opens_ruled : (image : ImageValue) (items : List (Option Edition)) → FirstSlots image 128 items
-    → Ruled (opening first_words items (View.Loading (first_loader image)))
+    → KeepsRule (opening first_words items (View.Loading (first_loader image)))
 opens_ruled image items f = (start_ruled image items f).0
 
 -- one slot more at the start
@@ -144,7 +144,7 @@ owner_new owner number seat = let t : (number == number) ≡ true = grind (arith
 owner_old : (owner : ℕ → ℕ) (number seat w : ℕ) → w ≢ number → owner_after owner number seat w ≡ owner w
 owner_old owner number seat w ne = let t : (w == number) ≡ false = grind (arith, nat_tests) in rw t refl
 
-old_seat : (c : Course) (l : LoaderView) (owner : ℕ → ℕ) (new seat : ℕ) (u : View) → seat ≢ 0
+old_seat : (c : EventHistory) (l : LoaderView) (owner : ℕ → ℕ) (new seat : ℕ) (u : View) → seat ≢ 0
     → SeatFits c l owner seat u → SeatFits c (one_more l) (owner_after owner l.handed new) seat u
 old_seat c l owner new seat (View.Loading x) apart o = absurd (apart o.0)
 old_seat c l owner new seat (View.Noting n) apart o = tt
@@ -152,7 +152,7 @@ old_seat c l owner new seat View.Spent apart o = tt
 old_seat c l owner new seat (View.Working v) apart o = let a = o.0 in (omega arith, owner_old owner l.handed new v.number (λ e. omega arith) ∙ o.1, o.2)
 
 -- the loader hands out one more seat: nothing happens
-split_seats : (c : Course) (views : List View) (l : LoaderView) (fit : SeatsFit c views l) (id : ℕ) → id ≡ 0
+split_seats : (c : EventHistory) (views : List View) (l : LoaderView) (fit : SeatsFit c views l) (id : ℕ) → id ≡ 0
     → get_elem? views id ≡ some (View.Loading l) → KeepsInvariants c.state → l.handed < 16
     → SeatsFit c (set views id (View.Loading (one_more l)) ++ View.Working (newcomer l.handed) ∷ []) (one_more l)
 split_seats c views l fit id first at kept room =
@@ -212,25 +212,25 @@ split_seats c views l fit id first at kept room =
 pub hands_out : HandingsAddNothing
 hands_out table id l r at room =
     let is = r.seats.each id (View.Loading l) at in
-    let fit : SeatsFit r.course table.views l = subst (λ (x : LoaderView). SeatsFit r.course table.views x) (sym is.1) r.seats in (
+    let fit : SeatsFit r.history table.views l = subst (λ (x : LoaderView). SeatsFit r.history table.views x) (sym is.1) r.seats in (
       record {
-        course = r.course;
+        history = r.history;
         loader = one_more l;
         goes = r.goes;
         words = r.words;
-        seats = split_seats r.course table.views l fit id is.0 at (kept_of r.course r.goes) room;
+        seats = split_seats r.history table.views l fit id is.0 at (kept_of r.history r.goes) room;
         notices = notices_more (set table.views id (View.Loading (one_more l))) (View.Working (newcomer l.handed))
             ∙ (append-nil (notices_of (set table.views id (View.Loading (one_more l)))) ∙ (notices_loader table.views id l (one_more l) at ∙ r.notices));
-        slots = subst (λ (x : LoaderView). SlotsFit table.homes r.course.state.shelves r.course.state.workers r.course.images x.hand) (sym is.1) r.slots;
+        slots = subst (λ (x : LoaderView). SlotsFit table.homes r.history.state.shelves r.history.state.workers r.history.images x.hand) (sym is.1) r.slots;
       },
       refl,
     )
 
-splits_as : (id : ℕ) (u : View) → MayHandOut u → Splits Ruled id u (keeps_loading u) (new_worker_view u)
+splits_as : (id : ℕ) (u : View) → MayHandOut u → Splits KeepsRule id u (keeps_loading u) (new_worker_view u)
 splits_as id (View.Working v) room table r at = absurd room
 splits_as id (View.Noting x') room table r at = absurd room
 splits_as id View.Spent room table r at = absurd room
 splits_as id (View.Loading l) room table r at = (hands_out table id l r at room).0
 
-pub splits : (id : ℕ) (u : View) → MayHandOut u → Splits Ruled id u (keeps_loading u) (new_worker_view u)
+pub splits : (id : ℕ) (u : View) → MayHandOut u → Splits KeepsRule id u (keeps_loading u) (new_worker_view u)
 splits = splits_as

@@ -9,16 +9,16 @@ use Rattle.std.proofs.lemmas.Option.{slice_get_within}
 use Rattle.version_core.specs.declared.state.Shelf.{Shelf}
 use Rattle.version_core.specs.declared.state.Worker.{Worker}
 use Rattle.version_core.specs.State.{State}
-use Rattle.version_core.specs.Kept.{KeepsInvariants, Fits, version_of, version_on}
+use Rattle.version_core.specs.Invariants.{KeepsInvariants, Fits, version_of, version_on}
 use Rattle.version_core.proofs.Keeps.{held_known, looked_fits}
 use Rattle.shelf_steps.specs.declared.edition.Edition.{Edition}
 use Rattle.shelf_steps.specs.declared.views.LoaderView.{LoaderView}
 use Rattle.shelf_steps.specs.declared.views.View.{View}
-use Rattle.shelf_steps.specs.Course.{IsEdition}
+use Rattle.shelf_steps.specs.EventHistory.{IsEdition}
 use Rattle.version_core.specs.Shown.{shelf_word}
 use Rattle.shelf_steps.specs.Seats.{WorkerFits, LoaderFits, HasEdition}
 use Rattle.shelf_steps.specs.Slots.{SlotFits, IsFilled, Slot}
-use Rattle.shelf_steps.specs.Ruled.{Ruled}
+use Rattle.shelf_steps.specs.Rule.{KeepsRule}
 use Rattle.shelf_steps.specs.Laws.{Shelved, IsLoader, WordsAreTheLoaders, CountsAreWorkers, NumbersDiffer, HeldHaveEditions, SlotsOutAreHeld}
 use Rattle.shelf_steps.specs.Laws.{SlotsAtHomeAreFilled, LooksAreSo, OneSeatLoads, NoticesAreOfTheirTime}
 use Rattle.shelf_steps.proofs.Courses.{kept_of}
@@ -27,35 +27,35 @@ use Rattle.version_core.proofs.Rising.{rise_at}
 use Rattle.shelf_steps.proofs.NoteLists.{notices_there}
 use Rattle.shelf_steps.proofs.Works.{held_on}
 
-module _ (table : Shelved) (l : LoaderView) (r : Ruled table) (at : IsLoader table l) where
+module _ (table : Shelved) (l : LoaderView) (r : KeepsRule table) (at : IsLoader table l) where
   pub is_loader : l ≡ r.loader
   is_loader = (r.seats.each 0 (View.Loading l) at).1
 
-  pub knows : LoaderFits r.course l
-  knows = subst (λ (x : LoaderView). LoaderFits r.course x) (sym is_loader) r.seats.loads
+  pub knows : LoaderFits r.history l
+  knows = subst (λ (x : LoaderView). LoaderFits r.history x) (sym is_loader) r.seats.loads
 
-  pub same_shelf : (k : ℕ) (x : Shelf) → slice_get l.shelves k ≡ Some x → slice_get r.course.state.shelves k ≡ Some x
+  pub same_shelf : (k : ℕ) (x : Shelf) → slice_get l.shelves k ≡ Some x → slice_get r.history.state.shelves k ≡ Some x
   same_shelf k x e = ap (λ (xs : List Shelf). slice_get xs k) (sym knows.shows.shelves) ∙ e
 
 pub words_are : WordsAreTheLoaders
 words_are table l r at =
-    let k = knows table l r at in let kept : KeepsInvariants r.course.state = kept_of r.course r.goes in (
+    let k = knows table l r at in let kept : KeepsInvariants r.history.state = kept_of r.history r.goes in (
       r.words.cur ∙ (λ i. 8 * sym k.shows.current i + sym k.shows.current_shelf i),
       (λ i. slice_get (k.shows.shelves i) (k.shows.current_shelf i)) ∙ (kept.shelves.current_open ∙ ap (λ n. Some (Shelf.Open n)) (sym k.shows.current)),
-      λ j x e. let s = same_shelf table l r at j x e in let within = slice_get_within r.course.state.shelves j _ s in let eight = kept.shelves.eight in
-          (get_or r.course.state.counts j 0, few_counted r.course.state j kept (omega arith), r.words.each j x s),
+      λ j x e. let s = same_shelf table l r at j x e in let within = slice_get_within r.history.state.shelves j _ s in let eight = kept.shelves.eight in
+          (get_or r.history.state.counts j 0, few_counted r.history.state j kept (omega arith), r.words.each j x s),
     )
 
 pub counts_are : CountsAreWorkers
 counts_are table l r at =
-    let kept : KeepsInvariants r.course.state = kept_of r.course r.goes in let is = is_loader table l r at in
+    let kept : KeepsInvariants r.history.state = kept_of r.history r.goes in let is = is_loader table l r at in
     let same : l.handed ≡ r.loader.handed = ap (λ (x : LoaderView). x.handed) is in (
-      r.course.state.workers,
+      r.history.state.workers,
       kept.workers.sixteen,
       (λ i v there. (r.seats.each i (View.Working v) there).2.shows.now),
       (λ w less. let n = r.seats.every w (subst (λ x. w < x) same less) in (r.seats.owner w, n.0, n.2, n.1)),
       (λ w past small. (r.seats.unseated w (subst (λ x. x ≤ w) same past) small).0),
-      λ k x e. let s = same_shelf table l r at k x e in let within = slice_get_within r.course.state.shelves k _ s in let eight = kept.shelves.eight in
+      λ k x e. let s = same_shelf table l r at k x e in let within = slice_get_within r.history.state.shelves k _ s in let eight = kept.shelves.eight in
           r.words.each k x s ∙ ap (λ n. shelf_word x n) (kept.counts.each k (omega arith)),
     )
 
@@ -66,11 +66,11 @@ numbers_differ table i j v w r at at' =
 
 pub held_have : HeldHaveEditions
 held_have table l i k v w r loads at now =
-    let a = r.seats.each i (View.Working w) at in let f : WorkerFits r.course w = a.2 in let kn = knows table l r loads in
-    let kept : KeepsInvariants r.course.state = kept_of r.course r.goes in
-    let here : slice_get r.course.state.workers w.number ≡ Some (Worker.Holding k v) = f.shows.now ∙ ap (λ (x : Worker). Some x) now in (
-      ap (λ (xs : List Shelf). version_on xs k) kn.shows.shelves ∙ (held_known r.course.state w.number k v kept here).0,
-      subst (λ (x : List ImageValue). IsEdition x v w.edition) (sym kn.images) (subst (λ (x : Worker). HasEdition r.course.images x w.edition) now f.edition),
+    let a = r.seats.each i (View.Working w) at in let f : WorkerFits r.history w = a.2 in let kn = knows table l r loads in
+    let kept : KeepsInvariants r.history.state = kept_of r.history r.goes in
+    let here : slice_get r.history.state.workers w.number ≡ Some (Worker.Holding k v) = f.shows.now ∙ ap (λ (x : Worker). Some x) now in (
+      ap (λ (xs : List Shelf). version_on xs k) kn.shows.shelves ∙ (held_known r.history.state w.number k v kept here).0,
+      subst (λ (x : List ImageValue). IsEdition x v w.edition) (sym kn.images) (subst (λ (x : Worker). HasEdition r.history.images x w.edition) now f.edition),
     )
 
 filled : (images : List ImageValue) (ws : List Worker) (hand : Option ℕ) (y : Shelf) (k w v : ℕ) (slot : Slot)
@@ -79,17 +79,17 @@ filled images ws hand Shelf.Free k w v slot e f = absurd (cc)
 filled images ws hand (Shelf.Open x) k w v slot e f = let same : x ≡ v = cc in subst (λ n. IsFilled images ws k w n slot) same f.1
 filled images ws hand (Shelf.Closing x) k w v slot e f = let same : x ≡ v = cc in subst (λ n. IsFilled images ws k w n slot) same f.1
 
-slot_of : (table : Shelved) (l : LoaderView) (k w v : ℕ) (r : Ruled table) → IsLoader table l
+slot_of : (table : Shelved) (l : LoaderView) (k w v : ℕ) (r : KeepsRule table) → IsLoader table l
     → version_on l.shelves k ≡ Some v → w < 16
-    → IsFilled r.course.images r.course.state.workers k w v (get_elem? table.homes (16 * k + w))
+    → IsFilled r.history.images r.history.state.workers k w v (get_elem? table.homes (16 * k + w))
 slot_of table l k w v r at is less =
     let y = held_on l.shelves k v is in
-    filled r.course.images r.course.state.workers r.loader.hand y.0 k w v (get_elem? table.homes (16 * k + w)) y.2
+    filled r.history.images r.history.state.workers r.loader.hand y.0 k w v (get_elem? table.homes (16 * k + w)) y.2
     (r.slots k w y.0 (same_shelf table l r at k y.0 y.1) less)
 
 pub slots_out : SlotsOutAreHeld
 slots_out table l k w v r at is less out =
-    let s = r.course.state in
+    let s = r.history.state in
     let here : slice_get s.workers w ≡ Some (Worker.Holding k v) =
     elim (slot_of table l k w v r at is less) [
       | inl a ↦
@@ -102,7 +102,7 @@ slots_out table l k w v r at is less out =
     Worker.Idle
     ≡ Some (Worker.Holding k v) = sym u.0 ∙ here in cc)) (λ not. lt_of_not-le not) in
     let n = r.seats.every w seated in
-    let f : WorkerFits r.course n.0 = (r.seats.each (r.seats.owner w) (View.Working n.0) n.2).2 in
+    let f : WorkerFits r.history n.0 = (r.seats.each (r.seats.owner w) (View.Working n.0) n.2).2 in
     let z : Some n.0.now ≡ Some (Worker.Holding k v) = sym f.shows.now ∙ (ap (λ m. slice_get s.workers m) n.1 ∙ here) in
     (r.seats.owner w, n.0, n.2, n.1, cc)
 
@@ -113,7 +113,7 @@ slots_home table l k w v x r at is less home =
     (elim (slot_of table l k w v r at is less) [
       | inl a ↦ (let z : some (some x) ≡ some (some a.0) = sym home ∙ a.1 in let same : x ≡ a.0 =
           cc in subst (λ (o : Option Edition).
-          IsEdition r.course.images v o)
+          IsEdition r.history.images v o)
           (sym same) a.2)
       | inr b ↦ absurd (let z : some (some x) ≡ some none = sym home ∙ b.0 in cc)
     ])
@@ -133,21 +133,21 @@ one_loads table r = ((r.loader, r.seats.loader_seat), (λ i l at. (r.seats.each 
 
 pub looks_are : LooksAreSo
 looks_are table l i w r loads at =
-    let f : WorkerFits r.course w = (r.seats.each i (View.Working w) at).2 in let kn =
+    let f : WorkerFits r.history w = (r.seats.each i (View.Working w) at).2 in let kn =
     knows table l r loads in
-    let kept : KeepsInvariants r.course.state =
-    kept_of r.course r.goes in
+    let kept : KeepsInvariants r.history.state =
+    kept_of r.history r.goes in
     let c = kn.shows.current in (
-      (let a = seen_small r.course.state w.number w.now kept f.shows.now in let b = f.shows.seen in omega arith),
+      (let a = seen_small r.history.state w.number w.now kept f.shows.now in let b = f.shows.seen in omega arith),
       (let a = f.last.0 in omega arith),
       (λ p. let a = f.passed p in omega arith),
-      λ v k now. let q = looked_fits r.course.state w.number v k kept (f.shows.now ∙ ap (λ (x : Worker). Some x) now) in
+      λ v k now. let q = looked_fits r.history.state w.number v k kept (f.shows.now ∙ ap (λ (x : Worker). Some x) now) in
           ((let a = q.3 in omega arith), (λ e. q.4 (e ∙ c) ∙ sym kn.shows.current_shelf)),
     )
 
 pub notices_old : NoticesAreOfTheirTime
 notices_old table l i v r loads at =
-    let kept : KeepsInvariants r.course.state = kept_of r.course r.goes in let c = (knows table l r loads).shows.current in
+    let kept : KeepsInvariants r.history.state = kept_of r.history r.goes in let c = (knows table l r loads).shows.current in
     let n = notices_there table.views i v at in
-    let most = rise_at 0 r.course.state.notices r.course.state.current n.0 v kept.notices (ap (λ (xs : List ℕ). slice_get xs n.0) (sym r.notices) ∙ n.1) in
+    let most = rise_at 0 r.history.state.notices r.history.state.current n.0 v kept.notices (ap (λ (xs : List ℕ). slice_get xs n.0) (sym r.notices) ∙ n.1) in
     let m = most.1 in omega arith

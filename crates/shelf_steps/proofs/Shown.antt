@@ -6,11 +6,11 @@ use native.Mathlib.Decide.{dec_le}
 use Rattle.version_core.specs.declared.state.Shelf.{Shelf}
 use Rattle.version_core.specs.declared.state.Worker.{Worker}
 use Rattle.version_core.specs.State.{State}
-use Rattle.version_core.specs.Kept.{KeepsInvariants}
+use Rattle.version_core.specs.Invariants.{KeepsInvariants}
 use Rattle.version_core.specs.Shown.{shelf_word}
 use Rattle.shelf_steps.specs.declared.views.LoaderView.{LoaderView}
 use Rattle.shelf_steps.specs.declared.views.View.{View}
-use Rattle.shelf_steps.specs.Ruled.{Ruled}
+use Rattle.shelf_steps.specs.Rule.{KeepsRule}
 use Rattle.shelf_steps.specs.Laws.{Shelved, IsLoader, TableShows, OneStateIsShown, OneHistory}
 use Rattle.shelf_steps.proofs.Courses.{kept_of}
 use Rattle.shelf_steps.proofs.Says.{is_loader, knows}
@@ -27,11 +27,11 @@ one_count Shelf.Free a b e = e
 one_count (Shelf.Open v) a b e = omega arith
 one_count (Shelf.Closing v) a b e = omega arith
 
-module _ (table : Shelved) (l : LoaderView) (r : Ruled table) (at : IsLoader table l) where
+module _ (table : Shelved) (l : LoaderView) (r : KeepsRule table) (at : IsLoader table l) where
   same_handed : l.handed ≡ r.loader.handed
   same_handed = ap (λ (x : LoaderView). x.handed) (is_loader table l r at)
 
-  shown : TableShows table l r.course.state
+  shown : TableShows table l r.history.state
   shown = record {
     words = r.words;
     loader = (knows table l r at).shows;
@@ -97,12 +97,12 @@ module _ (table : Shelved) (l : LoaderView) (r : Ruled table) (at : IsLoader tab
 
 pub one_state : OneStateIsShown
 one_state table l r at =
-    let kept : KeepsInvariants r.course.state = kept_of r.course r.goes in
-    (r.course.state, kept, shown table l r at, (λ t kept' b. same_state table l r at r.course.state t kept kept' (shown table l r at) b))
+    let kept : KeepsInvariants r.history.state = kept_of r.history r.goes in
+    (r.history.state, kept, shown table l r at, (λ t kept' b. same_state table l r at r.history.state t kept kept' (shown table l r at) b))
 
 pub one_history : OneHistory
 one_history table r = (
-  r.course,
+  r.history,
   r.goes,
   (λ i v at. let f = (r.seats.each i (View.Working v) at).2 in (f.known, f.joined)),
   (λ l at. let k = knows table l r at in (k.known, k.images, shown table l r at, k.notes)),

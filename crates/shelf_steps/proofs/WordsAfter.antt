@@ -13,10 +13,10 @@ use Rattle.version_core.specs.declared.event.Event.{Event}
 use Rattle.version_core.specs.declared.state.Shelf.{Shelf}
 use Rattle.version_core.specs.State.{State}
 use Rattle.version_core.specs.Steps.{IsOpen}
-use Rattle.version_core.specs.Kept.{KeepsInvariants, is_at, version_on}
+use Rattle.version_core.specs.Invariants.{KeepsInvariants, is_at, version_on}
 use Rattle.version_core.proofs.Shelves.{version_at}
 use Rattle.version_core.specs.Shown.{WordsShow, shelf_word}
-use Rattle.shelf_steps.specs.Course.{Course, Goes, FoundAt, all_of}
+use Rattle.shelf_steps.specs.EventHistory.{EventHistory, LeadsToItsState, FoundAt, all_of}
 use Rattle.shelf_steps.specs.Plays.{is_open}
 use Rattle.shelf_steps.proofs.Courses.{kept_of}
 
@@ -88,7 +88,7 @@ found_shelf words s k kept w small =
     (x.0, x.1, is, (omega arith))
 
 -- the word at which an event finds a shelf
-pub found_at : (words : List ℕ) (c : Course) → Goes c → WordsShow words c.state → (k : ℕ) (e : Event) (d : Course)
+pub found_at : (words : List ℕ) (c : EventHistory) → LeadsToItsState c → WordsShow words c.state → (k : ℕ) (e : Event) (d : EventHistory)
     → d.events ≡ c.events ++ e ∷ [] → k < 8 → FoundAt (all_of d) e k (get_or words (k + 1) 0)
 found_at words c goes shown k e d added small =
     let x = found_shelf words c.state k (kept_of c goes) shown small in

@@ -2,7 +2,7 @@
 use Rattle.std.specs.Prelude.{ℕ}
 use Rattle.image_layout.specs.Image.{ImageValue}
 use Rattle.shelf_steps.specs.declared.views.LoaderView.{LoaderView}
-use Rattle.shelf_steps.specs.Ruled.{first_loader}
+use Rattle.shelf_steps.specs.Rule.{first_loader}
 
 -- the loader's view at the start, once n workers' seats were handed out
 abbrev pub handed : ℕ → ImageValue → LoaderView

@@ -6,15 +6,15 @@ use Rattle.atomic_table.specs.Table.{State as Table}
 use Rattle.version_core.specs.declared.state.Shelf.{Shelf}
 use Rattle.version_core.specs.declared.state.Worker.{Worker}
 use Rattle.version_core.specs.State.{State}
-use Rattle.version_core.specs.Kept.{KeepsInvariants, version_on, is_at}
+use Rattle.version_core.specs.Invariants.{KeepsInvariants, version_on, is_at}
 use Rattle.shelf_steps.specs.declared.edition.Edition.{Edition}
 use Rattle.shelf_steps.specs.declared.views.WorkerView.{WorkerView}
 use Rattle.shelf_steps.specs.declared.views.LoaderView.{LoaderView}
 use Rattle.shelf_steps.specs.declared.views.View.{View}
-use Rattle.shelf_steps.specs.Course.{Course, Goes, Begins, IsEdition, NeverFreedSince, notes_in, joined_by}
+use Rattle.shelf_steps.specs.EventHistory.{EventHistory, LeadsToItsState, IsKnownBeginning, IsEdition, NeverFreedSince, notes_in, joined_by}
 use Rattle.version_core.specs.Shown.{WordsShow, WorkerShows, LoaderShows, shelf_word}
 use Rattle.shelf_steps.specs.Slots.{IsSpare}
-use Rattle.shelf_steps.specs.Ruled.{Ruled, notices_of}
+use Rattle.shelf_steps.specs.Rule.{KeepsRule, notices_of}
 
 abbrev pub Shelved : Type 0
 Shelved = Table (Option Edition) View
@@ -26,13 +26,13 @@ IsLoader table l = get_elem? table.views 0 ≡ some (View.Loading l)
 -- there is one loader's seat, and no other
 abbrev pub OneSeatLoads : Type 0
 OneSeatLoads =
-    (table : Shelved) → Ruled table
+    (table : Shelved) → KeepsRule table
     → ((l : LoaderView) × IsLoader table l) × ((i : ℕ) (l : LoaderView) → get_elem? table.views i ≡ some (View.Loading l) → i ≡ 0)
 
 -- the first word, and the state and version of each shelf word, are those of the loader's view, in which the current shelf is open with the current version
 abbrev pub WordsAreTheLoaders : Type 0
 WordsAreTheLoaders =
-    (table : Shelved) (l : LoaderView) → Ruled table → IsLoader table l
+    (table : Shelved) (l : LoaderView) → KeepsRule table → IsLoader table l
     → (slice_index table.words 0 ≡ 8 * l.current + l.current_shelf)
     × (slice_get l.shelves l.current_shelf ≡ Some (Shelf.Open l.current))
     × ((k : ℕ) (x : Shelf) → slice_get l.shelves k ≡ Some x → (count : ℕ) × (count ≤ 16) × (slice_index table.words (k + 1) ≡ shelf_word x count))
@@ -41,7 +41,7 @@ WordsAreTheLoaders =
 -- count in each shelf's word is the number of workers that are late at the shelf or hold it
 abbrev pub CountsAreWorkers : Type 0
 CountsAreWorkers =
-    (table : Shelved) (l : LoaderView) → Ruled table → IsLoader table l
+    (table : Shelved) (l : LoaderView) → KeepsRule table → IsLoader table l
     → (workers : List Worker) × (length workers ≡ 16)
     × ((i : ℕ) (v : WorkerView) → get_elem? table.views i ≡ some (View.Working v) → slice_get workers v.number ≡ Some v.now)
     × ((w : ℕ) → w < l.handed → (i : ℕ) × (v : WorkerView) × (get_elem? table.views i ≡ some (View.Working v)) × (v.number ≡ w))
@@ -51,7 +51,7 @@ CountsAreWorkers =
 -- no two seats have the same worker's number, and each number is below sixteen
 abbrev pub NumbersDiffer : Type 0
 NumbersDiffer =
-    (table : Shelved) (i j : ℕ) (v w : WorkerView) → Ruled table → get_elem? table.views i ≡ some (View.Working v)
+    (table : Shelved) (i j : ℕ) (v w : WorkerView) → KeepsRule table → get_elem? table.views i ≡ some (View.Working v)
     → get_elem? table.views j ≡ some (View.Working w)
     → (v.number < 16) × (v.number ≡ w.number → i ≡ j)
 
@@ -59,21 +59,21 @@ NumbersDiffer =
 -- has for it
 abbrev pub HeldHaveEditions : Type 0
 HeldHaveEditions =
-    (table : Shelved) (l : LoaderView) (i k v : ℕ) (w : WorkerView) → Ruled table → IsLoader table l
+    (table : Shelved) (l : LoaderView) (i k v : ℕ) (w : WorkerView) → KeepsRule table → IsLoader table l
     → get_elem? table.views i ≡ some (View.Working w) → w.now ≡ Worker.Holding k v
     → (version_on l.shelves k ≡ Some v) × IsEdition l.known.images v w.edition
 
 -- if a slot of an open or closing shelf isn't at home, its own worker holds the shelf
 abbrev pub SlotsOutAreHeld : Type 0
 SlotsOutAreHeld =
-    (table : Shelved) (l : LoaderView) (k w v : ℕ) → Ruled table → IsLoader table l → version_on l.shelves k ≡ Some v
+    (table : Shelved) (l : LoaderView) (k w v : ℕ) → KeepsRule table → IsLoader table l → version_on l.shelves k ≡ Some v
     → w < 16 → get_elem? table.homes (16 * k + w) ≡ some none
     → (i : ℕ) × (u : WorkerView) × (get_elem? table.views i ≡ some (View.Working u)) × (u.number ≡ w) × (u.now ≡ Worker.Holding k v)
 
 -- a slot of an open or closing shelf that is at home has the edition of the shelf's version
 abbrev pub SlotsAtHomeAreFilled : Type 0
 SlotsAtHomeAreFilled =
-    (table : Shelved) (l : LoaderView) (k w v : ℕ) (x : Option Edition) → Ruled table → IsLoader table l
+    (table : Shelved) (l : LoaderView) (k w v : ℕ) (x : Option Edition) → KeepsRule table → IsLoader table l
     → version_on l.shelves k ≡ Some v → w < 16 → get_elem? table.homes (16 * k + w) ≡ some (some x)
     → IsEdition l.known.images v x
 
@@ -81,44 +81,44 @@ SlotsAtHomeAreFilled =
 -- hand
 abbrev pub HoldersSlotsAreOut : Type 0
 HoldersSlotsAreOut =
-    (table : Shelved) (l : LoaderView) (i k v : ℕ) (w : WorkerView) → Ruled table → IsLoader table l
+    (table : Shelved) (l : LoaderView) (i k v : ℕ) (w : WorkerView) → KeepsRule table → IsLoader table l
     → get_elem? table.views i ≡ some (View.Working w) → w.now ≡ Worker.Holding k v
     → (get_elem? table.homes (16 * k + w.number) ≡ some none) × (l.hand ≢ Some k)
 
 -- the slots of a free shelf are the loader's: out with it, or at home and empty
 abbrev pub FreeSlotsAreTheLoaders : Type 0
 FreeSlotsAreTheLoaders =
-    (table : Shelved) (l : LoaderView) (k w : ℕ) → Ruled table → IsLoader table l
+    (table : Shelved) (l : LoaderView) (k w : ℕ) → KeepsRule table → IsLoader table l
     → slice_get l.shelves k ≡ Some Shelf.Free → w < 16 → IsSpare l.hand k (get_elem? table.homes (16 * k + w))
 
 -- the word of a shelf that a worker holds isn't one at which a collection frees the shelf
 abbrev pub HeldShelvesAreInUse : Type 0
 HeldShelvesAreInUse =
-    (table : Shelved) (l : LoaderView) (i k v version : ℕ) (w : WorkerView) → Ruled table → IsLoader table l
+    (table : Shelved) (l : LoaderView) (i k v version : ℕ) (w : WorkerView) → KeepsRule table → IsLoader table l
     → get_elem? table.views i ≡ some (View.Working w) → w.now ≡ Worker.Holding k v
     → slice_index table.words (k + 1) ≢ 512 + 65536 * version
 
 -- no event after those that the worker's seat knows has freed the shelf that it holds
 abbrev pub HeldShelvesStay : Type 0
 HeldShelvesStay =
-    (table : Shelved) (i k v : ℕ) (w : WorkerView) (r : Ruled table)
+    (table : Shelved) (i k v : ℕ) (w : WorkerView) (r : KeepsRule table)
     → get_elem? table.views i ≡ some (View.Working w) → w.now ≡ Worker.Holding k v
-    → NeverFreedSince k w.known r.course
+    → NeverFreedSince k w.known r.history
 
 -- the versions that a worker has seen and last looked at are at most the current one, and the one last looked at is below it if the take of that came
 -- late; a worker that has looked at the version that is still current has its shelf
 abbrev pub LooksAreSo : Type 0
 LooksAreSo =
-    (table : Shelved) (l : LoaderView) (i : ℕ) (w : WorkerView) → Ruled table → IsLoader table l → get_elem? table.views i ≡ some (View.Working w)
+    (table : Shelved) (l : LoaderView) (i : ℕ) (w : WorkerView) → KeepsRule table → IsLoader table l → get_elem? table.views i ≡ some (View.Working w)
     → (w.seen ≤ l.current) × (w.last ≤ l.current) × (w.passed ≡ true → w.last < l.current)
     × ((v k : ℕ) → w.now ≡ Worker.Looked v k → (v ≤ l.current) × (v ≡ l.current → k ≡ l.current_shelf))
 
 -- a notice is of the current version or an older one
 abbrev pub NoticesAreOfTheirTime : Type 0
-NoticesAreOfTheirTime = (table : Shelved) (l : LoaderView) (i v : ℕ) → Ruled table → IsLoader table l → get_elem? table.views i ≡ some (View.Noting v)
+NoticesAreOfTheirTime = (table : Shelved) (l : LoaderView) (i v : ℕ) → KeepsRule table → IsLoader table l → get_elem? table.views i ≡ some (View.Noting v)
     → v ≤ l.current
 
--- the words, and what each seat knows, show the state: editions are places in the loader's list of images, and a worker
+-- the words, and what each seat knows, show the state: editions are indices in the loader's list of images, and a worker
 -- with no seat yet is idle and has seen nothing
 pub record TableShows (table : Shelved) (l : LoaderView) (s : State) : Type 0 where
   pub words : WordsShow table.words s
@@ -128,18 +128,20 @@ pub record TableShows (table : Shelved) (l : LoaderView) (s : State) : Type 0 wh
   pub notices : notices_of table.views ≡ s.notices
   pub unseated : (w : ℕ) → l.handed ≤ w → w < 16 → (slice_get s.workers w ≡ Some Worker.Idle) × (slice_index s.seen w ≡ 0)
 
--- there is one course of events, of which each seat knows a beginning, after which there is no step of its own on a word. It leads to the state that
+-- there is one history of events, of which each seat knows a beginning, after which there is no step of its own on a word. It leads to the state that
 -- words and seats show. The loader's view has the number of notices that went out in it, and each worker's view lists exactly those that the worker
 -- took in
 abbrev pub OneHistory : Type 0
 OneHistory =
-    (table : Shelved) → Ruled table
-    → (c : Course) × Goes c
-    × ((i : ℕ) (v : WorkerView) → get_elem? table.views i ≡ some (View.Working v) → Begins v.known (Some v.number) c × (v.joined ≡ joined_by v.number c.events))
-    × ((l : LoaderView) → IsLoader table l → Begins l.known None c × (l.known.images ≡ c.images) × TableShows table l c.state × (l.notes ≡ notes_in c.events))
+    (table : Shelved) → KeepsRule table
+    → (c : EventHistory) × LeadsToItsState c
+    × ((i : ℕ) (v : WorkerView) → get_elem? table.views i ≡ some (View.Working v) → IsKnownBeginning v.known (Some v.number) c
+    × (v.joined ≡ joined_by v.number c.events))
+    × ((l : LoaderView) → IsLoader table l → IsKnownBeginning l.known None c × (l.known.images ≡ c.images) × TableShows table l c.state
+    × (l.notes ≡ notes_in c.events))
 
 -- words and seats show exactly one state of which `KeepsInvariants` holds, and with it every law of the table of versions
 abbrev pub OneStateIsShown : Type 0
 OneStateIsShown =
-    (table : Shelved) (l : LoaderView) → Ruled table → IsLoader table l
+    (table : Shelved) (l : LoaderView) → KeepsRule table → IsLoader table l
     → (s : State) × KeepsInvariants s × TableShows table l s × ((t : State) → KeepsInvariants t → TableShows table l t → t ≡ s)

@@ -1,8 +1,8 @@
-pub mod Course
+pub mod EventHistory
 pub mod Seats
 pub mod Slots
 pub mod Plays
-pub mod Ruled
+pub mod Rule
 pub mod Pinning
 pub mod Blocks
 pub mod Loading

@@ -7,7 +7,7 @@ use Rattle.version_core.specs.declared.state.Shelf.{Shelf}
 use Rattle.shelf_steps.specs.declared.views.KnownHistory.{KnownHistory}
 use Rattle.shelf_steps.specs.declared.views.LoaderView.{LoaderView}
 use Rattle.shelf_steps.specs.declared.views.View.{View}
-use Rattle.shelf_steps.specs.Course.{Happened}
+use Rattle.shelf_steps.specs.EventHistory.{Happened}
 use Rattle.shelf_steps.specs.Plays.{OfLoader, newest_of}
 
 -- the loader is at rest, `shelf` is free, `version` is the next one, and `before` is the shelf of the current version
@@ -20,7 +20,7 @@ pub record MayLoad (shelf version before : ℕ) (l : LoaderView) : Type 0 where
   pub before_open : slice_get l.shelves before ≡ Some (Shelf.Open l.current)
 
 -- the slots were gathered, the shelf opened with the image, its version made current, and the shelf before closed
-pub record Loaded (a : LoaderView) (image : ImageValue) (version shelf before : ℕ) (b : LoaderView) : Type 0 where
+pub record LoadsShelf (a : LoaderView) (image : ImageValue) (version shelf before : ℕ) (b : LoaderView) : Type 0 where
   pub gathered : KnownHistory
   pub opened : KnownHistory
   pub published : KnownHistory
@@ -36,10 +36,10 @@ pub record Loaded (a : LoaderView) (image : ImageValue) (version shelf before : 
   pub hand : b.hand ≡ None
 
 abbrev pub Loads : ℕ → ℕ → ℕ → ImageValue → View → View → Type 0
-Loads shelf version before image u u' = OfLoader u (λ a. OfLoader u' (λ b. Loaded a image version shelf before b))
+Loads shelf version before image u u' = OfLoader u (λ a. OfLoader u' (λ b. LoadsShelf a image version shelf before b))
 
 -- the closing shelf is free, with its slots at home and empty (Freed), or its count was above 0 (FoundBusy)
-pub record Freed (a : LoaderView) (shelf : ℕ) (b : LoaderView) : Type 0 where
+pub record FreesShelf (a : LoaderView) (shelf : ℕ) (b : LoaderView) : Type 0 where
   pub freed : KnownHistory
   pub collect : Happened a.known (Event.Collect shelf) Reply.Freed freed
   pub put_back : Happened freed (Event.Collect shelf) Reply.NotNow b.known
@@ -50,7 +50,7 @@ pub record Freed (a : LoaderView) (shelf : ℕ) (b : LoaderView) : Type 0 where
   pub notes : b.notes ≡ a.notes
   pub hand : b.hand ≡ None
 
-pub record FoundBusy (a : LoaderView) (shelf count : ℕ) (b : LoaderView) : Type 0 where
+pub record FindsShelfBusy (a : LoaderView) (shelf count : ℕ) (b : LoaderView) : Type 0 where
   pub collect : Happened a.known (Event.Collect shelf) (Reply.Busy count) b.known
   pub some_one : 0 < count
   pub images : b.known.images ≡ a.known.images
@@ -61,7 +61,7 @@ pub record FoundBusy (a : LoaderView) (shelf count : ℕ) (b : LoaderView) : Typ
   pub hand : b.hand ≡ None
 
 abbrev pub Frees : ℕ → View → View → Type 0
-Frees shelf u u' = OfLoader u (λ a. OfLoader u' (λ b. Freed a shelf b))
+Frees shelf u u' = OfLoader u (λ a. OfLoader u' (λ b. FreesShelf a shelf b))
 
 abbrev pub FindsBusy : ℕ → ℕ → View → View → Type 0
-FindsBusy shelf count u u' = OfLoader u (λ a. OfLoader u' (λ b. FoundBusy a shelf count b))
+FindsBusy shelf count u u' = OfLoader u (λ a. OfLoader u' (λ b. FindsShelfBusy a shelf count b))

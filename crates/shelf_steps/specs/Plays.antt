@@ -19,7 +19,7 @@ use Rattle.shelf_steps.specs.declared.views.KnownHistory.{KnownHistory}
 use Rattle.shelf_steps.specs.declared.views.WorkerView.{WorkerView}
 use Rattle.shelf_steps.specs.declared.views.LoaderView.{LoaderView}
 use Rattle.shelf_steps.specs.declared.views.View.{View}
-use Rattle.shelf_steps.specs.Course.{Goes, leading_to, Happened, FoundAt, IsEdition}
+use Rattle.shelf_steps.specs.EventHistory.{LeadsToItsState, leading_to, Happened, FoundAt, IsEdition}
 use Rattle.shelf_steps.specs.Slots.{down_from, nothings}
 
 -- the view is a worker's, and P holds of it
@@ -28,13 +28,13 @@ OfWorker (View.Working v) P = P v
 OfWorker _ P = ⊥
 
 -- what a seat knows, with the slots that are out with it
-abbrev pub Mine : Type 0
-Mine = Me (Option Edition) View
+abbrev pub SeatAndSlots : Type 0
+SeatAndSlots = Me (Option Edition) View
 
 -- a seat, and the table that it is at
 pub record TableSeatValue : Type 0 where
   pub table : TableId
-  pub me : Mine
+  pub me : SeatAndSlots
 
 -- the view after a look that found this word
 abbrev pub looked_at : WorkerView → ℕ → KnownHistory → WorkerView
@@ -58,11 +58,11 @@ gone v known = record v { now = Worker.Idle; edition = None; known = known }
 
 -- the history that is known leads to a state in which the worker is doing and has seen what its view says
 abbrev pub ShowsIn : WorkerView → Type 0
-ShowsIn v = (s : State) × Goes (leading_to s v.known) × WorkerShows v.number v.now v.seen s
+ShowsIn v = (s : State) × LeadsToItsState (leading_to s v.known) × WorkerShows v.number v.now v.seen s
 
 -- the step `Looking`: the version that it finds is no older than any that was seen, and greater than the one last looked at if the take of that came
 -- late
-abbrev pub Looks : Mine → ℕ → Mine → Type 0
+abbrev pub Looks : SeatAndSlots → ℕ → SeatAndSlots → Type 0
 Looks m n m' = OfWorker m.0 (λ v.
     (known : KnownHistory) × (m' ≡ (View.Working (looked_at v n known), m.1))
     × Happened v.known (Event.Look v.number) (Reply.Looked (n / 8) (n % 8)) known
@@ -70,7 +70,7 @@ Looks m n m' = OfWorker m.0 (λ v.
 
 -- a take that found the word n: if the shelf was open with the version that was looked at (true), the worker holds it, with its edition in the slot;
 -- otherwise (false) the worker is late
-abbrev pub TakesFound : WorkerView → List (ℕ × Option Edition) → ℕ → ℕ → ℕ → Bool → Mine → Type 0
+abbrev pub TakesFound : WorkerView → List (ℕ × Option Edition) → ℕ → ℕ → ℕ → Bool → SeatAndSlots → Type 0
 TakesFound v c version k n true m' =
     (e : Edition) × (known : KnownHistory) × (m' ≡ (View.Working (holding v k version e known), (16 * k + v.number, Some e) ∷ c))
     × Happened v.known (Event.Take v.number) (Reply.Holds version) known × IsEdition known.images version (Some e) × ShowsIn (holding v k version e known)
@@ -81,21 +81,21 @@ TakesFound v c version k n false m' =
     × FoundAt known (Event.Take v.number) k n
 
 -- the same of a worker that has looked; no other takes a shelf
-abbrev pub TakesAs : WorkerView → List (ℕ × Option Edition) → Worker → ℕ → Mine → Type 0
+abbrev pub TakesAs : WorkerView → List (ℕ × Option Edition) → Worker → ℕ → SeatAndSlots → Type 0
 TakesAs v c (Worker.Looked version k) n m' = TakesFound v c version k n (is_open n version) m'
 TakesAs v c _ n m' = ⊥
 
 -- the step `Taking`, which found the word n on the shelf that the worker saw
-abbrev pub Takes : Mine → ℕ → Mine → Type 0
+abbrev pub Takes : SeatAndSlots → ℕ → SeatAndSlots → Type 0
 Takes m n m' = OfWorker m.0 (λ v. TakesAs v m.1 v.now n m')
 
 -- the step `Leaving`: the worker is idle again, and the slots that are out stay out
-abbrev pub Leaves : Mine → Mine → Type 0
+abbrev pub Leaves : SeatAndSlots → SeatAndSlots → Type 0
 Leaves m m' = OfWorker m.0 (λ v. (known : KnownHistory) × (m' ≡ (View.Working (gone v known), m.1))
     × Happened v.known (Event.Drop v.number) Reply.Dropped known × ShowsIn (gone v known))
 
 -- the step `GivingBack`: the worker is idle again, and its slot is no longer out
-abbrev pub GivesBack : Mine → Mine → Type 0
+abbrev pub GivesBack : SeatAndSlots → SeatAndSlots → Type 0
 GivesBack m m' = OfWorker m.0 (λ v. (known : KnownHistory) × (m' ≡ (View.Working (gone v known), []))
     × Happened v.known (Event.Drop v.number) Reply.Dropped known × ShowsIn (gone v known))
 
@@ -161,38 +161,38 @@ abbrev pub IsLastEvent : LoaderView → Event → Reply → KnownHistory → Typ
 IsLastEvent l e r known = Happened l.known e r known × (known.images ≡ l.known.images)
 
 -- the image in the slots of the block becomes the next version
-abbrev pub OpensOn : ℕ → Mine → Mine → Type 0
+abbrev pub OpensOn : ℕ → SeatAndSlots → SeatAndSlots → Type 0
 OpensOn k m m' = OfLoader m.0 (λ l.
     (image : ImageValue) × (f : ℕ → Option Edition) × (known : KnownHistory) × IsBlock f k m.1 × AllHave (newest_of l + 1) image k f
     × (m' ≡ (View.Loading (with_open l k (newest_of l + 1) known), []))
     × Happened l.known (Event.Open (newest_of l)) (Reply.Opened (newest_of l + 1) k) known × (known.images ≡ l.known.images ++ image ∷ []))
 
 -- the step `Opening`, on the word of a shelf
-abbrev pub Opens : Step (Option Edition) → Mine → ℕ → Mine → Type 0
+abbrev pub Opens : Step (Option Edition) → SeatAndSlots → ℕ → SeatAndSlots → Type 0
 Opens st m n m' = (k : ℕ) × (st.word ≡ k + 1) × OpensOn k m m'
 
 -- the version on the shelf k becomes the current one, and the slots that are out stay out
-abbrev pub PublishesOn : ℕ → ℕ → Mine → Mine → Type 0
+abbrev pub PublishesOn : ℕ → ℕ → SeatAndSlots → SeatAndSlots → Type 0
 PublishesOn version k m m' = OfLoader m.0 (λ l. (known : KnownHistory)
     × (m' ≡ (View.Loading (with_current l version k known), m.1))
     × IsLastEvent l Event.Publish (Reply.Published version) known)
 
 -- the step `Publishing`, which stores eight times the version plus its shelf
-abbrev pub Publishes : Step (Option Edition) → Mine → ℕ → Mine → Type 0
+abbrev pub Publishes : Step (Option Edition) → SeatAndSlots → ℕ → SeatAndSlots → Type 0
 Publishes st m n m' = (version k : ℕ) × (st.first ≡ 8 * version + k) × (k < 8) × PublishesOn version k m m'
 
 -- the shelf k, which is open, is closing with its version
-abbrev pub ClosesOn : ℕ → Mine → Mine → Type 0
+abbrev pub ClosesOn : ℕ → SeatAndSlots → SeatAndSlots → Type 0
 ClosesOn k m m' = OfLoader m.0 (λ l.
     (version : ℕ) × (known : KnownHistory) × (slice_get l.shelves k ≡ Some (Shelf.Open version))
     × (m' ≡ (View.Loading (with_closing l k version known), m.1)) × IsLastEvent l (Event.Close k) Reply.Closing known)
 
 -- the step `Closing`, on the word of a shelf
-abbrev pub Closes : Step (Option Edition) → Mine → ℕ → Mine → Type 0
+abbrev pub Closes : Step (Option Edition) → SeatAndSlots → ℕ → SeatAndSlots → Type 0
 Closes st m n m' = (k : ℕ) × (st.word ≡ k + 1) × ClosesOn k m m'
 
 -- a collection that found the word n: the shelf is free and its slots are out with the loader (true), or its count was above 0 (false)
-abbrev pub CollectsFound : LoaderView → ℕ → ℕ → ℕ → Bool → Mine → Type 0
+abbrev pub CollectsFound : LoaderView → ℕ → ℕ → ℕ → Bool → SeatAndSlots → Type 0
 CollectsFound l k version n true m' =
     (f : ℕ → Option Edition) × (known : KnownHistory) × (m' ≡ (View.Loading (with_free l k known), down_from f (16 * k) 16 []))
     × IsLastEvent l (Event.Collect k) Reply.Freed known × FoundAt known (Event.Collect k) k n
@@ -201,30 +201,30 @@ CollectsFound l k version n false m' =
     × FoundAt known (Event.Collect k) k n
 
 -- the shelf is free if the word n says that it was closing with the version and that its count was 0
-abbrev pub CollectsOn : ℕ → ℕ → ℕ → Mine → Mine → Type 0
+abbrev pub CollectsOn : ℕ → ℕ → ℕ → SeatAndSlots → SeatAndSlots → Type 0
 CollectsOn k version n m m' = OfLoader m.0 (λ l. CollectsFound l k version n (n == 512 + 65536 * version) m')
 
 -- the step `Collecting`, on the word of a shelf, which expects exactly that word
-abbrev pub Collects : Step (Option Edition) → Mine → ℕ → Mine → Type 0
+abbrev pub Collects : Step (Option Edition) → SeatAndSlots → ℕ → SeatAndSlots → Type 0
 Collects st m n m' = (k version : ℕ) × (st.word ≡ k + 1) × (st.first ≡ 512 + 65536 * version) × CollectsOn k version n m m'
 
 -- the empty slots of a free shelf go out with the loader
-abbrev pub GathersOn : ℕ → Mine → Mine → Type 0
+abbrev pub GathersOn : ℕ → SeatAndSlots → SeatAndSlots → Type 0
 GathersOn k m m' = OfLoader m.0 (λ l. (known : KnownHistory)
     × (m' ≡ (View.Loading (with_hand l (Some k) known), down_from nothings (16 * k) 16 []))
     × IsLastEvent l (Event.Collect k) Reply.NotNow known)
 
 -- the step `Gathering`, on the word of a shelf
-abbrev pub Gathers : Step (Option Edition) → Mine → ℕ → Mine → Type 0
+abbrev pub Gathers : Step (Option Edition) → SeatAndSlots → ℕ → SeatAndSlots → Type 0
 Gathers st m n m' = (k : ℕ) × (st.word ≡ k + 1) × GathersOn k m m'
 
 -- the empty slots of a free shelf come home, and none are out with the loader
-abbrev pub PutsBackOn : ℕ → Mine → Mine → Type 0
+abbrev pub PutsBackOn : ℕ → SeatAndSlots → SeatAndSlots → Type 0
 PutsBackOn k m m' = OfLoader m.0 (λ l. (known : KnownHistory) × (m' ≡ (View.Loading (with_hand l None known), [])) × IsLastEvent l
     (Event.Collect k) Reply.NotNow known)
 
 -- the step `PuttingBack`, on the word of a shelf
-abbrev pub PutsBack : Step (Option Edition) → Mine → ℕ → Mine → Type 0
+abbrev pub PutsBack : Step (Option Edition) → SeatAndSlots → ℕ → SeatAndSlots → Type 0
 PutsBack st m n m' = (k : ℕ) × (st.word ≡ k + 1) × PutsBackOn k m m'
 
 -- what each step of the loader requires of its view and its slots. To open: the shelf is free, its slots are out with the loader, each filled with
@@ -317,5 +317,5 @@ abbrev pub IsSettled : View → Type 0
 IsSettled u = OfWorker u (λ v. (v.now ≡ Worker.Idle) ⊎ ((k x : ℕ) × (v.now ≡ Worker.Holding k x)))
 
 -- a notice of the version: its view, with no slot out
-abbrev pub IsNotice : ℕ → Mine → Type 0
+abbrev pub IsNotice : ℕ → SeatAndSlots → Type 0
 IsNotice version m = m ≡ (View.Noting version, [])

@@ -6,7 +6,7 @@ use lib.ListN.{get_elem?}
 use Rattle.version_core.specs.declared.state.Shelf.{Shelf}
 use Rattle.version_core.specs.declared.state.Worker.{Worker}
 use Rattle.shelf_steps.specs.declared.edition.Edition.{Edition}
-use Rattle.shelf_steps.specs.Course.{IsEdition}
+use Rattle.shelf_steps.specs.EventHistory.{IsEdition}
 
 -- a slot as it is found: `some (some x)` if it is at home with x in it, `some none` if it is out with a seat
 abbrev pub Slot : Type 0

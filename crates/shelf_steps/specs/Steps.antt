@@ -14,9 +14,9 @@ use Rattle.shelf_steps.specs.declared.edition.Edition.{Edition}
 use Rattle.shelf_steps.specs.declared.views.WorkerView.{WorkerView}
 use Rattle.shelf_steps.specs.declared.views.LoaderView.{LoaderView}
 use Rattle.shelf_steps.specs.declared.views.View.{View}
-use Rattle.shelf_steps.specs.Course.{IsLonger, all_of}
-use Rattle.shelf_steps.specs.Ruled.{Ruled, first_words, first_loader, FirstSlots}
-use Rattle.shelf_steps.specs.Plays.{Mine, is_open, newest_of, Looks, Takes, Leaves, GivesBack, Opens, Publishes, Closes, Collects}
+use Rattle.shelf_steps.specs.EventHistory.{IsLonger, all_of}
+use Rattle.shelf_steps.specs.Rule.{KeepsRule, first_words, first_loader, FirstSlots}
+use Rattle.shelf_steps.specs.Plays.{SeatAndSlots, is_open, newest_of, Looks, Takes, Leaves, GivesBack, Opens, Publishes, Closes, Collects}
 use Rattle.shelf_steps.specs.Plays.{Gathers, PutsBack, MayOpenOn, MayPublish, MayClose, MayCollect, MayGather, MayPutBack}
 use Rattle.shelf_steps.specs.Plays.{newcomer, one_more}
 use Rattle.shelf_steps.specs.Laws.{Shelved}
@@ -26,13 +26,13 @@ use Rattle.shelf_steps.specs.Events.{known_of}
 -- that are out with it. Whatever the table is at that moment, if the rule holds of it, then the seat can have a new view and move slots such that the
 -- rule holds of the table after the step, with the history before and this event; the seat then knows all of that history; and `tells` holds of the
 -- number that was found and of the seat after the step. Except for the history, this is what the kit requires of each operation on a word (`Allows`)
-abbrev pub Adds : ℕ → ℕ → Mine → ℕ → (ℕ → ℕ) → Event → (ℕ → Reply) → (ℕ → Mine → Type 0) → Type 0
+abbrev pub Adds : ℕ → ℕ → SeatAndSlots → ℕ → (ℕ → ℕ) → Event → (ℕ → Reply) → (ℕ → SeatAndSlots → Type 0) → Type 0
 Adds slots id me i f e reply tells =
-    (table : Shelved) (r : Ruled table) → length table.homes ≡ slots → get_elem? table.views id ≡ some me.0
+    (table : Shelved) (r : KeepsRule table) → length table.homes ≡ slots → get_elem? table.views id ≡ some me.0
     → slice_index table.words i < 18446744073709551616
     → (w : View) × (a : Act (Option Edition)) × Valid table.homes me.1 a
-    × (after : Ruled (stepped table i (f (slice_index table.words i)) id me.1 w a))
-    × IsLonger r.course e (reply (slice_index table.words i)) after.course × (known_of w ≡ all_of after.course)
+    × (after : KeepsRule (stepped table i (f (slice_index table.words i)) id me.1 w a))
+    × IsLonger r.history e (reply (slice_index table.words i)) after.history × (known_of w ≡ all_of after.history)
     × tells (slice_index table.words i) (w, carried_after me.1 a)
 
 -- the slots that are out with a seat
@@ -108,15 +108,15 @@ PuttingsAdd = (slots id k : ℕ) (l : LoaderView) (c : Carried) → slots ≡ 12
 -- at the start the rule holds, and nothing has happened
 abbrev pub StartIsRuled : Type 0
 StartIsRuled = (image : ImageValue) (items : List (Option Edition)) → FirstSlots image 128 items
-    → (r : Ruled (opening first_words items (View.Loading (first_loader image))))
-    × (r.course ≡ record { state = start; events = []; replies = []; images = image ∷ [] })
+    → (r : KeepsRule (opening first_words items (View.Loading (first_loader image))))
+    × (r.history ≡ record { state = start; events = []; replies = []; images = image ∷ [] })
 
 -- the table once a worker's seat was split from the loader's
 abbrev pub handing : Shelved → ℕ → LoaderView → Shelved
 handing table id l = record table { views = slice_set table.views id (View.Loading (one_more l)) ++ View.Working (newcomer l.handed) ∷ [] }
 
--- handing out a seat adds nothing to the course
+-- handing out a seat adds nothing to the history
 abbrev pub HandingsAddNothing : Type 0
-HandingsAddNothing = (table : Shelved) (id : ℕ) (l : LoaderView) (r : Ruled table)
+HandingsAddNothing = (table : Shelved) (id : ℕ) (l : LoaderView) (r : KeepsRule table)
     → get_elem? table.views id ≡ some (View.Loading l) → l.handed < 16
-    → (after : Ruled (handing table id l)) × (after.course ≡ r.course)
+    → (after : KeepsRule (handing table id l)) × (after.history ≡ r.history)

@@ -1,7 +1,7 @@
 //! The start of a table: version 1 is current on shelf 0, and the seats of idle workers are split from the loader's.
 ghost use Rattle.std.specs.Prelude.{◌≡◌, ◌<◌, [], IfOk};
 ghost use Rattle.std.specs.Arc.{arc_value};
-ghost use Rattle.shelf_steps.specs.Ruled.{first_loader, FirstSlot, FirstSlots};
+ghost use Rattle.shelf_steps.specs.Rule.{first_loader, FirstSlot, FirstSlots};
 ghost use Rattle.shelf_steps.specs.Plays.{keeps_loading, new_worker_view, MayHandOut};
 ghost use Rattle.shelf_steps.specs.Splits.{IsSplit};
 ghost use Rattle.shelf_steps.specs.declared.views.View.{View};

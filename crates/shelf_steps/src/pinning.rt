@@ -1,7 +1,7 @@
 //! Pins without a lock, each with up to four looks; and releases.
 ghost use Rattle.std.specs.Prelude.{◌≡◌, ℕ, ◌+◌, ◌<◌, IfOk, IfErr, MatchResult};
 ghost use Rattle.shelf_steps.specs.Plays.{is_open};
-ghost use Rattle.shelf_steps.specs.Pinning.{Late, Well, Pins, Moves, IsIdleAs, IsHoldingAs, Releases};
+ghost use Rattle.shelf_steps.specs.Pinning.{TryIsLate, TryHolds, Pins, Moves, IsIdleAs, IsHoldingAs, Releases};
 
 use crate::edition::Edition;
 use crate::table_seats::{ShelfTable, TableSeat};
@@ -23,9 +23,9 @@ pub fn try_once(
     requires table { worker.old.table ≡ shelves.now }
     requires worker { (number < 16) × IsIdleAs number worker.old.me }
     ensures table { worker.new.table ≡ worker.old.table }
-    ensures well { IfOk result (λ h. (h.0 < 8) × Well worker.old.me.0 h.1.version h.0 h.1 worker.new.me.0
+    ensures well { IfOk result (λ h. (h.0 < 8) × TryHolds worker.old.me.0 h.1.version h.0 h.1 worker.new.me.0
         × IsHoldingAs number h.0 h.1 worker.new.me) }
-    ensures late { IfErr result (λ n. Late worker.old.me.0 n worker.new.me.0 × IsIdleAs number worker.new.me) }
+    ensures late { IfErr result (λ n. TryIsLate worker.old.me.0 n worker.new.me.0 × IsIdleAs number worker.new.me) }
 {
     let found = look(shelves, worker);
     let version = found / 8;

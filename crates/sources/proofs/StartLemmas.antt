@@ -18,11 +18,11 @@ use Rattle.sources.specs.FootStarts.{IsStartIndex, HoldsBelow}
 no_path : Footpath
 no_path = record { from = 0; to = 0; secs = 0 }
 
--- a footpath stands at each place
+-- a footpath stands at each index
 stands : (paths : List Footpath) (k : ℕ) → k < length paths → At paths k (get_or paths k no_path)
 stands paths k lt = slice_get-get_or paths k no_path lt
 
--- the places from the first up to before the end are those of the footpaths into a stop
+-- the indices from the first up to before the end are those of the footpaths into a stop
 pub record AreInto (t : TimetableValue) (stop first end : ℕ) : Type 0 where
   pub within : end ≤ length t.footpaths
   pub exact : (k : ℕ) (f : Footpath) → At t.footpaths k f → (f.to ≡ stop) ↔ ((first ≤ k) × (k < end))
@@ -32,9 +32,9 @@ pub start_next : (t : TimetableValue) (stop first end : ℕ) → IsLegal t → s
 start_next t stop first end legal lt into =
     let loop = legal.loops stop lt in
     let index = loop.1.0 in
-    let at_place = loop.1.1 in
+    let at_index = loop.1.1 in
     let f : Footpath = record { from = stop; to = stop; secs = loop.0 } in
-    let among = (into.exact index f at_place).0 refl in
+    let among = (into.exact index f at_index).0 refl in
     record {
       within = into.within;
       exact = λ k g at. (
@@ -43,14 +43,14 @@ start_next t stop first end legal lt into =
           | inr (inl less) ↦ elim (cases_lt k end) [
             | inl before ↦ before
             | inr past ↦
-                let later = in_order_later t.footpaths legal.in_order k index f g (omega (arith, among, past)) at_place at in
+                let later = in_order_later t.footpaths legal.in_order k index f g (omega (arith, among, past)) at_index at in
                 absurd (omega (arith, later.0, less))
           ]
           | inr (inr more) ↦ absurd (omega (arith, more, below))
         ],
         λ before. elim (cases_lt k first) [
           | inl early ↦
-              let later = in_order_later t.footpaths legal.in_order index k g f (omega (arith, among, early)) at at_place in
+              let later = in_order_later t.footpaths legal.in_order index k g f (omega (arith, among, early)) at at_index in
               omega (arith, later.0)
           | inr late ↦
               let same = (into.exact k g at).1 (late, before) in

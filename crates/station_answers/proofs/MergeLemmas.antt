@@ -14,7 +14,7 @@ use Rattle.timetable.specs.TimetableValue.{TimetableValue}
 use Rattle.timetable.specs.declared.query.Query.{Query}
 use Rattle.timetable.specs.JourneyValue.{JourneyValue}
 use Rattle.timetable.specs.Journeys.{Counts}
-use Rattle.profile_scan.specs.Between.{BetweenValue, IsAnswerBetween, IsPointBetween, Pair, between_one, pair_of, query_of_pair}
+use Rattle.profile_scan.specs.SetQuery.{SetQueryValue, IsAnswerBetween, IsPointBetween, Pair, single_set_query, pair_of, query_of_pair}
 use Rattle.profile_scan.specs.Destinations.{query_from}
 use Rattle.profile_scan.specs.declared.destination.Destination.{Destination}
 use Rattle.profile_scan.specs.Found.{Answers, listed}
@@ -145,7 +145,7 @@ pushed_cases (z ∷ xs) x zero y e = inl e
 pushed_cases (z ∷ xs) x (suc k) y e = pushed_cases xs x k y e
 
 -- a journey of the point that an answer has is one of the point that is kept
-pub attained_between : {K V : Type 0} {c : _} (rules_of : K → Rules V) (criterion : K) (t : TimetableValue) (b : BetweenValue) (merged : MergedAnswers K V c)
+pub attained_between : {K V : Type 0} {c : _} (rules_of : K → Rules V) (criterion : K) (t : TimetableValue) (b : SetQueryValue) (merged : MergedAnswers K V c)
     (p : Point V) (origin : PointSource) (found : Found K V c) (point : Point V) (j : JourneyValue) → IsMerged rules_of criterion t b merged
     → slice_get merged.founds.items origin.found ≡ Some found → point.departure ≡ p.departure → point.value ≡ p.value
     → ((q : Query) → Answers criterion (rules_of criterion) t q found → Attains (rules_of criterion) t q point j)
@@ -163,12 +163,12 @@ attained_between rules_of criterion t b merged p origin found point j is at depa
     }
 
 -- the query to a target from a stop is that of a pair
-pub same_query : (b : BetweenValue) (d : Destination) (stop : ℕ) → IsToTarget b d → query_from d stop ≡ pair_of b stop d.target
+pub same_query : (b : SetQueryValue) (d : Destination) (stop : ℕ) → IsToTarget b d → query_from d stop ≡ pair_of b stop d.target
 same_query b d stop to =
     let Q : ℕ → ℕ → ℕ → Query = λ from until by. record { source = stop; target = d.target; from = from; until = until; by = by } in
     ap (λ (n : ℕ). Q n d.until d.by) to.times.0 ∙ (ap (λ (n : ℕ). Q b.from n d.by) to.times.1 ∙ ap (λ (n : ℕ). Q b.from b.until n) to.times.2)
 
-pub answers_pair : {K V : Type 0} {c : _} (rules : Rules V) (t : TimetableValue) (b : BetweenValue) (d : Destination) (stop : ℕ) (criterion : K)
+pub answers_pair : {K V : Type 0} {c : _} (rules : Rules V) (t : TimetableValue) (b : SetQueryValue) (d : Destination) (stop : ℕ) (criterion : K)
     (found : Found K V c)
     → IsToTarget b d → Contains b.sources stop → Answers criterion rules t (query_from d stop) found → AnswersPair criterion rules t b found
 answers_pair rules t b d stop criterion found to is answers = record {
@@ -181,7 +181,7 @@ pub journey_attains : {K V : Type 0} {c : _} (rules_of : K → Rules V) (merged 
     → (o : PointSource) (f : Found K V c) → o ≡ get_or merged.origins.items p.tag o → f ≡ get_or merged.founds.items o.found f → (j : JourneyValue)
     → ((criterion : K) (t : TimetableValue) (q : Query) (x : Point V) → Answers criterion (rules_of criterion) t q f
     → slice_get (listed f) o.index ≡ Some x → Attains (rules_of criterion) t q x j)
-    → (criterion : K) (t : TimetableValue) (b : BetweenValue) → IsMerged rules_of criterion t b merged → AttainsPair (rules_of criterion) t b p j
+    → (criterion : K) (t : TimetableValue) (b : SetQueryValue) → IsMerged rules_of criterion t b merged → AttainsPair (rules_of criterion) t b p j
 journey_attains {K} {V} {c} rules_of merged p of o f origin_read found_read j attains criterion t b is =
     let origin_is : o ≡ of.origin = origin_read ∙ get_or_from_slice_get merged.origins.items p.tag of.origin o of.noted in
     let there : slice_get merged.founds.items o.found ≡ Some of.found =
@@ -193,7 +193,7 @@ journey_attains {K} {V} {c} rules_of merged p of o f origin_read found_read j at
     attained_between rules_of criterion t b merged p of.origin of.found of.point j is of.kept of.departs of.worth
     (λ q answers. attains criterion t q of.point (subst (λ (y : Found K V c). Answers criterion (rules_of criterion) t q y) (sym found_is) answers) stands)
 
-module _ {K V : Type 0} {c : _} (rules_of : K → Rules V) (criterion : K) (t : TimetableValue) (b : BetweenValue) where
+module _ {K V : Type 0} {c : _} (rules_of : K → Rules V) (criterion : K) (t : TimetableValue) (b : SetQueryValue) where
   -- an answer more
   pub take_merged : (rules : Rules V) (found : Found K V c) (old new : MergedAnswers K V c) → IsMerged rules_of criterion t b old
       → AnswersPair criterion (rules_of criterion) t b found → TakesFound rules found old new → IsMerged rules_of criterion t b new
@@ -233,13 +233,13 @@ module _ {K V : Type 0} {c : _} (rules_of : K → Rules V) (criterion : K) (t : 
       }
 
 -- a point of a query between two stops is admitted
-plain_admits : {V : Type 0} (rules : Rules V) → Laws rules → (t : TimetableValue) (q : Query) → CanScan t (between_one q) → (departure : ℕ) (v : V)
+plain_admits : {V : Type 0} (rules : Rules V) → Laws rules → (t : TimetableValue) (q : Query) → CanScan t (single_set_query q) → (departure : ℕ) (v : V)
     → IsPoint rules t q departure v → Admits rules v
 plain_admits rules laws t q can departure v point =
-    point_admits rules laws t (between_one q) can departure v (point.0, to_one t q departure point.0 point.1, point.2)
+    point_admits rules laws t (single_set_query q) can departure v (point.0, to_one t q departure point.0 point.1, point.2)
 
 -- the points of an answer that is taken in are covered
-pub take_covers : {K V : Type 0} {c : _} (rules : Rules V) → Laws rules → (t : TimetableValue) (q : Query) → CanScan t (between_one q)
+pub take_covers : {K V : Type 0} {c : _} (rules : Rules V) → Laws rules → (t : TimetableValue) (q : Query) → CanScan t (single_set_query q)
     → (criterion : K) (found : Found K V c) (old new : MergedAnswers K V c) → IsBag rules (points_of new.best)
     → ((p : Point V) → Contains (listed found) p → Admits rules p.value)
     → Answers criterion rules t q found → TakesFound rules found old new → CoversQuery rules t new q
@@ -257,21 +257,21 @@ take_covers {K} {V} rules laws t q can criterion found old new bag admits answer
     )
 
 -- the points of an answer are admitted
-pub listed_admitted : {K V : Type 0} {c : _} (rules : Rules V) → Laws rules → (t : TimetableValue) (q : Query) → CanScan t (between_one q)
+pub listed_admitted : {K V : Type 0} {c : _} (rules : Rules V) → Laws rules → (t : TimetableValue) (q : Query) → CanScan t (single_set_query q)
     → (criterion : K) (found : Found K V c) → Answers criterion rules t q found
     → (p : Point V) → Contains (listed found) p → Admits rules p.value
 listed_admitted rules laws t q can criterion found answers p h =
     plain_admits rules laws t q can p.departure p.value ((answers.answer.exactly p.departure p.value).0 (p, h, refl, refl)).is_point
 
 -- what was covered of a query stays covered
-pub still_covers : {K V : Type 0} {c : _} (rules : Rules V) → Laws rules → (t : TimetableValue) (q : Query) → CanScan t (between_one q)
+pub still_covers : {K V : Type 0} {c : _} (rules : Rules V) → Laws rules → (t : TimetableValue) (q : Query) → CanScan t (single_set_query q)
     → (old new : MergedAnswers K V c) → KeepsCovered rules old new → CoversQuery rules t old q → CoversQuery rules t new q
 still_covers rules laws t q can old new keeps covers departure v point =
     keeps departure v (plain_admits rules laws t q can departure v point) (covers departure v point)
 
 -- the best points of all pairs, in order, are the answer
 pub merged_answers : {K V : Type 0} {c : _} (rules_of : K → Rules V) (criterion : K) → Laws (rules_of criterion)
-    → (t : TimetableValue) (b : BetweenValue) → CanScan t b
+    → (t : TimetableValue) (b : SetQueryValue) → CanScan t b
     → (merged : MergedAnswers K V c) (points : List (Point V)) → IsMerged rules_of criterion t b merged → CoversAll (rules_of criterion) t b merged
     → IsBag (rules_of criterion) points → AllPairs (Before (rules_of criterion)) points
     → ((p : Point V) → Contains points p → Contains (points_of merged.best) p) → ((p : Point V) → Contains (points_of merged.best) p → Contains points p)
@@ -302,8 +302,9 @@ merged_answers {K} {V} rules_of criterion laws t b can merged points is covers b
         (covered.0, each covered.0 covered.1, covered.2, covered.3)
 
 -- one target more
-pub next_target : {K V : Type 0} {c : _} (rules_of : K → Rules V) (criterion used : K) → Laws (rules_of criterion) → (t now : TimetableValue) (b : BetweenValue)
-    → ((s g : ℕ) → CanScan t (between_one (pair_of b s g))) → (d dest : Destination) (n target : ℕ) (old new : MergedAnswers K V c)
+pub next_target : {K V : Type 0} {c : _} (rules_of : K → Rules V) (criterion used : K) → Laws (rules_of criterion)
+    → (t now : TimetableValue) (b : SetQueryValue)
+    → ((s g : ℕ) → CanScan t (single_set_query (pair_of b s g))) → (d dest : Destination) (n target : ℕ) (old new : MergedAnswers K V c)
     → now ≡ t → used ≡ criterion → d ≡ dest → dest ≡ destination_to b target → slice_get b.targets n ≡ Some target
     → KeepsCovered (rules_of used) old new → ((s : ℕ) → Contains b.sources s → CoversQuery (rules_of used) now new (query_from d s))
     → ((k g s : ℕ) → k < n → slice_get b.targets k ≡ Some g → Contains b.sources s → CoversQuery (rules_of criterion) t old (pair_of b s g))

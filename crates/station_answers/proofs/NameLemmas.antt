@@ -10,7 +10,7 @@ use Rattle.timetable.specs.declared.query.QueryFault.{QueryFault}
 use Rattle.timetable.specs.declared.query.QueryFault.TheVariants.{UnknownStop, SameStop, BadWindow}
 use Rattle.std.proofs.lemmas.Option.{slice_get_within}
 use Rattle.image_layout.specs.Image.{HasImage, ImageValue}
-use Rattle.profile_scan.specs.Between.{BetweenValue}
+use Rattle.profile_scan.specs.SetQuery.{SetQueryValue}
 use Rattle.journeys.specs.Questions.{IsNamed, NamesNone}
 use Rattle.journeys.specs.declared.question.Window.{Window}
 use Rattle.station_answers.specs.Asking.{IsFirstFault}
@@ -70,7 +70,7 @@ named_within_all image has (x ∷ xs) (y ∷ ys) all s is = elim (contains_cases
 ]
 
 -- a fault of the question between named stops
-pub refused_between : (image : ImageValue) (from to : List (List ℕ)) (window : Window) (b : BetweenValue) (fault : QueryFault)
+pub refused_between : (image : ImageValue) (from to : List (List ℕ)) (window : Window) (b : SetQueryValue) (fault : QueryFault)
     → HasImage image.timetable image.names → AsksBetween image.names from to window b → IsFirstFault image.timetable.stops b fault
     → IsFaultBetween image from to window fault
 refused_between image from to window b UnknownStop has asks is = elim is [

@@ -3,7 +3,7 @@ use Rattle.std.proofs.Common.{◌≡◌, ◌≢◌, ℕ, suc, ◌+◌, ◌<◌, 
 use Rattle.std.proofs.Common.{append_assoc, append-nil}
 use Rattle.timetable.specs.TimetableValue.{TimetableValue}
 use Rattle.profile_scan.proofs.LogLemmas.{taken_all}
-use Rattle.profile_scan.specs.Between.{BetweenValue}
+use Rattle.profile_scan.specs.SetQuery.{SetQueryValue}
 use Rattle.station_answers.specs.Reading.{ReadsPart, ReadsWindow, repeated, window_between}
 
 pub none_read : (log read : List ℕ) → log ≡ log ++ repeated 0 read
@@ -14,7 +14,7 @@ one_scan_more log read now new n was more =
     let next : suc n ≡ n + 1 = omega arith in
     more ∙ (ap (λ (xs : List ℕ). xs ++ read) was ∙ (append_assoc log (repeated n read) read ∙ ap (λ (k : ℕ). log ++ repeated k read) next))
 
-pub part_of_one : (t : TimetableValue) (b : BetweenValue) (log now new : List ℕ) (n part : ℕ) → n < length b.targets
+pub part_of_one : (t : TimetableValue) (b : SetQueryValue) (log now new : List ℕ) (n part : ℕ) → n < length b.targets
     → now ≡ log ++ repeated n (reverse (window_between t b)) → new ≡ now ++ take part (reverse (window_between t b)) → ReadsPart t b log new
 part_of_one t b log now new n part below was more = record {
   scans = n;
@@ -23,12 +23,12 @@ part_of_one t b log now new n part below was more = record {
   log = more ∙ ap (λ (xs : List ℕ). xs ++ take part (reverse (window_between t b))) was;
 }
 
-pub all_of_one : (t : TimetableValue) (b : BetweenValue) (log now new : List ℕ) (n : ℕ) → n < length b.targets
+pub all_of_one : (t : TimetableValue) (b : SetQueryValue) (log now new : List ℕ) (n : ℕ) → n < length b.targets
     → now ≡ log ++ repeated n (reverse (window_between t b)) → new ≡ now ++ reverse (window_between t b) → ReadsPart t b log new
 all_of_one t b log now new n below was more =
     part_of_one t b log now new n (length (reverse (window_between t b))) below was (taken_all now (reverse (window_between t b)) new more)
 
-pub all_read : (t : TimetableValue) (b : BetweenValue) (log new : List ℕ) → ReadsWindow t b log new → ReadsPart t b log new
+pub all_read : (t : TimetableValue) (b : SetQueryValue) (log new : List ℕ) → ReadsWindow t b log new → ReadsPart t b log new
 all_read t b log new reads = record {
   scans = reads.scans;
   part = 0;

@@ -3,12 +3,12 @@ use Rattle.criteria.specs.Laws.{Rules}
 use Rattle.bags.specs.declared.point.Point.{Point}
 use Rattle.timetable.specs.TimetableValue.{TimetableValue}
 use Rattle.timetable.specs.JourneyValue.{JourneyValue}
-use Rattle.profile_scan.specs.Between.{BetweenValue}
+use Rattle.profile_scan.specs.SetQuery.{SetQueryValue}
 use Rattle.journeys.proofs.AnswerLemmas.{tagless}
 use Rattle.station_answers.specs.Attaining.{AttainsPair}
 
 -- a journey attains a point whatever its tag
-pub pair_tagless : {V : Type 0} (rules : Rules V) (t : TimetableValue) (b : BetweenValue) (p : Point V) (j : JourneyValue)
+pub pair_tagless : {V : Type 0} (rules : Rules V) (t : TimetableValue) (b : SetQueryValue) (p : Point V) (j : JourneyValue)
     → AttainsPair rules t b p j → AttainsPair rules t b (tagless p) j
 pair_tagless rules t b p j a = record {
   pair = a.pair;

@@ -7,10 +7,10 @@ use Rattle.timetable.specs.TimetableValue.{TimetableValue}
 use Rattle.timetable.specs.Legal.{IsLegal}
 use Rattle.timetable.specs.declared.network.Footpath.{Footpath}
 use Rattle.timetable.proofs.LegalLemmas.{one_footpath}
-use Rattle.profile_scan.specs.Between.{BetweenValue, IsDirect, IsDirectWalk}
+use Rattle.profile_scan.specs.SetQuery.{SetQueryValue, IsDirect, IsDirectWalk}
 use Rattle.station_answers.specs.Walks.{InFront, IsFootpathBetween, IsLeastBefore, shorter_of}
 
--- one place further
+-- one index further
 front_cases : (i j n m : ℕ) → InFront i j n (m + 1) → InFront i j n m ⊎ ((i ≡ n) × (j ≡ m))
 front_cases i j n m (inl before) = inl (inl before)
 front_cases i j n m (inr (same, below)) = elim (cases_lt j m) [
@@ -26,12 +26,12 @@ front_no_later : (i j n m : ℕ) → InFront i j n m → (i < n) ⊎ ((i ≡ n) 
 front_no_later i j n m (inl before) = inl before
 front_no_later i j n m (inr (same, below)) = inr (same, omega arith)
 
-module _ (t : TimetableValue) (legal : IsLegal t) (b : BetweenValue) where
+module _ (t : TimetableValue) (legal : IsLegal t) (b : SetQueryValue) where
   pub none_before : IsLeastBefore t b 0 0 None
   none_before i j f (inl before) path = absurd (omega arith)
   none_before i j f (inr (same, below)) path = absurd (omega arith)
 
-  -- the footpath at a place is the one between its stops
+  -- the footpath at an index is the one between its stops
   is_it : (n m source target : ℕ) (f g : Footpath) → slice_get b.sources n ≡ Some source → slice_get b.targets m ≡ Some target
       → Contains t.footpaths g → g.from ≡ source → g.to ≡ target → IsDirect t b n m f → f ≡ g
   is_it n m source target f g at_n at_m is from to path =

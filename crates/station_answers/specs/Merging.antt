@@ -6,14 +6,14 @@ use Rattle.bags.specs.Bag.{criterion_of, points_of}
 use Rattle.bags.specs.declared.point.Point.{Point}
 use Rattle.timetable.specs.TimetableValue.{TimetableValue}
 use Rattle.timetable.specs.declared.query.Query.{Query}
-use Rattle.profile_scan.specs.Between.{BetweenValue, Pair, query_of_pair}
+use Rattle.profile_scan.specs.SetQuery.{SetQueryValue, Pair, query_of_pair}
 use Rattle.profile_scan.specs.Found.{Answers, listed}
 use Rattle.profile_scan.specs.Points.{Covers, IsPoint}
 use Rattle.profile_scan.specs.declared.found.Found.{Found}
 use Rattle.station_answers.specs.declared.merging.MergedAnswers.{MergedAnswers}
 use Rattle.station_answers.specs.declared.merging.PointSource.{PointSource}
 
--- a point is one of the first n of a list, tags aside, and its own tag says which: the list's number, and the place in it
+-- a point is one of the first n of a list, tags aside, and its own tag says which: the list's number, and the index in it
 pub record IsOfList {V : Type 0} (points : List (Point V)) (number n : ℕ) (origins : List PointSource) (p : Point V) : Type 0 where
   pub index : ℕ
   pub point : Point V
@@ -58,12 +58,12 @@ pub record IsOfFounds {K V : Type 0} {c : _} (merged : MergedAnswers K V c) (p :
   pub worth : point.value ≡ p.value
 
 -- an answer of the query of a pair
-pub record AnswersPair {K V : Type 0} {c : _} (criterion : K) (rules : Rules V) (t : TimetableValue) (b : BetweenValue) (found : Found K V c) : Type 0 where
+pub record AnswersPair {K V : Type 0} {c : _} (criterion : K) (rules : Rules V) (t : TimetableValue) (b : SetQueryValue) (found : Found K V c) : Type 0 where
   pub pair : Pair b
   pub answers : Answers criterion rules t (query_of_pair b pair) found
 
 -- the answers that are kept are those of pairs, and the best points are among theirs
-pub record IsMerged {K V : Type 0} {c : _} (rules_of : K → Rules V) (criterion : K) (t : TimetableValue) (b : BetweenValue) (merged : MergedAnswers K V c) :
+pub record IsMerged {K V : Type 0} {c : _} (rules_of : K → Rules V) (criterion : K) (t : TimetableValue) (b : SetQueryValue) (merged : MergedAnswers K V c) :
     Type 0 where
   pub under : criterion_of merged.best ≡ criterion
   pub founds : (number : ℕ) (found : Found K V c) → slice_get merged.founds.items number ≡ Some found
@@ -75,5 +75,5 @@ abbrev pub CoversQuery : {K V : Type 0} {c : _} → Rules V → TimetableValue �
 CoversQuery {K} {V} rules t merged q = (departure : ℕ) (v : V) → IsPoint rules t q departure v → Covers rules (points_of merged.best) departure v
 
 -- each point of each pair is covered
-abbrev pub CoversAll : {K V : Type 0} {c : _} → Rules V → TimetableValue → BetweenValue → MergedAnswers K V c → Type 0
+abbrev pub CoversAll : {K V : Type 0} {c : _} → Rules V → TimetableValue → SetQueryValue → MergedAnswers K V c → Type 0
 CoversAll {K} {V} rules t b merged = (pair : Pair b) → CoversQuery rules t merged (query_of_pair b pair)

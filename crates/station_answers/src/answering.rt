@@ -1,7 +1,7 @@
 //! The answer between several stops, by one scan of the window.
 
 ghost use Rattle.std.specs.Prelude.{◌≡◌, ◌++◌, ℕ, Contains, IfOk, OnOk, OnErr, length, reverse, take};
-ghost use Rattle.profile_scan.specs.Between.{IsAnswerBetween, IsAskableBetween, question, secs_of};
+ghost use Rattle.profile_scan.specs.SetQuery.{IsAnswerBetween, IsAskableBetween, question, secs_of};
 ghost use Rattle.journeys.specs.Answer.{point_of, points_of, walk_of_answer};
 ghost use Rattle.journeys.specs.Extracted.{AttainsBetween};
 ghost use Rattle.station_answers.specs.Reading.{window_between};
@@ -9,7 +9,7 @@ ghost use Rattle.station_answers.specs.Walks.{IsDirectTime};
 
 use criteria::Criterion;
 use journeys::{Answer, departures_between, window_len};
-use profile_scan::{Between, ConnSource, profile_between};
+use profile_scan::{ConnSource, SetQuery, profile_between};
 use std::alloc::{AllocError, Global};
 use timetable::{Footpath, Query};
 
@@ -25,7 +25,7 @@ pub fn answer_between<S: ConnSource, C: Criterion>(
     alloc: Global,
     source: &mut S,
     criterion: &C,
-    query: &Between,
+    query: &SetQuery,
 ) -> Result<Answer<C>, AllocError>
     requires { IsAskableBetween (S.timetable source.old).stops (question query.now) }
     ensures timetable { S.timetable source.new ≡ S.timetable source.old }
@@ -64,7 +64,7 @@ pub(crate) fn secs_of(walk: Option<Footpath>) -> Option<u32>
 }
 
 // The number of connections that the window of a question has.
-pub(crate) fn window_size<S: ConnSource>(source: &S, query: &Between) -> usize
+pub(crate) fn window_size<S: ConnSource>(source: &S, query: &SetQuery) -> usize
     ensures { result ≡ length (window_between (S.timetable source.now) (question query.now)) }
 {
     let times = Query {

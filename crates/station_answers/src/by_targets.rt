@@ -1,7 +1,7 @@
 //! The answer between several stops, from the answers of their pairs: slower than by one scan, and a reference for it.
 
 ghost use Rattle.std.specs.Prelude.{◌≡◌, ℕ, Contains, IfOk, OnOk, OnErr, length, map};
-ghost use Rattle.profile_scan.specs.Between.{IsAnswerBetween, IsAskableBetween, question};
+ghost use Rattle.profile_scan.specs.SetQuery.{IsAnswerBetween, IsAskableBetween, question};
 ghost use Rattle.profile_scan.specs.Destinations.{query_from};
 ghost use Rattle.profile_scan.specs.Everywhere.{AnswerAll, criterion_of_profiles, destination_of};
 ghost use Rattle.journeys.specs.Answer.{point_of, points_of, walk_of_answer};
@@ -16,7 +16,7 @@ use crate::merging::MergedAnswers;
 use crate::walking::direct_walk;
 use criteria::Criterion;
 use journeys::{Answer, Departure};
-use profile_scan::{Between, ConnSource, Destination, Profiles, in_order, profiles_to};
+use profile_scan::{ConnSource, Destination, Profiles, SetQuery, in_order, profiles_to};
 use std::alloc::{AllocError, Global};
 
 /// Answers a question as `answer_between` does, by one scan for each target. The journey of a point may be another one:
@@ -28,7 +28,7 @@ pub fn answer_by_targets<S: ConnSource, C: Criterion>(
     alloc: Global,
     source: &mut S,
     criterion: &C,
-    query: &Between,
+    query: &SetQuery,
 ) -> Result<Answer<C>, AllocError>
     requires { IsAskableBetween (S.timetable source.old).stops (question query.now) }
     ensures timetable { S.timetable source.new ≡ S.timetable source.old }
@@ -63,7 +63,7 @@ fn merged_between<S: ConnSource, C: Criterion>(
     alloc: Global,
     source: &mut S,
     criterion: &C,
-    query: &Between,
+    query: &SetQuery,
 ) -> Result<MergedAnswers<C>, AllocError>
     requires { IsAskableBetween (S.timetable source.old).stops (question query.now) }
     ensures timetable { S.timetable source.new ≡ S.timetable source.old }
@@ -86,7 +86,7 @@ fn merged_between<S: ConnSource, C: Criterion>(
 }
 
 // The question from every stop to one target.
-fn destination_to(query: &Between, target: u32) -> Destination
+fn destination_to(query: &SetQuery, target: u32) -> Destination
     ensures { result ≡ destination_to (question query.now) target }
 {
     Destination {
@@ -101,7 +101,7 @@ fn destination_to(query: &Between, target: u32) -> Destination
 fn take_from_sources<S: ConnSource, C: Criterion>(
     alloc: Global,
     source: &S,
-    query: &Between,
+    query: &SetQuery,
     profiles: &Profiles<C>,
     merged: &mut MergedAnswers<C>,
 ) -> Result<(), AllocError>
@@ -131,7 +131,7 @@ fn departures_of<S: ConnSource, C: Criterion>(
     alloc: Global,
     source: &S,
     criterion: &C,
-    query: &Between,
+    query: &SetQuery,
     merged: &MergedAnswers<C>,
 ) -> Result<Vec<Departure<C::V>>, AllocError>
     requires askable { IsAskableBetween (S.timetable source.now).stops (question query.now) }

@@ -34,7 +34,7 @@ impl<C: Criterion> MergedAnswers<C> {
     ghost use Rattle.bags.specs.Bag.{criterion_of, points_of};
     ghost use Rattle.profile_scan.specs.Found.{listed};
     ghost use Rattle.timetable.specs.TimetableValue.{TimetableValue};
-    ghost use Rattle.profile_scan.specs.Between.{BetweenValue};
+    ghost use Rattle.profile_scan.specs.SetQuery.{SetQueryValue};
     ghost use Rattle.station_answers.specs.Attaining.{AttainsPair};
     ghost use Rattle.station_answers.specs.Merging.{IsMerged, IsOfFounds, TakesFound};
 
@@ -64,7 +64,7 @@ impl<C: Criterion> MergedAnswers<C> {
     /// A journey that attains one of the best points.
     pub fn journey_of(&self, alloc: Global, point: &Point<C::V>) -> Result<Journey, AllocError>
         requires { IsOfFounds self.now point.now }
-        ensures { IfOk result (λ journey. (t : TimetableValue) (b : BetweenValue)
+        ensures { IfOk result (λ journey. (t : TimetableValue) (b : SetQueryValue)
             → IsMerged C.rules (criterion_of self.now.best) t b self.now
             → AttainsPair (C.rules (criterion_of self.now.best)) t b point.now journey) }
     {

@@ -3,13 +3,13 @@
 ghost use Rattle.std.specs.Prelude.{IfOk, MatchOption, MatchResult, map};
 ghost use Rattle.std.specs.List.{AllZip};
 ghost use Rattle.journeys.specs.Questions.{IsNamed};
-ghost use Rattle.profile_scan.specs.Between.{IsAskableBetween, question};
+ghost use Rattle.profile_scan.specs.SetQuery.{IsAskableBetween, question};
 ghost use Rattle.station_answers.specs.Naming.{AsksBetween, IsNoQuestion, SomeUnknown};
 
 use crate::query::check_between;
 use image_verifier::Verified;
 use journeys::Window;
-use profile_scan::Between;
+use profile_scan::SetQuery;
 use std::alloc::{AllocError, Global};
 use timetable::QueryFault;
 
@@ -32,7 +32,7 @@ pub fn question_between(
     from: &[&str],
     to: &[&str],
     window: Window,
-) -> Result<Between, NoQuestion>
+) -> Result<SetQuery, NoQuestion>
     ensures { MatchResult result
         (λ query. IsAskableBetween image.now.timetable.stops (question query)
         × AsksBetween image.now.names (map (λ name. name.now) from.now) (map (λ name. name.now) to.now) window
@@ -49,7 +49,7 @@ pub fn question_between(
         Ok(None) => return Err(NoQuestion::Bad(QueryFault::UnknownStop)),
         Err(AllocError) => return Err(NoQuestion::OutOfMemory),
     };
-    let query = Between {
+    let query = SetQuery {
         sources,
         targets,
         from: window.from,

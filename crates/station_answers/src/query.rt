@@ -1,17 +1,17 @@
 //! What is wrong with a question between several stops.
 
 ghost use Rattle.std.specs.Prelude.{◌<◌, ◌≤◌, ℕ, Contains, MatchBool, MatchResult};
-ghost use Rattle.profile_scan.specs.Between.{IsAskableBetween, question};
+ghost use Rattle.profile_scan.specs.SetQuery.{IsAskableBetween, question};
 ghost use Rattle.station_answers.specs.Asking.{IsFirstFault};
 
-use profile_scan::Between;
+use profile_scan::SetQuery;
 use timetable::QueryFault;
 use timetable::limits::TIME_END;
 
 /// Checks that a question can be asked of a timetable with this many stops. If it can't, the error is its first fault:
 /// `UnknownStop` if a source or a target is no stop, `SameStop` if a source is a target too, `BadWindow` if the times
 /// can't be. A side without stops is no fault: then there are no departures.
-pub fn check_between(query: &Between, stops: u32) -> Result<(), QueryFault>
+pub fn check_between(query: &SetQuery, stops: u32) -> Result<(), QueryFault>
     ensures { MatchResult result (λ _. IsAskableBetween stops (question query.now))
         (IsFirstFault stops (question query.now)) }
 {

@@ -1,16 +1,16 @@
 //! The direct walk between several stops.
 
 ghost use Rattle.std.specs.Prelude.{◌≡◌, ◌<◌, ◌+◌, ℕ, Contains, length};
-ghost use Rattle.profile_scan.specs.Between.{IsAskableBetween, IsDirectWalk, question};
+ghost use Rattle.profile_scan.specs.SetQuery.{IsAskableBetween, IsDirectWalk, question};
 ghost use Rattle.station_answers.specs.Walks.{IsFootpathBetween, IsLeastBefore, shorter_of};
 ghost use Rattle.station_answers.specs.Walks.{shorter_than};
 
-use profile_scan::{Between, ConnSource};
+use profile_scan::{ConnSource, SetQuery};
 use timetable::Footpath;
 
 /// The shortest footpath from one of the sources to one of the targets, if there is any. Of equally short ones it is
 /// the first, by the order of the sources and then of the targets.
-pub fn direct_walk<S: ConnSource>(source: &S, query: &Between) -> Option<Footpath>
+pub fn direct_walk<S: ConnSource>(source: &S, query: &SetQuery) -> Option<Footpath>
     requires { IsAskableBetween (S.timetable source.now).stops (question query.now) }
     ensures { IsDirectWalk (S.timetable source.now) (question query.now) result }
 {
@@ -22,10 +22,10 @@ pub fn direct_walk<S: ConnSource>(source: &S, query: &Between) -> Option<Footpat
     best
 }
 
-// The direct walk among those from the sources up to the one at a place, if `before` is that among those before it.
+// The direct walk among those from the sources up to the one at an index, if `before` is that among those before it.
 fn shorter_from<S: ConnSource>(
     source: &S,
-    query: &Between,
+    query: &SetQuery,
     index: usize,
     before: Option<Footpath>,
 ) -> Option<Footpath>

@@ -8,7 +8,7 @@ use criteria::Figures;
 use epochs::{ShelvesName, SoloShelves};
 use image_layout::second_sample_words;
 use image_verifier::Verified;
-use session::{Desk, OpenGate, PointForm, ReplyForm, Streams};
+use session::{OpenGate, PointForm, ReplyForm, SessionServer, Streams};
 use session_texts::{JourneyLegs, Points, RideLeg, WalkLeg};
 use solo_orders::SoloOrders;
 use std::alloc::{AllocError, Global};
@@ -37,13 +37,13 @@ fn replied_at<B: ShelvesName>(
     let (shelves, loader, mut seat) = SoloShelves::<B>::of(solo.shelves, solo.loader, solo.seat);
     let mut orders = SoloOrders::new(&shelves, loader, Vec::new(alloc));
     let mut streams = Streams::new(whole(requests), taker_of(alloc, 10_000, true));
-    let desk = Desk {
+    let session_server = SessionServer {
         alloc,
         shelves: &shelves,
         gate: &OpenGate,
         form,
     };
-    let _ = desk.serve(&mut streams, &mut seat, &mut orders);
+    let _ = session_server.serve(&mut streams, &mut seat, &mut orders);
     streams.writer.into_inner().taken
 }
 
@@ -75,7 +75,7 @@ pub(crate) fn assert_text(rt: &impl Abort, replies: &[u8], wanted: &str) {
     assert_eq!(rt; str::from_utf8(replies).unwrap_or("?"), wanted);
 }
 
-/// With legs, each ride is told by its trip and each walk by its stops; nothing else changes.
+/// With legs, each ride is reported by its trip and each walk by its stops; nothing else changes.
 #[test]
 fn legs_are_replied_where_they_are_wanted(rt: HostRuntime) -> Result<(), Fail> {
     assert_text(&rt, &of_sample(rt.alloc(), PointForm::Bare)?, BARE_REPLIES);
@@ -177,7 +177,7 @@ fn line_to(alloc: Global, name: &str) -> Result<String, AllocError> {
     line_of(alloc, legs)
 }
 
-/// A name of 60,000 bytes is told whole.
+/// A name of 60,000 bytes is reported whole.
 #[test]
 fn a_long_name_is_reported_whole(rt: HostRuntime) -> Result<(), AllocError> {
     let name = "n".repeat(rt.alloc(), 60_000)?;

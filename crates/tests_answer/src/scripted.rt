@@ -6,7 +6,7 @@ use crate::sessions::{Solo, feed_of, image, solo_of, talked};
 use crate::streams::{Pieces, Taker, taker_of};
 use epochs::{Loads, NamedNotice, ShelvesName, SoloShelves};
 use orders::{Gate, OrderFault, OrderRecord, Orders};
-use session::{Desk, Ended, OpenGate, SessionFault, Streams};
+use session::{Ended, OpenGate, SessionFault, SessionServer, Streams};
 use solo_orders::FeedImage;
 use std::alloc::{AllocError, Global};
 use std::io;
@@ -411,12 +411,12 @@ impl Gate for Scans {
 
 // A writer that notes for each line how many scans are open.
 #[derive(Drop)]
-struct Notes<'a> {
+struct NotedPieces<'a> {
     scans: &'a Scans,
     noted: String,
 }
 
-impl Write for Notes<'_> {
+impl Write for NotedPieces<'_> {
     fn write(&mut self, piece: &[u8]) -> io::Result<usize> {
         let open = self.scans.open.load(Ordering::SeqCst);
         match write!(self.noted, "{open}") {
@@ -436,7 +436,7 @@ fn noted(
     script: &Script,
     scans: &Scans,
 ) -> Result<(Result<Ended, SessionFault>, String), Fail> {
-    let notes = Notes {
+    let notes = NotedPieces {
         scans,
         noted: String::new(alloc),
     };
@@ -553,8 +553,8 @@ fn counting_at<B: ShelvesName>(
         asked: Trace::new(),
     };
     let mut streams = Streams::new(requests, taker);
-    let desk = Desk::new(alloc, &shelves, &OpenGate);
-    let ended = desk.serve(&mut streams, &mut seat, &mut orders);
+    let session_server = SessionServer::new(alloc, &shelves, &OpenGate);
+    let ended = session_server.serve(&mut streams, &mut seat, &mut orders);
     Ok((ended, streams.writer.into_inner(), orders.count))
 }
 
@@ -604,8 +604,8 @@ fn answers_or_wants<R: Abort>(
 }
 
 /// Whichever growth is refused while a line is answered, the reply to that line tells want of memory, the others are as
-/// ever, a pin that can't be told is given back, and a load that can't be told isn't ordered. A refused growth ends the
-/// test with `AllocError`.
+/// ever, a pin that can't be reported is given back, and a load that can't be reported isn't ordered. A refused growth
+/// ends the test with `AllocError`.
 #[test]
 fn refused_growth_is_reported_by_a_reply(rt: HostRuntime) -> Result<(), Fail> {
     let whole = wanting_at(rt.alloc(), GROWING.len())?;

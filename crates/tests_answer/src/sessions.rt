@@ -9,7 +9,8 @@ use epochs::{ShelfLoader, ShelfSeat, Shelves, ShelvesName, SoloShelves};
 use image_layout::sample_words;
 use image_verifier::{Verified, verify};
 use orders::{Gate, OrderFault, OrderRecord, Orders};
-use session::{Counted, Desk, Ended, OpenGate, SessionFault, Streams, serve};
+use session::{Counted, Ended, OpenGate, SessionFault, SessionServer, Streams, serve};
+use solo_orders::{FeedImage, SoloOrders};
 use std::alloc::{AllocError, Global};
 use std::cell::Cell;
 use std::io;
@@ -221,8 +222,8 @@ fn talked_at<B: ShelvesName, In: Read + Drop, Out: Write + Drop, G: Gate>(
     let (shelves, loader, mut seat) = SoloShelves::<B>::of(solo.shelves, solo.loader, solo.seat);
     let mut orders = SoloOrders::new(&shelves, loader, feeds);
     let mut streams = Streams::new(reader, writer);
-    let desk = Desk::new(alloc, &shelves, gate);
-    let ended = desk.serve(&mut streams, &mut seat, &mut orders);
+    let session_server = SessionServer::new(alloc, &shelves, gate);
+    let ended = session_server.serve(&mut streams, &mut seat, &mut orders);
     (ended, streams.writer.into_inner())
 }
 
@@ -363,10 +364,7 @@ const BY_WALKING: &str =
     "{\"do\":\"profile\",\"from\":\"A\",\"to\":\"C\",\"after\":\"07:00:00\",\"until\":\"09:00:00\",\"by\":\"10:00:00\",\"criterion\":\"arrival+trips+walk\"}";
 
 const WALKED_REPLIES: &str =
-    "{\"ok\":\"profile\",\"points\":[{\"arr\":\"08:20:00\",\"dep\":\"08:00:00\",\"journey\":\"ride 0 0 walk 1 1 0 ride
-    2 2\",\"trips\":2,\"walked\":0},{\"arr\":\"08:25:00\",\"dep\":\"08:00:00\",\"journey\":\"ride 0 0 walk 1 2
-    900\",\"trips\":1,\"walked\":900},{\"arr\":\"08:30:00\",\"dep\":\"08:00:00\",\"journey\":\"ride 0
-    1\",\"trips\":1,\"walked\":0}],\"version\":1,\"walk\":null}\n{\"feed\":\"slow\",\"ok\":\"load\"}\n{\"ok\":\"profile\",\"points\":[{\"arr\":\"08:20:00\",\"dep\":\"08:00:00\",\"journey\":\"ride 0 0 walk 1 1 60 ride 2 2\",\"trips\":2,\"walked\":60},{\"arr\":\"08:30:00\",\"dep\":\"08:00:00\",\"journey\":\"ride 0 1\",\"trips\":1,\"walked\":0}],\"version\":2,\"walk\":null}\n";
+    "{\"ok\":\"profile\",\"points\":[{\"arr\":\"08:20:00\",\"dep\":\"08:00:00\",\"journey\":\"ride 0 0 walk 1 1 0 ride 2 2\",\"trips\":2,\"walked\":0},{\"arr\":\"08:25:00\",\"dep\":\"08:00:00\",\"journey\":\"ride 0 0 walk 1 2 900\",\"trips\":1,\"walked\":900},{\"arr\":\"08:30:00\",\"dep\":\"08:00:00\",\"journey\":\"ride 0 1\",\"trips\":1,\"walked\":0}],\"version\":1,\"walk\":null}\n{\"feed\":\"slow\",\"ok\":\"load\"}\n{\"ok\":\"profile\",\"points\":[{\"arr\":\"08:20:00\",\"dep\":\"08:00:00\",\"journey\":\"ride 0 0 walk 1 1 60 ride 2 2\",\"trips\":2,\"walked\":60},{\"arr\":\"08:30:00\",\"dep\":\"08:00:00\",\"journey\":\"ride 0 1\",\"trips\":1,\"walked\":0}],\"version\":2,\"walk\":null}\n";
 
 // Serves these bytes over an image where one may walk from B to C; the feed has one where a change at B takes a minute.
 fn walked(alloc: Global, bytes: &[u8]) -> Result<(Result<Ended, SessionFault>, Vec<u8>), Fail> {
@@ -374,7 +372,7 @@ fn walked(alloc: Global, bytes: &[u8]) -> Result<(Result<Ended, SessionFault>, V
     served_from(alloc, first, slow, whole(bytes), 10_000, true)
 }
 
-/// Walked seconds are told if the criterion counts them: after the last ride, and for a loop on the way.
+/// Walked seconds are reported if the criterion counts them: after the last ride, and for a loop on the way.
 #[test]
 fn walked_seconds_are_reported(rt: HostRuntime) -> Result<(), Fail> {
     let alloc: Global = rt.alloc();
@@ -388,7 +386,7 @@ const WAIT: &str = "{\"do\":\"load\",\"feed\":\"slow\",\"wait\":true}";
 const WAITED_REPLIES: &str =
     "{\"base\":1705276800,\"ok\":\"pin\",\"version\":1}\n{\"feed\":\"slow\",\"ok\":\"load\",\"version\":2}\n{\"error\":92,\"name\":\"AlreadyPinned\"}\n{\"ok\":\"release\"}\n{\"base\":1705276800,\"ok\":\"pin\",\"version\":2}\n{\"error\":114,\"name\":\"UnknownFeed\"}\n{\"error\":112,\"name\":\"BadRequest\"}\n";
 
-/// A client that waits for a load is told its version, and pins that version once it has released the one that it
+/// A client that waits for a load gets its version, and pins that version once it has released the one that it
 /// holds.
 #[test]
 fn a_load_is_waited_for(rt: HostRuntime) -> Result<(), Fail> {
@@ -404,7 +402,7 @@ fn a_load_is_waited_for(rt: HostRuntime) -> Result<(), Fail> {
 }
 
 // Orders. Each that is waited for is overtaken by two others before it is answered; instead of its version a fault may
-// be told.
+// be reported.
 #[derive(Drop)]
 struct Overtaken<O> {
     orders: O,
@@ -437,7 +435,7 @@ impl<N: Drop, O: Orders<Notice = N>> Orders for Overtaken<O> {
     }
 }
 
-// What is told; or instead this fault, if there is one.
+// What is reported; or instead this fault, if there is one.
 fn kept_back<N: Drop>(
     reported: Result<(u64, N), OrderFault>,
     fault: Option<OrderFault>,
@@ -495,7 +493,7 @@ fn waited_and_pinned(
     Ok(taker.taken)
 }
 
-/// A version that two others overtook is told all the same, and the newest one is pinned.
+/// A version that two others overtook is reported all the same, and the newest one is pinned.
 #[test]
 fn an_overtaken_notice_is_joined(rt: HostRuntime) -> Result<(), Fail> {
     let replies = waited_and_pinned(rt.alloc(), 3, None)?;
@@ -514,7 +512,7 @@ fn tells_and_pins(replies: &[u8], line: &str) -> bool {
     }
 }
 
-// Faults for which no version is told, each with its reply.
+// Faults for which no version is reported, each with its reply.
 const FAULTS: [(OrderFault, &str); 5] = [
     (
         OrderFault::LoaderGone,
@@ -538,7 +536,7 @@ const FAULTS: [(OrderFault, &str); 5] = [
     ),
 ];
 
-/// Each fault is told. A version may still have been published, and is pinned then.
+/// Each fault is reported. A version may still have been published, and is pinned then.
 #[test]
 fn faults_are_reported_to_who_waits(rt: HostRuntime) -> Result<(), Fail> {
     for (fault, line) in FAULTS.iter() {

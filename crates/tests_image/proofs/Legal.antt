@@ -8,7 +8,7 @@ use Rattle.timetable.specs.Legal.{At, HasFootpath, AreInOrder, IsLegal}
 abbrev pub one_stop : TimetableValue
 one_stop = record { stops = 1; trips = 0; connections = []; footpaths = record { from = 0; to = 0; secs = 60 } ∷ [] }
 
--- what holds of one holds at each place of its list
+-- what holds of one holds at each index of its list
 the_only : {X : Type 0} (P : X → Type 0) (x : X) → P x → (i : ℕ) (e : X) → At (x ∷ []) i e → P e
 the_only P x px zero e at = subst P (same_Some x e at) px
 the_only P x px (suc i) e at = absurd cc

@@ -13,7 +13,7 @@ use Rattle.profile_scan.specs.Continuations.{Aboard}
 use Rattle.profile_scan.specs.Matching.{Spelling, Spellings, Keeps, from_to, ScanValue, MatchesFrom, IsLabelled}
 use Rattle.profile_scan.specs.Steps.{TakesIn, IsOffered, Leaving, ends, ends_after, changes, MayLeave, leaving_value, leavings, boardings, settings_out}
 use Rattle.profile_scan.specs.LawStatements.{CanScan, OneIndexDown}
-use Rattle.profile_scan.specs.Between.{between_one}
+use Rattle.profile_scan.specs.SetQuery.{single_set_query}
 use Rattle.tests_scan.specs.Examples.{two_hops, over_one_hop}
 use Rattle.tests_scan.specs.WrongSteps.{IsStepWithoutLabels}
 use Rattle.profile_scan.proofs.Ends.{nothing_follows}
@@ -75,7 +75,7 @@ two_hops_within = record {
   walks = one_hop_within.walks;
 }
 
-can_scan : CanScan two_hops (between_one (over_one_hop 1000))
+can_scan : CanScan two_hops (single_set_query (over_one_hop 1000))
 can_scan = record { legal = two_hops_legal; limits = two_hops_within; in_time = omega arith }
 
 past_the_end : IsFirstAt two_hops 1000 2
@@ -93,8 +93,8 @@ stays_seated = record { last = 1; walk = []; rides = [] }
 abbrev spoken : Spelling
 spoken = record { onward = λ _. None; aboard = λ _. Some stays_seated; journey = λ _. None }
 
-abbrev turn : Spellings
-turn = from_to spoken spoken
+abbrev own_spellings : Spellings
+own_spellings = from_to spoken spoken
 
 spoken_stays : Keeps spoken spoken
 spoken_stays = record { onward = λ tag x e. e; aboard = λ tag x e. e; journey = λ tag j e. e }
@@ -111,9 +111,9 @@ module _ {V : Type 0} (rules : Rules V) (laws : Laws rules) where
   other_trips zero other = absurd (other refl)
   other_trips (suc n) other = refl
 
-  leaves_at_the_target : TakesIn rules (leavings rules two_hops (between_one (over_one_hop 1000)) turn 1 []) [] (label ∷ [])
-  leaves_at_the_target = takes_from_nothing rules laws (leavings rules two_hops (between_one (over_one_hop 1000)) turn 1 []) (label ∷ [])
-      (λ p is. subst (IsOffered (leavings rules two_hops (between_one (over_one_hop 1000)) turn 1 []))
+  leaves_at_the_target : TakesIn rules (leavings rules two_hops (single_set_query (over_one_hop 1000)) own_spellings 1 []) [] (label ∷ [])
+  leaves_at_the_target = takes_from_nothing rules laws (leavings rules two_hops (single_set_query (over_one_hop 1000)) own_spellings 1 []) (label ∷ [])
+      (λ p is. subst (IsOffered (leavings rules two_hops (single_set_query (over_one_hop 1000)) own_spellings 1 []))
       (sym (contains_only label p is)) (record {
         way = ends;
         is_open = (refl, (contains_first 1 [], omega arith));
@@ -124,39 +124,40 @@ module _ {V : Type 0} (rules : Rules V) (laws : Laws rules) where
       }))
       (λ way open_way. by_way way open_way.1)
     where
-      by_way : (way : Leaving V) → MayLeave two_hops (between_one (over_one_hop 1000)) 1 [] way → Covers rules (label ∷ []) 0
+      by_way : (way : Leaving V) → MayLeave two_hops (single_set_query (over_one_hop 1000)) 1 [] way → Covers rules (label ∷ []) 0
           (leaving_value rules two_hops 1 way)
       by_way ends may = covers_itself rules laws (label ∷ []) label (zero, omega arith, refl) (laws.arrive_admits 300 (omega arith))
       by_way (ends_after f) may = absurd (may.3 (contains_first 1 []))
       by_way (changes p) may = absurd (not_in_nil p may.0)
 
-  kept_after_the_second : MatchesFrom rules two_hops (between_one (over_one_hop 1000)) spoken 1 seated
+  kept_after_the_second : MatchesFrom rules two_hops (single_set_query (over_one_hop 1000)) spoken 1 seated
   kept_after_the_second =
-      let q = between_one (over_one_hop 1000) in
-      one_index_down rules laws two_hops q can_scan turn 1 (omega arith) (nothing rules laws) seated
+      let q = single_set_query (over_one_hop 1000) in
+      one_index_down rules laws two_hops q can_scan own_spellings 1 (omega arith) (nothing rules laws) seated
       (nothing_follows rules two_hops q can_scan 2 past_the_end spoken)
-      (leaving_nothing_out rules two_hops q turn 1 (nothing rules laws) seated (record {
+      (leaving_nothing_out rules two_hops q own_spellings 1 (nothing rules laws) seated (record {
         between = spoken;
         kept_first = spoken_stays;
         kept_then = spoken_stays;
         leaves = leaves_at_the_target;
         other_trips = other_trips;
-        boards = λ stop in_stops. takes_none rules laws (boardings rules two_hops turn 1 stop (label ∷ [])) (λ way may. let nobody = may.boards in cc);
-        sets_out = takes_none rules laws (settings_out rules two_hops q turn 1 (label ∷ [])) (λ way may. let nobody = may.boards in cc);
+        boards = λ stop in_stops. takes_none rules laws (boardings rules two_hops own_spellings 1 stop (label ∷ []))
+            (λ way may. let impossible = may.boards in cc);
+        sets_out = takes_none rules laws (settings_out rules two_hops q own_spellings 1 (label ∷ [])) (λ way may. let impossible = may.boards in cc);
       }))
 
   -- forgotten, the label covers nobody who stays seated
   pub forgotten_labels_are_wrong : OneIndexDown rules (IsStepWithoutLabels rules) → ⊥
   forgotten_labels_are_wrong law =
-      let q = between_one (over_one_hop 1000) in
-      let matched = law two_hops q can_scan turn 0 (omega arith) seated (nothing rules laws) kept_after_the_second (record {
+      let q = single_set_query (over_one_hop 1000) in
+      let matched = law two_hops q can_scan own_spellings 0 (omega arith) seated (nothing rules laws) kept_after_the_second (record {
         between = spoken;
         kept_first = spoken_stays;
         kept_then = spoken_stays;
-        leaves = takes_none rules laws (leavings rules two_hops q turn 0 []) (λ way may. let nobody = may.0 in cc);
+        leaves = takes_none rules laws (leavings rules two_hops q own_spellings 0 []) (λ way may. let impossible = may.0 in cc);
         other_trips = λ trip other. sym (other_trips trip other);
-        boards = λ stop in_stops. takes_none rules laws (boardings rules two_hops turn 0 stop []) (λ way may. not_in_nil way.label may.is_label);
-        sets_out = takes_none rules laws (settings_out rules two_hops q turn 0 []) (λ way may. not_in_nil way.label may.is_label);
+        boards = λ stop in_stops. takes_none rules laws (boardings rules two_hops own_spellings 0 stop []) (λ way may. not_in_nil way.label may.is_label);
+        sets_out = takes_none rules laws (settings_out rules two_hops q own_spellings 0 []) (λ way may. not_in_nil way.label may.is_label);
       }) in
       let is_seated : IsLabelled two_hops q 0 0 0 stays_seated = record {
         departed = refl;

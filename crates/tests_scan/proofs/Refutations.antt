@@ -13,7 +13,7 @@ use Rattle.timetable.specs.Journeys.{connection_at, walk_end, walk_secs, Leads, 
 use Rattle.timetable.specs.Legal.{At, HasFootpath, IsLegal}
 use Rattle.timetable.specs.Limits.{IsWithinLimits}
 use Rattle.timetable.specs.TimetableValue.{TimetableValue}
-use Rattle.profile_scan.specs.Between.{BetweenValue, CountsBetween, between_one}
+use Rattle.profile_scan.specs.SetQuery.{SetQueryValue, CountsBetween, single_set_query}
 use Rattle.profile_scan.specs.Values.{started}
 use Rattle.profile_scan.specs.Points.{Covers, IsAnswer}
 use Rattle.sources.specs.FirstAt.{IsFirstAt}
@@ -30,21 +30,21 @@ use Rattle.tests_scan.specs.WrongSteps.{Unchanged, on_foot, at_once, at_once_boa
 use Rattle.tests_scan.specs.WrongSteps.{CountsLegByLeg}
 use Rattle.profile_scan.proofs.Ends.{nothing_follows}
 use Rattle.profile_scan.proofs.StepLemmas.{one_index_down}
-use Rattle.profile_scan.proofs.Outdone.{all_carried}
+use Rattle.profile_scan.proofs.Outdone.{all_unpruned}
 use Rattle.profile_scan.proofs.Answer.{match_is_the_answer}
 use Rattle.profile_scan.proofs.Single.{answer_from, to_one}
 
 -- a step that leaves nothing out is a right one
-pub leaving_nothing_out : {V : Type 0} (rules : Rules V) (t : TimetableValue) (q : BetweenValue) (tags : Spellings) (i : ℕ) (old new : ScanValue V)
+pub leaving_nothing_out : {V : Type 0} (rules : Rules V) (t : TimetableValue) (q : SetQueryValue) (tags : Spellings) (i : ℕ) (old new : ScanValue V)
     → IsStepWith rules t q tags i (λ now. boardings rules t now i) (λ now. settings_out rules t q now i) old new → IsStep rules t q tags i old new
 leaving_nothing_out rules t q tags i old new step = record {
   between = step.between;
   kept_first = step.kept_first;
   kept_then = step.kept_then;
   changing = old.bag (connection_at t i).to;
-  changing_are = all_carried rules t old.found i (old.bag (connection_at t i).to);
+  changing_are = all_unpruned rules t old.found i (old.bag (connection_at t i).to);
   boarding = new.labels (connection_at t i).trip;
-  boarding_are = all_carried rules t new.found i (new.labels (connection_at t i).trip);
+  boarding_are = all_unpruned rules t new.found i (new.labels (connection_at t i).trip);
   leaves = step.leaves;
   other_trips = step.other_trips;
   boards = step.boards;
@@ -156,7 +156,7 @@ one_hop_within = record {
 boards_at_zero : (goal stop time : ℕ) (ride : RideValue) (rides : List RideValue) → Leads one_hop goal stop time (ride ∷ rides) → ride.leg.first ≡ 0
 boards_at_zero goal stop time ride rides leads = let rising = leads.0.rising in let in_range = leads.0.in_range in omega arith
 
-can_scan : (until : ℕ) → CanScan one_hop (between_one (over_one_hop until))
+can_scan : (until : ℕ) → CanScan one_hop (single_set_query (over_one_hop until))
 can_scan until = record { legal = one_hop_legal; limits = one_hop_within; in_time = omega arith }
 
 past_the_end : IsFirstAt one_hop 1000 1
@@ -279,9 +279,9 @@ module _ {V : Type 0} (rules : Rules V) (laws : Laws rules) where
   takes_from_nothing offer points offered covered =
       record { only = λ p is. inr (offered p is); kept = λ d v a c. absurd (not_in_nil c.0 c.1); covered = covered }
 
-  leaves_by_end : (until : ℕ) → TakesIn rules (leavings rules one_hop (between_one (over_one_hop until)) turn 0 []) [] (label ∷ [])
-  leaves_by_end until = takes_from_nothing (leavings rules one_hop (between_one (over_one_hop until)) turn 0 []) (label ∷ [])
-      (λ p is. subst (IsOffered (leavings rules one_hop (between_one (over_one_hop until)) turn 0 []))
+  leaves_by_end : (until : ℕ) → TakesIn rules (leavings rules one_hop (single_set_query (over_one_hop until)) turn 0 []) [] (label ∷ [])
+  leaves_by_end until = takes_from_nothing (leavings rules one_hop (single_set_query (over_one_hop until)) turn 0 []) (label ∷ [])
+      (λ p is. subst (IsOffered (leavings rules one_hop (single_set_query (over_one_hop until)) turn 0 []))
       (sym (contains_only label p is)) (record {
         way = ends;
         is_open = (refl, (contains_first 1 [], omega arith));
@@ -292,7 +292,7 @@ module _ {V : Type 0} (rules : Rules V) (laws : Laws rules) where
       }))
       (λ way open_way. by_way way open_way.1)
     where
-      by_way : (way : Leaving V) → MayLeave one_hop (between_one (over_one_hop until)) 0 [] way → Covers rules (label ∷ []) 0
+      by_way : (way : Leaving V) → MayLeave one_hop (single_set_query (over_one_hop until)) 0 [] way → Covers rules (label ∷ []) 0
           (leaving_value rules one_hop 0 way)
       by_way ends may = covers_itself (label ∷ []) label (zero, omega arith, refl) arrive_admitted
       by_way (ends_after f) may = absurd (may.3 (contains_first 1 []))
@@ -306,7 +306,7 @@ module _ {V : Type 0} (rules : Rules V) (laws : Laws rules) where
   stepped : {A B : Type 0} (until : ℕ) (to_bag : Spellings → ℕ → List (Point V) → Offer A V) (to_found : Spellings → List (Point V) → Offer B V)
       (bag : ℕ → List (Point V)) (found : List (Point V))
       → ((stop : ℕ) → TakesIn rules (to_bag turn stop (label ∷ [])) [] (bag stop)) → TakesIn rules (to_found turn (label ∷ [])) [] found
-      → IsStepWith rules one_hop (between_one (over_one_hop until)) turn 0 to_bag to_found nothing
+      → IsStepWith rules one_hop (single_set_query (over_one_hop until)) turn 0 to_bag to_found nothing
       (record { bag = bag; labels = at_zero (label ∷ []); found = found })
   stepped until to_bag to_found bag found boards sets_out = record {
     between = spoken;
@@ -319,12 +319,12 @@ module _ {V : Type 0} (rules : Rules V) (laws : Laws rules) where
   }
 
   -- a law that the steps of one kind keep matches would tell of what such a step makes of nothing
-  after_step : (Step : TimetableValue → BetweenValue → Spellings → ℕ → ScanValue V → ScanValue V → Type 0)
-      → OneIndexDown rules Step → (until : ℕ) (new : ScanValue V) → Step one_hop (between_one (over_one_hop until)) turn 0 nothing new
-      → MatchesFrom rules one_hop (between_one (over_one_hop until)) spoken 0 new
+  after_step : (Step : TimetableValue → SetQueryValue → Spellings → ℕ → ScanValue V → ScanValue V → Type 0)
+      → OneIndexDown rules Step → (until : ℕ) (new : ScanValue V) → Step one_hop (single_set_query (over_one_hop until)) turn 0 nothing new
+      → MatchesFrom rules one_hop (single_set_query (over_one_hop until)) spoken 0 new
   after_step Step law until new step =
-      law one_hop (between_one (over_one_hop until)) (can_scan until) turn 0 (omega arith) nothing new
-      (nothing_follows rules one_hop (between_one (over_one_hop until)) (can_scan until) 1 past_the_end spoken) step
+      law one_hop (single_set_query (over_one_hop until)) (can_scan until) turn 0 (omega arith) nothing new
+      (nothing_follows rules one_hop (single_set_query (over_one_hop until)) (can_scan until) 1 past_the_end spoken) step
 
   -- the source's bag, cut at 30, lacks who may leave at 40 to come to the target
   abbrev cut_bag : ScanValue V
@@ -332,7 +332,7 @@ module _ {V : Type 0} (rules : Rules V) (laws : Laws rules) where
 
   pub bag_cut_is_wrong : OneIndexDown rules (IsStepWithBagCut rules) → ⊥
   bag_cut_is_wrong law =
-      let q = between_one (over_one_hop 30) in
+      let q = single_set_query (over_one_hop 30) in
       let offer : ℕ → Offer (Boarding V) V = λ stop. cut_boardings rules one_hop q turn 0 stop (label ∷ []) in
       let boards : (stop : ℕ) → TakesIn rules (offer stop) [] [] = λ stop. takes_none (offer stop) (λ way may.
       let e = only_from_zero way.walk may.0.is_footpath may.0.leads in
@@ -427,7 +427,7 @@ module _ {V : Type 0} (rules : Rules V) (laws : Laws rules) where
 
   -- a start by the loop is found to depart at 40, and no journey does
   no_journey_at_40 : (until : ℕ) (start : Option Footpath) (rides : List RideValue)
-      → CountsBetween one_hop (between_one (over_one_hop until)) 40 (record { start = start; rides = rides }) → ⊥
+      → CountsBetween one_hop (single_set_query (over_one_hop until)) 40 (record { start = start; rides = rides }) → ⊥
   no_journey_at_40 until start [] c = c.counts.journey.has_rides refl
   no_journey_at_40 until None (ride ∷ rides) c =
       let first = boards_at_zero c.pair.target c.pair.source 0 ride rides c.counts.journey.leads in
@@ -446,7 +446,7 @@ module _ {V : Type 0} (rules : Rules V) (laws : Laws rules) where
 
   pub loop_start_is_wrong : OneIndexDown rules (IsStepWithLoopStart rules) → ⊥
   loop_start_is_wrong law =
-      let q = between_one (over_one_hop 1000) in
+      let q = single_set_query (over_one_hop 1000) in
       let offer : Offer (SettingOut V) V = loop_starts rules one_hop q turn 0 (label ∷ []) in
       let sets_out = takes_from_nothing (loop_starts rules one_hop q turn 0 (label ∷ [])) (at_stop ∷ on_loop ∷ [])
       (λ p is. elim (two_in at_stop on_loop p is) [
@@ -524,7 +524,7 @@ module _ {V : Type 0} (rules : Rules V) (laws : Laws rules) where
 
   -- boarding without the change time is kept as leaving at 100, from where no walk of a minute comes in time
   none_leaves_at_100 : (walk : List Footpath) (rides : List RideValue)
-      → IsOnward one_hop (between_one (over_one_hop 1000)) 0 0 100 (record { walk = walk; rides = rides }) → ⊥
+      → IsOnward one_hop (single_set_query (over_one_hop 1000)) 0 0 100 (record { walk = walk; rides = rides }) → ⊥
   none_leaves_at_100 [] rides on = on.walks refl
   none_leaves_at_100 (f ∷ fs) [] on = on.boards
   none_leaves_at_100 (f ∷ fs) (ride ∷ rides) on =
@@ -575,9 +575,9 @@ module _ {V : Type 0} (rules : Rules V) (laws : Laws rules) where
       by_way (at_once l) may = absurd (omega (arith, may.1))
 
   -- the points found are offered the label at the source itself
-  sets_out_once : TakesIn rules (settings_out rules one_hop (between_one (over_one_hop 1000)) turn 0 (label ∷ [])) [] (at_stop ∷ [])
-  sets_out_once = takes_from_nothing (settings_out rules one_hop (between_one (over_one_hop 1000)) turn 0 (label ∷ [])) (at_stop ∷ [])
-      (λ p is. subst (IsOffered (settings_out rules one_hop (between_one (over_one_hop 1000)) turn 0 (label ∷ [])))
+  sets_out_once : TakesIn rules (settings_out rules one_hop (single_set_query (over_one_hop 1000)) turn 0 (label ∷ [])) [] (at_stop ∷ [])
+  sets_out_once = takes_from_nothing (settings_out rules one_hop (single_set_query (over_one_hop 1000)) turn 0 (label ∷ [])) (at_stop ∷ [])
+      (λ p is. subst (IsOffered (settings_out rules one_hop (single_set_query (over_one_hop 1000)) turn 0 (label ∷ [])))
       (sym (contains_only at_stop p is)) (record {
         way = record { start = None; label = label };
         is_open =
@@ -611,7 +611,7 @@ module _ {V : Type 0} (rules : Rules V) (laws : Laws rules) where
   pub no_change_is_wrong : OneIndexDown rules (IsStepWithoutChange rules) → ⊥
   no_change_is_wrong law =
       let matched = after_step (IsStepWithoutChange rules) law 1000 unchanged
-      (stepped 1000 (λ now. at_once_boardings rules one_hop now 0) (λ now. settings_out rules one_hop (between_one (over_one_hop 1000)) now 0)
+      (stepped 1000 (λ now. at_once_boardings rules one_hop now 0) (λ now. settings_out rules one_hop (single_set_query (over_one_hop 1000)) now 0)
       unchanged.bag unchanged.found takes_at_once sets_out_once) in
       let attained = (matched.at_stops 0 (omega arith)).sound at_stop (suc zero, omega arith, refl) in
       none_leaves_at_100 attained.way.walk attained.way.rides attained.there
@@ -625,7 +625,7 @@ module _ {V : Type 0} (rules : Rules V) (laws : Laws rules) where
 
   pub scan_answers : IsAnswer rules one_hop (over_one_hop 1000) (at_stop ∷ [])
   scan_answers =
-      let q = between_one (over_one_hop 1000) in
+      let q = single_set_query (over_one_hop 1000) in
       let step = stepped 1000 (λ now. boardings rules one_hop now 0) (λ now. settings_out rules one_hop q now 0)
       scanned.bag scanned.found takes_loop sets_out_once in
       let matched = after_step (IsStep rules) (one_index_down rules laws) 1000 scanned (leaving_nothing_out rules one_hop q turn 0 nothing scanned step) in
@@ -635,7 +635,7 @@ module _ {V : Type 0} (rules : Rules V) (laws : Laws rules) where
         undominated = λ i j d lt in_j. absurd (omega arith);
       } in
       answer_from rules one_hop (over_one_hop 1000) (at_stop ∷ [])
-      (match_is_the_answer rules laws one_hop (between_one (over_one_hop 1000)) (can_scan 1000) 0 from_the_start spoken (at_stop
+      (match_is_the_answer rules laws one_hop (single_set_query (over_one_hop 1000)) (can_scan 1000) 0 from_the_start spoken (at_stop
       ∷ []) matched.at_source bag (λ i j d lt in_j. absurd (omega arith)))
 
 -- a cut of each leg loses a journey when the window shrinks, although it departs at its end
@@ -645,7 +645,7 @@ leg_by_leg_is_wrong law =
     let loop_at_b : Contains t.footpaths (footpath 1 1 0) = (1, omega arith, refl) in
     let some : (by_change 0).rides ≢ [] = λ e. cc in
     let counts : Counts t (asked 32400 36000) 28800 (by_change 0) = search (std_rules, some, loop_at_b) in
-    let cut = law.at_source t (between_one (asked 32400 36000)) 28800 28800 (by_change 0) (omega arith) (record {
+    let cut = law.at_source t (single_set_query (asked 32400 36000)) 28800 28800 (by_change 0) (omega arith) (record {
       counts = to_one t (asked 32400 36000) 28800 (by_change 0) counts;
       legs = in_time;
     }) in

@@ -11,13 +11,13 @@ use Rattle.reasoning.proofs.ListLemmas.{slice_get-set_same, slice_get-set_other}
 use Rattle.image_layout.specs.Image.{ImageValue}
 use Rattle.version_core.specs.declared.state.Shelf.{Shelf}
 use Rattle.version_core.specs.declared.state.Worker.{Worker}
-use Rattle.version_core.specs.Kept.{version_on, version_of}
+use Rattle.version_core.specs.Invariants.{version_on, version_of}
 use Rattle.shelf_steps.specs.declared.edition.Edition.{Edition}
 use Rattle.shelf_steps.specs.declared.views.WorkerView.{WorkerView}
 use Rattle.shelf_steps.specs.declared.views.View.{View}
 use Rattle.shelf_steps.specs.Slots.{down_from}
 use Rattle.shelf_steps.specs.Loading.{Frees, FindsBusy}
-use Rattle.shelf_steps.specs.Plays.{OfLoader, Mine, Looks, Takes, TakesFound, Leaves, GivesBack, IsIdle, HasLooked}
+use Rattle.shelf_steps.specs.Plays.{OfLoader, SeatAndSlots, Looks, Takes, TakesFound, Leaves, GivesBack, IsIdle, HasLooked}
 use Rattle.shelf_steps.specs.Plays.{IsLate, HoldsOut, is_open, with_hand, AllHave, OpensOn, PublishesOn, ClosesOn}
 use Rattle.shelf_steps.specs.Plays.{GathersOn, MayOpenOn, MayPublish, MayClose, MayCollect, MayGather}
 use Rattle.shelf_steps.specs.Plays.{IsSettled, IsNotice, IsLoading, joins_notice, gives_notice, new_notice}
@@ -29,7 +29,7 @@ of_idle (View.Noting x') c h = absurd h
 of_idle View.Spent c h = absurd h
 of_idle (View.Working v) c h = h.0
 
-pub idle_now : (m : Mine) → DoesSo Worker.Idle m → IsIdle m.0
+pub idle_now : (m : SeatAndSlots) → DoesSo Worker.Idle m → IsIdle m.0
 idle_now m h = of_idle m.0 m.1 h
 
 of_looked : (version k : ℕ) (u : View) (c : List (ℕ × Option Edition)) → DoesSo (Worker.Looked version k) (u, c) → (k < 8) × HasLooked k u
@@ -38,7 +38,7 @@ of_looked version k (View.Noting x') c h = absurd h
 of_looked version k View.Spent c h = absurd h
 of_looked version k (View.Working v) c h = (h.1.0, (version, h.0))
 
-pub looked_now : (version k : ℕ) (m : Mine) → DoesSo (Worker.Looked version k) m → (k < 8) × HasLooked k m.0
+pub looked_now : (version k : ℕ) (m : SeatAndSlots) → DoesSo (Worker.Looked version k) m → (k < 8) × HasLooked k m.0
 looked_now version k m h = of_looked version k m.0 m.1 h
 
 of_late : (k : ℕ) (u : View) (c : List (ℕ × Option Edition)) → DoesSo (Worker.Late k) (u, c) → (k < 8) × IsLate k u
@@ -47,7 +47,7 @@ of_late k (View.Noting x') c h = absurd h
 of_late k View.Spent c h = absurd h
 of_late k (View.Working v) c h = (h.1.0, h.0)
 
-pub late_now : (k : ℕ) (m : Mine) → DoesSo (Worker.Late k) m → (k < 8) × IsLate k m.0
+pub late_now : (k : ℕ) (m : SeatAndSlots) → DoesSo (Worker.Late k) m → (k < 8) × IsLate k m.0
 late_now k m h = of_late k m.0 m.1 h
 
 of_holding : (k version : ℕ) (u : View) (c : List (ℕ × Option Edition)) → DoesSo (Worker.Holding k version) (u, c) → (k < 8) × HoldsOut k u c
@@ -56,33 +56,33 @@ of_holding k version (View.Noting x') c h = absurd h
 of_holding k version View.Spent c h = absurd h
 of_holding k version (View.Working v) c h = (h.1.0, (version, h.0, h.1.1))
 
-pub holding_now : (k version : ℕ) (m : Mine) → DoesSo (Worker.Holding k version) m → (k < 8) × HoldsOut k m.0 m.1
+pub holding_now : (k version : ℕ) (m : SeatAndSlots) → DoesSo (Worker.Holding k version) m → (k < 8) × HoldsOut k m.0 m.1
 holding_now k version m h = of_holding k version m.0 m.1 h
 
-after_look : (u : View) (c : List (ℕ × Option Edition)) (n : ℕ) (m' : Mine) → DoesSo Worker.Idle (u, c)
+after_look : (u : View) (c : List (ℕ × Option Edition)) (n : ℕ) (m' : SeatAndSlots) → DoesSo Worker.Idle (u, c)
     → Looks (u, c) n m' → DoesSo (Worker.Looked (n / 8) (n % 8)) m'
 after_look (View.Loading l) c n m' h look = absurd h
 after_look (View.Noting x') c n m' h look = absurd h
 after_look View.Spent c n m' h look = absurd h
-after_look (View.Working v) c n m' h look = subst (λ (m : Mine). DoesSo (Worker.Looked (n / 8) (n % 8)) m) (sym look.1) (refl, (omega arith, h.1))
+after_look (View.Working v) c n m' h look = subst (λ (m : SeatAndSlots). DoesSo (Worker.Looked (n / 8) (n % 8)) m) (sym look.1) (refl, (omega arith, h.1))
 
-pub looked_so : (m m' : Mine) (n : ℕ) → DoesSo Worker.Idle m → Looks m n m' → DoesSo (Worker.Looked (n / 8) (n % 8)) m'
+pub looked_so : (m m' : SeatAndSlots) (n : ℕ) → DoesSo Worker.Idle m → Looks m n m' → DoesSo (Worker.Looked (n / 8) (n % 8)) m'
 looked_so m m' n h look = after_look m.0 m.1 n m' h look
 
 abbrev taken : ℕ → ℕ → Bool → Worker
 taken version k true = Worker.Holding k version
 taken version k false = Worker.Late k
 
-found_so : (v : WorkerView) (c : List (ℕ × Option Edition)) (version k n : ℕ) (b : Bool) (m' : Mine) → k < 8 → c ≡ []
+found_so : (v : WorkerView) (c : List (ℕ × Option Edition)) (version k n : ℕ) (b : Bool) (m' : SeatAndSlots) → k < 8 → c ≡ []
     → TakesFound v c version k n b m' → DoesSo (taken version k b) m'
 found_so v c version k n true m' small empty t =
-    subst (λ (m : Mine). DoesSo (Worker.Holding k version) m) (sym t.2) (
+    subst (λ (m : SeatAndSlots). DoesSo (Worker.Holding k version) m) (sym t.2) (
       refl,
       (small, ap (λ (l : List (ℕ × Option Edition)). (16 * k + v.number, Some t.0) ∷ l) empty),
     )
-found_so v c version k n false m' small empty t = subst (λ (m : Mine). DoesSo (Worker.Late k) m) (sym t.1) (refl, (small, empty))
+found_so v c version k n false m' small empty t = subst (λ (m : SeatAndSlots). DoesSo (Worker.Late k) m) (sym t.1) (refl, (small, empty))
 
-after_take : (u : View) (c : List (ℕ × Option Edition)) (version k n : ℕ) (b : Bool) (m' : Mine)
+after_take : (u : View) (c : List (ℕ × Option Edition)) (version k n : ℕ) (b : Bool) (m' : SeatAndSlots)
     → DoesSo (Worker.Looked version k) (u, c) → Takes (u, c) n m' → is_open n version ≡ b
     → DoesSo (taken version k b) m'
 after_take (View.Loading l) c version k n b m' h take is = absurd h
@@ -92,29 +92,30 @@ after_take (View.Working v) c version k n b m' h take is =
     let t : TakesFound v c version k n (is_open n version) m' = subst (λ (w : Worker). Rattle.shelf_steps.specs.Plays.TakesAs v c w n m') h.0 take in
     found_so v c version k n b m' h.1.0 h.1.1 (subst (λ x. TakesFound v c version k n x m') is t)
 
-pub held_so : (m m' : Mine) (version k n : ℕ) → DoesSo (Worker.Looked version k) m → Takes m n m'
+pub held_so : (m m' : SeatAndSlots) (version k n : ℕ) → DoesSo (Worker.Looked version k) m → Takes m n m'
     → is_open n version ≡ true → DoesSo (Worker.Holding k version) m'
 held_so m m' version k n h take is = after_take m.0 m.1 version k n true m' h take is
 
-pub late_so : (m m' : Mine) (version k n : ℕ) → DoesSo (Worker.Looked version k) m → Takes m n m' → is_open n version ≡ false → DoesSo (Worker.Late k) m'
+pub late_so : (m m' : SeatAndSlots) (version k n : ℕ) → DoesSo (Worker.Looked version k) m → Takes m n m' → is_open n version ≡ false
+    → DoesSo (Worker.Late k) m'
 late_so m m' version k n h take is = after_take m.0 m.1 version k n false m' h take is
 
-after_leave : (k : ℕ) (u : View) (c : List (ℕ × Option Edition)) (m' : Mine) → DoesSo (Worker.Late k) (u, c) → Leaves (u, c) m' → DoesSo Worker.Idle m'
+after_leave : (k : ℕ) (u : View) (c : List (ℕ × Option Edition)) (m' : SeatAndSlots) → DoesSo (Worker.Late k) (u, c) → Leaves (u, c) m' → DoesSo Worker.Idle m'
 after_leave k (View.Loading l) c m' h leave = absurd h
 after_leave k (View.Noting x') c m' h leave = absurd h
 after_leave k View.Spent c m' h leave = absurd h
-after_leave k (View.Working v) c m' h leave = subst (λ (m : Mine). DoesSo Worker.Idle m) (sym leave.1) (refl, h.1.1)
+after_leave k (View.Working v) c m' h leave = subst (λ (m : SeatAndSlots). DoesSo Worker.Idle m) (sym leave.1) (refl, h.1.1)
 
-pub left_so : (k : ℕ) (m m' : Mine) → DoesSo (Worker.Late k) m → Leaves m m' → DoesSo Worker.Idle m'
+pub left_so : (k : ℕ) (m m' : SeatAndSlots) → DoesSo (Worker.Late k) m → Leaves m m' → DoesSo Worker.Idle m'
 left_so k m m' h leave = after_leave k m.0 m.1 m' h leave
 
-after_give : (u : View) (c : List (ℕ × Option Edition)) (m' : Mine) → GivesBack (u, c) m' → DoesSo Worker.Idle m'
+after_give : (u : View) (c : List (ℕ × Option Edition)) (m' : SeatAndSlots) → GivesBack (u, c) m' → DoesSo Worker.Idle m'
 after_give (View.Loading l) c m' give = absurd give
 after_give (View.Noting x') c m' give = absurd give
 after_give View.Spent c m' give = absurd give
-after_give (View.Working v) c m' give = subst (λ (m : Mine). DoesSo Worker.Idle m) (sym give.1) (refl, refl)
+after_give (View.Working v) c m' give = subst (λ (m : SeatAndSlots). DoesSo Worker.Idle m) (sym give.1) (refl, refl)
 
-pub given_so : (m m' : Mine) → GivesBack m m' → DoesSo Worker.Idle m'
+pub given_so : (m m' : SeatAndSlots) → GivesBack m m' → DoesSo Worker.Idle m'
 given_so m m' give = after_give m.0 m.1 m' give
 
 -- the versions of the shelves after one of them became another
@@ -127,7 +128,7 @@ known_after shelves k x top top' within up known new j v is = dite (ℕ_discrete
     (λ ne. let z = known j v (sym (ap (λ (s : Option Shelf). option_and_then version_of s) (slice_get-set_other shelves k j x ne)) ∙ is) in omega arith)
 
 filled_of : (k current newest : ℕ) (shelves : List Shelf) (image : ImageValue) (f : ℕ
-    → Option Edition) (u : View) (c : List (ℕ × Option Edition)) (m1 m2 : Mine)
+    → Option Edition) (u : View) (c : List (ℕ × Option Edition)) (m1 m2 : SeatAndSlots)
     → RemembersSo current newest shelves (u, c) → slice_get shelves k ≡ Some Shelf.Free
     → current ≡ newest → newest < 1000000000 → AllHave (newest + 1) image k f → GathersOn k (u, c) m1
     → m2 ≡ (m1.0, down_from f (16 * k) 16 []) → MayOpenOn k (newest + 1) m2.0 m2.1
@@ -137,7 +138,7 @@ filled_of k current newest shelves image f View.Spent c m1 m2 h free same left a
 filled_of k current newest shelves image f (View.Loading l) c m1 m2 h free same left all g filled =
     let r = h.0 in
     let top : length g.0.images ≡ newest = ap (λ (x : List ImageValue). length x) g.2.1 ∙ r.newest_is in
-    subst (λ (m : Mine). MayOpenOn k (newest + 1) m.0 m.1) (sym (filled ∙ ap (λ (m : Mine). (m.0, down_from f (16 * k) 16 [])) g.1)) (
+    subst (λ (m : SeatAndSlots). MayOpenOn k (newest + 1) m.0 m.1) (sym (filled ∙ ap (λ (m : SeatAndSlots). (m.0, down_from f (16 * k) 16 [])) g.1)) (
       ap (λ (s : List Shelf). slice_get s k) r.shelves_are ∙ free,
       refl,
       r.current_is ∙ (same ∙ sym top),
@@ -147,14 +148,14 @@ filled_of k current newest shelves image f (View.Loading l) c m1 m2 h free same 
     )
 
 pub may_open_so : (k current newest : ℕ) (shelves : List Shelf) (image : ImageValue) (f : ℕ
-    → Option Edition) (m m1 m2 : Mine) → RemembersSo current newest shelves m → slice_get shelves k ≡ Some Shelf.Free
+    → Option Edition) (m m1 m2 : SeatAndSlots) → RemembersSo current newest shelves m → slice_get shelves k ≡ Some Shelf.Free
     → current ≡ newest → newest < 1000000000 → AllHave (newest + 1) image k f → GathersOn k m m1
     → m2 ≡ (m1.0, down_from f (16 * k) 16 []) → MayOpenOn k (newest + 1) m2.0 m2.1
 may_open_so k current newest shelves image f m m1 m2 h free same left all g filled =
     filled_of k current newest shelves image f m.0 m.1 m1 m2 h free same left all g filled
 
 open_of : (k current newest : ℕ) (shelves : List Shelf) (f : ℕ
-    → Option Edition) (u : View) (c : List (ℕ × Option Edition)) (m1 m2 m3 : Mine)
+    → Option Edition) (u : View) (c : List (ℕ × Option Edition)) (m1 m2 m3 : SeatAndSlots)
     → RemembersSo current newest shelves (u, c) → k < 8 → newest < 1000000000
     → GathersOn k (u, c) m1 → m2 ≡ (m1.0, down_from f (16 * k) 16 []) → OpensOn k m2 m3
     → RemembersSo current (newest + 1) (set shelves k (Shelf.Open (newest + 1))) m3
@@ -165,9 +166,9 @@ open_of k current newest shelves f (View.Loading l) c m1 m2 m3 h small left g fi
     let r = h.0 in let eight = r.eight in
     let top : length g.0.images ≡ newest = ap (λ (x : List ImageValue). length x) g.2.1 ∙ r.newest_is in
     let o' : OpensOn k (View.Loading (with_hand l (Some k) g.0), down_from f (16 * k) 16 []) m3 =
-    subst (λ (m : Mine). OpensOn k m m3) (filled ∙ ap (λ (m : Mine). (m.0, down_from f (16 * k) 16 [])) g.1) o in
+    subst (λ (m : SeatAndSlots). OpensOn k m m3) (filled ∙ ap (λ (m : SeatAndSlots). (m.0, down_from f (16 * k) 16 [])) g.1) o in
     let added = length-append g.0.images (o'.0 ∷ []) in
-    subst (λ (m : Mine). RemembersSo current (newest + 1) (set shelves k (Shelf.Open (newest + 1))) m) (sym o'.5) (
+    subst (λ (m : SeatAndSlots). RemembersSo current (newest + 1) (set shelves k (Shelf.Open (newest + 1))) m) (sym o'.5) (
       record {
         empty = refl;
         current_is = r.current_is;
@@ -181,7 +182,7 @@ open_of k current newest shelves f (View.Loading l) c m1 m2 m3 h small left g fi
       refl,
     )
 
-pub opened_so : (k current newest : ℕ) (shelves : List Shelf) (f : ℕ → Option Edition) (m m1 m2 m3 : Mine)
+pub opened_so : (k current newest : ℕ) (shelves : List Shelf) (f : ℕ → Option Edition) (m m1 m2 m3 : SeatAndSlots)
     → RemembersSo current newest shelves m → k < 8 → newest < 1000000000
     → GathersOn k m m1 → m2 ≡ (m1.0, down_from f (16 * k) 16 []) → OpensOn k m2 m3
     → RemembersSo current (newest + 1) (set shelves k (Shelf.Open (newest + 1))) m3
@@ -189,7 +190,7 @@ opened_so k current newest shelves f m m1 m2 m3 h small left g filled o = open_o
 
 publish_of : (k version current newest : ℕ) (shelves : List Shelf) (u : View) (c : List (ℕ × Option Edition))
     → RemembersSo current newest shelves (u, c) → slice_get shelves k ≡ Some (Shelf.Open version) → current < version
-    → (version ≤ 1000000000) × MayPublish version k u × ((m' : Mine) → PublishesOn version k (u, c) m' → RemembersSo version newest shelves m')
+    → (version ≤ 1000000000) × MayPublish version k u × ((m' : SeatAndSlots) → PublishesOn version k (u, c) m' → RemembersSo version newest shelves m')
 publish_of k version current newest shelves (View.Working v) c h is later = absurd h.0
 publish_of k version current newest shelves (View.Noting x') c h is later = absurd h.0
 publish_of k version current newest shelves View.Spent c h is later = absurd h.0
@@ -197,7 +198,7 @@ publish_of k version current newest shelves (View.Loading l) c h is later =
     let r = h.0 in let a = r.known k version (ap (λ (s : Option Shelf). option_and_then version_of s) is) in let b = r.small in (
       omega arith,
       (ap (λ (s : List Shelf). slice_get s k) r.shelves_are ∙ is, subst (λ n. n < version) (sym r.current_is) later),
-      λ m' p. subst (λ (m : Mine). RemembersSo version newest shelves m) (sym p.1) (
+      λ m' p. subst (λ (m : SeatAndSlots). RemembersSo version newest shelves m) (sym p.1) (
         record {
           empty = r.empty;
           current_is = refl;
@@ -213,14 +214,14 @@ publish_of k version current newest shelves (View.Loading l) c h is later =
       ),
     )
 
-pub published_so : (k version current newest : ℕ) (shelves : List Shelf) (m : Mine)
+pub published_so : (k version current newest : ℕ) (shelves : List Shelf) (m : SeatAndSlots)
     → RemembersSo current newest shelves m → slice_get shelves k ≡ Some (Shelf.Open version) → current < version
-    → (version ≤ 1000000000) × MayPublish version k m.0 × ((m' : Mine) → PublishesOn version k m m' → RemembersSo version newest shelves m')
+    → (version ≤ 1000000000) × MayPublish version k m.0 × ((m' : SeatAndSlots) → PublishesOn version k m m' → RemembersSo version newest shelves m')
 published_so k version current newest shelves m h is later = publish_of k version current newest shelves m.0 m.1 h is later
 
 close_of : (k version current newest : ℕ) (shelves : List Shelf) (u : View) (c : List (ℕ × Option Edition))
     → RemembersSo current newest shelves (u, c) → slice_get shelves k ≡ Some (Shelf.Open version) → version < current
-    → MayClose k u × ((m' : Mine) → ClosesOn k (u, c) m' → RemembersSo current newest (set shelves k (Shelf.Closing version)) m')
+    → MayClose k u × ((m' : SeatAndSlots) → ClosesOn k (u, c) m' → RemembersSo current newest (set shelves k (Shelf.Closing version)) m')
 close_of k version current newest shelves (View.Working v) c h is older = absurd h.0
 close_of k version current newest shelves (View.Noting x') c h is older = absurd h.0
 close_of k version current newest shelves View.Spent c h is older = absurd h.0
@@ -230,7 +231,7 @@ close_of k version current newest shelves (View.Loading l) c h is older =
       (version, here, subst (λ n. version < n) (sym r.current_is) older),
       λ m' p.
           let z : Some (Shelf.Open p.0) ≡ Some (Shelf.Open version) = sym p.2 ∙ here in let same : p.0 ≡ version = cc in
-          subst (λ (m : Mine). RemembersSo current newest (set shelves k (Shelf.Closing version)) m) (sym p.3) (
+          subst (λ (m : SeatAndSlots). RemembersSo current newest (set shelves k (Shelf.Closing version)) m) (sym p.3) (
             record {
               empty = r.empty;
               current_is = r.current_is;
@@ -247,9 +248,9 @@ close_of k version current newest shelves (View.Loading l) c h is older =
           ),
     )
 
-pub closed_so : (k version current newest : ℕ) (shelves : List Shelf) (m : Mine) → RemembersSo current newest shelves m
+pub closed_so : (k version current newest : ℕ) (shelves : List Shelf) (m : SeatAndSlots) → RemembersSo current newest shelves m
     → slice_get shelves k ≡ Some (Shelf.Open version) → version < current
-    → MayClose k m.0 × ((m' : Mine) → ClosesOn k m m' → RemembersSo current newest (set shelves k (Shelf.Closing version)) m')
+    → MayClose k m.0 × ((m' : SeatAndSlots) → ClosesOn k m m' → RemembersSo current newest (set shelves k (Shelf.Closing version)) m')
 closed_so k version current newest shelves m h is older = close_of k version current newest shelves m.0 m.1 h is older
 
 collect_of : (k version current newest : ℕ) (shelves : List Shelf) (u : View) (c : List (ℕ × Option Edition))
@@ -262,7 +263,7 @@ collect_of k version current newest shelves (View.Loading l) c h is =
     let r = h.0 in let a = r.known k version (ap (λ (s : Option Shelf). option_and_then version_of s) is) in let b = r.small in
     ((omega arith), (ap (λ (s : List Shelf). slice_get s k) r.shelves_are ∙ is, r.empty, h.1))
 
-pub may_collect_so : (k version current newest : ℕ) (shelves : List Shelf) (m : Mine)
+pub may_collect_so : (k version current newest : ℕ) (shelves : List Shelf) (m : SeatAndSlots)
     → RemembersSo current newest shelves m → slice_get shelves k ≡ Some (Shelf.Closing version)
     → (version ≤ 1000000000) × MayCollect k version m.0 m.1
 may_collect_so k version current newest shelves m h is = collect_of k version current newest shelves m.0 m.1 h is
@@ -286,7 +287,7 @@ freed_so k current newest shelves (View.Loading a) (View.Loading b) x h is f = r
   known = known_after shelves k Shelf.Free newest newest (slice_get_within shelves k x is) (omega arith) h.known (λ v e. absurd (cc));
 }
 
--- what stands at a place
+-- what stands at an index
 pub got_at : (xs : List Shelf) (k : ℕ) (d x : Shelf) → length xs ≡ 8 → k < 8 → get_or xs k d ≡ x → slice_get xs k ≡ Some x
 got_at xs k d x eight small is = there xs k (omega arith) is
   where
@@ -302,7 +303,7 @@ idle_of (View.Loading l) c h = absurd h
 idle_of (View.Noting x') c h = absurd h
 idle_of View.Spent c h = absurd h
 
-pub idle_settled : (m : Mine) → DoesSo Worker.Idle m → IsSettled m.0
+pub idle_settled : (m : SeatAndSlots) → DoesSo Worker.Idle m → IsSettled m.0
 idle_settled m h = idle_of m.0 m.1 h
 
 held_of : (k version : ℕ) (u : View) (c : List (ℕ × Option Edition)) → DoesSo (Worker.Holding k version) (u, c) → IsSettled u
@@ -311,7 +312,7 @@ held_of k version (View.Loading l) c h = absurd h
 held_of k version (View.Noting x') c h = absurd h
 held_of k version View.Spent c h = absurd h
 
-pub holding_settled : (k version : ℕ) (m : Mine) → DoesSo (Worker.Holding k version) m → IsSettled m.0
+pub holding_settled : (k version : ℕ) (m : SeatAndSlots) → DoesSo (Worker.Holding k version) m → IsSettled m.0
 holding_settled k version m h = held_of k version m.0 m.1 h
 
 join_idle : (n : ℕ) (u : View) (c : List (ℕ × Option Edition)) → DoesSo Worker.Idle (u, c) → DoesSo Worker.Idle (joins_notice u (View.Noting n), c)
@@ -320,9 +321,10 @@ join_idle n (View.Loading l) c h = absurd h
 join_idle n (View.Noting x') c h = absurd h
 join_idle n View.Spent c h = absurd h
 
-pub idle_joined : (n : ℕ) (m notice m' : Mine) → DoesSo Worker.Idle m → IsNotice n notice → m' ≡ (joins_notice m.0 notice.0, m.1) → DoesSo Worker.Idle m'
+pub idle_joined : (n : ℕ) (m notice m' : SeatAndSlots) → DoesSo Worker.Idle m → IsNotice n notice → m' ≡ (joins_notice m.0 notice.0, m.1)
+    → DoesSo Worker.Idle m'
 idle_joined n m notice m' h is e =
-    subst (λ (x : Mine). DoesSo Worker.Idle x) (sym (e ∙ ap (λ (x : Mine). (joins_notice m.0 x.0, m.1)) is)) (join_idle n m.0 m.1 h)
+    subst (λ (x : SeatAndSlots). DoesSo Worker.Idle x) (sym (e ∙ ap (λ (x : SeatAndSlots). (joins_notice m.0 x.0, m.1)) is)) (join_idle n m.0 m.1 h)
 
 join_holding : (n k version : ℕ) (u : View) (c : List (ℕ × Option Edition)) → DoesSo (Worker.Holding k version) (u, c)
     → DoesSo (Worker.Holding k version) (joins_notice u (View.Noting n), c)
@@ -331,10 +333,12 @@ join_holding n k version (View.Loading l) c h = absurd h
 join_holding n k version (View.Noting x') c h = absurd h
 join_holding n k version View.Spent c h = absurd h
 
-pub holding_joined : (n k version : ℕ) (m notice m' : Mine) → DoesSo (Worker.Holding k version) m → IsNotice n notice → m' ≡ (joins_notice m.0 notice.0, m.1)
+pub holding_joined : (n k version : ℕ) (m notice m' : SeatAndSlots) → DoesSo (Worker.Holding k version) m → IsNotice n notice → m'
+    ≡ (joins_notice m.0 notice.0, m.1)
     → DoesSo (Worker.Holding k version) m'
 holding_joined n k version m notice m' h is e =
-    subst (λ (x : Mine). DoesSo (Worker.Holding k version) x) (sym (e ∙ ap (λ (x : Mine). (joins_notice m.0 x.0, m.1)) is)) (join_holding n k version m.0 m.1 h)
+    subst (λ (x : SeatAndSlots). DoesSo (Worker.Holding k version) x) (sym (e ∙ ap (λ (x : SeatAndSlots). (joins_notice m.0 x.0, m.1)) is))
+    (join_holding n k version m.0 m.1 h)
 
 -- the loader may give a notice of the current version, and remembers what it did
 note_of : (current newest : ℕ) (shelves : List Shelf) (u : View) (c : List (ℕ × Option Edition)) → RemembersSo current newest shelves (u, c)
@@ -344,13 +348,14 @@ note_of current newest shelves (View.Noting x') c h = absurd h.0
 note_of current newest shelves View.Spent c h = absurd h.0
 note_of current newest shelves (View.Loading l) c h = (tt, ap (λ n. View.Noting n) h.0.current_is, h)
 
-pub may_note_so : (current newest : ℕ) (shelves : List Shelf) (m : Mine) → RemembersSo current newest shelves m → IsLoading m.0
+pub may_note_so : (current newest : ℕ) (shelves : List Shelf) (m : SeatAndSlots) → RemembersSo current newest shelves m → IsLoading m.0
 may_note_so current newest shelves m h = (note_of current newest shelves m.0 m.1 h).0
 
-pub notice_so : (current newest : ℕ) (shelves : List Shelf) (m notice : Mine) → RemembersSo current newest shelves m → notice ≡ (new_notice m.0, [])
+pub notice_so : (current newest : ℕ) (shelves : List Shelf) (m notice : SeatAndSlots) → RemembersSo current newest shelves m → notice ≡ (new_notice m.0, [])
     → IsNotice current notice
 notice_so current newest shelves m notice h is = is ∙ ap (λ (u : View). (u, [])) (note_of current newest shelves m.0 m.1 h).1
 
-pub noted_so : (current newest : ℕ) (shelves : List Shelf) (m m' : Mine) → RemembersSo current newest shelves m → m' ≡ (gives_notice m.0, m.1)
+pub noted_so : (current newest : ℕ) (shelves : List Shelf) (m m' : SeatAndSlots) → RemembersSo current newest shelves m → m' ≡ (gives_notice m.0, m.1)
     → RemembersSo current newest shelves m'
-noted_so current newest shelves m m' h is = subst (λ (x : Mine). RemembersSo current newest shelves x) (sym is) (note_of current newest shelves m.0 m.1 h).2
+noted_so current newest shelves m m' h is = subst (λ (x : SeatAndSlots). RemembersSo current newest shelves x) (sym is)
+    (note_of current newest shelves m.0 m.1 h).2

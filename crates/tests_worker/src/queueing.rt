@@ -1,7 +1,7 @@
-//! The queue of load orders, and the way back to a client that waits.
+//! The queue of load orders, and the answer channel to a client that waits.
 
 ghost use Rattle.std.specs.Prelude.{◌≡◌, []};
-ghost use Rattle.load_orders.specs.Telling.{AllAnswered};
+ghost use Rattle.load_orders.specs.Answering.{AllAnswered};
 
 use epochs::{Edition, PinFault, SeatAnswer, Versions};
 use load_orders::{
@@ -88,7 +88,7 @@ struct Loader {
 }
 
 impl Model for Loader {
-    ghost use Rattle.load_orders.specs.Telling.{AllAnswered};
+    ghost use Rattle.load_orders.specs.Answering.{AllAnswered};
 
     ghost Value = { Unit {0} };
 
@@ -420,8 +420,8 @@ fn awaits_at_a_full_queue<R: Wait + Abort>(
     Ok(())
 }
 
-/// If a growth is refused before the ends are made, there is no queue; if one of a way back is refused, the orders that
-/// wait stay as they are. Either ends the test with `AllocError`.
+/// If a growth is refused before the ends are made, there is no queue; if one of an answer channel is refused, the
+/// orders that wait stay as they are. Either ends the test with `AllocError`.
 #[test]
 fn refused_growth_makes_no_queue(rt: HostRuntime) -> Result<(), Fail> {
     let names = two_names(rt.alloc())?;

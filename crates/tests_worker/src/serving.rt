@@ -16,7 +16,7 @@ use feed_loader::Plan;
 use gtfs_tables::Day;
 use image_layout::sample_words;
 use image_verifier::verify;
-use load_orders::Notes;
+use load_orders::GhostList;
 use orders::{Gate, OpenGate};
 use service_days::Zone;
 use std::alloc::{AllocError, Global};
@@ -61,8 +61,7 @@ const PROFILE: &str =
 
 /// The reply to that profile, with legs.
 const WITH_LEGS: &str =
-    "{\"ok\":\"profile\",\"points\":[{\"arr\":\"08:20:00\",\"dep\":\"08:00:00\",\"journey\":\"ride 0 0 walk 1 1 0 ride
-    2 2\",\"legs\":[{\"arr\":\"08:10:00\",\"day\":20240115,\"dep\":\"08:00:00\",\"from\":\"A\",\"to\":\"B\",\"trip\":\"T1\"},{\"from\":\"B\",\"secs\":0,\"to\":\"B\"},{\"arr\":\"08:20:00\",\"day\":20240115,\"dep\":\"08:12:00\",\"from\":\"B\",\"to\":\"C\",\"trip\":\"T2\"}]}],\"version\":1,\"walk\":null}\n";
+    "{\"ok\":\"profile\",\"points\":[{\"arr\":\"08:20:00\",\"dep\":\"08:00:00\",\"journey\":\"ride 0 0 walk 1 1 0 ride 2 2\",\"legs\":[{\"arr\":\"08:10:00\",\"day\":20240115,\"dep\":\"08:00:00\",\"from\":\"A\",\"to\":\"B\",\"trip\":\"T1\"},{\"from\":\"B\",\"secs\":0,\"to\":\"B\"},{\"arr\":\"08:20:00\",\"day\":20240115,\"dep\":\"08:12:00\",\"from\":\"B\",\"to\":\"C\",\"trip\":\"T2\"}]}],\"version\":1,\"walk\":null}\n";
 
 /// The requests of a session that orders a load, and the replies.
 const LOADING: (&str, &str) = (
@@ -135,7 +134,7 @@ impl<'a, R: Wait + Sync> Client for Visitor<'a, R> {
 #[derive(Drop)]
 struct Row<C> {
     visitors: Vec<C>,
-    came: Notes<C>,
+    came: GhostList<C>,
 }
 
 impl<C> Clients<C> for Row<C> {
@@ -336,7 +335,7 @@ fn serve_all<R: Threads + Wait + Sync + Abort, G: Gate + Sync>(
     let reported = Mutex::new(Vec::new(alloc));
     let row = Row {
         visitors,
-        came: Notes::none(),
+        came: GhostList::none(),
     };
     let errors = Shared {
         rt,

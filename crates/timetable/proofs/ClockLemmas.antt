@@ -133,7 +133,7 @@ front_length text time s =
     (arith, ap length whole, length-append s.hours rest, length-append (colon ∷ s.minutes) (colon ∷ s.seconds), s.lengths.1, s.lengths.2) in
     (omega (arith, s.numerals.0.0), omega (arith, s.lengths.0), omega arith)
 
--- what a text spells, by its places
+-- what a text spells, by its indices
 pub text_parts : (text : List ℕ) (time n : ℕ) → n + 6 ≡ length text → SpellsClock text time
     → HasParts (take n text) (take 2 (drop 1 (drop n text))) (take 2 (drop 4 (drop n text))) time
 text_parts text time n six s =

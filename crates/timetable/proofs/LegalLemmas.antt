@@ -10,22 +10,22 @@ use Rattle.timetable.specs.declared.network.Footpath.{Footpath}
 use Rattle.timetable.specs.declared.limits.TheConstants.{MAX_WALK_SECS, TIME_END}
 use Rattle.timetable.specs.TimetableValue.{TimetableValue}
 use Rattle.timetable.specs.Legal.{At, HasFootpath, IsLegal, AreInOrder, IsOrderedBefore}
-use Rattle.timetable.specs.LegalProp.{same_place}
+use Rattle.timetable.specs.LegalProp.{same_index_of}
 use Rattle.timetable.specs.Limits.{IsWithinLimits}
 use Rattle.timetable.specs.Journeys.{connection_at, no_connection}
 
--- the connection at a place stands there
+-- the connection at an index stands there
 pub connection_at-stands : (t : TimetableValue) (i : ℕ) → i < length t.connections → At t.connections i (connection_at t i)
 connection_at-stands t i lt = slice_get-get_or t.connections i no_connection lt
 
--- and what stands at a place is the connection there
+-- and what stands at an index is the connection there
 pub connection_at-is : (t : TimetableValue) (i : ℕ) (c : Connection) → At t.connections i c → connection_at t i ≡ c
 connection_at-is t i c at = get_or_from_slice_get t.connections i c no_connection at
 
 pub hop_takes_time : (t : TimetableValue) → IsLegal t → (i : ℕ) → i < length t.connections → (connection_at t i).dep < (connection_at t i).arr
 hop_takes_time t legal i lt = legal.takes_time i (connection_at t i) (connection_at-stands t i lt)
 
--- departures never fall from one place to a later one
+-- departures never fall from one index to a later one
 pub departures_rise : (t : TimetableValue) → IsLegal t → (j i : ℕ) → i ≤ j → j < length t.connections → (connection_at t i).dep ≤ (connection_at t j).dep
 departures_rise t legal zero i le lt =
     let same : i ≡ zero = omega arith in
@@ -62,8 +62,8 @@ one_footpath t legal f g in_f in_g same_from same_to =
     let at_g = At-Contains t.footpaths g in_g in
     let again : Some g ≡ Some (record { from = f.from; to = f.to; secs = g.secs }) = λ i. Some
     (record { from = sym same_from i; to = sym same_to i; secs = g.secs }) in
-    let place = same_place t.footpaths legal.in_order f.from f.to f.secs g.secs at_f (at_g.0, at_g.1 ∙ again) in
-    same_Some f g (sym at_f.1 ∙ ap (λ (i : ℕ). slice_get t.footpaths i) place ∙ at_g.1)
+    let same_index = same_index_of t.footpaths legal.in_order f.from f.to f.secs g.secs at_f (at_g.0, at_g.1 ∙ again) in
+    same_Some f g (sym at_f.1 ∙ ap (λ (i : ℕ). slice_get t.footpaths i) same_index ∙ at_g.1)
 
 pub arrival_limit : (t : TimetableValue) → IsWithinLimits t → (i : ℕ) → i < length t.connections → (connection_at t i).arr < TIME_END
 arrival_limit t limits i lt = limits.times i (connection_at t i) (connection_at-stands t i lt)

@@ -56,8 +56,8 @@ module _ (paths : List Footpath) (in_order : AreInOrder paths) where
       omega (arith, after.1 refl)
 
   -- an ordered pair of stops has its footpath at one index ..
-  pub same_place : (from to s t : ℕ) (p : HasFootpath paths from to s) (q : HasFootpath paths from to t) → p.0 ≡ q.0
-  same_place from to s t p q =
+  pub same_index_of : (from to s t : ℕ) (p : HasFootpath paths from to s) (q : HasFootpath paths from to t) → p.0 ≡ q.0
+  same_index_of from to s t p q =
       elim (cases_order p.0 q.0) [
         | inl same ↦ same
         | inr (inl below) ↦ absurd (never_later from to s t p.0 q.0 below p.1 q.1)
@@ -68,12 +68,12 @@ module _ (paths : List Footpath) (in_order : AreInOrder paths) where
   pub same_secs : (from to s t : ℕ) → HasFootpath paths from to s → HasFootpath paths from to t → s ≡ t
   unfolding secs_of
   same_secs from to s t p q =
-      ap secs_of (sym p.1 ∙ ap (λ (x : ℕ). slice_get paths x) (same_place from to s t p q) ∙ q.1)
+      ap secs_of (sym p.1 ∙ ap (λ (x : ℕ). slice_get paths x) (same_index_of from to s t p q) ∙ q.1)
 
   pub HasFootpath-prop : (from to s : ℕ) → IsProp (HasFootpath paths from to s)
   HasFootpath-prop from to s p q =
       let at_prop : (i : ℕ) → IsProp (At paths i (record { from = from; to = to; secs = s })) = hlevel props in
-      Σ_prop_path at_prop (same_place from to s s p q)
+      Σ_prop_path at_prop (same_index_of from to s s p q)
 
   loop_prop : (s : ℕ) → IsProp ((secs : ℕ) × HasFootpath paths s s secs)
   loop_prop s p q = Σ_prop_path (HasFootpath-prop s s) (same_secs s s p.0 q.0 p.1 q.1)

@@ -163,13 +163,13 @@ adds_stop all rows station to old mid new first second = unbanned_then (IsBanned
 
 module _ (all : List Stop) (rows : List Transfer) (to : ℕ) where
   by_there : (index : TransferEnd) (c : Claim) → stands_for all index to ≡ true → IsClaimBy all rows index to c → IsClaimInto all rows to c
-  by_there index c stands (row, is_in, place_is, h) = (
+  by_there index c stands (row, is_in, index_is, h) = (
     inl (
       row,
       is_in,
       record {
         from_stands = h.from_stands;
-        to_stands = subst (λ (p : TransferEnd). stands_for all p c.to ≡ true) (sym place_is)
+        to_stands = subst (λ (p : TransferEnd). stands_for all p c.to ≡ true) (sym index_is)
             (subst (λ (n : ℕ). stands_for all index n ≡ true) (sym h.to_is) stands);
         source_is = h.source_is;
         verdict_is = h.verdict_is;
@@ -180,8 +180,8 @@ module _ (all : List Stop) (rows : List Transfer) (to : ℕ) where
 
   by_back : (c : Claim) (row : Transfer) → Contains rows row → IsRowClaim all row c → c.to ≡ to → (index : TransferEnd) → row.to ≡ index
       → IsClaimBy all rows index to c
-  by_back c row is_in h to_is index place_is =
-      (row, is_in, place_is, record { from_stands = h.from_stands; to_is = to_is; source_is = h.source_is; verdict_is = h.verdict_is })
+  by_back c row is_in h to_is index index_is =
+      (row, is_in, index_is, record { from_stands = h.from_stands; to_is = to_is; source_is = h.source_is; verdict_is = h.verdict_is })
 
   loop_there : (stop : Stop) → At all to stop → (c : Claim) → IsLoopOf to c → IsClaimInto all rows to c
   loop_there stop at c h = (

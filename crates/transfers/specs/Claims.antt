@@ -84,7 +84,7 @@ IsNumberedClaim stops rows to number c = (row : Transfer) × At rows number row 
 
 -- a transfer that leads to this end makes this claim about a way into a stop
 abbrev pub IsClaimBy : List Stop → List Transfer → TransferEnd → ℕ → Claim → Type 0
-IsClaimBy stops rows place to c = (row : Transfer) × Contains rows row × (row.to ≡ place) × IsRowInto stops to row c
+IsClaimBy stops rows index to c = (row : Transfer) × Contains rows row × (row.to ≡ index) × IsRowInto stops to row c
 
 -- the claim about a way into a stop that the stop has as one of a station: by a transfer to the station, or by default
 abbrev pub IsStationClaim : List Stop → List Transfer → ℕ → ℕ → Claim → Type 0
@@ -107,9 +107,9 @@ abbrev pub IsClaimInto : List Stop → List Transfer → ℕ → Claim → Type 
 IsClaimInto stops rows to c = IsClaim stops rows c × (c.to ≡ to)
 
 -- these are the stops that an end stands for
-pub record AreStoodFor (all : List Stop) (place : TransferEnd) (stops : List ℕ) : Type 0 where
-  pub stand : (stop : ℕ) → Contains stops stop → stands_for all place stop ≡ true
-  pub each : (stop : ℕ) → stands_for all place stop ≡ true → Contains stops stop
+pub record AreStoodFor (all : List Stop) (index : TransferEnd) (stops : List ℕ) : Type 0 where
+  pub stand : (stop : ℕ) → Contains stops stop → stands_for all index stop ≡ true
+  pub each : (stop : ℕ) → stands_for all index stop ≡ true → Contains stops stop
 
 -- these are the stops of a station
 pub record AreChildren (all : List Stop) (station : ℕ) (stops : List ℕ) : Type 0 where
@@ -141,21 +141,21 @@ AreSorted claims = (i j : ℕ) (c d : Claim) → i < j → At claims i c → At 
 
 -- the claim at the index is the first about its pair
 abbrev pub IsFirstAt : List Claim → ℕ → Type 0
-IsFirstAt claims place = (b c : Claim) → At claims (place - 1) b → At claims place c → 0 < place → ¬ ((b.to ≡ c.to) × (b.from ≡ c.from))
+IsFirstAt claims index = (b c : Claim) → At claims (index - 1) b → At claims index c → 0 < index → ¬ ((b.to ≡ c.to) × (b.from ≡ c.from))
 
 -- the claim at the index is the first about its pair, and gives this footpath
-pub record IsPathAt (claims : List Claim) (place : ℕ) (f : Footpath) : Type 0 where
+pub record IsPathAt (claims : List Claim) (index : ℕ) (f : Footpath) : Type 0 where
   pub claim : Claim
-  pub at : At claims place claim
-  pub first : IsFirstAt claims place
+  pub at : At claims index claim
+  pub first : IsFirstAt claims index
   pub from_is : claim.from ≡ f.from
   pub to_is : claim.to ≡ f.to
   pub verdict_is : claim.verdict ≡ Takes f.secs
 
 -- these are the footpaths of those claims below an index that are the first about their pairs
-pub record ArePathsBelow (claims : List Claim) (place : ℕ) (paths : List Footpath) : Type 0 where
-  pub has : (f : Footpath) → Contains paths f → (k : ℕ) × (k < place) × IsPathAt claims k f
-  pub each : (k : ℕ) (f : Footpath) → k < place → IsPathAt claims k f → Contains paths f
+pub record ArePathsBelow (claims : List Claim) (index : ℕ) (paths : List Footpath) : Type 0 where
+  pub has : (f : Footpath) → Contains paths f → (k : ℕ) × (k < index) × IsPathAt claims k f
+  pub each : (k : ℕ) (f : Footpath) → k < index → IsPathAt claims k f → Contains paths f
 
 -- the footpath that a verdict gives, if it gives one
 abbrev pub path_of : ℕ → ℕ → Verdict → List Footpath

@@ -152,38 +152,38 @@ no_departures after until (span ∷ spans) window none =
     absurd (none-some _ (sym none ∙ slice_get-get_or (span ∷ spans) (length (span ∷ spans) - 1) span within))
 
 -- the last of all departures
-pub tally_begun : (after until : ℕ) (spans : List Span) (tally : Tally) (place : ℕ) (last : Span) → place + 1 ≡ length spans
-    → last ≡ get_or spans place last → after ≤ until → until ≤ last.departure → tally.next ≡ until + 1 → tally.earliest ≡ last.arrival
-    → tally.sum ≡ 0 → IsTally after until (drop place spans) tally
-tally_begun after until spans tally place last end there window late next earliest sum =
-    let one : drop place spans ≡ last ∷ [] =
-    at_drop_more (λ (xs : List Span). xs) spans place last (omega (arith, end))
-    ∙ ap (λ (s : Span). s ∷ drop (place + 1) spans) (sym there)
-    ∙ ap (λ (xs : List Span). last ∷ xs) (at_drop_all (λ (xs : List Span). xs) spans (place + 1) (omega (arith, end))) in
+pub tally_begun : (after until : ℕ) (spans : List Span) (tally : Tally) (index : ℕ) (last : Span) → index + 1 ≡ length spans
+    → last ≡ get_or spans index last → after ≤ until → until ≤ last.departure → tally.next ≡ until + 1 → tally.earliest ≡ last.arrival
+    → tally.sum ≡ 0 → IsTally after until (drop index spans) tally
+tally_begun after until spans tally index last end there window late next earliest sum =
+    let one : drop index spans ≡ last ∷ [] =
+    at_drop_more (λ (xs : List Span). xs) spans index last (omega (arith, end))
+    ∙ ap (λ (s : Span). s ∷ drop (index + 1) spans) (sym there)
+    ∙ ap (λ (xs : List Span). last ∷ xs) (at_drop_all (λ (xs : List Span). xs) spans (index + 1) (omega (arith, end))) in
     subst (λ (xs : List Span). IsTally after until xs tally) (sym one) (last_alone after until last tally window late next earliest sum)
 
 -- all later departures are at or after one
-later_from : (spans : List Span) (place : ℕ) (span : Span) → AreInOrder spans → span ≡ get_or spans place span
-    → AreFrom span.departure (drop (place + 1) spans)
-later_from spans place span ordered there =
-    recursion_from_All (λ (later : Span). span.departure ≤ later.departure) (drop (place + 1) spans) (λ k d lt.
-    let long : length (drop (place + 1) spans) ≡ length spans - (place + 1) = length-drop (place + 1) spans in
-    let le : (get_or spans place span).departure ≤ (get_or spans (place + 1 + k) span).departure =
-    ordered place (place + 1 + k) span (omega arith) (omega (arith, lt, long)) in
-    let here : (get_or spans place span).departure ≡ span.departure = ap (λ (s : Span). s.departure) (sym there) in
-    let same : (get_or (drop (place + 1) spans) k d).departure ≡ (get_or spans (place + 1 + k) span).departure =
-    ap (λ (s : Span). s.departure) (get_or-drop (place + 1) spans k d
-    ∙ get_or_default spans (place + 1 + k) d span (omega (arith, lt, long))) in
+later_from : (spans : List Span) (index : ℕ) (span : Span) → AreInOrder spans → span ≡ get_or spans index span
+    → AreFrom span.departure (drop (index + 1) spans)
+later_from spans index span ordered there =
+    recursion_from_All (λ (later : Span). span.departure ≤ later.departure) (drop (index + 1) spans) (λ k d lt.
+    let long : length (drop (index + 1) spans) ≡ length spans - (index + 1) = length-drop (index + 1) spans in
+    let le : (get_or spans index span).departure ≤ (get_or spans (index + 1 + k) span).departure =
+    ordered index (index + 1 + k) span (omega arith) (omega (arith, lt, long)) in
+    let here : (get_or spans index span).departure ≡ span.departure = ap (λ (s : Span). s.departure) (sym there) in
+    let same : (get_or (drop (index + 1) spans) k d).departure ≡ (get_or spans (index + 1 + k) span).departure =
+    ap (λ (s : Span). s.departure) (get_or-drop (index + 1) spans k d
+    ∙ get_or_default spans (index + 1 + k) d span (omega (arith, lt, long))) in
     omega (arith, le, here, same))
 
 -- one more of them
-pub tally_grown : (after until : ℕ) (spans : List Span) (tally now : Tally) (place : ℕ) (span : Span) → place + 1 < length spans
-    → span ≡ get_or spans place span → AreInOrder spans
+pub tally_grown : (after until : ℕ) (spans : List Span) (tally now : Tally) (index : ℕ) (span : Span) → index + 1 < length spans
+    → span ≡ get_or spans index span → AreInOrder spans
     → ((later : List Span) → IsTally after until later tally → AreFrom span.departure later → IsTally after until (span ∷ later) now)
-    → IsTally after until (drop (place + 1) spans) tally → IsTally after until (drop place spans) now
-tally_grown after until spans tally now place span within there ordered grows known =
-    let one : drop place spans ≡ span ∷ drop (place + 1) spans =
-    at_drop_more (λ (xs : List Span). xs) spans place span (omega (arith, within))
-    ∙ ap (λ (s : Span). s ∷ drop (place + 1) spans) (sym there) in
+    → IsTally after until (drop (index + 1) spans) tally → IsTally after until (drop index spans) now
+tally_grown after until spans tally now index span within there ordered grows known =
+    let one : drop index spans ≡ span ∷ drop (index + 1) spans =
+    at_drop_more (λ (xs : List Span). xs) spans index span (omega (arith, within))
+    ∙ ap (λ (s : Span). s ∷ drop (index + 1) spans) (sym there) in
     subst (λ (xs : List Span). IsTally after until xs now) (sym one)
-    (grows (drop (place + 1) spans) known (later_from spans place span ordered there))
+    (grows (drop (index + 1) spans) known (later_from spans index span ordered there))

@@ -7,7 +7,7 @@ use Rattle.travel_times.specs.declared.rows.Rows.{Rows}
 abbrev pub text_of : Rows → List ℕ
 text_of rows = (writer_under rows.writer).items ++ writer_pending rows.writer
 
--- no row is begun, and they are written as `csv` does unless it is told otherwise
+-- no row is begun, and they are written as `csv` does by default
 pub record AreWhole (rows : Rows) : Type 0 where
   pub setup : writer_setup rows.writer ≡ default_writer
   pub fields : fields_written rows.writer ≡ 0

@@ -10,10 +10,10 @@ pub fn least_travel(spans: &[Span]) -> Option<u32>
     ensures { result ≡ least_of (map travel spans.now) }
 {
     let mut least = None;
-    let mut place = spans.len();
-    while 0 < place {
-        place -= 1;
-        let span = spans[place];
+    let mut index = spans.len();
+    while 0 < index {
+        index -= 1;
+        let span = spans[index];
         least = Some(lesser_of(span.travel(), least));
     }
     least

@@ -38,15 +38,15 @@ fn tally_of(spans: &[Span], after: u32, until: u32) -> Tally
     ensures small { IsSmall result }
     ensures known { IsTally after until spans.now result }
 {
-    let mut place = spans.len() - 1;
+    let mut index = spans.len() - 1;
     let mut tally = Tally {
         next: u64::from(until) + 1,
-        earliest: spans[place].arrival,
+        earliest: spans[index].arrival,
         sum: 0,
     };
-    while 0 < place {
-        place -= 1;
-        let span = spans[place];
+    while 0 < index {
+        index -= 1;
+        let span = spans[index];
         tally = tally.with_earlier(span, after, until);
     }
     tally

@@ -3,7 +3,7 @@ use Rattle.std.proofs.Common.{◌≡◌, ℕ, ◌+◌, ◌-◌, ◌<◌, ◌≤�
 use Rattle.std.proofs.Common.{slice_get, count_by, refl, ap, ◌∙◌, subst, arith, length-set}
 use Rattle.std.proofs.lemmas.Bool.Decides.{nat_tests}
 use Rattle.version_core.specs.declared.state.Worker.{Worker}
-use Rattle.version_core.specs.Kept.{is_at, CountsFit}
+use Rattle.version_core.specs.Invariants.{is_at, CountsFit}
 use Rattle.version_core.proofs.Lists.{get_or-set, count_by-set, is_counted, no_one}
 
 -- the number of workers at a shelf after one of them changed

@@ -10,7 +10,7 @@ use Rattle.version_core.specs.declared.event.Reply.{Reply}
 use Rattle.version_core.specs.State.{State, start, newest, looked, arrived, departed, opened, published, shelved, noted, joined}
 use Rattle.version_core.specs.Steps.{IsIdle, HasLooked, Holds, StaysAt, IsFree, IsOpen, IsClosing, IsUnpublished, IsOutdated, MayOpen, Step, LookStep}
 use Rattle.version_core.specs.Steps.{TakeStep, DropStep, OpenStep, PublishStep, CloseStep, CollectStep, AskStep, NoteStep, JoinStep, IsSettled}
-use Rattle.version_core.specs.Kept.{KeepsInvariants, Fits, is_at, version_on}
+use Rattle.version_core.specs.Invariants.{KeepsInvariants, Fits, is_at, version_on}
 use Rattle.version_core.proofs.Shelves.{version_at, shelves_open, opening_stays, shelves_publish, shelves_close, closing_stays, shelves_free, none_unpublished}
 use Rattle.version_core.proofs.Counts.{counts_stay, counts_rise, counts_fall, counted_at, no_one_at}
 use Rattle.version_core.proofs.Workers.{workers_go_on, workers_look, workers_stay, workers_later, workers_away, workers_see}

@@ -8,7 +8,7 @@ use Rattle.version_core.specs.declared.event.Event.{Event}
 use Rattle.version_core.specs.declared.event.Reply.{Reply}
 use Rattle.version_core.specs.State.{State, looked, arrived, departed}
 use Rattle.version_core.specs.Steps.{IsIdle, HasLooked, Holds, StaysAt, Step, LookStep, TakeStep, DropStep}
-use Rattle.version_core.specs.Kept.{KeepsInvariants}
+use Rattle.version_core.specs.Invariants.{KeepsInvariants}
 
 look_is : (s t : State) (w : ℕ) (r : Reply) → IsIdle s w → LookStep s w r t → (r ≡ Reply.Looked s.current s.current_shelf) × (t ≡ looked s w)
 look_is s t w (Reply.Looked v k) idle h = (ap (λ n. Reply.Looked n k) h.1 ∙ ap (λ n. Reply.Looked s.current n) h.2, h.3)

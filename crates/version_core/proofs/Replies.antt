@@ -7,7 +7,7 @@ use Rattle.version_core.specs.declared.event.Reply.{Reply}
 use Rattle.version_core.specs.State.{State, newest, edition_of, arrived, departed, opened, published, shelved, joined}
 use Rattle.version_core.specs.Steps.{OpensLeast, Step, LookStep, TakeStep, DropStep, OpenStep, PublishStep, CloseStep, CollectStep, AskStep}
 use Rattle.version_core.specs.Steps.{StaysAt, IsUnpublished, IsOutdated, NoteStep, JoinStep}
-use Rattle.version_core.specs.Kept.{KeepsInvariants}
+use Rattle.version_core.specs.Invariants.{KeepsInvariants}
 use Rattle.version_core.proofs.Shelves.{version_at}
 use Rattle.version_core.proofs.Pins.{stays_once}
 use Rattle.version_core.proofs.Rising.{remove_one}
@@ -56,7 +56,7 @@ take_one s t u w _ q a b = absurd a
 abbrev DoneOr : State → (Way : Type 0) → (Way → Reply) → (Way → State) → Reply → State → Type 0
 DoneOr s Way shown after r t = ((a : Way) × (r ≡ shown a) × (t ≡ after a)) ⊎ ((¬ Way) × (r ≡ Reply.NotNow) × (t ≡ s))
 
--- where all ways are told alike and lead to one state, so do two such steps
+-- where all ways have one reply and lead to one state, so do two such steps
 done_alike : (s t u : State) (r q : Reply) (Way : Type 0) (shown : Way → Reply) (after : Way → State)
     → ((a b : Way) → (shown b ≡ shown a) × (after b ≡ after a)) → DoneOr s Way shown after r t → DoneOr s Way shown after q u → (q ≡ r) × (u ≡ t)
 done_alike s t u r q Way shown after alike (inl a) (inl b) = let same = alike a.0 b.0 in (b.1 ∙ (same.0 ∙ sym a.1), b.2 ∙ (same.1 ∙ sym a.2))

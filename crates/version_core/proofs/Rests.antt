@@ -12,7 +12,7 @@ use Rattle.version_core.specs.State.{State, start, newest, opened, published, sh
 use Rattle.version_core.specs.Steps.{IsFree, IsOpen, IsClosing, MayOpen, Step, LookStep, TakeStep, DropStep, PublishStep, CloseStep, CollectStep, AskStep}
 use Rattle.version_core.specs.Steps.{NoteStep, JoinStep}
 use Rattle.version_core.specs.Runs.{Run}
-use Rattle.version_core.specs.Kept.{KeepsInvariants}
+use Rattle.version_core.specs.Invariants.{KeepsInvariants}
 use Rattle.version_core.specs.Rest.{IsAtRest, IsNoLoad, loaded}
 use Rattle.version_core.proofs.Lists.{slice_get-set}
 use Rattle.version_core.proofs.Shelves.{version_at}

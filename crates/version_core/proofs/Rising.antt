@@ -1,6 +1,6 @@
 -- Lists of notices: they never fall, and it doesn't matter which of two equal ones is removed.
 use Rattle.std.proofs.Common.{◌≡◌, ℕ, zero, suc, ◌+◌, ◌≤◌, max, List, [], ◌∷◌, ◌++◌, remove, Some, slice_get, refl, ap, sym, ◌∙◌, arith}
-use Rattle.version_core.specs.Kept.{RiseWithin}
+use Rattle.version_core.specs.Invariants.{RiseWithin}
 
 pub most_left : (a b : ℕ) → a ≤ max a b
 most_left a b = omega arith

@@ -14,7 +14,7 @@ use Rattle.version_core.specs.State.{State, start, newest, edition_of, looked, a
 use Rattle.version_core.specs.Steps.{IsIdle, IsOpen, Holds, IsSettled, Grows, OpensLeast, Step, LookStep, TakeStep, DropStep, OpenStep, PublishStep}
 use Rattle.version_core.specs.Steps.{CloseStep, CollectStep, AskStep, NoteStep, JoinStep}
 use Rattle.version_core.specs.Runs.{Run, LeastRun, IsRun, IsReached, IsLater, IsStopped}
-use Rattle.version_core.specs.Kept.{KeepsInvariants}
+use Rattle.version_core.specs.Invariants.{KeepsInvariants}
 use Rattle.version_core.proofs.Rising.{most_left, most_right}
 use Rattle.version_core.proofs.Keeps.{start_kept, step_kept, held_known, settled_small}
 use Rattle.version_core.proofs.Replies.{one_reply}

@@ -6,7 +6,7 @@ use mathlib.Core.Logic.{dite}
 use native.Mathlib.Decide.{ℕ_discrete}
 use Rattle.reasoning.proofs.ListLemmas.{slice_get-set_same, slice_get-set_other}
 use Rattle.version_core.specs.declared.state.Shelf.{Shelf}
-use Rattle.version_core.specs.Kept.{version_of, version_on, ShelvesFit, NewestIsOpen}
+use Rattle.version_core.specs.Invariants.{version_of, version_on, ShelvesFit, NewestIsOpen}
 use Rattle.version_core.proofs.Lists.{slice_get-set}
 
 -- the version of a shelf that is found

@@ -7,7 +7,7 @@ use mathlib.Core.Logic.{dite}
 use native.Mathlib.Decide.{ℕ_discrete}
 use Rattle.version_core.specs.declared.state.Shelf.{Shelf}
 use Rattle.version_core.specs.declared.state.Worker.{Worker}
-use Rattle.version_core.specs.Kept.{version_on, is_at, Fits, WorkersFit}
+use Rattle.version_core.specs.Invariants.{version_on, is_at, Fits, WorkersFit}
 use Rattle.version_core.proofs.Lists.{slice_get-set}
 use Rattle.version_core.proofs.Shelves.{version_on-set_other}
 

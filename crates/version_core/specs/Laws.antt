@@ -6,7 +6,7 @@ use Rattle.version_core.specs.declared.event.Reply.{Reply}
 use Rattle.version_core.specs.State.{State, newest, edition_of, looked, arrived, departed}
 use Rattle.version_core.specs.Steps.{Step, IsIdle, IsOpen, Holds, IsNoted, OpensLeast}
 use Rattle.version_core.specs.Runs.{Run, LeastRun, IsRun, IsReached, IsLater}
-use Rattle.version_core.specs.Kept.{KeepsInvariants, is_at, version_on}
+use Rattle.version_core.specs.Invariants.{KeepsInvariants, is_at, version_on}
 
 -- every state of every run is kept
 abbrev pub EveryRunKeeps : Type 0
@@ -38,7 +38,7 @@ EditionsStay =
     (s t : State) (events : List Event) (replies : List Reply) (v e : ℕ) → KeepsInvariants s → Run s events replies t
     → edition_of s.editions v ≡ Some e → edition_of t.editions v ≡ Some e
 
--- a version that is held has an edition, and a worker that holds it and asks is told both
+-- a version that is held has an edition, and a worker that holds it and asks gets both
 abbrev pub AsksAreAnswered : Type 0
 AsksAreAnswered =
     (s : State) (w k v : ℕ) → KeepsInvariants s → Holds s w k v

@@ -1,7 +1,7 @@
 pub mod State
 pub mod Steps
 pub mod Runs
-pub mod Kept
+pub mod Invariants
 pub mod Laws
 pub mod Rest
 pub mod Shown

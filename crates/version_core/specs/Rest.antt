@@ -6,7 +6,7 @@ use Rattle.version_core.specs.declared.event.Reply.{Reply}
 use Rattle.version_core.specs.State.{State, newest}
 use Rattle.version_core.specs.Steps.{Step, IsOpen, IsClosing}
 use Rattle.version_core.specs.Runs.{Run}
-use Rattle.version_core.specs.Kept.{KeepsInvariants}
+use Rattle.version_core.specs.Invariants.{KeepsInvariants}
 
 -- nothing is unpublished, and no version but the current one is open
 pub record IsAtRest (s : State) : Type 0 where

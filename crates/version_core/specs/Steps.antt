@@ -47,7 +47,7 @@ IsOutdated s k v = IsOpen s k v × (v ≢ s.current) × (¬ (IsUnpublished s k v
 abbrev pub MayOpen : State → Type 0
 MayOpen s = ((k v : ℕ) → ¬ (IsUnpublished s k v)) × (newest s < 1000000000)
 
--- an idle worker is told the current version and its shelf, and has then looked; for any other worker, NotNow
+-- an idle worker gets the current version and its shelf, and has then looked; for any other worker, NotNow
 abbrev pub LookStep : State → ℕ → Reply → State → Type 0
 LookStep s w (Reply.Looked v k) t = IsIdle s w × (v ≡ s.current) × (k ≡ s.current_shelf) × (t ≡ looked s w)
 LookStep s w Reply.NotNow t = (¬ (IsIdle s w)) × (t ≡ s)
@@ -93,7 +93,7 @@ CollectStep s k (Reply.Busy count) t = (v : ℕ) × IsClosing s k v × (slice_in
 CollectStep s k Reply.NotNow t = ((v : ℕ) → ¬ (IsClosing s k v)) × (t ≡ s)
 CollectStep s k _ t = ⊥
 
--- a worker that holds a version is told that version and its edition, and nothing changes; for any other worker, NotNow
+-- a worker that holds a version gets that version and its edition, and nothing changes; for any other worker, NotNow
 abbrev pub AskStep : State → ℕ → Reply → State → Type 0
 AskStep s w (Reply.From v e) t = (k : ℕ) × Holds s w k v × (edition_of s.editions v ≡ Some e) × (t ≡ s)
 AskStep s w Reply.NotNow t = ((k v : ℕ) → ¬ (Holds s w k v)) × (t ≡ s)
@@ -116,7 +116,7 @@ IsNoted s v = (index : ℕ) × (slice_get s.notices index ≡ Some v)
 abbrev pub MayJoin : State → ℕ → ℕ → Type 0
 MayJoin s w v = IsSettled s w × IsNoted s v
 
--- a settled worker takes in a notice of the version, and is told the greatest version that it has seen; if it isn't settled, or no such notice is
+-- a settled worker takes in a notice of the version, and gets the greatest version that it has seen; if it isn't settled, or no such notice is
 -- out, NotNow
 abbrev pub JoinStep : State → ℕ → ℕ → Reply → State → Type 0
 JoinStep s w v (Reply.Joined seen) t =

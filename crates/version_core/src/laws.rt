@@ -7,7 +7,7 @@ ghost use Rattle.version_core.specs.Laws.{OpensWithEdition, NoticesAreOfTheirTim
 ghost use Rattle.version_core.specs.Laws.{JoinedVersionsStay, OneReply, OneRun, RunsBegin, RunsGrow};
 ghost use Rattle.version_core.specs.Laws.{RunsGrowByRuns, RunsGrowWithReplies, RunsJoin, RunsPart};
 ghost use Rattle.version_core.specs.State.{start};
-ghost use Rattle.version_core.specs.Kept.{KeepsInvariants};
+ghost use Rattle.version_core.specs.Invariants.{KeepsInvariants};
 ghost use Rattle.version_core.specs.Rest.{IsAtRest, RestStays, LoadsRest, RestIsSpent, RestIsFull};
 
 /// The laws of every run from the start, whatever its events: each state that it reaches satisfies `KeepsInvariants`,

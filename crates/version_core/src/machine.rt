@@ -8,7 +8,7 @@ ghost use Rattle.version_core.specs.Steps.{IsUnpublished, IsOutdated, IsSettled,
 ghost use Rattle.version_core.specs.Steps.{MayOpen, Grows, OpensLeast, Step, LookStep, TakeStep, DropStep};
 ghost use Rattle.version_core.specs.Steps.{OpenStep, PublishStep, CloseStep, CollectStep};
 ghost use Rattle.version_core.specs.Steps.{AskStep, NoteStep, JoinStep};
-ghost use Rattle.version_core.specs.Kept.{KeepsInvariants};
+ghost use Rattle.version_core.specs.Invariants.{KeepsInvariants};
 ghost use Rattle.version_core.specs.declared.event.Event.{Event};
 ghost use Rattle.version_core.specs.declared.event.Reply.{Reply};
 ghost use Rattle.version_core.specs.declared.state.Worker.{Worker};
@@ -35,7 +35,7 @@ pub struct Core {
 
 impl Model for Core {
     ghost use Rattle.version_core.specs.State.{State};
-    ghost use Rattle.version_core.specs.Kept.{KeepsInvariants};
+    ghost use Rattle.version_core.specs.Invariants.{KeepsInvariants};
 
     ghost Value = { State };
 

@@ -2,5 +2,5 @@ pub mod Ending
 pub mod Carried
 pub mod Reading
 pub mod Shared
-pub mod Told
+pub mod ExactSessions
 mod Learning

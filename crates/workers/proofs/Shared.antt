@@ -5,7 +5,7 @@ use Rattle.load_orders.specs.Asking.{OrderRoute, WorkerOrdersValue}
 use Rattle.load_orders.specs.Keeping.{KeeperValue, QueueId, with_one_out, with_orders}
 use Rattle.load_orders.specs.declared.queue.Order.{Order}
 use Rattle.workers.specs.Ordering.{IsKeeperOf, put_by}
-use Rattle.workers.specs.Sessions.{AreAllServed, AreShares, IsShare, Post, ShareValue, WorkValue, post_at, posts_at}
+use Rattle.workers.specs.Sessions.{AreAllServed, AreShares, IsShare, WorkerStart, ShareValue, WorkValue, worker_start, worker_starts}
 use Rattle.workers.specs.Words.{SessionWords}
 use Rattle.std.specs.Prelude.{IsPermutation, flat_map}
 use Rattle.client_queue.specs.Ends.{DealerValue, nothing_put, out_once_more}
@@ -23,17 +23,17 @@ flat_also f (first ∷ list) last =
 
 module _ {C R W T S N : Type 0} (words : SessionWords C R W T S N) where
   -- one share more behind the others
-  pub shares_also : (posts : List (Post S N)) (hands : List (List C)) (shares : List (ShareValue R W S N))
-      (post : Post S N) (hand : List C) (share : ShareValue R W S N)
-      → AreShares words posts hands shares → IsShare words post hand share
-      → AreShares words (posts ++ post ∷ []) (hands ++ hand ∷ []) (shares ++ share ∷ [])
-  shares_also [] [] [] post hand share before also = (also, tt)
-  shares_also [] [] (s ∷ shares) post hand share before also = absurd before
-  shares_also [] (h ∷ hands) shares post hand share before also = absurd before
-  shares_also (p ∷ posts) [] shares post hand share before also = absurd before
-  shares_also (p ∷ posts) (h ∷ hands) [] post hand share before also = absurd before
-  shares_also (p ∷ posts) (h ∷ hands) (s ∷ shares) post hand share before also =
-      (before.0, shares_also posts hands shares post hand share before.1 also)
+  pub shares_also : (starts : List (WorkerStart S N)) (hands : List (List C)) (shares : List (ShareValue R W S N))
+      (start : WorkerStart S N) (hand : List C) (share : ShareValue R W S N)
+      → AreShares words starts hands shares → IsShare words start hand share
+      → AreShares words (starts ++ start ∷ []) (hands ++ hand ∷ []) (shares ++ share ∷ [])
+  shares_also [] [] [] start hand share before added = (added, tt)
+  shares_also [] [] (s ∷ shares) start hand share before added = absurd before
+  shares_also [] (h ∷ hands) shares start hand share before added = absurd before
+  shares_also (p ∷ starts) [] shares start hand share before added = absurd before
+  shares_also (p ∷ starts) (h ∷ hands) [] start hand share before added = absurd before
+  shares_also (p ∷ starts) (h ∷ hands) (s ∷ shares) start hand share before added =
+      (before.0, shares_also starts hands shares start hand share before.1 added)
 
   module _ {H : Type 0} (seat_of : H → S) (route : OrderRoute N) where
     -- of all these workers those that are left weren't joined yet; what the others took and left is this
@@ -43,14 +43,14 @@ module _ {C R W T S N : Type 0} (words : SessionWords C R W T S N) where
       pub shares : List (ShareValue R W S N)
       pub all_are : all ≡ done ++ left
       pub taken_are : taken ≡ flat_map (λ hand. hand) hands
-      pub each : AreShares words (posts_at (map seat_of done) route) hands shares
+      pub each : AreShares words (worker_starts (map seat_of done) route) hands shares
       pub sessions_are : work.sessions ≡ flat_map (λ share. share.sessions) shares
       pub seats_are : work.seats ≡ map (λ share. share.seat) shares
       pub orders_are : work.orders ≡ map (λ share. share.orders) shares
 
     pub joined_none : (all left : List H) (taken : List C) (work : WorkValue R W S N)
         → left ≡ all → taken ≡ [] → work.sessions ≡ [] → work.seats ≡ [] → work.orders ≡ [] → Joined all left taken work
-    joined_none all left taken work same nothing none nobody unused = record {
+    joined_none all left taken work same nothing none none_held unused = record {
       done = [];
       hands = [];
       shares = [];
@@ -58,34 +58,34 @@ module _ {C R W T S N : Type 0} (words : SessionWords C R W T S N) where
       taken_are = nothing;
       each = tt;
       sessions_are = none;
-      seats_are = nobody;
+      seats_are = none_held;
       orders_are = unused;
     }
 
     posts_also : (done : List H) (worker : H)
-        → posts_at (map seat_of (done ++ worker ∷ [])) route ≡ posts_at (map seat_of done) route ++ post_at (seat_of worker) route ∷ []
+        → worker_starts (map seat_of (done ++ worker ∷ [])) route ≡ worker_starts (map seat_of done) route ++ worker_start (seat_of worker) route ∷ []
     posts_also done worker =
-        ap (λ seats. posts_at seats route) (map-append seat_of done (worker ∷ []))
-        ∙ map-append (λ seat. post_at seat route) (map seat_of done) (seat_of worker ∷ [])
+        ap (λ seats. worker_starts seats route) (map-append seat_of done (worker ∷ []))
+        ∙ map-append (λ seat. worker_start seat route) (map seat_of done) (seat_of worker ∷ [])
 
     pub joined_next : (all left left_then : List H) (taken taken_then : List C) (work work_then : WorkValue R W S N)
         (hand : List C) (share : ShareValue R W S N) (worker : H)
         → Joined all left taken work → left ≡ worker ∷ left_then → taken_then ≡ taken ++ hand
         → work_then.sessions ≡ work.sessions ++ share.sessions → work_then.seats ≡ work.seats ++ share.seat ∷ []
-        → work_then.orders ≡ work.orders ++ share.orders ∷ [] → IsShare words (post_at (seat_of worker) route) hand share
+        → work_then.orders ≡ work.orders ++ share.orders ∷ [] → IsShare words (worker_start (seat_of worker) route) hand share
         → Joined all left_then taken_then work_then
-    joined_next all left left_then taken taken_then work work_then hand share worker before step takes grows back uses also =
+    joined_next all left left_then taken taken_then work work_then hand share worker before step takes grows back uses added =
         let done = before.done in
         let hands = before.hands in
         let shares = before.shares in
-        let more = shares_also (posts_at (map seat_of done) route) hands shares (post_at (seat_of worker) route) hand share before.each also in
+        let more = shares_also (worker_starts (map seat_of done) route) hands shares (worker_start (seat_of worker) route) hand share before.each added in
         record {
           done = done ++ worker ∷ [];
           hands = hands ++ hand ∷ [];
           shares = shares ++ share ∷ [];
           all_are = before.all_are ∙ ap (λ list. done ++ list) step ∙ sym (append_assoc done (worker ∷ []) left_then);
           taken_are = takes ∙ ap (λ list. list ++ hand) before.taken_are ∙ sym (flat_also (λ h. h) hands hand);
-          each = subst (λ posts. AreShares words posts (hands ++ hand ∷ []) (shares ++ share ∷ [])) (sym (posts_also done worker)) more;
+          each = subst (λ starts. AreShares words starts (hands ++ hand ∷ []) (shares ++ share ∷ [])) (sym (posts_also done worker)) more;
           sessions_are = grows ∙ ap (λ list. list ++ share.sessions) before.sessions_are ∙ sym (flat_also (λ s. s.sessions) shares share);
           seats_are = back ∙ ap (λ list. list ++ share.seat ∷ []) before.seats_are ∙ sym (map-append (λ s. s.seat) shares (share ∷ []));
           orders_are = uses ∙ ap (λ list. list ++ share.orders ∷ []) before.orders_are ∙ sym (map-append (λ s. s.orders) shares (share ∷ []));
@@ -94,14 +94,14 @@ module _ {C R W T S N : Type 0} (words : SessionWords C R W T S N) where
     -- all were joined, and what they took is what was put
     pub joined_all : (all left : List H) (sent taken : List C) (work : WorkValue R W S N)
         → Joined all left taken work → length left ≡ 0 → IsPermutation sent taken
-        → AreAllServed words sent (posts_at (map seat_of all) route) work
+        → AreAllServed words sent (worker_starts (map seat_of all) route) work
     joined_all all left sent taken work before none dealt =
         let whole : all ≡ before.done = before.all_are ∙ ap (λ list. before.done ++ list) (nothing_left left none) ∙ append-nil before.done in
         record {
           hands = before.hands;
           dealt = subst (λ list. IsPermutation sent list) before.taken_are dealt;
           shares = before.shares;
-          each = subst (λ workers. AreShares words (posts_at (map seat_of workers) route) before.hands before.shares) (sym whole) before.each;
+          each = subst (λ workers. AreShares words (worker_starts (map seat_of workers) route) before.hands before.shares) (sym whole) before.each;
           sessions_are = before.sessions_are;
           seats_are = before.seats_are;
           orders_are = before.orders_are;

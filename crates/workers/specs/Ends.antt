@@ -3,7 +3,7 @@ use Rattle.std.specs.Prelude.{◌≡◌, ◌-◌, ◌^◌, ℕ, min, Bool, true,
 use Rattle.std.specs.List.{count_by}
 use Rattle.session.specs.declared.fault.Ended.{Ended}
 use Rattle.session.specs.declared.fault.SessionFault.{SessionFault}
-use Rattle.session.specs.declared.desk.Streams.{Streams}
+use Rattle.session.specs.declared.session_server.Streams.{Streams}
 use Rattle.workers.specs.declared.served.SessionEnd.{SessionEnd}
 
 -- a session: its client's reader and writer as they were when it ended, or none where the client couldn't be opened; and how it ended

@@ -8,67 +8,67 @@ use Rattle.epochs.specs.ShelfLoads.{ShelfLoaderValue}
 use Rattle.epochs.specs.ShelfSeats.{NoticeValue, ShelfSeatValue}
 use Rattle.epochs.specs.ShelfWords.{shelf_loader, shelf_seats}
 use Rattle.epochs.specs.Words.{LoaderWords, SeatWords}
-use Rattle.shelf_steps.specs.Course.{all_of}
+use Rattle.shelf_steps.specs.EventHistory.{all_of}
 use Rattle.shelf_steps.specs.Events.{known_of}
 use Rattle.shelf_steps.specs.Laws.{Shelved}
-use Rattle.shelf_steps.specs.Ruled.{Ruled}
-use Rattle.workers.specs.Carrying.{AreLoaded, depot_of, loads_value}
+use Rattle.shelf_steps.specs.Rule.{KeepsRule}
+use Rattle.workers.specs.Carrying.{AreLoaded, load_input_of, loads_value}
 use Rattle.workers.specs.Ordering.{AreAllTaken, route_to}
-use Rattle.workers.specs.Sessions.{AreServedSince, posts_at, work_of}
+use Rattle.workers.specs.Sessions.{AreServedSince, worker_starts, work_of}
 use Rattle.workers.specs.Words.{FeedWords, LoadWords, SessionWords, SourceWords}
 use Rattle.workers.specs.declared.outcome.ServingOutcome.{ServingOutcome}
 
 -- what a server is started with
-pub record House (K T S L F : Type 0) : Type 0 where
+pub record ServerInput (K T S L F : Type 0) : Type 0 where
   pub clients : K
   pub shelves : T
   pub seats : List S
   pub loader : L
   pub feeds : F
 
-abbrev pub house_of : {K T S L F : Type 0} → K → T → List S → L → F → House K T S L F
-house_of clients shelves seats loader feeds = record { clients = clients; shelves = shelves; seats = seats; loader = loader; feeds = feeds }
+abbrev pub server_input_of : {K T S L F : Type 0} → K → T → List S → L → F → ServerInput K T S L F
+server_input_of clients shelves seats loader feeds = record { clients = clients; shelves = shelves; seats = seats; loader = loader; feeds = feeds }
 
 -- 1 to 16 seats, and the loader's, may be used at these shelves
-pub record AreReady {K T S L N F : Type 0} (seats : SeatWords T S N) (loader : LoaderWords T L) (house : House K T S L F) : Type 0 where
-  pub fit : All (seats.fits house.shelves) house.seats
-  pub loader_fits : loader.fits house.shelves house.loader
-  pub some : 1 ≤ length house.seats
-  pub few : length house.seats ≤ 16
+pub record AreReady {K T S L N F : Type 0} (seats : SeatWords T S N) (loader : LoaderWords T L) (input : ServerInput K T S L F) : Type 0 where
+  pub fit : All (seats.fits input.shelves) input.seats
+  pub loader_fits : loader.fits input.shelves input.loader
+  pub some : 1 ≤ length input.seats
+  pub few : length input.seats ≤ 16
 
 -- the shelves are those of this name, and 1 to 16 seats and the loader's are theirs
-pub record AreReadyAt {K F : Type 0} (name : TableId) (house : House K TableId ShelfSeatValue ShelfLoaderValue F) : Type 0 where
-  pub named : house.shelves ≡ name
-  pub ready : AreReady shelf_seats shelf_loader house
+pub record AreReadyAt {K F : Type 0} (name : TableId) (input : ServerInput K TableId ShelfSeatValue ShelfLoaderValue F) : Type 0 where
+  pub named : input.shelves ≡ name
+  pub ready : AreReady shelf_seats shelf_loader input
 
 module _ {C R W K T S L N F D : Type 0} where
   -- no further client comes, and what held of their source holds still; and the seats are of the same shelves
-  pub record IsLeft (seats : SeatWords T S N) (loader : LoaderWords T L) (source : SourceWords K C) (house : House K T S L F)
+  pub record IsLeft (seats : SeatWords T S N) (loader : LoaderWords T L) (source : SourceWords K C) (input : ServerInput K T S L F)
       (left : ServingOutcome R W K S L N D) : Type 0 where
     pub none_left : source.none_left left.clients
-    pub holds : (fact : source.Fact) → source.holds house.clients fact → source.holds left.clients fact
-    pub fit : All (seats.fits house.shelves) left.seats.items
-    pub loader_fits : loader.fits house.shelves left.loader
+    pub holds : (fact : source.Fact) → source.holds input.clients fact → source.holds left.clients fact
+    pub fit : All (seats.fits input.shelves) left.seats.items
+    pub loader_fits : loader.fits input.shelves left.loader
 
   -- each client who came meanwhile was dealt to exactly one worker and had one session at its seat, with orders of these feeds
-  abbrev pub AllServed : SessionWords C R W T S N → SourceWords K C → FeedWords F D → House K T S L F → ServingOutcome R W K S L N D → Type 0
-  AllServed words source feeds house left = AreServedSince words (source.came house.clients) (source.came left.clients)
-      (posts_at house.seats (route_to (feeds.named house.feeds) left.orders.queue)) (work_of left.served left.seats.items left.asked)
+  abbrev pub AllServed : SessionWords C R W T S N → SourceWords K C → FeedWords F D → ServerInput K T S L F → ServingOutcome R W K S L N D → Type 0
+  AllServed words source feeds input left = AreServedSince words (source.came input.clients) (source.came left.clients)
+      (worker_starts input.seats (route_to (feeds.named input.feeds) left.orders.queue)) (work_of left.served left.seats.items left.asked)
 
 -- what this worker's seat knows of its shelves and what the loader's seat knows are beginnings of one history, at each moment between two steps at
 -- which both are at one table as they are here
 abbrev pub KnowOneHistory : ShelfLoaderValue → ShelfSeatValue → Type 0
 KnowOneHistory loader seat =
-    (table : Shelved) (i j : ℕ) (r : Ruled table) → get_elem? table.views i ≡ some seat.view → get_elem? table.views j ≡ some loader.view
-    → Grows (known_of seat.view) (all_of r.course) × Grows (known_of loader.view) (all_of r.course)
+    (table : Shelved) (i j : ℕ) (r : KeepsRule table) → get_elem? table.views i ≡ some seat.view → get_elem? table.views j ≡ some loader.view
+    → Grows (known_of seat.view) (all_of r.history) × Grows (known_of loader.view) (all_of r.history)
 
 -- as `IsLeft`, at shelves without a lock; and the histories by which the sessions' profiles are exact and that of what the loader published are one
-abbrev pub IsLeftAt : {C R W K F D : Type 0} → SourceWords K C → House K TableId ShelfSeatValue ShelfLoaderValue F
+abbrev pub IsLeftAt : {C R W K F D : Type 0} → SourceWords K C → ServerInput K TableId ShelfSeatValue ShelfLoaderValue F
     → ServingOutcome R W K ShelfSeatValue ShelfLoaderValue NoticeValue D → Type 0
-IsLeftAt source house left = IsLeft shelf_seats shelf_loader source house left × All (KnowOneHistory left.loader) left.seats.items
+IsLeftAt source input left = IsLeft shelf_seats shelf_loader source input left × All (KnowOneHistory left.loader) left.seats.items
 
 -- the loader took exactly the orders that the sessions put, each once, and carried out each
-pub record AllLoaded {R W K T S L N F D : Type 0} (words : LoadWords F D T L N) (house : House K T S L F) (left : ServingOutcome R W K S L N D)
+pub record AllLoaded {R W K T S L N F D : Type 0} (words : LoadWords F D T L N) (input : ServerInput K T S L F) (left : ServingOutcome R W K S L N D)
     : Type 0 where
   pub taken : AreAllTaken left.asked left.orders
-  pub loaded : AreLoaded (depot_of words house.feeds left.orders.queue) house.loader (loads_value left.orders left.used) left.loader
+  pub loaded : AreLoaded (load_input_of words input.feeds left.orders.queue) input.loader (loads_value left.orders left.used) left.loader

@@ -11,7 +11,7 @@ use Rattle.feed_loader.specs.Refused.{IsLoadRefusal, IsLoaded, IsWantOfMemory}
 use Rattle.feed_loader.specs.declared.fault.LoadFault.{LoadFault}
 use Rattle.feed_loader.specs.declared.plan.Plan.{Plan}
 use Rattle.epochs.specs.FaultNumber.{publish_fault_number}
-use Rattle.load_orders.specs.declared.ways.LoadAnswer.{LoadAnswer}
+use Rattle.load_orders.specs.declared.answer_channels.LoadAnswer.{LoadAnswer}
 use Rattle.epochs.specs.Seats.{PublishStep, RefuseStep, CollectStep}
 use Rattle.epochs.specs.declared.collected.Collected.{Collected}
 use Rattle.epochs.specs.declared.faults.PublishFault.{PublishFault}

@@ -4,7 +4,7 @@ use Rattle.std.specs.Global.{Global}
 use Rattle.handoff.specs.Queue.{IsQueue}
 use Rattle.load_orders.specs.Asking.{HasAsked, OrderRoute, WorkerOrdersValue, route_of}
 use Rattle.load_orders.specs.Keeping.{EndValue, KeeperValue, QueueId}
-use Rattle.load_orders.specs.Telling.{LoaderOrdersValue}
+use Rattle.load_orders.specs.Answering.{LoaderOrdersValue}
 use Rattle.load_orders.specs.declared.queue.Order.{Order}
 use Rattle.workers.specs.declared.shares.RouteTo.{RouteTo}
 

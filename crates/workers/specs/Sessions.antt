@@ -10,33 +10,33 @@ use Rattle.session.specs.Learning.{AreFromPublished, Learns, TellPublished}
 use Rattle.session.specs.declared.fault.Ended.{Ended}
 use Rattle.session.specs.declared.fault.SessionFault.{SessionFault}
 use Rattle.session.specs.Sessions.{LastRelease, Serves, SessionState, state_of}
-use Rattle.session.specs.Turns.{desk_state}
+use Rattle.session.specs.Exchanges.{seat_state}
 use Rattle.workers.specs.Ends.{Session, end_of}
 use Rattle.workers.specs.Ordering.{IsAskedBy}
 use Rattle.workers.specs.Words.{SessionWords}
 use Rattle.workers.specs.declared.clients.ConnFault.{ConnFault}
 use Rattle.workers.specs.declared.served.SessionEnd.{SessionEnd}
-use Rattle.session.specs.declared.desk.Streams.{Streams}
+use Rattle.session.specs.declared.session_server.Streams.{Streams}
 
 -- a seat, and the orders that were asked for at it
-pub record Standing (S : Type 0) : Type 0 where
+pub record WorkerState (S : Type 0) : Type 0 where
   pub seat : S
   pub asked : List OrderValue
 
-abbrev pub standing : {S : Type 0} → S → List OrderValue → Standing S
-standing seat asked = record { seat = seat; asked = asked }
+abbrev pub worker_state : {S : Type 0} → S → List OrderValue → WorkerState S
+worker_state seat asked = record { seat = seat; asked = asked }
 
 -- where a worker begins: at this seat, with orders that go this way
-pub record Post (S N : Type 0) : Type 0 where
+pub record WorkerStart (S N : Type 0) : Type 0 where
   pub seat : S
   pub route : OrderRoute N
 
-abbrev pub post_at : {S N : Type 0} → S → OrderRoute N → Post S N
-post_at seat route = record { seat = seat; route = route }
+abbrev pub worker_start : {S N : Type 0} → S → OrderRoute N → WorkerStart S N
+worker_start seat route = record { seat = seat; route = route }
 
 -- a worker at each of these seats, with orders that all go the same way
-abbrev pub posts_at : {S N : Type 0} → List S → OrderRoute N → List (Post S N)
-posts_at seats route = map (λ seat. post_at seat route) seats
+abbrev pub worker_starts : {S N : Type 0} → List S → OrderRoute N → List (WorkerStart S N)
+worker_starts seats route = map (λ seat. worker_start seat route) seats
 
 -- what a worker leaves: its clients' sessions, its seat, and its orders
 pub record ShareValue (R W S N : Type 0) : Type 0 where
@@ -57,63 +57,63 @@ abbrev pub work_of : {R W S N : Type 0} → List (Session R W) → List S → Li
 work_of sessions seats orders = record { sessions = sessions; seats = seats; orders = orders }
 
 -- a client, and the session that it had
-pub record Visit (C R W : Type 0) : Type 0 where
+pub record ServedClient (C R W : Type 0) : Type 0 where
   pub client : C
   pub session : Session R W
 
-abbrev pub visit_of : {C R W : Type 0} → C → Session R W → Visit C R W
-visit_of client session = record { client = client; session = session }
+abbrev pub served_client_of : {C R W : Type 0} → C → Session R W → ServedClient C R W
+served_client_of client session = record { client = client; session = session }
 
 module _ {C R W T S N : Type 0} (words : SessionWords C R W T S N) where
   -- a session as it begins, over what opening the client gave
-  abbrev pub opened : R × W → Standing S → SessionState
+  abbrev pub opened : R × W → WorkerState S → SessionState
   opened was a = record {
     unread = words.unread was.0;
     written = words.written was.1;
     failed_reads = 0;
     failed_writes = 0;
-    desk = desk_state (words.seats.shown a.seat) a.asked;
+    at_seat = seat_state (words.seats.shown a.seat) a.asked;
   }
 
   -- the client's own reader and writer were opened and served at this seat, and are so now, with only this session's failures counted
-  pub record IsSession (client : C) (visit : Streams R W × SessionEnd) (a b : Standing S) : Type 0 where
+  pub record IsSession (client : C) (served_client : Streams R W × SessionEnd) (a b : WorkerState S) : Type 0 where
     pub was : R × W
     pub opens : words.clients.opens client (Ok was)
     pub result : Result Ended SessionFault
     pub last : SeatValue
-    pub end_is : visit.1 ≡ end_of result
+    pub end_is : served_client.1 ≡ end_of result
     pub released : LastRelease (words.seats.number a.seat) last (words.seats.shown b.seat)
     pub serves : Serves words.form (words.seats.number a.seat) result (opened was a)
-        (state_of words.unread words.written visit.0.reader visit.0.writer (desk_state last b.asked))
+        (state_of words.unread words.written served_client.0.reader served_client.0.writer (seat_state last b.asked))
 
   -- the client couldn't be opened, and nothing was changed
-  pub record IsUnopened (client : C) (end : SessionEnd) (a b : Standing S) : Type 0 where
+  pub record IsUnopened (client : C) (end : SessionEnd) (a b : WorkerState S) : Type 0 where
     pub fault : ConnFault
     pub opens : words.clients.opens client (Err fault)
     pub end_is : end ≡ SessionEnd.Failed
     pub same : b ≡ a
 
   -- the client was served so, or couldn't be opened
-  abbrev pub IsServed : C → Session R W → Standing S → Standing S → Type 0
+  abbrev pub IsServed : C → Session R W → WorkerState S → WorkerState S → Type 0
   IsServed client session a b = MatchOption session.0 (IsUnopened client session.1 a b) (λ now. IsSession client (now, session.1) a b)
 
-  -- as `IsServed`; and each profile in the session's turns, unless memory or a version was wanting, is answered exactly, over the accepted image
+  -- as `IsServed`; and each profile in the session's exchanges, unless memory or a version was wanting, is answered exactly, over the accepted image
   -- that this history published as the version that the reply names
-  abbrev pub IsExact : KnownHistory → Visit C R W → Standing S → Standing S → Type 0
-  IsExact history visit a b = MatchOption visit.session.0 (IsUnopened visit.client visit.session.1 a b)
-      (λ now. (session : IsSession visit.client (now, visit.session.1) a b) × AreFromPublished history words.form session.serves.turns)
+  abbrev pub IsExact : KnownHistory → ServedClient C R W → WorkerState S → WorkerState S → Type 0
+  IsExact history served_client a b = MatchOption served_client.session.0 (IsUnopened served_client.client served_client.session.1 a b)
+      (λ now. (session : IsSession served_client.client (now, served_client.session.1) a b) × AreFromPublished history words.form session.serves.exchanges)
 
   -- the clients are served at this seat one after the other, and each profile in their sessions is answered exactly, as the history has it that the
   -- seat knows in the end
-  abbrev pub AreExact : List C → List (Session R W) → Standing S → Standing S → Type 0
+  abbrev pub AreExact : List C → List (Session R W) → WorkerState S → WorkerState S → Type 0
   AreExact [] [] a b = b ≡ a
   AreExact (client ∷ clients) (session ∷ sessions) a b =
-      (m : Standing S) × IsExact (words.seats.known b.seat) (visit_of client session) a m × AreExact clients sessions m b
+      (m : WorkerState S) × IsExact (words.seats.known b.seat) (served_client_of client session) a m × AreExact clients sessions m b
   AreExact _ _ a b = ⊥
 
   -- a client is served at this seat, which learns meanwhile: each profile is answered over the image that the history published as its version, and
   -- the seat holds nothing then if it held nothing
-  pub record IsServedAt (client : C) (session : Session R W) (a b : Standing S) : Type 0 where
+  pub record IsServedAt (client : C) (session : Session R W) (a b : WorkerState S) : Type 0 where
     pub served : IsServed client session a b
     pub number : words.seats.number b.seat ≡ words.seats.number a.seat
     pub learns : Learns (words.seats.known a.seat) (words.seats.shown a.seat) (words.seats.known b.seat) (words.seats.shown b.seat)
@@ -122,47 +122,47 @@ module _ {C R W T S N : Type 0} (words : SessionWords C R W T S N) where
 
   -- whatever session was served at a seat of these shelves, its reader and its writer may be closed as they are then
   abbrev pub MayClose : T → Type 0
-  MayClose shelves = (client : C) (now : Streams R W) (end : SessionEnd) (a b : Standing S)
+  MayClose shelves = (client : C) (now : Streams R W) (end : SessionEnd) (a b : WorkerState S)
       → words.seats.fits shelves a.seat → words.seats.fits shelves b.seat → IsServedAt client (Some now, end) a b
       → words.clients.closes (inner_of now.reader) (inner_of now.writer) end
 
   -- the clients are served at this seat one after the other, each in one of these sessions
-  abbrev pub AreServed : List C → List (Session R W) → Standing S → Standing S → Type 0
+  abbrev pub AreServed : List C → List (Session R W) → WorkerState S → WorkerState S → Type 0
   AreServed [] [] a b = b ≡ a
   AreServed (client ∷ clients) (session ∷ sessions) a b =
-      (m : Standing S) × IsServedAt client session a m × AreServed clients sessions m b
+      (m : WorkerState S) × IsServedAt client session a m × AreServed clients sessions m b
   AreServed _ _ a b = ⊥
 
   -- a worker's share: the sessions are those of these clients at its seat. If the seat held nothing at first, each profile in them is answered
   -- exactly. All that was ordered in them was asked of these orders, which go the way of this post
-  pub record IsShare (post : Post S N) (clients : List C) (share : ShareValue R W S N) : Type 0 where
-    pub served : AreServed clients share.sessions (standing post.seat []) (standing share.seat share.orders.asked)
-    pub exact : (words.seats.shown post.seat).held ≡ None
-        → AreExact clients share.sessions (standing post.seat []) (standing share.seat share.orders.asked)
-    pub asked : IsAskedBy words.seats.version post.route share.orders
+  pub record IsShare (start : WorkerStart S N) (clients : List C) (share : ShareValue R W S N) : Type 0 where
+    pub served : AreServed clients share.sessions (worker_state start.seat []) (worker_state share.seat share.orders.asked)
+    pub exact : (words.seats.shown start.seat).held ≡ None
+        → AreExact clients share.sessions (worker_state start.seat []) (worker_state share.seat share.orders.asked)
+    pub asked : IsAskedBy words.seats.version start.route share.orders
 
   -- each worker at one of these posts got one hand of the clients, and this is its share
-  abbrev pub AreShares : List (Post S N) → List (List C) → List (ShareValue R W S N) → Type 0
+  abbrev pub AreShares : List (WorkerStart S N) → List (List C) → List (ShareValue R W S N) → Type 0
   AreShares [] [] [] = Unit {0}
-  AreShares (post ∷ posts) (hand ∷ hands) (share ∷ shares) = IsShare post hand share × AreShares posts hands shares
+  AreShares (start ∷ starts) (hand ∷ hands) (share ∷ shares) = IsShare start hand share × AreShares starts hands shares
   AreShares _ _ _ = ⊥
 
   -- the clients are dealt to the workers at these posts, each to one and once; and what the workers leave is each one's share, end to end: one
   -- session for each client
-  pub record AreAllServed (clients : List C) (posts : List (Post S N)) (work : WorkValue R W S N) : Type 0 where
+  pub record AreAllServed (clients : List C) (starts : List (WorkerStart S N)) (work : WorkValue R W S N) : Type 0 where
     pub hands : List (List C)
     pub dealt : IsPermutation clients (flat_map (λ hand. hand) hands)
     pub shares : List (ShareValue R W S N)
-    pub each : AreShares posts hands shares
+    pub each : AreShares starts hands shares
     pub sessions_are : work.sessions ≡ flat_map (λ share. share.sessions) shares
     pub seats_are : work.seats ≡ map (λ share. share.seat) shares
     pub orders_are : work.orders ≡ map (λ share. share.orders) shares
 
   -- all clients by whom the list of those who came grew are served
-  pub record AreServedSince (before after : List C) (posts : List (Post S N)) (work : WorkValue R W S N) : Type 0 where
+  pub record AreServedSince (before after : List C) (starts : List (WorkerStart S N)) (work : WorkValue R W S N) : Type 0 where
     pub clients : List C
     pub came : after ≡ before ++ clients
-    pub all : AreAllServed clients posts work
+    pub all : AreAllServed clients starts work
 
 -- so many workers are out, none is back, and the queue was closed for each
 pub record IsReadyToJoin {C : Type 0} (dealer : DealerView C) (workers : ℕ) : Type 0 where

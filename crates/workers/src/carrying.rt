@@ -3,9 +3,9 @@
 ghost use Rattle.std.specs.Prelude.{◌≡◌, ◌≤◌, ◌∷◌, ◌++◌, [], ℕ, OnOk, Option, Result, length};
 ghost use Rattle.std.specs.Io.KnownBytes.{Appends};
 ghost use Rattle.feed_loader.specs.declared.plan.Plan.{Plan};
-ghost use Rattle.load_orders.specs.Telling.{AnsweredValue};
+ghost use Rattle.load_orders.specs.Answering.{AnsweredValue};
 ghost use Rattle.workers.specs.Carrying.{AreLoaded, FailedAsReported, IsCarriedOut, IsLoadOf};
-ghost use Rattle.workers.specs.Carrying.{depot_of, errand_of, load_value, loads_value};
+ghost use Rattle.workers.specs.Carrying.{load_input_of, handled_order_of, load_value, loads_value};
 ghost use Rattle.workers.specs.Learned.{LoaderGoesOn};
 ghost use Rattle.workers.specs.Lines.{outcome_line};
 ghost use Rattle.workers.specs.Loading.{IsOutcome, load_answer, load_state};
@@ -36,8 +36,8 @@ pub(crate) struct LoadContext<'a, R, T, F> {
 
 impl<'a, R: Wait, N: Drop, T: Versions<Notice = N> + Loads, F: Feeds> LoadContext<'a, R, T, F> {
     /// Carries out the orders that come to the loader's end of their queue, which is new, until no more come: the feed
-    /// of each is loaded once, in turn, and what came of that is sent by the order's own way back. Returns this end,
-    /// the loader's seat, the files that were used, and the error writer.
+    /// of each is loaded once, in turn, and what came of that is sent by the order's own answer channel. Returns this
+    /// end, the loader's seat, the files that were used, and the error writer.
     pub(crate) fn load_all<E: Write>(
         &self,
         mut orders: LoaderOrders<N>,
@@ -49,7 +49,7 @@ impl<'a, R: Wait, N: Drop, T: Versions<Notice = N> + Loads, F: Feeds> LoadContex
         requires none { (orders.taken ≡ []) × (orders.answered ≡ []) × (used ≡ []) }
         ensures loads { T.Loads.words.fits self.now.shelves.now result.1 }
         ensures queue { result.0.queue ≡ orders.queue }
-        ensures loaded { AreLoaded (depot_of (loads_of F.words
+        ensures loaded { AreLoaded (load_input_of (loads_of F.words
             (outcomes_of (files_of F.Files.holds F.Files.reads F.Files.failures F.Files.failed) T.Loads.words
             T.Versions.words.version))
             self.now.feeds.now result.0.queue) seat (loads_value result.0 result.2) result.1 }
@@ -81,10 +81,11 @@ impl<'a, R: Wait, N: Drop, T: Versions<Notice = N> + Loads, F: Feeds> LoadContex
         ensures taken { orders.new.taken ≡ orders.old.taken }
         ensures carried { (answer : AnsweredValue N) × (files : Option (DrawnFiles F.Files N))
             × (orders.new.answered ≡ orders.old.answered ++ answer ∷ []) × (used.new ≡ used.old ++ files ∷ [])
-            × IsCarriedOut (depot_of (loads_of F.words
+            × IsCarriedOut (load_input_of (loads_of F.words
             (outcomes_of (files_of F.Files.holds F.Files.reads F.Files.failures F.Files.failed) T.Loads.words
             T.Versions.words.version))
-            self.now.feeds.now orders.old.queue) (errand_of order orders.old.taken files answer) seat.old seat.new }
+            self.now.feeds.now orders.old.queue) (handled_order_of order orders.old.taken files answer) seat.old
+            seat.new }
     {
         let (answer, files) = self.load_at(order.feed, orders, seat, errors);
         used.note(&files);
@@ -102,7 +103,7 @@ impl<'a, R: Wait, N: Drop, T: Versions<Notice = N> + Loads, F: Feeds> LoadContex
     ) -> (LoadAnswer<N>, Option<DrawnFiles<F::Files, N>>)
         requires { T.Loads.words.fits self.now.shelves.now seat.old }
         ensures seat { LoaderGoesOn T.Loads.words self.now.shelves.now seat.old seat.new }
-        ensures load { IsLoadOf (depot_of (loads_of F.words
+        ensures load { IsLoadOf (load_input_of (loads_of F.words
             (outcomes_of (files_of F.Files.holds F.Files.reads F.Files.failures F.Files.failed) T.Loads.words
             T.Versions.words.version))
             self.now.feeds.now orders.now.queue) (load_value index orders.now.taken result.1

@@ -13,7 +13,7 @@ use crate::loading::{LoadedVersion, load_one};
 use crate::refusal::LoadRefusal;
 use epochs::{Loads, Versions};
 use feed_loader::{FeedFiles, Plan};
-use load_orders::{LoaderOrders, Notes};
+use load_orders::{GhostList, LoaderOrders};
 use std::alloc::Global;
 use std::snapshot::Snapshot;
 
@@ -28,7 +28,7 @@ pub struct DrawnFiles<D, N: Drop> {
 
 /// For each order that was carried out, its feed's files as they were after the load, or none if there is no feed at
 /// the order's index. Only contracts see them.
-pub type UsedFiles<D, N> = Notes<Option<DrawnFiles<D, N>>>;
+pub type UsedFiles<D, N> = GhostList<Option<DrawnFiles<D, N>>>;
 
 impl<D: FeedFiles, N: Drop> DrawnFiles<D, N> {
     /// Draws the files of the feed at the index, while this end of the queue is as given. None only where there is no

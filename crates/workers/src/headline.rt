@@ -2,7 +2,7 @@
 
 ghost use Rattle.std.specs.Prelude.{◌≡◌, [], All, IfOk};
 ghost use Rattle.epochs.specs.Pinned.{PinnedAreLeftAlone};
-ghost use Rattle.workers.specs.Headline.{AllLoaded, AllServed, AreReadyAt, IsLeftAt, KnowOneHistory, house_of};
+ghost use Rattle.workers.specs.Headline.{AllLoaded, AllServed, AreReadyAt, IsLeftAt, KnowOneHistory, server_input_of};
 ghost use Rattle.workers.specs.Sessions.{MayClose};
 ghost use Rattle.epochs.specs.ShelfWords.{shelf_loader, shelf_seats};
 ghost use Rattle.workers.specs.Words.{files_of, loads_of, outcomes_of, sessions_of};
@@ -61,15 +61,15 @@ pub fn run_shelves<
     ServingOutcome<C::Reader, C::Writer, K, ShelfSeat, ShelfLoader, NamedNotice<B>, F::Files>,
     WorkersFault,
 >
-    requires ready { AreReadyAt B.table (house_of clients shelves seats.items loader feeds.now) }
+    requires ready { AreReadyAt B.table (server_input_of clients shelves seats.items loader feeds.now) }
     requires closes { MayClose (sessions_of form C.words C.Reader.remaining C.Writer.contents shelf_seats) shelves }
-    ensures left { IfOk result (IsLeftAt K.words (house_of clients shelves seats.items loader feeds.now)) }
+    ensures left { IfOk result (IsLeftAt K.words (server_input_of clients shelves seats.items loader feeds.now)) }
     ensures served { IfOk result (AllServed (sessions_of form C.words C.Reader.remaining C.Writer.contents shelf_seats)
-        K.words F.words (house_of clients shelves seats.items loader feeds.now)) }
+        K.words F.words (server_input_of clients shelves seats.items loader feeds.now)) }
     ensures loaded { IfOk result (AllLoaded (loads_of F.words
         (outcomes_of (files_of F.Files.holds F.Files.reads F.Files.failures F.Files.failed) shelf_loader
         shelf_seats.version))
-        (house_of clients shelves seats.items loader feeds.now)) }
+        (server_input_of clients shelves seats.items loader feeds.now)) }
     ensures pinned { PinnedAreLeftAlone }
 {
     pinned_images_are_left_alone();
@@ -77,20 +77,20 @@ pub fn run_shelves<
     let seats = named_seats::<B>(alloc, seats)?;
     let shelves = NamedShelves::<B>::of(shelves);
     let loader = NamedLoader::<B>::of(loader);
-    let ran = run_workers(
+    let run_result = run_workers(
         rt, alloc, clients, &shelves, seats, loader, feeds, gate, form, errors,
     )?;
-    let seats = unnamed_seats(ran.seats, room)?;
-    let loader = ran.loader.into_inner();
+    let seats = unnamed_seats(run_result.seats, room)?;
+    let loader = run_result.loader.into_inner();
     know_one_history(&seats, &loader);
     Ok(ServingOutcome {
-        served: ran.served,
-        clients: ran.clients,
+        served: run_result.served,
+        clients: run_result.clients,
         seats,
-        orders: ran.orders,
+        orders: run_result.orders,
         loader,
-        asked: ran.asked,
-        used: ran.used,
+        asked: run_result.asked,
+        used: run_result.used,
     })
 }
 

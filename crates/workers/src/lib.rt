@@ -25,5 +25,5 @@ pub use outcome::ServingOutcome;
 pub use refusal::LoadRefusal;
 pub use running::{WorkersFault, run_workers};
 pub use served::{Served, SessionEnd};
-pub use serving::DeskWorker;
-pub use session::{Desk, PointForm, ReplyForm, Streams};
+pub use serving::SessionWorker;
+pub use session::{PointForm, ReplyForm, SessionServer, Streams};

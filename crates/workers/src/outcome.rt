@@ -2,7 +2,7 @@
 
 use crate::drawing::UsedFiles;
 use crate::served::Served;
-use load_orders::{Notes, UsedLoader, UsedOrders};
+use load_orders::{GhostList, UsedLoader, UsedOrders};
 
 /// What is left once all clients were served.
 #[derive(Drop)]
@@ -18,7 +18,7 @@ pub struct ServingOutcome<R, W, K, S, L, N: Drop, D> {
     /// The loader's seat.
     pub loader: L,
     /// The workers' orders, seat after seat: only contracts see them.
-    pub asked: Notes<UsedOrders<N>>,
+    pub asked: GhostList<UsedOrders<N>>,
     /// The files that the loader used, order after order: only contracts see them.
     pub used: UsedFiles<D, N>,
 }

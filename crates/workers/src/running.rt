@@ -2,10 +2,10 @@
 
 ghost use denote.Param.Send.{IsSend, IsSync};
 ghost use Rattle.std.specs.Prelude.{◌≡◌, ◌++◌, ◌∷◌, [], IfOk, OnOk};
-ghost use Rattle.workers.specs.Carrying.{AreLoaded, depot_of, loads_value};
-ghost use Rattle.workers.specs.Headline.{AllLoaded, AllServed, AreReady, IsLeft, house_of};
+ghost use Rattle.workers.specs.Carrying.{AreLoaded, load_input_of, loads_value};
+ghost use Rattle.workers.specs.Headline.{AllLoaded, AllServed, AreReady, IsLeft, server_input_of};
 ghost use Rattle.workers.specs.Ordering.{route_to};
-ghost use Rattle.workers.specs.Sessions.{IsShare, MayClose, post_at, share_of};
+ghost use Rattle.workers.specs.Sessions.{IsShare, MayClose, worker_start, share_of};
 ghost use Rattle.workers.specs.Words.{files_of, loads_of, outcomes_of, sessions_of};
 
 use crate::carrying::LoadContext;
@@ -14,13 +14,13 @@ use crate::drawing::UsedFiles;
 use crate::feeds::Feeds;
 use crate::outcome::ServingOutcome;
 use crate::served::Served;
-use crate::serving::DeskWorker;
+use crate::serving::SessionWorker;
 use crate::shares::{LoadsAt, RouteTo, Share, ShareAt, close_and_join, deal_and_join};
 use client_queue::client_queue;
 use epochs::{Loads, Versions};
-use load_orders::{LoaderOrders, Notes, UsedOrders, WorkerOrders, order_queue};
+use load_orders::{GhostList, LoaderOrders, UsedOrders, WorkerOrders, order_queue};
 use orders::Gate;
-use session::{Desk, ReplyForm};
+use session::{ReplyForm, SessionServer};
 use std::alloc::{AllocError, Global};
 use std::io::Write;
 use std::sync::Wait;
@@ -72,19 +72,19 @@ where
     T::Notice: Send + Drop,
     requires ready { AreReady
         T.Versions.words T.Loads.words
-        (house_of clients shelves.now seats.items loader feeds.now) }
+        (server_input_of clients shelves.now seats.items loader feeds.now) }
     requires closes { MayClose (sessions_of form C.words C.Reader.remaining C.Writer.contents T.Versions.words)
         shelves.now }
     ensures left { IfOk result (IsLeft
         T.Versions.words T.Loads.words K.words
-        (house_of clients shelves.now seats.items loader feeds.now)) }
+        (server_input_of clients shelves.now seats.items loader feeds.now)) }
     ensures served { IfOk result (AllServed (sessions_of form C.words C.Reader.remaining C.Writer.contents
         T.Versions.words) K.words F.words
-        (house_of clients shelves.now seats.items loader feeds.now)) }
+        (server_input_of clients shelves.now seats.items loader feeds.now)) }
     ensures loaded { IfOk result (AllLoaded (loads_of F.words
         (outcomes_of (files_of F.Files.holds F.Files.reads F.Files.failures F.Files.failed) T.Loads.words
         T.Versions.words.version))
-        (house_of clients shelves.now seats.items loader feeds.now)) }
+        (server_input_of clients shelves.now seats.items loader feeds.now)) }
 {
     thread::scope(
         thread::scope_env(),
@@ -99,21 +99,21 @@ where
                 × IsSend F.Files.row × IsSend E.row
                 × AreReady
                 T.Versions.words T.Loads.words
-                (house_of clients shelves.now seats.items loader feeds.now)
+                (server_input_of clients shelves.now seats.items loader feeds.now)
                 × MayClose (sessions_of form C.words C.Reader.remaining C.Writer.contents T.Versions.words)
                 shelves.now }
             ensures left { IfOk result (IsLeft
                 T.Versions.words T.Loads.words K.words
-                (house_of clients shelves.entry.now seats.items loader feeds.entry.now)) }
+                (server_input_of clients shelves.entry.now seats.items loader feeds.entry.now)) }
             ensures served { IfOk result (AllServed
                 (sessions_of form C.words C.Reader.remaining C.Writer.contents T.Versions.words)
                 K.words F.words
-                (house_of clients shelves.entry.now seats.items loader feeds.entry.now)) }
+                (server_input_of clients shelves.entry.now seats.items loader feeds.entry.now)) }
             ensures loaded { IfOk result (AllLoaded
                 (loads_of F.words (outcomes_of
                 (files_of F.Files.holds F.Files.reads F.Files.failures F.Files.failed) T.Loads.words
                 T.Versions.words.version))
-                (house_of clients shelves.entry.now seats.items loader feeds.entry.now)) }
+                (server_input_of clients shelves.entry.now seats.items loader feeds.entry.now)) }
         {
             let mut dealer = client_queue(alloc)?;
             let room = Vec::with_capacity(alloc, seats.len())?;
@@ -122,7 +122,7 @@ where
             let promise = LoadsAt::<T, F, T::Notice>::of(shelves, &loader_seat, feeds, &orders);
             let route = RouteTo::of(&asks, feeds);
             // Made here, since what a thread returns has to be of types that it captures.
-            let unused = Notes::none();
+            let unused = GhostList::none();
             let started = scope.spawn_with(
                 promise,
                 move || -> (
@@ -133,7 +133,7 @@ where
                     requires { T.Loads.words.fits shelves.now loader_seat × (orders.taken ≡ []) × (orders.answered ≡ [])
                         × (unused ≡ []) }
                     ensures { T.Loads.words.fits shelves.entry.now result.1 × (result.0.queue ≡ orders.queue)
-                        × AreLoaded (depot_of (loads_of F.words
+                        × AreLoaded (load_input_of (loads_of F.words
                         (outcomes_of (files_of F.Files.holds F.Files.reads F.Files.failures F.Files.failed)
                         T.Loads.words T.Versions.words.version))
                         feeds.entry.now result.0.queue) loader_seat (loads_value result.0 result.2) result.1 }
@@ -161,30 +161,30 @@ where
                 let taker = dealer.taker()?;
                 let end = asks.another_end()?;
                 // Made here too.
-                let nobody_yet = Served::new();
+                let none_held_yet = Served::new();
                 let way = RouteTo::of(&end, feeds);
                 let begun = scope.spawn_with(
                     ShareAt::<C, T::Notice, T, F>::of(shelves, &taker, &seat, form, way),
                     move || -> (Share<C, T::Seat>, UsedOrders<T::Notice>)
-                        requires { T.Versions.words.fits shelves.now seat × (taker.taken ≡ []) × (nobody_yet ≡ [])
+                        requires { T.Versions.words.fits shelves.now seat × (taker.taken ≡ []) × (none_held_yet ≡ [])
                             × (end.items ≡ [])
                             × MayClose (sessions_of form C.words C.Reader.remaining C.Writer.contents T.Versions.words)
                             shelves.now }
                         ensures { (result.0.taker.queue ≡ taker.queue)
                             × T.Versions.words.fits shelves.entry.now result.0.seat
                             × IsShare (sessions_of form C.words C.Reader.remaining C.Writer.contents T.Versions.words)
-                            (post_at seat (route_to (F.words.named feeds.entry.now) end.queue))
+                            (worker_start seat (route_to (F.words.named feeds.entry.now) end.queue))
                             result.0.taker.taken (share_of result.0.served result.0.seat result.1) }
                     {
-                        let desk = Desk {
+                        let session_server = SessionServer {
                             alloc,
                             shelves,
                             gate,
                             form,
                         };
                         let orders = WorkerOrders::new(rt, alloc, feeds.names(), shelves, end);
-                        let worker = DeskWorker { rt, desk };
-                        let (share, orders) = worker.work(taker, seat, orders, nobody_yet);
+                        let worker = SessionWorker { rt, session_server };
+                        let (share, orders) = worker.work(taker, seat, orders, none_held_yet);
                         (share, orders.into_used())
                     },
                 );

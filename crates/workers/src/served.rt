@@ -3,7 +3,7 @@
 ghost use Rattle.std.specs.Prelude.{◌≡◌};
 ghost use Rattle.workers.specs.Ends.{end_of as end_of_outcome};
 
-use load_orders::Notes;
+use load_orders::GhostList;
 use session::{Ended, SessionFault, Streams};
 use std::marker::Model;
 
@@ -37,7 +37,7 @@ pub struct Served<R, W> {
     ended: u64,
     failed: u64,
     spent: u64,
-    sessions: Notes<(Option<Streams<R, W>>, SessionEnd)>,
+    sessions: GhostList<(Option<Streams<R, W>>, SessionEnd)>,
 }
 
 impl<R, W> Model for Served<R, W> {
@@ -63,7 +63,7 @@ impl<R, W> Served<R, W> {
             ended: 0,
             failed: 0,
             spent: 0,
-            sessions: Notes::none(),
+            sessions: GhostList::none(),
         }
     }
 

@@ -2,8 +2,8 @@
 
 ghost use Rattle.std.specs.Prelude.{◌≡◌, ◌∷◌, ◌++◌, [], None, IfSome};
 ghost use Rattle.lines.specs.Counting.{inner_of};
-ghost use Rattle.session.specs.Turns.{AgreeOnNotices};
-ghost use Rattle.workers.specs.Sessions.{AreExact, AreServed, IsServedAt, MayClose, standing};
+ghost use Rattle.session.specs.Exchanges.{AgreeOnNotices};
+ghost use Rattle.workers.specs.Sessions.{AreExact, AreServed, IsServedAt, MayClose, worker_state};
 ghost use Rattle.workers.specs.Words.{sessions_of};
 
 use crate::clients::{Client, ConnFault};
@@ -12,17 +12,17 @@ use crate::shares::Share;
 use client_queue::Taker;
 use epochs::Versions;
 use orders::{Gate, Orders};
-use session::{Desk, Streams};
+use session::{SessionServer, Streams};
 use std::sync::Wait;
 
-/// A worker, who serves clients from a desk.
+/// A worker, who serves clients.
 #[derive(Drop)]
-pub struct DeskWorker<'a, R, T, G> {
+pub struct SessionWorker<'a, R, T, G> {
     pub rt: &'a R,
-    pub desk: Desk<'a, T, G>,
+    pub session_server: SessionServer<'a, T, G>,
 }
 
-impl<'a, R: Wait, N: Drop, T: Versions<Notice = N>, G: Gate> DeskWorker<'a, R, T, G> {
+impl<'a, R: Wait, N: Drop, T: Versions<Notice = N>, G: Gate> SessionWorker<'a, R, T, G> {
     /// Serves a client at this seat, and adds its session: the client's reader and writer as they are then, and how it
     /// ended. A client that can't be opened is a session that failed, without a reader and a writer. The session is
     /// returned too.
@@ -33,19 +33,20 @@ impl<'a, R: Wait, N: Drop, T: Versions<Notice = N>, G: Gate> DeskWorker<'a, R, T
         orders: &mut O,
         served: &mut Served<C::Reader, C::Writer>,
     ) -> (Option<Streams<C::Reader, C::Writer>>, SessionEnd)
-        requires fits { T.words.fits self.now.desk.shelves.now seat.old }
+        requires fits { T.words.fits self.now.session_server.shelves.now seat.old }
         requires notices { AgreeOnNotices O.notice_version T.words.version }
-        ensures fits { T.words.fits self.now.desk.shelves.now seat.new }
+        ensures fits { T.words.fits self.now.session_server.shelves.now seat.new }
         ensures route { O.route orders.new ≡ O.route orders.old }
         ensures served { served.new ≡ served.old ++ result ∷ [] }
-        ensures session { IsServedAt (sessions_of self.now.desk.form C.words C.Reader.remaining C.Writer.contents
+        ensures session { IsServedAt (sessions_of self.now.session_server.form C.words C.Reader.remaining
+            C.Writer.contents
             T.words)
-            client result (standing seat.old (O.asked orders.old)) (standing seat.new (O.asked orders.new)) }
+            client result (worker_state seat.old (O.asked orders.old)) (worker_state seat.new (O.asked orders.new)) }
     {
         match client.open() {
             Ok((reader, writer)) => {
                 let mut streams = Streams::new(reader, writer);
-                let outcome = self.desk.serve(&mut streams, seat, orders);
+                let outcome = self.session_server.serve(&mut streams, seat, orders);
                 let session = (Some(streams), end_of(outcome));
                 served.add(&session);
                 session
@@ -68,21 +69,23 @@ impl<'a, R: Wait, N: Drop, T: Versions<Notice = N>, G: Gate> DeskWorker<'a, R, T
         mut orders: O,
         mut served: Served<C::Reader, C::Writer>,
     ) -> (Share<C, T::Seat>, O)
-        requires fits { T.words.fits self.now.desk.shelves.now seat }
+        requires fits { T.words.fits self.now.session_server.shelves.now seat }
         requires notices { AgreeOnNotices O.notice_version T.words.version }
         requires none { (taker.taken ≡ []) × (served ≡ []) }
-        requires closes { MayClose (sessions_of self.now.desk.form C.words C.Reader.remaining C.Writer.contents T.words)
-            self.now.desk.shelves.now }
-        ensures fits { T.words.fits self.now.desk.shelves.now result.0.seat }
+        requires closes { MayClose (sessions_of self.now.session_server.form C.words C.Reader.remaining
+            C.Writer.contents T.words)
+            self.now.session_server.shelves.now }
+        ensures fits { T.words.fits self.now.session_server.shelves.now result.0.seat }
         ensures queue { result.0.taker.queue ≡ taker.queue }
         ensures route { O.route result.1 ≡ O.route orders }
-        ensures served { AreServed (sessions_of self.now.desk.form C.words C.Reader.remaining C.Writer.contents T.words)
+        ensures served { AreServed (sessions_of self.now.session_server.form C.words C.Reader.remaining
+            C.Writer.contents T.words)
             result.0.taker.taken result.0.served
-            (standing seat (O.asked orders)) (standing result.0.seat (O.asked result.1)) }
+            (worker_state seat (O.asked orders)) (worker_state result.0.seat (O.asked result.1)) }
         ensures exact { (T.words.shown seat).held ≡ None → AreExact
-            (sessions_of self.now.desk.form C.words C.Reader.remaining C.Writer.contents T.words)
+            (sessions_of self.now.session_server.form C.words C.Reader.remaining C.Writer.contents T.words)
             result.0.taker.taken result.0.served
-            (standing seat (O.asked orders)) (standing result.0.seat (O.asked result.1)) }
+            (worker_state seat (O.asked orders)) (worker_state result.0.seat (O.asked result.1)) }
     {
         for _ in self.rt.forever() {
             match taker.next(self.rt) {

@@ -2,9 +2,9 @@
 
 ghost use Rattle.std.specs.Prelude.{◌≡◌, ◌≤◌, [], All, IsPermutation, length, map, IfOk, IfSome};
 ghost use Rattle.client_queue.specs.Ends.{nothing_put};
-ghost use Rattle.workers.specs.Carrying.{AreLoaded, depot_of, loads_value};
+ghost use Rattle.workers.specs.Carrying.{AreLoaded, load_input_of, loads_value};
 ghost use Rattle.workers.specs.Ordering.{GoesBy, IsKeeperOf, put_by, route_to};
-ghost use Rattle.workers.specs.Sessions.{AreAllServed, AreServedSince, IsReadyToJoin, posts_at, work_of};
+ghost use Rattle.workers.specs.Sessions.{AreAllServed, AreServedSince, IsReadyToJoin, worker_starts, work_of};
 ghost use Rattle.workers.specs.Words.{files_of, loads_of, outcomes_of, sessions_of};
 
 use crate::clients::{Client, Clients};
@@ -16,7 +16,7 @@ use crate::served::Served;
 use client_queue::{Dealer, Taker};
 use epochs::{Loads, Versions};
 use feed_loader::FeedFiles;
-use load_orders::{LoaderOrders, Notes, OrderEnd, OrderKeeper, UsedLoader, UsedOrders};
+use load_orders::{GhostList, LoaderOrders, OrderEnd, OrderKeeper, UsedLoader, UsedOrders};
 use session::ReplyForm;
 use std::snapshot::Snapshot;
 use std::sync::Wait;
@@ -92,13 +92,13 @@ impl<C: Client + Drop, S, N: Drop, T: Versions<Seat = S, Notice = N>, F: Feeds> 
 > for ShareAt<C, N, T, F> {
     ghost use Rattle.std.specs.Prelude.{◌≡◌};
     ghost use Rattle.workers.specs.Ordering.{route_to};
-    ghost use Rattle.workers.specs.Sessions.{IsShare, post_at, share_of};
+    ghost use Rattle.workers.specs.Sessions.{IsShare, worker_start, share_of};
     ghost use Rattle.workers.specs.Words.{sessions_of};
 
     ghost kept_by = { λ promise done. (done.0.taker.queue ≡ promise.taker.value.queue)
         × T.words.fits promise.shelves.value done.0.seat
         × IsShare (sessions_of promise.form C.words C.Reader.remaining C.Writer.contents T.words)
-        (post_at promise.seat.value
+        (worker_start promise.seat.value
         (route_to (F.words.named promise.route.feeds.value) promise.route.end.value.queue))
         done.0.taker.taken (share_of done.0.served done.0.seat done.1) };
 }
@@ -143,12 +143,12 @@ impl<
     F: Feeds<Files = D>,
 > Promise<(LoaderOrders<N>, L, UsedFiles<D, N>)> for LoadsAt<T, F, N> {
     ghost use Rattle.std.specs.Prelude.{◌≡◌};
-    ghost use Rattle.workers.specs.Carrying.{AreLoaded, depot_of, loads_value};
+    ghost use Rattle.workers.specs.Carrying.{AreLoaded, load_input_of, loads_value};
     ghost use Rattle.workers.specs.Words.{files_of, loads_of, outcomes_of};
 
     ghost kept_by = { λ promise done. T.Loads.words.fits promise.shelves.value done.1
         × (done.0.queue ≡ promise.orders.value.queue)
-        × AreLoaded (depot_of (loads_of F.words
+        × AreLoaded (load_input_of (loads_of F.words
         (outcomes_of (files_of D.holds D.reads D.failures D.failed) T.Loads.words T.Versions.words.version))
         promise.feeds.value done.0.queue) promise.seat.value (loads_value done.0 done.2) done.1 };
 }
@@ -179,7 +179,7 @@ pub(crate) fn deal_and_join<
         K,
         Served<C::Reader, C::Writer>,
         Vec<S>,
-        Notes<UsedOrders<N>>,
+        GhostList<UsedOrders<N>>,
     ),
     WorkersFault,
 >
@@ -191,15 +191,17 @@ pub(crate) fn deal_and_join<
     requires out { dealer.view ≡ record nothing_put { out = length workers.items } }
     requires room { room.items ≡ [] }
     requires keeper { IsKeeperOf route.end.value.queue [] (length workers.items) asks.old }
-    ensures back { IfOk result (λ ran. IsKeeperOf route.end.value.queue (put_by ran.3) 0 asks.new) }
-    ensures none_left { IfOk result (λ ran. K.words.none_left ran.0) }
-    ensures holds { IfOk result (λ ran. (fact : K.words.Fact) → K.words.holds clients fact → K.words.holds ran.0 fact) }
-    ensures fits { IfOk result (λ ran. All (T.words.fits shelves.now) ran.2.items) }
-    ensures served { IfOk result (λ ran. AreServedSince
+    ensures back { IfOk result (λ run_result. IsKeeperOf route.end.value.queue (put_by run_result.3) 0 asks.new) }
+    ensures none_left { IfOk result (λ run_result. K.words.none_left run_result.0) }
+    ensures holds { IfOk result (λ run_result. (fact : K.words.Fact) → K.words.holds clients fact
+        → K.words.holds run_result.0 fact) }
+    ensures fits { IfOk result (λ run_result. All (T.words.fits shelves.now) run_result.2.items) }
+    ensures served { IfOk result (λ run_result. AreServedSince
         (sessions_of form C.words C.Reader.remaining C.Writer.contents T.words) (K.words.came clients)
-        (K.words.came ran.0)
-        (posts_at (map (λ worker. worker.promise.seat.value) workers.items)
-        (route_to (F.words.named route.feeds.value) route.end.value.queue)) (work_of ran.1 ran.2.items ran.3)) }
+        (K.words.came run_result.0)
+        (worker_starts (map (λ worker. worker.promise.seat.value) workers.items)
+        (route_to (F.words.named route.feeds.value) route.end.value.queue))
+        (work_of run_result.1 run_result.2.items run_result.3)) }
 {
     let source = deal_all(rt, clients, &mut dealer, workers.len());
     match join_workers(rt, shelves, form, dealer, workers, room, asks, route) {
@@ -226,7 +228,14 @@ fn join_workers<
     room: Vec<S>,
     asks: &mut OrderKeeper<N>,
     route: RouteTo<OrderKeeper<N>, F>,
-) -> Result<(Served<C::Reader, C::Writer>, Vec<S>, Notes<UsedOrders<N>>), WorkersFault>
+) -> Result<
+    (
+        Served<C::Reader, C::Writer>,
+        Vec<S>,
+        GhostList<UsedOrders<N>>,
+    ),
+    WorkersFault,
+>
     requires shelves { All (λ worker. worker.promise.shelves.value ≡ shelves.now) workers.items }
     requires forms { All (λ worker. worker.promise.form ≡ form) workers.items }
     requires queues { All (λ worker. worker.promise.taker.value.queue ≡ dealer.queue) workers.items }
@@ -239,13 +248,13 @@ fn join_workers<
     ensures fits { IfOk result (λ joined. All (T.words.fits shelves.now) joined.1.items) }
     ensures served { IfOk result (λ joined. AreAllServed
         (sessions_of form C.words C.Reader.remaining C.Writer.contents T.words) dealer.view.sent
-        (posts_at (map (λ worker. worker.promise.seat.value) workers.items)
+        (worker_starts (map (λ worker. worker.promise.seat.value) workers.items)
         (route_to (F.words.named route.feeds.value) route.end.value.queue))
         (work_of joined.0 joined.1.items joined.2)) }
 {
     let mut served = Served::new();
     let mut seats = room;
-    let mut orders = Notes::none();
+    let mut orders = GhostList::none();
     for worker in workers {
         let (
             Share {
@@ -290,7 +299,7 @@ pub(crate) fn close_and_join<
     ensures all { IfSome result (λ done. IsPermutation asks.put done.0.taken) }
     ensures queue { IfSome result (λ done. done.0.queue ≡ asks.queue) }
     ensures loads { IfSome result (λ done. T.Loads.words.fits loading.promise.shelves.value done.1) }
-    ensures loaded { IfSome result (λ done. AreLoaded (depot_of (loads_of F.words
+    ensures loaded { IfSome result (λ done. AreLoaded (load_input_of (loads_of F.words
         (outcomes_of (files_of D.holds D.reads D.failures D.failed) T.Loads.words T.Versions.words.version))
         loading.promise.feeds.value done.0.queue) loading.promise.seat.value (loads_value done.0 done.2) done.1) }
 {

@@ -6,9 +6,9 @@ pub returns-in-Ok : goal.returns-in-Ok
 returns-in-Ok g c =
     let may_hold = g.H.ImageDisk.may_hold c.args.rt.now in
     let input = g.I.Read.remaining c.args.input.now in
-    let ran = c.run.ensures in
+    let run_result = c.run.ensures in
     table_over may_hold (g.H.OutDisk.files c.args.rt.now) input c.args.request _ _ c.in-Ok.image _ _ c.in-Ok.ensures.image c.in-Ok.ensures.silent
-    ran.status ran.printed ran.refused ran.unlisted ran.cut ran.silent
+    run_result.status run_result.printed run_result.refused run_result.unlisted run_result.cut run_result.silent
 
 pub returns-in-Err : goal.returns-in-Err
 returns-in-Err g c =

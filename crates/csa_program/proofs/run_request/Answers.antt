@@ -10,8 +10,8 @@ returns-in-Matrix g c =
     let may_hold = g.H.ImageDisk.may_hold c.args.rt.now in
     let input = g.I.Read.remaining c.args.input.now in
     let before = g.O.Write.contents c.args.output.now in
-    let ran = c.matrix_over in
-    let after = g.O.Write.contents ran.new.output in
+    let run_result = c.matrix_over in
+    let after = g.O.Write.contents run_result.new.output in
     let asks : c.args.request ≡ Matrix c.in-Matrix.request = search rules in
-    subst (λ (asked : CommandRequest). IsEnd may_hold g.H.Disk.gives (g.H.OutDisk.files c.args.rt.now) input asked ran.result before after) (sym asks)
-    ran.ensures
+    subst (λ (asked : CommandRequest). IsEnd may_hold g.H.Disk.gives (g.H.OutDisk.files c.args.rt.now) input asked run_result.result before after) (sym asks)
+    run_result.ensures

@@ -1,14 +1,14 @@
 //! A counter: the length of a list that only contracts see.
 
 ghost use Rattle.std.specs.Prelude.{◌≡◌, ◌+◌, ◌<◌, ◌^◌, ◌++◌, ◌∷◌, [], List, length};
-ghost use Rattle.reasoning.specs.declared.tests.counter.Event.TheVariants.{Look};
-ghost use Rattle.reasoning.specs.declared.tests.counter.Event.{Event};
+ghost use Rattle.reasoning.specs.declared.tests.counter.CounterEvent.TheVariants.{Look};
+ghost use Rattle.reasoning.specs.declared.tests.counter.CounterEvent.{CounterEvent};
 
 use crate::Trace;
 use std::marker::Model;
 
 #[derive(Drop)]
-pub enum Event {
+pub enum CounterEvent {
     Look { worker: u64 },
 }
 
@@ -16,11 +16,11 @@ pub enum Event {
 #[derive(Drop)]
 pub struct Counter {
     count: u64,
-    events: Trace<Event>,
+    events: Trace<CounterEvent>,
 }
 
 impl Model for Counter {
-    ghost Value = { List Event };
+    ghost Value = { List CounterEvent };
 
     ghost view = { λ c. c.events };
 
@@ -47,7 +47,7 @@ impl Counter {
         requires { length self.old + 1 < 2 ^ 64 }
         ensures { self.new ≡ self.old ++ Look worker ∷ [] }
     {
-        self.events.note(&Event::Look { worker });
+        self.events.note(&CounterEvent::Look { worker });
         self.count += 1;
     }
 

@@ -9,12 +9,12 @@ use std::thread;
 use std::thread::Threads;
 
 #[derive(Drop)]
-pub struct Share<T> {
+pub struct CounterShare<T> {
     count: u64,
     ends: Trace<T>,
 }
 
-impl<T> Model for Share<T> {
+impl<T> Model for CounterShare<T> {
     ghost Value = { List T };
 
     ghost view = { λ s. s.ends };
@@ -22,11 +22,11 @@ impl<T> Model for Share<T> {
     ghost invariant = { λ s. s.count ≡ min (length s.ends) (2 ^ 64 - 1) };
 }
 
-impl<T> Share<T> {
-    pub fn new() -> Share<T>
+impl<T> CounterShare<T> {
+    pub fn new() -> CounterShare<T>
         ensures { result ≡ [] }
     {
-        Share {
+        CounterShare {
             count: 0,
             ends: Trace::new(),
         }
@@ -45,25 +45,25 @@ impl<T> Share<T> {
         self.ends.note(end);
     }
 
-    pub fn put_together(&mut self, other: Share<T>)
+    pub fn put_together(&mut self, other: CounterShare<T>)
         ensures { self.new ≡ self.old ++ other }
     {
-        let Share { count, ends } = other;
+        let CounterShare { count, ends } = other;
         self.count = self.count.saturating_add(count);
         self.ends.append(ends);
     }
 }
 
-fn one_end(end: u64) -> Share<u64>
+fn one_end(end: u64) -> CounterShare<u64>
     ensures { result ≡ end ∷ [] }
 {
-    let mut share = Share::new();
+    let mut share = CounterShare::new();
     share.end(&end);
     share
 }
 
 // No byte of the list goes from one thread to the other, yet contracts know it there.
-fn two_workers<R: Threads>(rt: &R, first: u64, second: u64) -> Share<u64>
+fn two_workers<R: Threads>(rt: &R, first: u64, second: u64) -> CounterShare<u64>
     ensures { result ≡ first ∷ second ∷ [] }
 {
     let (mut share, other) = thread::join(rt, move || one_end(first), move || one_end(second));
@@ -75,5 +75,5 @@ fn two_workers<R: Threads>(rt: &R, first: u64, second: u64) -> Share<u64>
 fn shares_cross_threads(rt: HostRuntime) {
     let share = two_workers(&rt, 7, 8);
     assert_eq!(rt; share.count(), 2);
-    assert_eq!(rt; size_of::<Share<u64>>(), 8);
+    assert_eq!(rt; size_of::<CounterShare<u64>>(), 8);
 }

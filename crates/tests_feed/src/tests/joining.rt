@@ -100,7 +100,7 @@ stop_times.txt: first,08:10:00,08:09:00,A,1|first,08:20:00,,B,2
 stop_times.txt: first,08:00:00,,A,1|first,,,B,2|first,08:00:01,,C,3
 > 14 HopWithoutDuration stop_times.txt 2";
 
-// Feeds with two faults, of which the first is told.
+// Feeds with two faults, of which the first is reported.
 const FIRST_FAULTS: &str = "
 = loose: the sequence of a trip before its times
 stop_times.txt: first,08:10:00,,A,1|first,08:00:00,,B,2|first,08:30:00,,C,2

@@ -1,4 +1,4 @@
-//! Images with one fault, and with several: the first fault is told.
+//! Images with one fault, and with several: the first fault is reported.
 
 use crate::tests::transcript::try_transcripts;
 use std::test::Fail;
@@ -167,7 +167,7 @@ word 37 1 | refused 75 BadNames 0
 word 45 1413694207 | refused 75 BadNames 0
 word 46 20075569 | refused 75 BadNames 5
 
-# Stops and footpaths alone. Several ways are open in the first four: the one with the least last stop is told, then with the least middle one, then
+# Stops and footpaths alone. Several ways are open in the first four: the one with the least last stop is reported, then with the least middle one, then
 # with the least first one.
 # 1 to 0, 2 to 1 and 0 to 2: each two want a third.
 image 1346458435 1 3 0 0 6 0 0 0 0 2 4 6 0 0 1 5 1 0 2 5 0 5 2 0 0 0 0 0
@@ -224,7 +224,7 @@ answers ok stops 3 trips 2 connections 3 footpaths 3
 ";
 
 const FILES: &str = "
-# Of a file the same faults are told as of the input, which is the sample at each of these commands.
+# Of a file the same faults are reported as of the input, which is the sample at each of these commands.
 # Of the sample's bytes all but one, and all but a word.
 sample
 cut 187

@@ -163,7 +163,7 @@ prints dep 08:00:00 arr 08:30:00 trips 1 walked 0 : ride 0 1
 prints dep 08:08:00 arr 08:30:00 trips 1 walked 120 : walk 0 1 120 ride 1 1
 answers points 3 read 3 walk none
 
-# Footpaths of a minute from A to B and from B to C, and of two from A to C: the direct one is told beside the answer, and takes nothing out of it.
+# Footpaths of a minute from A to B and from B to C, and of two from A to C: the direct one is reported beside the answer, and takes nothing out of it.
 image 1346458435 1 3 2 3 6 7 1705276800 0 0 1 28800 29400 0 3 1 2 29400 30600 0 3 1 2 29520 30000 1 3 0 1 3 6 0 0 0 60 1 0 0 120 1 60 2 0 0 1 2 3 5 7 20240115 20240115 1413694017 3298353
 profile A C 07:00:00 09:00:00 10:00:00 arrival
 prints dep 08:00:00 arr 08:11:00 : ride 0 0 walk 1 2 60

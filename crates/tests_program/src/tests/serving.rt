@@ -1,5 +1,5 @@
-//! `csa serve`: what is told about wrong words. How it serves is tested with the built program (`.ci/server`), and in
-//! the tests of workers.
+//! `csa serve`: what is reported about wrong words. How it serves is tested with the built program (`.ci/server`), and
+//! in the tests of workers.
 
 use crate::tests::transcript::try_transcripts;
 use std::alloc::{AllocError, Global};

@@ -1,4 +1,4 @@
-//! `csa tables` over folders: a small feed, and what is told about changes to it.
+//! `csa tables` over folders: a small feed, and what is reported about changes to it.
 
 use crate::tests::transcript::try_transcripts;
 use std::test::Fail;

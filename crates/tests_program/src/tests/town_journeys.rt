@@ -1,4 +1,4 @@
-//! Journeys over a town of four stops, with one fault and with two: the first fault is told.
+//! Journeys over a town of four stops, with one fault and with two: the first fault is reported.
 
 use crate::tests::transcript::try_transcripts;
 use std::test::Fail;
@@ -54,7 +54,7 @@ judge B C 00:00:00 00:01:30 00:05:10 ride 0 2 walk 2 2 0 | refused 82 TwoTrips 0
 judge B D 00:00:00 00:16:40 00:33:20 ride 0 0 ride 1 4 | refused 82 TwoTrips 1
 judge A C 00:00:00 00:01:30 00:05:10 ride 0 2 | refused 82 TwoTrips 0
 
-# Two faults: the first is told.
+# Two faults: the first is reported.
 judge B C 00:00:00 00:16:40 00:05:10 ride 2 2 walk 2 2 0 | refused 83 NoBoarding 0
 judge B D 00:00:00 00:01:30 00:33:20 ride 0 0 ride 2 3 | refused 83 NoBoarding 1
 judge A C 00:00:00 00:16:40 00:05:10 ride 2 2 | refused 83 NoBoarding 0

@@ -346,7 +346,8 @@ fn write_rows<R: Machine>(rt: &R, text: &str) -> Result<(), Fail> {
     write(rt, path, rows.as_bytes())
 }
 
-/// Adds a line for each number from one to another to the file that was made last, or to the lines that must be told.
+/// Adds a line for each number from one to another to the file that was made last, or to the lines that must be
+/// reported.
 fn count<R: Machine>(rt: &R, stage: &mut Stage<'_>, text: &str) -> Result<(), Fail> {
     let Some((from, rest)) = text.split_once(' ') else {
         return Err(Fail::new("two numbers, a word and a text"));
@@ -494,8 +495,8 @@ fn is_plain_tables(words: &[&str]) -> bool {
     }
 }
 
-/// Asserts that with `--all-faults` the command prints the same and ends with the same status, and that what it told
-/// comes first; and that it tells nothing if it told nothing.
+/// Asserts that with `--all-faults` the command prints the same and ends with the same status, and that what it printed
+/// comes first; and that it prints nothing more if it printed nothing.
 fn compare_all_faults<
     R: Machine
         + ImageDisk<Image = R::File>

@@ -74,7 +74,7 @@ fn times_of(image: &Verified, query: &Query, journey: &Journey) -> Result<Times,
     Ok(times)
 }
 
-/// When the point at an index departs, and what is told of its value.
+/// When the point at an index departs, and what is reported of its value.
 fn figures_at<C: ShowsFigures>(criterion: &C, found: &Found<C>, index: usize) -> (u32, Figures)
     requires { index < length (listed found.now) }
 {
@@ -82,7 +82,7 @@ fn figures_at<C: ShowsFigures>(criterion: &C, found: &Found<C>, index: usize) ->
     (point.departure, criterion.figures_of(&point.value))
 }
 
-/// Whether a journey that arrives at this time has this value: its trips, if they are told, are its rides.
+/// Whether a journey that arrives at this time has this value: its trips, if they are reported, are its rides.
 pub fn is_worth(journey: &Journey, arrival: u32, figures: Figures) -> bool {
     let are_reported = match figures.trips {
         Some(trips) => trips as usize == journey.rides.len(),

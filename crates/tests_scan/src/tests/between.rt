@@ -3,7 +3,7 @@
 use super::images::image;
 use criteria::{Arrival, ShowsFigures};
 use image_verifier::Verified;
-use profile_scan::{Between, FoundBetween, profile_between};
+use profile_scan::{FoundBetween, SetQuery, profile_between};
 use sources::InPlace;
 use station_answers::check_between;
 use std::alloc::{AllocError, Global};
@@ -16,8 +16,8 @@ fn between(
     sources: &[u32],
     targets: &[u32],
     window: [u32; 3],
-) -> Result<Between, AllocError> {
-    Ok(Between {
+) -> Result<SetQuery, AllocError> {
+    Ok(SetQuery {
         sources: sources.to_vec(alloc)?,
         targets: targets.to_vec(alloc)?,
         from: window[0],
@@ -30,7 +30,7 @@ fn between(
 fn found_between(
     alloc: Global,
     image: &Verified,
-    asked: &Between,
+    asked: &SetQuery,
 ) -> Result<FoundBetween<Arrival>, Fail> {
     match check_between(asked, image.stops()) {
         Ok(()) => Ok(profile_between(alloc, &mut InPlace::new(image), &Arrival, asked)?),

@@ -8,7 +8,7 @@ use criteria::{Arrival, ArrivalTrips, ArrivalTripsWalk, Figures, ShowsFigures};
 use image_layout::{sample_words, second_sample_words};
 use image_verifier::Verified;
 use journeys::{Answer, Departure, answer_query, check};
-use profile_scan::Between;
+use profile_scan::SetQuery;
 use sources::InPlace;
 use station_answers::{answer_between, answer_by_targets, check_between, direct_walk};
 use std::alloc::{AllocError, Global};
@@ -16,10 +16,10 @@ use std::process::Abort;
 use std::test::*;
 use timetable::{Footpath, Query, QueryFault};
 
-/// What is told of a best departure.
+/// What is reported of a best departure.
 type Shown = (u32, Figures);
 
-/// Whether a departure leaves no earlier than another, and is as good in all that is told.
+/// Whether a departure leaves no earlier than another, and is as good in all that is reported.
 fn dominates(shown: Shown, other: Shown) -> bool {
     shown.0 >= other.0
         && shown.1.arrival <= other.1.arrival
@@ -27,7 +27,7 @@ fn dominates(shown: Shown, other: Shown) -> bool {
         && is_at_most(shown.1.walked, other.1.walked)
 }
 
-/// Whether a number is at most another, if they are told.
+/// Whether a number is at most another, if they are reported.
 fn is_at_most(number: Option<u32>, other: Option<u32>) -> bool {
     match (number, other) {
         (Some(number), Some(other)) => number <= other,
@@ -35,7 +35,7 @@ fn is_at_most(number: Option<u32>, other: Option<u32>) -> bool {
     }
 }
 
-/// Adds what is told of the departures of an answer.
+/// Adds what is reported of the departures of an answer.
 fn add_shown<C: ShowsFigures>(
     criterion: &C,
     answer: &Answer<C>,
@@ -48,7 +48,7 @@ fn add_shown<C: ShowsFigures>(
 }
 
 /// The query between two stops with the times of a question.
-fn pair_of(asked: &Between, source: u32, target: u32) -> Query {
+fn pair_of(asked: &SetQuery, source: u32, target: u32) -> Query {
     Query {
         source,
         target,
@@ -58,12 +58,12 @@ fn pair_of(asked: &Between, source: u32, target: u32) -> Query {
     }
 }
 
-/// What is told of the departures of all pairs. Notes the least direct walk.
+/// What is reported of the departures of all pairs. Notes the least direct walk.
 fn shown_of_pairs<C: ShowsFigures>(
     alloc: Global,
     image: &Verified,
     criterion: &C,
-    asked: &Between,
+    asked: &SetQuery,
     walk: &mut Option<u32>,
 ) -> Result<Vec<Shown>, Fail> {
     let mut all = Vec::new(alloc);
@@ -108,11 +108,11 @@ fn count_standing(all: &[Shown]) -> usize {
     count
 }
 
-/// Whether a departure's journey counts for some pair, and is worth what is told.
+/// Whether a departure's journey counts for some pair, and is worth what is reported.
 fn is_attained<C: ShowsFigures>(
     image: &Verified,
     criterion: &C,
-    asked: &Between,
+    asked: &SetQuery,
     departure: &Departure<C::V>,
 ) -> bool {
     for source in &asked.sources {
@@ -133,7 +133,7 @@ fn assert_merged<C: ShowsFigures>(
     rt: &impl Abort,
     image: &Verified,
     criterion: &C,
-    asked: &Between,
+    asked: &SetQuery,
     answer: &Answer<C>,
     all: &[Shown],
 ) {
@@ -167,7 +167,7 @@ fn answer_of<C: ShowsFigures>(
     alloc: Global,
     image: &Verified,
     criterion: &C,
-    asked: &Between,
+    asked: &SetQuery,
 ) -> Result<Answer<C>, Fail> {
     match check_between(asked, image.stops()) {
         Ok(()) => Ok(answer_between(alloc, &mut InPlace::new(image), criterion, asked)?),
@@ -181,7 +181,7 @@ fn assert_as_by_targets<C: ShowsFigures>(
     alloc: Global,
     image: &Verified,
     criterion: &C,
-    asked: &Between,
+    asked: &SetQuery,
     answer: &Answer<C>,
 ) -> Result<(), Fail> {
     let other = answer_by_each_target(alloc, image, criterion, asked)?;
@@ -198,7 +198,7 @@ fn answer_by_each_target<C: ShowsFigures>(
     alloc: Global,
     image: &Verified,
     criterion: &C,
-    asked: &Between,
+    asked: &SetQuery,
 ) -> Result<Answer<C>, Fail> {
     match check_between(asked, image.stops()) {
         Ok(()) => Ok(answer_by_targets(alloc, &mut InPlace::new(image), criterion, asked)?),
@@ -212,7 +212,7 @@ fn assert_question<C: ShowsFigures>(
     alloc: Global,
     image: &Verified,
     criterion: &C,
-    asked: &Between,
+    asked: &SetQuery,
 ) -> Result<(), Fail> {
     let mut walk = None;
     let all = shown_of_pairs(alloc, image, criterion, asked, &mut walk)?;
@@ -224,7 +224,7 @@ fn assert_question<C: ShowsFigures>(
 }
 
 /// Random stops: which are sources, which are targets. There may be none of either.
-fn random_question(alloc: Global, dice: &mut Dice, stops: u32) -> Result<Between, AllocError> {
+fn random_question(alloc: Global, dice: &mut Dice, stops: u32) -> Result<SetQuery, AllocError> {
     let (mut sources, mut targets) = (Vec::new(alloc), Vec::new(alloc));
     for stop in 0..stops {
         match dice.roll(3) {
@@ -234,7 +234,7 @@ fn random_question(alloc: Global, dice: &mut Dice, stops: u32) -> Result<Between
         }
     }
     let from = 28800 + 60 * dice.roll(20);
-    Ok(Between {
+    Ok(SetQuery {
         sources,
         targets,
         from,
@@ -248,7 +248,7 @@ fn assert_criteria(
     rt: &impl Abort,
     alloc: Global,
     image: &Verified,
-    asked: &Between,
+    asked: &SetQuery,
 ) -> Result<(), Fail> {
     assert_question(rt, alloc, image, &Arrival, asked)?;
     assert_question(rt, alloc, image, &ArrivalTrips, asked)?;
@@ -271,8 +271,8 @@ fn as_the_pairs_merged_over_random_images(rt: HostRuntime) -> Result<(), Fail> {
 }
 
 /// The question from some stops to others, from 07:00:00 until 09:00:00, by 10:00:00.
-fn between(alloc: Global, from: &[u32], to: &[u32]) -> Result<Between, AllocError> {
-    Ok(Between {
+fn between(alloc: Global, from: &[u32], to: &[u32]) -> Result<SetQuery, AllocError> {
+    Ok(SetQuery {
         sources: from.to_vec(alloc)?,
         targets: to.to_vec(alloc)?,
         from: 25200,

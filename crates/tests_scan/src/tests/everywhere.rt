@@ -51,7 +51,7 @@ fn assert_attained<C: ShowsFigures>(
     Ok(())
 }
 
-/// Whether two points depart together and are told alike.
+/// Whether two points depart together and are reported alike.
 fn are_alike<C: ShowsFigures>(criterion: &C, point: &Point<C::V>, other: &Point<C::V>) -> bool {
     point.departure == other.departure
         && criterion.figures_of(&point.value) == criterion.figures_of(&other.value)

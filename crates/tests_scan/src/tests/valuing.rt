@@ -1,4 +1,4 @@
-//! Values under each criterion: folded from a journey's end, compared, listed and told.
+//! Values under each criterion: folded from a journey's end, compared, listed and reported.
 
 ghost use Rattle.std.specs.Prelude.{◌≡◌};
 ghost use Rattle.criteria.specs.Laws.{IsTime, IsSecs};

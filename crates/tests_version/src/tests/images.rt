@@ -22,14 +22,14 @@ pub(crate) fn image(alloc: Global, base: u32) -> Result<Arc<Verified, Global>, A
 
 /// An image that may become versions, and where their slots are made.
 #[derive(Drop)]
-pub(crate) struct Source {
+pub(crate) struct ImageSource {
     pub(crate) alloc: Global,
     pub(crate) image: Arc<Verified, Global>,
 }
 
-impl Source {
-    pub(crate) fn new(alloc: Global, base: u32) -> Result<Source, AllocError> {
+impl ImageSource {
+    pub(crate) fn new(alloc: Global, base: u32) -> Result<ImageSource, AllocError> {
         let image = image(alloc, base)?;
-        Ok(Source { alloc, image })
+        Ok(ImageSource { alloc, image })
     }
 }

@@ -4,7 +4,7 @@ mod stepping;
 
 ghost use Rattle.std.specs.Prelude.{◌≡◌, ◌<◌, ◌≤◌};
 
-use crate::tests::images::Source;
+use crate::tests::images::ImageSource;
 use shelf_steps::laws::{new_shelves, new_worker};
 use shelf_steps::*;
 use std::alloc::{AllocError, Global};
@@ -20,7 +20,7 @@ use version_core::{Core, Reply, Shelf, Worker};
 #[derive(Drop)]
 struct Scene {
     table: ShelfTable,
-    source: Source,
+    source: ImageSource,
     loader: LoaderSteps,
     first: WorkerSteps,
     second: WorkerSteps,
@@ -43,7 +43,7 @@ impl Model for Scene {
 
 impl Scene {
     fn new(alloc: Global) -> Result<Scene, AllocError> {
-        let source = Source::new(alloc, 1)?;
+        let source = ImageSource::new(alloc, 1)?;
         let (table, mut index) = new_shelves(alloc, &source.image)?;
         let worker = new_worker(&table, &mut index);
         let other = new_worker(&table, &mut index);

@@ -6,7 +6,7 @@ use super::holding::{Stage, stage_of};
 use super::spending::Sink;
 use super::{Row, two_feeds};
 use epochs::{NamedLoader, NamedSeat, ShelfLoader, ShelfSeat, Shelves, ShelvesName, SoloShelves};
-use load_orders::Notes;
+use load_orders::GhostList;
 use orders::OpenGate;
 use std::alloc::{AllocError, Global};
 use std::io;
@@ -85,9 +85,9 @@ fn serve_waiter<B: ShelvesName + Send + Sync, R: Threads + Wait + Sync>(
     let feeds = two_feeds(alloc)?;
     let row = Row {
         visitors: vec![in alloc; waiter]?,
-        came: Notes::none(),
+        came: GhostList::none(),
     };
-    let ran = run_workers(
+    let run_result = run_workers(
         rt,
         alloc,
         row,
@@ -99,7 +99,7 @@ fn serve_waiter<B: ShelvesName + Send + Sync, R: Threads + Wait + Sync>(
         ReplyForm::of(PointForm::Bare),
         Sink,
     );
-    match ran {
+    match run_result {
         Ok(_) => Ok(()),
         Err(_) => Err(AllocError),
     }

@@ -7,7 +7,7 @@ use super::{EndCounts, Manner, Row, Shared, Visitor, count_ends, visitor_of};
 use epochs::{ShelfLoader, ShelfSeat, Shelves};
 use image_layout::sample_words;
 use image_verifier::{Verified, verify};
-use load_orders::Notes;
+use load_orders::GhostList;
 use orders::OpenGate;
 use std::alloc::{AllocError, Global};
 use std::marker::Brand;
@@ -100,7 +100,7 @@ fn serve_at<R: Threads + Wait + Sync + Abort>(
     let reported = Mutex::new(Vec::new(alloc));
     let row = Row {
         visitors,
-        came: Notes::none(),
+        came: GhostList::none(),
     };
     let errors = Shared {
         rt,

@@ -5,7 +5,7 @@ ghost use Rattle.std.specs.Prelude.{◌≡◌};
 use super::holding::{Stage, stage_of};
 use epochs::{ShelfLoader, ShelfSeat, Shelves, ShelvesName, SoloShelves};
 use orders::Gate;
-use session::{Desk, Streams};
+use session::{SessionServer, Streams};
 use solo_orders::SoloOrders;
 use std::alloc::{AllocError, Global};
 use std::io;
@@ -72,8 +72,10 @@ fn counts_at<B: ShelvesName>(
         shelves: &shelves,
         count: AtomicU64::new(0),
     };
-    let desk = Desk::new(alloc, &shelves, &gate);
-    let ended = desk.serve(&mut streams, &mut seat, &mut orders).is_ok();
+    let session_server = SessionServer::new(alloc, &shelves, &gate);
+    let ended = session_server
+        .serve(&mut streams, &mut seat, &mut orders)
+        .is_ok();
     let scanned = gate.count.load(Ordering::SeqCst);
     (streams.writer.into_inner().counts, scanned, ended)
 }

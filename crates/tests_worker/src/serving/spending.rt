@@ -1,7 +1,7 @@
 //! A client that sends one request more than a session may have.
 
 use super::{EndCounts, Row, count_ends, shelves_for};
-use load_orders::Notes;
+use load_orders::GhostList;
 use orders::OpenGate;
 use std::alloc::Global;
 use std::io;
@@ -71,7 +71,7 @@ fn serve_senders<R: Threads + Wait + Sync + Abort>(
     let (shelves, loader, seats) = shelves_for(alloc, false)?;
     let row = Row {
         visitors,
-        came: Notes::none(),
+        came: GhostList::none(),
     };
     let counts = count_ends::<Brand, _, _, _, _, _>(
         rt,

@@ -1,5 +1,5 @@
 use Rattle.csa_program.proofs.serve.listen.Given as goal
 
 -- the shelves that were just made
-abbrev pub ghosts-serve_door : goal.ghosts-serve_door
-ghosts-serve_door g a = record { table = a.made.0 }
+abbrev pub ghosts-serve_accepted : goal.ghosts-serve_accepted
+ghosts-serve_accepted g a = record { table = a.made.0 }

@@ -4,17 +4,19 @@ use Rattle.feed_stations.specs.Finding.{AreMarks, IsFoundAt, IsInEither, id_of, 
 use Rattle.feed_stations.proofs.Marks.{marks_more, marks_none}
 use Rattle.feed_stations.proofs.finding.found_each.Goals as goal
 
-pub loop-place-init : goal.loop-place-init
-loop-place-init c = marks_none _ _ c.in_ok-found.ensures.items
+pub loop-row_index-init : goal.loop-row_index-init
+loop-row_index-init c = marks_none _ _ c.in_ok-found.ensures.items
 
-pub loop-place-preserved : goal.loop-place-preserved
-loop-place-preserved c =
-    marks_more _ c.loop-place.place c.loop-place.found.items _ c.in_ok-here.here c.in_ok-push.ensures.items
-    (rw (c.as_str.ensures.value, c.id.ensures, c.name.ensures) at c.in_ok-here.ensures) c.loop-place.invariant
+pub loop-row_index-preserved : goal.loop-row_index-preserved
+loop-row_index-preserved c =
+    marks_more _ c.loop-row_index.row_index c.loop-row_index.found.items _ c.in_ok-here.here c.in_ok-push.ensures.items
+    (rw (c.as_str.ensures.value, c.id.ensures, c.name.ensures) at c.in_ok-here.ensures) c.loop-row_index.invariant
 
 pub returns : goal.returns
 returns c =
-    let all : c.loop-place.place ≡ length c.args.places.now.rows.items = omega arith in
-    subst (λ (n : ℕ). AreMarks (IsFoundAt c.args.places.now.rows.items c.args.places.now.labels.items c.args.text.now) n c.loop-place.found.items) all
-    (subst (λ (plain : List ℕ). AreMarks (λ k. IsInEither plain (id_of (slice_get c.args.places.now.rows.items k))
-    (name_of (slice_get c.args.places.now.labels.items k))) c.loop-place.place c.loop-place.found.items) c.in_ok-text.ensures c.loop-place.invariant)
+    let all : c.loop-row_index.row_index ≡ length c.args.stop_table.now.rows.items = omega arith in
+    subst (λ (n : ℕ). AreMarks (IsFoundAt c.args.stop_table.now.rows.items c.args.stop_table.now.labels.items c.args.text.now) n c.loop-row_index.found.items)
+    all
+    (subst (λ (plain : List ℕ). AreMarks (λ k. IsInEither plain (id_of (slice_get c.args.stop_table.now.rows.items k))
+    (name_of (slice_get c.args.stop_table.now.labels.items k))) c.loop-row_index.row_index c.loop-row_index.found.items) c.in_ok-text.ensures
+    c.loop-row_index.invariant)

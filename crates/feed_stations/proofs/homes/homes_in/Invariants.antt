@@ -4,8 +4,8 @@ use Rattle.gtfs_tables.specs.First.{first_below, row_fault}
 use Rattle.feed_stations.specs.Homes.{AreHomesBelow, orphan_fault, station_named}
 use Rattle.feed_stations.proofs.homes.homes_in.Given as goal
 
-abbrev pub invariant-loop-place : goal.invariant-loop-place
-invariant-loop-place l = record {
-  fine : first_below (row_fault Stops (orphan_fault (station_named l.rows)) l.rows) l.place ≡ None;
-  homes : AreHomesBelow (station_named l.rows) l.rows l.place l.homes.items;
+abbrev pub invariant-loop-row_index : goal.invariant-loop-row_index
+invariant-loop-row_index l = record {
+  fine : first_below (row_fault Stops (orphan_fault (station_named l.rows)) l.rows) l.row_index ≡ None;
+  homes : AreHomesBelow (station_named l.rows) l.rows l.row_index l.homes.items;
 }

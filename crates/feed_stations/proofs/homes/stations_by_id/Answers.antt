@@ -10,19 +10,19 @@ use Rattle.feed_stations.proofs.Named.{other-more, station-more}
 use Rattle.feed_stations.proofs.homes.stations_by_id.Goals as goal
 use Rattle.feed_stations.proofs.homes.stations_by_id.Goals.{then-is_station+in_ok-add_first, else-is_station}
 
-pub loop-place-init : goal.loop-place-init
-loop-place-init c = λ id. held-none c.in_ok-stations.stations id c.in_ok-stations.ensures.empty ∙ sym (first_below-start _)
+pub loop-row_index-init : goal.loop-row_index-init
+loop-row_index-init c = λ id. held-none c.in_ok-stations.stations id c.in_ok-stations.ensures.empty ∙ sym (first_below-start _)
 
-pub loop-place-preserved : goal.loop-place-preserved
-loop-place-preserved c = λ id.
-    let lt : c.loop-place.place < length c.args.rows.now = omega arith in
+pub loop-row_index-preserved : goal.loop-row_index-preserved
+loop-row_index-preserved c = λ id.
+    let lt : c.loop-row_index.row_index < length c.args.rows.now = omega arith in
     elim c.if-is_station.branch [
       | then-is_station+in_ok-add_first w ↦
-          rw (w.stations-is, w.in_ok-add_first.ensures id, c.loop-place.invariant id, w.as_str.ensures.value)
-          (sym (station-more c.args.rows.now c.loop-place.place c.index-rows-place.result id lt c.index-rows-place.is
+          rw (w.stations-is, w.in_ok-add_first.ensures id, c.loop-row_index.invariant id, w.as_str.ensures.value)
+          (sym (station-more c.args.rows.now c.loop-row_index.row_index c.index-rows-row_index.result id lt c.index-rows-row_index.is
           (sym c.is_station.ensures ∙ w.if-is_station.true)))
       | else-is_station w ↦
-          rw (w.stations-is, c.loop-place.invariant id)
-          (sym (other-more c.args.rows.now c.loop-place.place c.index-rows-place.result id lt c.index-rows-place.is
+          rw (w.stations-is, c.loop-row_index.invariant id)
+          (sym (other-more c.args.rows.now c.loop-row_index.row_index c.index-rows-row_index.result id lt c.index-rows-row_index.is
           (sym c.is_station.ensures ∙ w.if-is_station.false)))
     ]

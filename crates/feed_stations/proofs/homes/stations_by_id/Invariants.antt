@@ -4,5 +4,5 @@ use Rattle.gtfs_tables.specs.Names.{held_at}
 use Rattle.feed_stations.specs.Homes.{station_with}
 use Rattle.feed_stations.proofs.homes.stations_by_id.Given as goal
 
-abbrev pub invariant-loop-place : goal.invariant-loop-place
-invariant-loop-place l = (id : List ℕ) → held_at l.stations id ≡ first_below (station_with l.rows id) l.place
+abbrev pub invariant-loop-row_index : goal.invariant-loop-row_index
+invariant-loop-row_index l = (id : List ℕ) → held_at l.stations id ≡ first_below (station_with l.rows id) l.row_index

@@ -1,10 +1,10 @@
 use Rattle.std.proofs.Common.{◌∙◌, ◌++◌, List, ap, codes, string_bytes, ℕ}
 use Rattle.text_pieces.proofs.Joined.{five}
-use Rattle.feed_stations.specs.Json.{member_json, place_json}
+use Rattle.feed_stations.specs.Json.{member_json, row_json}
 use Rattle.feed_stations.proofs.json.append_json.Goals as goal
 
 pub returns : goal.returns
-unfolding place_json
+unfolding row_json
 returns c =
     five (string_bytes c.args.out.now) (string_bytes c.append_member.new.out) (string_bytes c.append_member-2.new.out)
     (string_bytes c.append_stops.new.out) (string_bytes c.append_member-3.new.out) (string_bytes c.put_text.new.out) _ _ _ _ _

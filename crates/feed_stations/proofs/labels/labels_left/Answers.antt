@@ -1,7 +1,7 @@
 use Rattle.std.proofs.Common.{◌≡◌, ◌∙◌, ◌∷◌, [], take}
 use Rattle.gtfs_rows.specs.Source.{last_of, left_of}
 use Rattle.gtfs_rows.proofs.FaultLemmas.{closed, opened}
-use Rattle.feed_stations.specs.Labels.{IsLabel}
+use Rattle.feed_stations.specs.Labels.{IsStopLabel}
 use Rattle.feed_stations.proofs.Labelled.{one_more}
 use Rattle.feed_stations.proofs.labels.labels_left.Goals as goal
 
@@ -20,7 +20,7 @@ loop-taken-preserved c =
     record {
       reading = c.in_ok-found.ensures.reading c.loop-taken.invariant.reading;
       left = after;
-      labels = one_more (IsLabel c.args.columns.name c.args.columns.platform) (take c.loop-taken.taken (left_of c.args.records.now)) _
+      labels = one_more (IsStopLabel c.args.columns.name c.args.columns.platform) (take c.loop-taken.taken (left_of c.args.records.now)) _
           c.loop-taken.labels.items _ (last_of c.advance.new.self) c.in_ok-label.label more c.in_ok-push.ensures.items c.loop-taken.invariant.labels
           (rw c.last.ensures at c.in_ok-label.ensures);
     }

@@ -1,10 +1,10 @@
 use Rattle.std.proofs.Common.{◌∙◌, ◌++◌, List, ap, string_bytes, ℕ}
 use Rattle.text_pieces.proofs.Joined.{five}
-use Rattle.feed_stations.specs.Listing.{cell_text, place_line}
+use Rattle.feed_stations.specs.Listing.{cell_text, row_line}
 use Rattle.feed_stations.proofs.listing.append_line.Goals as goal
 
 pub returns : goal.returns
-unfolding place_line
+unfolding row_line
 returns c =
     five (string_bytes c.args.lines.now) (string_bytes c.put_text.new.out) (string_bytes c.put_cell.new.lines) (string_bytes c.put_cell-2.new.lines)
     (string_bytes c.append_stops.new.lines) (string_bytes c.put_text-2.new.out) _ _ _ _ _

@@ -5,4 +5,4 @@ use Rattle.feed_stations.proofs.listing.append_stops.Given as goal
 
 abbrev pub invariant-loop-stop : goal.invariant-loop-stop
 invariant-loop-stop l = string_bytes l.lines ≡ string_bytes l.fn.lines
-    ++ flat_map (stop_text l.places.rows.items l.places.labels.items) (take l.stop-index l.stops)
+    ++ flat_map (stop_text l.stop_table.rows.items l.stop_table.labels.items) (take l.stop-index l.stops)

@@ -4,4 +4,5 @@ use Rattle.feed_stations.specs.Json.{with_commas}
 use Rattle.feed_stations.proofs.texts.append_objects.Given as goal
 
 abbrev pub invariant-loop-at : goal.invariant-loop-at
-invariant-loop-at l = string_bytes l.out ≡ string_bytes l.fn.out ++ with_commas (map (json_at l.places l.choice.groups.items) (take l.at l.choice.chosen.items))
+invariant-loop-at l = string_bytes l.out ≡ string_bytes l.fn.out ++ with_commas (map (json_at l.stop_table l.choice.groups.items)
+    (take l.at l.choice.chosen.items))

@@ -4,7 +4,7 @@ use Rattle.std.specs.Global.{Vec}
 use Rattle.std.specs.List.{AllZip}
 use Rattle.gtfs_tables.specs.Feeds.{trips_by}
 use Rattle.gtfs_tables.specs.Names.{stop_named, trip_named}
-use Rattle.gtfs_tables.specs.Order.{comes_before, turns_in}
+use Rattle.gtfs_tables.specs.Order.{comes_before, sort_keys_in}
 use Rattle.gtfs_tables.specs.Rows.{IsTransferOf, is_kept}
 use Rattle.gtfs_tables.specs.declared.tables.Frequency.{Frequency}
 use Rattle.gtfs_tables.proofs.JoinLemmas.{flex_as_given, none_first, of_ok, rows_are, transfer_first, trip_first, trips_are}
@@ -18,7 +18,7 @@ made_of-requires-clause-flex c = flex_as_given c.args.tables.stop_times.rows.ite
 
 pub made_of-requires-clause-rising : goal.made_of-requires-clause-rising
 made_of-requires-clause-rising c = subst
-    (λ (ts : List (Option ℕ)). IsSortedBy comes_before (turns_in ts c.args.links.order c.args.tables.stop_times.rows.items)) (sym c.requires.trips)
+    (λ (ts : List (Option ℕ)). IsSortedBy comes_before (sort_keys_in ts c.args.links.order c.args.tables.stop_times.rows.items)) (sym c.requires.trips)
     c.requires.in_order.rising
 
 pub returns-clause-err : goal.returns-clause-err
@@ -29,7 +29,7 @@ returns-clause-err c = λ other. elim (c.in-Err.ensures.err other) [
 
 pub returns-in-Ok-clause-ok : goal.returns-in-Ok-clause-ok
 returns-in-Ok-clause-ok c = record {
-  turns = turns_in (trips_by (trip_named c.args.tables.trips.items) c.args.tables) c.args.links.order c.args.tables.stop_times.rows.items;
+  sort_keys = sort_keys_in (trips_by (trip_named c.args.tables.trips.items) c.args.tables) c.args.links.order c.args.tables.stop_times.rows.items;
   in_order = c.requires.in_order;
   faultless = none_first c.args.strict c.args.tables c.args.links c.requires c.in-Ok.made.transfers c.in-Ok.ensures.fine c.in-Ok.ensures.transfers;
   feed_is = record {
@@ -54,7 +54,7 @@ invariant_of-result c =
     let stops = c.in-Ok.ensures.stops (stop_named c.args.tables.stops.items) c.requires.stations in
     record {
       runnable = joined_trips c.args.strict c.args.tables
-          (turns_in (trips_by (trip_named c.args.tables.trips.items) c.args.tables) c.args.links.order c.args.tables.stop_times.rows.items)
+          (sort_keys_in (trips_by (trip_named c.args.tables.trips.items) c.args.tables) c.args.links.order c.args.tables.stop_times.rows.items)
           c.in-Ok.made.stops.items c.in-Ok.made.stop_times.items c.in-Ok.made.trips.items
           (none_first c.args.strict c.args.tables c.args.links c.requires c.in-Ok.made.transfers c.in-Ok.ensures.fine c.in-Ok.ensures.transfers)
           stops

@@ -33,12 +33,12 @@ pub returns-in-Err-clause-err : goal.returns-in-Err-clause-err
 returns-in-Err-clause-err c = λ other.
     let wrong = c.in-Err.ensures.err other in
     record {
-      turns = wrong.turns;
+      sort_keys = wrong.sort_keys;
       in_order = wrong.in_order;
       first = option_or-some (naming_fault (stop_named c.args.tables.stops.items) (trip_named c.args.tables.trips.items)
           c.args.tables) (option_or (first_below
-          (trip_fault c.args.strict wrong.turns (rows_by (stop_named c.args.tables.stops.items)
-          (trip_named c.args.tables.trips.items) c.args.tables wrong.turns)) (length c.args.tables.trips.items))
+          (trip_fault c.args.strict wrong.sort_keys (rows_by (stop_named c.args.tables.stops.items)
+          (trip_named c.args.tables.trips.items) c.args.tables wrong.sort_keys)) (length c.args.tables.trips.items))
           (first_fault_of kinds.Transfers (transfer_fault (stop_named c.args.tables.stops.items))
           c.args.tables.transfers.items)) c.in-Err.fault wrong.first;
     }

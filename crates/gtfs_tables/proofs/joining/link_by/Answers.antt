@@ -9,14 +9,14 @@ use Rattle.gtfs_rows.specs.declared.rows.TransferRow.{TransferRow}
 use Rattle.gtfs_tables.specs.Feeds.{IsNamingFault, naming_fault, stop_time_fault, trips_by}
 use Rattle.gtfs_tables.specs.First.{first_fault_of}
 use Rattle.gtfs_tables.specs.Names.{held_at}
-use Rattle.gtfs_tables.specs.Order.{IsInOrder, turns_in}
+use Rattle.gtfs_tables.specs.Order.{IsInOrder, sort_keys_in}
 use Rattle.gtfs_tables.specs.Rows.{IsTransferOf, frequency_of, is_kept, is_repeated, parent_fault, station_of, transfer_fault}
 use Rattle.gtfs_tables.proofs.JoinLemmas.{frequencies_as_given, of_none, of_three, of_two, flex_as_given, order_as_given, stops_as_given, times_as_given}
 use Rattle.gtfs_tables.proofs.joining.link_by.Goals.{In-Ok-judged_times, In-Ok-order_of_rows, In-Ok-stations}
 use Rattle.gtfs_tables.proofs.joining.link_by.Goals as goal
 
 ordered : (c : goal.In-Ok-order_of_rows) → IsInOrder (trips_by (held_at c.args.indices.now) c.args.tables.now) c.args.tables.now.stop_times.rows.items
-    (turns_in (trips_by (held_at c.args.indices.now) c.args.tables.now) c.in-Ok-order_of_rows.order c.args.tables.now.stop_times.rows.items)
+    (sort_keys_in (trips_by (held_at c.args.indices.now) c.args.tables.now) c.in-Ok-order_of_rows.order c.args.tables.now.stop_times.rows.items)
 ordered c = order_as_given (held_at c.args.indices.now) c.args.tables.now c.deref.result.now c.deref-2.result.now c.in-Ok-order_of_rows.order
     c.deref.ensures.value (c.deref-2.ensures.value ∙ c.in-Ok.ensures) c.in-Ok-order_of_rows.ensures
 
@@ -24,7 +24,7 @@ naming : (c : goal.In-Ok-order_of_rows) (fault : TableFault)
     → naming_fault (held_at c.args.names.now) (held_at c.args.indices.now) c.args.tables.now ≡ Some fault
     → IsNamingFault (held_at c.args.names.now) (held_at c.args.indices.now) c.args.tables.now fault
 naming c fault first = record {
-  turns = turns_in (trips_by (held_at c.args.indices.now) c.args.tables.now) c.in-Ok-order_of_rows.order c.args.tables.now.stop_times.rows.items;
+  sort_keys = sort_keys_in (trips_by (held_at c.args.indices.now) c.args.tables.now) c.in-Ok-order_of_rows.order c.args.tables.now.stop_times.rows.items;
   in_order = ordered c;
   first = first;
 }

@@ -1,4 +1,4 @@
-use Rattle.gtfs_tables.proofs.TurnLemmas.{AreRising}
+use Rattle.gtfs_tables.proofs.SortKeyLemmas.{AreRising}
 use Rattle.gtfs_tables.proofs.order.are_in_order.Given as goal
 
 abbrev pub invariant-loop-at : goal.invariant-loop-at

@@ -11,30 +11,30 @@ returns-in-Journey g c =
     let Printed = PrintsAsked (g.H.ImageDisk.may_hold c.args.rt.now) (g.H.OutDisk.files c.args.rt.now) in
     let image = c.args.image.now in
     let before = g.O.Write.contents c.args.output.now in
-    let ran = c.run-in-Journey in
-    let after = g.O.Write.contents ran.new.output in
+    let outcome = c.run-in-Journey in
+    let after = g.O.Write.contents outcome.new.output in
     let asks : c.args.asked ≡ Journey c.in-Journey.request = search rules in
-    subst (λ (asked : ImageRequest). IsOutcome (Printed image asked) ran.result before after) (sym asks)
-    (subst (λ request. IsOutcome (Printed image (Journey request)) ran.result before after) c.in-Journey.request-is ran.ensures)
+    subst (λ (asked : ImageRequest). IsOutcome (Printed image asked) outcome.result before after) (sym asks)
+    (subst (λ request. IsOutcome (Printed image (Journey request)) outcome.result before after) c.in-Journey.request-is outcome.ensures)
 
 pub returns-in-Profile : goal.returns-in-Profile
 returns-in-Profile g c =
     let Printed = PrintsAsked (g.H.ImageDisk.may_hold c.args.rt.now) (g.H.OutDisk.files c.args.rt.now) in
     let image = c.args.image.now in
     let before = g.O.Write.contents c.args.output.now in
-    let ran = c.run-in-Profile in
-    let after = g.O.Write.contents ran.new.output in
+    let outcome = c.run-in-Profile in
+    let after = g.O.Write.contents outcome.new.output in
     let asks : c.args.asked ≡ Profile c.in-Profile.request = search rules in
-    subst (λ (asked : ImageRequest). IsOutcome (Printed image asked) ran.result before after) (sym asks)
-    (subst (λ request. IsOutcome (Printed image (Profile request)) ran.result before after) c.in-Profile.request-is ran.ensures)
+    subst (λ (asked : ImageRequest). IsOutcome (Printed image asked) outcome.result before after) (sym asks)
+    (subst (λ request. IsOutcome (Printed image (Profile request)) outcome.result before after) c.in-Profile.request-is outcome.ensures)
 
 pub returns-in-Departures : goal.returns-in-Departures
 returns-in-Departures g c =
     let Printed = PrintsAsked (g.H.ImageDisk.may_hold c.args.rt.now) (g.H.OutDisk.files c.args.rt.now) in
     let image = c.args.image.now in
     let before = g.O.Write.contents c.args.output.now in
-    let ran = c.run-in-Departures in
-    let after = g.O.Write.contents ran.new.output in
+    let outcome = c.run-in-Departures in
+    let after = g.O.Write.contents outcome.new.output in
     let asks : c.args.asked ≡ Departures c.in-Departures.request = search rules in
-    subst (λ (asked : ImageRequest). IsOutcome (Printed image asked) ran.result before after) (sym asks)
-    (subst (λ request. IsOutcome (Printed image (Departures request)) ran.result before after) c.in-Departures.request-is ran.ensures)
+    subst (λ (asked : ImageRequest). IsOutcome (Printed image asked) outcome.result before after) (sym asks)
+    (subst (λ request. IsOutcome (Printed image (Departures request)) outcome.result before after) c.in-Departures.request-is outcome.ensures)

@@ -16,9 +16,9 @@ some_weaker : (held : Option (List ℕ)) (Is May : List ℕ → Type 0) → ((by
 some_weaker None Is May may is = tt
 some_weaker (Some bytes) Is May may is = may bytes is
 
-told : (words : List ℕ) (fault : ImageFault) → Tells words fault → fault ≢ OutOfMemory → first_fault words ≡ Some fault
-told words fault (inl first) other = first
-told words fault (inr none) other = absurd (other none.0)
+is_first : (words : List ℕ) (fault : ImageFault) → Tells words fault → fault ≢ OutOfMemory → first_fault words ≡ Some fault
+is_first words fault (inl first) other = first
+is_first words fault (inr none) other = absurd (other none.0)
 
 pub returns-in-Err-clause-refused : goal.returns-in-Err-clause-refused
 returns-in-Err-clause-refused g c =
@@ -31,7 +31,7 @@ returns-in-Err-clause-refused g c =
     outcome_of (PrintsRefusal (λ line. (fault ≢ OutOfMemory) × (line ≡ refusal_line (Image fault))))
     (PrintsRefusal (IsRefusedImage may_hold path input)) _ _ _
     (λ s line is.
-    let first = told words fault c.in-Err.ensures.fault is.1.0 in
+    let first = is_first words fault c.in-Err.ensures.fault is.1.0 in
     let none : HoldsOfBytes may_hold path input (IsNoImage (Image fault)) = record {
       held = read.held;
       of_input = read.of_input;

@@ -4,6 +4,6 @@ use Rattle.image_commands.proofs.refusal.put_three.Goals as goal
 
 pub returns : goal.returns
 returns c =
-    three (string_bytes c.args.line.now) (string_bytes c.put_place.new.line) (string_bytes c.put_place-2.new.line)
-    (string_bytes c.put_place-3.new.line) _ _ _
-    c.in_ok-put_place.ensures c.in_ok-put_place-2.ensures c.in_ok-put_place-3.ensures
+    three (string_bytes c.args.line.now) (string_bytes c.put_position.new.line) (string_bytes c.put_position-2.new.line)
+    (string_bytes c.put_position-3.new.line) _ _ _
+    c.in_ok-put_position.ensures c.in_ok-put_position-2.ensures c.in_ok-put_position-3.ensures

@@ -12,7 +12,7 @@ use Rattle.image_verifier.proofs.verified.verify.Goals as goal
 pub returns-in-Ok-clause-shown : goal.returns-in-Ok-clause-shown
 returns-in-Ok-clause-shown c = IsImage-from c.args.words.items (subst (λ (w : List ℕ). IsAccepted w) c.deref.ensures.value c.in-Ok.ensures.judged)
 
--- where nothing is first, what is told is want of memory
+-- where nothing is first, the error is want of memory
 tells_memory : (w : List ℕ) (f : ImageFault) → Tells w f → first_fault w ≡ None → f ≡ OutOfMemory
 tells_memory w f fact none = elim fact [ inl first ↦ absurd (some-none f (sym first ∙ none)) | inr memory ↦ memory.0 ]
 

@@ -1,10 +1,10 @@
 use Rattle.std.proofs.Common.{◌+◌, List, refl, sym, subst, arith}
 use Rattle.bags.specs.declared.point.Point.{Point}
-use Rattle.profile_scan.specs.Between.{IsAnswerBetween, IsPointBetween}
+use Rattle.profile_scan.specs.SetQuery.{IsAnswerBetween, IsPointBetween}
 use Rattle.profile_scan.specs.Found.{listed_between}
 use Rattle.journeys.specs.Extracted.{AttainsBetween}
 use Rattle.journeys.proofs.AnswerLemmas.{point_at}
-use Rattle.journeys.proofs.TellLemmas.{HaveJourneys, all_told, between_tagless, no_journeys, one_more}
+use Rattle.journeys.proofs.ExtractedLemmas.{HaveJourneys, all_extracted, between_tagless, no_journeys, one_more}
 use Rattle.journeys.proofs.departures.departures_between.Goals as goal
 
 pub loop-i-init : goal.loop-i-init
@@ -29,7 +29,7 @@ pub returns-clause-points : goal.returns-clause-points
 returns-clause-points g c criterion t b answers =
     let rules = g.C.Criterion.rules criterion in
     let answer = subst (λ (ps : List (Point g.row.C-V.Denot)). IsAnswerBetween rules t b ps) (sym c.points-points.ensures) answers.answered.answer in
-    all_told rules (IsPointBetween rules t b) (AttainsBetween rules t b) c.points-points.result.now c.loop-i.i c.loop-i.departures.items
+    all_extracted rules (IsPointBetween rules t b) (AttainsBetween rules t b) c.points-points.result.now c.loop-i.i c.loop-i.departures.items
     (c.loop-i.invariant criterion t b answers) (omega arith) answer
 
 pub returns-clause-journeys : goal.returns-clause-journeys

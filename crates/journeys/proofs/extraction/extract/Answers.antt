@@ -8,7 +8,7 @@ use Rattle.journeys.proofs.extraction.extract.Given as given
 use Rattle.journeys.proofs.extraction.extract.Goals as goal
 use Rattle.journeys.proofs.extraction.extract.Goals.{In_ok-journey}
 
--- the point whose journey is told
+-- the point whose journey is extracted
 here : (g : given.Over) (c : goal.In_ok-journey g) → slice_get (listed c.args.found.now) c.args.i ≡ Some c.index-points-i.result
 here g c =
     let points = c.points-points.result.now in

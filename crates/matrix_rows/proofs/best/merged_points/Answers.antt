@@ -4,7 +4,7 @@ use Rattle.std.proofs.lemmas.List.Elements.{Contains-get_or}
 use Rattle.criteria.specs.Laws.{Admits}
 use Rattle.bags.specs.Bag.{points_of}
 use Rattle.bags.specs.Dominance.{IsBag}
-use Rattle.profile_scan.specs.Between.{IsAnswerBetween}
+use Rattle.profile_scan.specs.SetQuery.{IsAnswerBetween}
 use Rattle.profile_scan.specs.Everywhere.{asked_to_any, listed_to_any}
 use Rattle.profile_scan.specs.LawStatements.{CanScan}
 use Rattle.profile_scan.proofs.OrderLemmas.{listed_bag}

@@ -1,6 +1,6 @@
 use Rattle.std.proofs.Common.{◌∙◌, ◌∷◌, [], Option, arith, subst, sym}
 use Rattle.timetable.specs.declared.network.Footpath.{Footpath}
-use Rattle.profile_scan.specs.Between.{secs_of}
+use Rattle.profile_scan.specs.SetQuery.{secs_of}
 use Rattle.profile_scan.specs.Everywhere.{asked_to_any, walk_to_any}
 use Rattle.matrix_rows.specs.Tables.{IsLeastWalk, from_stops}
 use Rattle.matrix_rows.proofs.Walks.{walk_of_one}
@@ -8,7 +8,7 @@ use Rattle.matrix_rows.proofs.best.walk_from.Goals as goal
 
 pub direct_walk-requires : goal.direct_walk-requires
 direct_walk-requires g c =
-    let long = c.requires.answered.ways in
+    let long = c.requires.answered.final_walks in
     let within = c.requires.within in
     omega (arith, long, within)
 

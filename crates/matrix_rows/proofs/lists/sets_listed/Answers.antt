@@ -33,14 +33,14 @@ returns-in-Some-clause-fault c =
 pub returns-in-Some-2-clause-fault : goal.returns-in-Some-2-clause-fault
 returns-in-Some-2-clause-fault c =
     let names = c.args.image.now.names in
-    let places = c.in-Some-2.places in
+    let list_indices = c.in-Some-2.list_indices in
     let named : names_in c.deref.result.now ≡ lines c.args.list.now = ap names_in c.deref.ensures.value ∙ c.in_ok-listed.ensures in
     let listed : names_in c.deref-3.result.now ≡ lines c.args.list.now = ap names_in c.deref-3.ensures.value ∙ c.in_ok-listed.ensures in
-    let repeated : IsRepeated (names_in c.deref-3.result.now) places.0 places.1 =
-    subst (AreTheRepeated (names_in c.deref-3.result.now)) c.in-Some-2.is c.in_ok-places.ensures in (
+    let repeated : IsRepeated (names_in c.deref-3.result.now) list_indices.0 list_indices.1 =
+    subst (AreTheRepeated (names_in c.deref-3.result.now)) c.in-Some-2.is c.in_ok-list_indices.ensures in (
       all_have_stops names (lines c.args.list.now) c.in_ok-sets.sets.items
           (subst (λ (ls : List (List ℕ)). AllZip (λ line set. AllZip (IsNamed names) (ids_in line) set.items) ls c.in_ok-sets.sets.items) named
           c.in_ok-sets.ensures.sets),
-      subst (λ (ls : List (List ℕ)). IsLineTwice ls (places.0 + 1) (places.1 + 1)) listed
-          (line_twice (names_in c.deref-3.result.now) places.0 places.1 (places.0 + 1) (places.1 + 1) refl refl repeated),
+      subst (λ (ls : List (List ℕ)). IsLineTwice ls (list_indices.0 + 1) (list_indices.1 + 1)) listed
+          (line_twice (names_in c.deref-3.result.now) list_indices.0 list_indices.1 (list_indices.0 + 1) (list_indices.1 + 1) refl refl repeated),
     )

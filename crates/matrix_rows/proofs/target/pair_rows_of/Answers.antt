@@ -11,32 +11,33 @@ use Rattle.matrix_rows.proofs.Answering.{on_ok, zipped_at}
 use Rattle.matrix_rows.proofs.Sources.{no_rows}
 use Rattle.matrix_rows.proofs.target.pair_rows_of.Goals as goal
 
-pub loop-place-init : goal.loop-place-init
-loop-place-init g c = record {
+pub loop-list_index-init : goal.loop-list_index-init
+loop-list_index-init g c = record {
   whole = c.new-rows.ensures.whole;
   rows = no_rows g.C.ShowsFigures.figures (g.C.Criterion.rules c.args.criterion.now) false c.args.table.now.image.now (asked_to_any c.args.profiles.now)
       (text_of c.new-rows.result) c.new-rows.ensures.text;
 }
 
-pub loop-place-preserved : goal.loop-place-preserved
-loop-place-preserved g c =
+pub loop-list_index-preserved : goal.loop-list_index-preserved
+loop-list_index-preserved g c =
     let sources = c.args.table.now.sources.now in
-    let place = c.loop-place.place in
-    let set = c.index-table-place.result in
+    let list_index = c.loop-list_index.list_index in
+    let set = c.index-table-list_index.result in
     record {
       whole = c.in_ok-put_pair_from.ensures.whole;
       rows = subst (λ (ss : List (Vec ℕ)). AreRowsTo g.C.ShowsFigures.figures (g.C.Criterion.rules c.args.criterion.now) false c.args.table.now.image.now
           (asked_to_any c.args.profiles.now) ss (text_of c.put_pair_from.new.rows))
-          (sym (take_more sources place set c.loop-place-test.true))
-          (c.in_ok-put_pair_from.ensures.added (take place sources) (get_or sources place set)
-          (sym c.deref.ensures.value) c.loop-place.invariant.rows);
+          (sym (take_more sources list_index set c.loop-list_index-test.true))
+          (c.in_ok-put_pair_from.ensures.added (take list_index sources) (get_or sources list_index set)
+          (sym c.deref.ensures.value) c.loop-list_index.invariant.rows);
     }
 
 pub put_pair_from-requires-clause-sources : goal.put_pair_from-requires-clause-sources
 put_pair_from-requires-clause-sources g c = λ stop h.
     let sources = c.args.table.now.sources.now in
-    let set = c.index-table-place.result in
-    c.requires.sources (get_or sources c.loop-place.place set) (Contains-get_or sources c.loop-place.place set c.loop-place-test.true) stop
+    let set = c.index-table-list_index.result in
+    c.requires.sources (get_or sources c.loop-list_index.list_index set) (Contains-get_or sources c.loop-list_index.list_index set c.loop-list_index-test.true)
+    stop
     (subst (λ (xs : List ℕ). Contains xs stop) c.deref.ensures.value h)
 
 pub put_pair_from-requires-clause-to : goal.put_pair_from-requires-clause-to
@@ -50,8 +51,8 @@ returns g c =
     (asked_to_any c.args.profiles.now) in
     on_ok _ (λ text. rows sources text.items) c.into_text.result
     (λ text is. subst (rows sources) (sym is)
-    (subst (λ (ss : List (Vec ℕ)). rows ss (text_of c.loop-place.rows))
-    (take_all c.loop-place.place sources (let over = c.loop-place-test.false in omega (arith, over))) c.loop-place.invariant.rows))
+    (subst (λ (ss : List (Vec ℕ)). rows ss (text_of c.loop-list_index.rows))
+    (take_all c.loop-list_index.list_index sources (let over = c.loop-list_index-test.false in omega (arith, over))) c.loop-list_index.invariant.rows))
     c.into_text.ensures
 
 pub put_pair_from-requires-clause-mean : goal.put_pair_from-requires-clause-mean
@@ -61,14 +62,14 @@ put_pair_from-requires-clause-mean g c =
     let image = c.args.table.now.image.now in
     let sources = c.args.table.now.sources.now in
     let means = c.args.means.now in
-    let place = c.loop-place.place in
-    let set = c.index-table-place.result in
+    let list_index = c.loop-list_index.list_index in
+    let set = c.index-table-list_index.result in
     let found = asked_to_any c.args.profiles.now in
-    let less = c.loop-place-test.true in
+    let less = c.loop-list_index-test.true in
     let is = IsMeanFrom figures rules image (waiting found) found.from found.until in
     let long = AllZip-long is sources means c.requires.means in
-    let within : place < length means = omega (arith, long, less) in
-    let at = zipped_at is sources means place set None c.requires.means less in
-    let items : (get_or sources place set).items ≡ c.deref.result.now = sym c.deref.ensures.value in
+    let within : list_index < length means = omega (arith, long, less) in
+    let at = zipped_at is sources means list_index set None c.requires.means less in
+    let items : (get_or sources list_index set).items ≡ c.deref.result.now = sym c.deref.ensures.value in
     subst (λ (xs : List ℕ). IsMean figures rules image (from_stops (waiting found) xs) found.from found.until c.mean_at-mean.result) items
-    (subst (is (get_or sources place set)) (sym (c.mean_at-mean.ensures ∙ ap mean_in (slice_get-get_or means place None within))) at)
+    (subst (is (get_or sources list_index set)) (sym (c.mean_at-mean.ensures ∙ ap mean_in (slice_get-get_or means list_index None within))) at)

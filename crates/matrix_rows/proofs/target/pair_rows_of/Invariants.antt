@@ -4,9 +4,9 @@ use Rattle.travel_times.specs.Rows.{AreWhole, text_of}
 use Rattle.matrix_rows.specs.Tables.{AreRowsTo}
 use Rattle.matrix_rows.proofs.target.pair_rows_of.Given as goal
 
-abbrev pub invariant-loop-place : goal.invariant-loop-place
-invariant-loop-place g l = record {
+abbrev pub invariant-loop-list_index : goal.invariant-loop-list_index
+invariant-loop-list_index g l = record {
   whole : AreWhole l.rows;
   rows : AreRowsTo g.C.ShowsFigures.figures (g.C.Criterion.rules l.criterion) false l.table.image.now (asked_to_any l.profiles)
-      (take l.place l.table.sources.now) (text_of l.rows);
+      (take l.list_index l.table.sources.now) (text_of l.rows);
 }

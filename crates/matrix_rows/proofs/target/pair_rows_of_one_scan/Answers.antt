@@ -1,6 +1,6 @@
 use Rattle.std.proofs.Common.{◌∙◌, List, Option, ℕ, IfOk, false, subst, sym}
 use Rattle.std.specs.List.{AllZip}
-use Rattle.profile_scan.specs.Between.{BetweenValue, IsAskableBetween}
+use Rattle.profile_scan.specs.SetQuery.{SetQueryValue, IsAskableBetween}
 use Rattle.profile_scan.specs.Everywhere.{asked_to_any}
 use Rattle.matrix_rows.specs.Tables.{AreRowsTo, IsMeanFrom, waiting}
 use Rattle.matrix_rows.proofs.Answering.{means_asked}
@@ -30,6 +30,6 @@ pair_rows_of-requires-clause-means g c =
 pub returns : goal.returns
 returns g c =
     let table = c.args.table.now in
-    subst (λ (d : BetweenValue). IfOk c.pair_rows_of.result (λ text. AreRowsTo g.C.ShowsFigures.figures (g.C.Criterion.rules c.args.criterion.now) false
+    subst (λ (d : SetQueryValue). IfOk c.pair_rows_of.result (λ text. AreRowsTo g.C.ShowsFigures.figures (g.C.Criterion.rules c.args.criterion.now) false
     table.image.now d table.sources.now text.items))
     (c.in_ok-profiles.ensures.keeps.1 ∙ c.in_ok-destinations.ensures) c.pair_rows_of.ensures

@@ -9,32 +9,33 @@ use Rattle.matrix_rows.proofs.Answering.{on_ok}
 use Rattle.matrix_rows.proofs.Sources.{no_rows}
 use Rattle.matrix_rows.proofs.target.point_rows_of.Goals as goal
 
-pub loop-place-init : goal.loop-place-init
-loop-place-init g c = record {
+pub loop-list_index-init : goal.loop-list_index-init
+loop-list_index-init g c = record {
   whole = c.new-rows.ensures.whole;
   rows = no_rows g.C.ShowsFigures.figures (g.C.Criterion.rules c.args.criterion.now) true c.args.table.now.image.now (asked_to_any c.args.profiles.now)
       (text_of c.new-rows.result) c.new-rows.ensures.text;
 }
 
-pub loop-place-preserved : goal.loop-place-preserved
-loop-place-preserved g c =
+pub loop-list_index-preserved : goal.loop-list_index-preserved
+loop-list_index-preserved g c =
     let sources = c.args.table.now.sources.now in
-    let place = c.loop-place.place in
-    let set = c.index-table-place.result in
+    let list_index = c.loop-list_index.list_index in
+    let set = c.index-table-list_index.result in
     record {
       whole = c.in_ok-put_points_from.ensures.whole;
       rows = subst (λ (ss : List (Vec ℕ)). AreRowsTo g.C.ShowsFigures.figures (g.C.Criterion.rules c.args.criterion.now) true c.args.table.now.image.now
           (asked_to_any c.args.profiles.now) ss (text_of c.put_points_from.new.rows))
-          (sym (take_more sources place set c.loop-place-test.true))
-          (c.in_ok-put_points_from.ensures.added (take place sources) (get_or sources place set)
-          (sym c.deref.ensures.value) c.loop-place.invariant.rows);
+          (sym (take_more sources list_index set c.loop-list_index-test.true))
+          (c.in_ok-put_points_from.ensures.added (take list_index sources) (get_or sources list_index set)
+          (sym c.deref.ensures.value) c.loop-list_index.invariant.rows);
     }
 
 pub put_points_from-requires-clause-sources : goal.put_points_from-requires-clause-sources
 put_points_from-requires-clause-sources g c = λ stop h.
     let sources = c.args.table.now.sources.now in
-    let set = c.index-table-place.result in
-    c.requires.sources (get_or sources c.loop-place.place set) (Contains-get_or sources c.loop-place.place set c.loop-place-test.true) stop
+    let set = c.index-table-list_index.result in
+    c.requires.sources (get_or sources c.loop-list_index.list_index set) (Contains-get_or sources c.loop-list_index.list_index set c.loop-list_index-test.true)
+    stop
     (subst (λ (xs : List ℕ). Contains xs stop) c.deref.ensures.value h)
 
 pub put_points_from-requires-clause-to : goal.put_points_from-requires-clause-to
@@ -48,6 +49,6 @@ returns g c =
     (asked_to_any c.args.profiles.now) in
     on_ok _ (λ text. rows sources text.items) c.into_text.result
     (λ text is. subst (rows sources) (sym is)
-    (subst (λ (ss : List (Vec ℕ)). rows ss (text_of c.loop-place.rows))
-    (take_all c.loop-place.place sources (let over = c.loop-place-test.false in omega (arith, over))) c.loop-place.invariant.rows))
+    (subst (λ (ss : List (Vec ℕ)). rows ss (text_of c.loop-list_index.rows))
+    (take_all c.loop-list_index.list_index sources (let over = c.loop-list_index-test.false in omega (arith, over))) c.loop-list_index.invariant.rows))
     c.into_text.ensures

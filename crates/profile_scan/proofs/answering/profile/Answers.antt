@@ -1,6 +1,6 @@
 use Rattle.std.proofs.Common.{ℕ, sym, ◌∙◌, ap, subst, reverse, take, ◌++◌, ◌≡◌}
 use Rattle.reasoning.proofs.OptionLemmas.{on_err}
-use Rattle.profile_scan.specs.Between.{BetweenValue, IsAskableBetween, between_one, question}
+use Rattle.profile_scan.specs.SetQuery.{SetQueryValue, IsAskableBetween, single_set_query, question}
 use Rattle.profile_scan.specs.Found.{AnswersBetween}
 use Rattle.profile_scan.specs.Window.{window_of}
 use Rattle.profile_scan.proofs.Single.{one_askable}
@@ -19,18 +19,18 @@ returns-clause-answers g c =
     let t = g.S.ConnSource.timetable c.args.source.now in
     let rules = g.C.Criterion.rules c.args.criterion.now in
     c.of_one.ensures c.args.criterion.now t
-    (subst (λ (b : BetweenValue). AnswersBetween c.args.criterion.now rules t b c.in_ok-found.found) c.in_ok-between.ensures c.in_ok-found.ensures.answers)
+    (subst (λ (b : SetQueryValue). AnswersBetween c.args.criterion.now rules t b c.in_ok-found.found) c.in_ok-between.ensures c.in_ok-found.ensures.answers)
 
 -- the window is the query's
 pub returns-clause-log : goal.returns-clause-log
 returns-clause-log g c =
     let t = g.S.ConnSource.timetable c.args.source.now in
-    let same = ap (λ (b : BetweenValue). reverse (window_of t b.from b.by)) c.in_ok-between.ensures in
+    let same = ap (λ (b : SetQueryValue). reverse (window_of t b.from b.by)) c.in_ok-between.ensures in
     c.in_ok-found.ensures.log ∙ ap (λ (ks : _). g.S.ConnSource.log c.args.source.now ++ ks) same
 
 pub returns-in_err-found-clause-err : goal.returns-in_err-found-clause-err
 returns-in_err-found-clause-err g c =
     let t = g.S.ConnSource.timetable c.args.source.now in
-    let same = ap (λ (b : BetweenValue). reverse (window_of t b.from b.by)) c.in_ok-between.ensures in
+    let same = ap (λ (b : SetQueryValue). reverse (window_of t b.from b.by)) c.in_ok-between.ensures in
     let read = c.in_err-found.ensures.err in
     on_err c.from_residual-in_err-found.result _ (read.0, read.1 ∙ ap (λ (ks : _). g.S.ConnSource.log c.args.source.now ++ take read.0 ks) same)

@@ -4,19 +4,19 @@ use Rattle.bags.specs.Bag.{criterion_of, points_of}
 use Rattle.bags.specs.declared.point.Point.{Point}
 use Rattle.timetable.specs.TimetableValue.{TimetableValue}
 use Rattle.sources.specs.FirstAt.{IsFirstAt}
-use Rattle.profile_scan.specs.Between.{BetweenValue, question}
-use Rattle.profile_scan.specs.declared.between.Between.{Between}
+use Rattle.profile_scan.specs.SetQuery.{SetQueryValue, question}
+use Rattle.profile_scan.specs.declared.set_query.SetQuery.{SetQuery}
 use Rattle.profile_scan.specs.Answered.{IsAnsweredBetween}
-use Rattle.profile_scan.specs.Nearest.{IsShortestWay}
+use Rattle.profile_scan.specs.Nearest.{IsShortestWalk}
 use Rattle.profile_scan.specs.LawStatements.{CanScan}
 use Rattle.profile_scan.specs.Window.{window_of}
 use Rattle.profile_scan.proofs.Windows.{window_falls}
 use Rattle.profile_scan.specs.Points.{untagged}
-use Rattle.profile_scan.specs.Kept.{AreWays, HasFound, story_of, ways_of}
+use Rattle.profile_scan.specs.ScanState.{AreFinalWalks, HasFound, scan_records_of, final_walks_of}
 use Rattle.profile_scan.specs.Origins.{kept_of}
-use Rattle.profile_scan.specs.Telling.{IsJourneySpelled, IsSpelledAgain}
+use Rattle.profile_scan.specs.JourneyNodes.{IsJourneySpelled, IsSpelledAgain}
 use Rattle.profile_scan.proofs.AnsweredLemmas.{answered, journeys_spelled}
-use Rattle.profile_scan.proofs.WayLemmas.{direct_is}
+use Rattle.profile_scan.proofs.FinalWalkLemmas.{direct_is}
 use Rattle.profile_scan.proofs.Offers.{bag_under}
 use Rattle.profile_scan.proofs.PartLemmas.{firsts_rise}
 use Rattle.profile_scan.proofs.LogLemmas.{taken_all}
@@ -65,16 +65,16 @@ returns-in_err-spelled-clause-err g c =
 
 -- what was found, of the criterion and the query that were asked
 found_is : (g : given.Over) (c : goal.In_ok-scan g) → HasFound (g.C.Criterion.rules c.args.criterion.now) (g.S.ConnSource.timetable c.args.source.now)
-    (question c.args.query.now) c.first_at-start.result (story_of (λ origin index. kept_of origin) c.in_ok-scan.scan.state 0)
+    (question c.args.query.now) c.first_at-start.result (scan_records_of (λ origin index. kept_of origin) c.in_ok-scan.scan.state 0)
     (points_of c.in_ok-scan.scan.state.origin.found)
 found_is g c =
     let t = g.S.ConnSource.timetable c.args.source.now in
     let keeps = c.in_ok-asked.ensures.keeps in
     let state = c.in_ok-scan.scan.state in
-    let told = story_of (λ origin index. kept_of origin) state 0 in
+    let told = scan_records_of (λ origin index. kept_of origin) state 0 in
     let found = points_of state.origin.found in
     subst (λ criterion. HasFound (g.C.Criterion.rules criterion) t (question c.args.query.now) c.first_at-start.result told found) keeps.0
-    (subst (λ (b : BetweenValue). HasFound (g.C.Criterion.rules c.in_ok-asked.asked.criterion) t b c.first_at-start.result told found) keeps.1
+    (subst (λ (b : SetQueryValue). HasFound (g.C.Criterion.rules c.in_ok-asked.asked.criterion) t b c.first_at-start.result told found) keeps.1
     (c.in_ok-scan.ensures.found 0))
 
 under : (g : given.Over) (c : goal.In_ok-scan g) → criterion_of c.in_ok-scan.scan.state.origin.found ≡ c.args.criterion.now
@@ -83,12 +83,12 @@ under g c = c.in_ok-scan.ensures.under ∙ c.in_ok-asked.ensures.keeps.0
 pub in_order-requires : goal.in_order-requires
 in_order-requires g c = under g (goal.at.in_order-requires g c).In_ok-scan
 
-pub tell_journeys-requires : goal.tell_journeys-requires
-tell_journeys-requires g c =
+pub journeys_as_nodes-requires : goal.journeys_as_nodes-requires
+journeys_as_nodes-requires g c =
     let rules = g.C.Criterion.rules c.args.criterion.now in
     let t = g.S.ConnSource.timetable c.args.source.now in
     let state = c.in_ok-scan.scan.state in
-    let told = story_of (λ origin index. kept_of origin) state 0 in
+    let told = scan_records_of (λ origin index. kept_of origin) state 0 in
     let points = c.in_ok-points.points.items in
     subst (λ (ps : List (Point g.row.C-V.Denot)). (p : Point g.row.C-V.Denot) → Contains ps p
     → IsJourneySpelled (g.S.ConnSource.timetable c.scan_window.new.source).footpaths told p.tag)
@@ -96,13 +96,14 @@ tell_journeys-requires g c =
     (subst (λ (x : TimetableValue). (p : Point g.row.C-V.Denot) → Contains points p
     → IsJourneySpelled x.footpaths told p.tag) (sym c.in_ok-scan.ensures.timetable)
     (journeys_spelled rules t (question c.args.query.now) c.first_at-start.result told (points_of state.origin.found)
-    points (found_is g (goal.at.tell_journeys-requires g c).In_ok-scan) c.in_ok-points.ensures.only))
+    points (found_is g (goal.at.journeys_as_nodes-requires g c).In_ok-scan) c.in_ok-points.ensures.only))
 
 -- the ways from the sources
-ways_are : (g : given.Over) (c : goal.In_ok-scan g) → AreWays (g.S.ConnSource.timetable c.args.source.now) (question c.args.query.now).targets
-    (ways_of c.in_ok-asked.asked.ways)
-ways_are g c = subst (λ (b : BetweenValue). AreWays (g.S.ConnSource.timetable c.args.source.now) b.targets (ways_of c.in_ok-asked.asked.ways))
-    c.in_ok-asked.ensures.keeps.1 c.in_ok-asked.ensures.asked.ways
+ways_are : (g : given.Over) (c : goal.In_ok-scan g) → AreFinalWalks (g.S.ConnSource.timetable c.args.source.now) (question c.args.query.now).targets
+    (final_walks_of c.in_ok-asked.asked.final_walks)
+ways_are g c = subst (λ (b : SetQueryValue). AreFinalWalks (g.S.ConnSource.timetable c.args.source.now) b.targets
+    (final_walks_of c.in_ok-asked.asked.final_walks))
+    c.in_ok-asked.ensures.keeps.1 c.in_ok-asked.ensures.asked.final_walks
 
 pub direct_walk-requires : goal.direct_walk-requires
 direct_walk-requires g c stop is =
@@ -110,7 +111,7 @@ direct_walk-requires g c stop is =
     let named : Contains c.args.query.now.sources.items stop = subst (λ (xs : List ℕ). Contains xs stop) c.deref-2.ensures.value is in
     subst (λ (n : ℕ). stop < n) (sym (ways_are g (goal.at.direct_walk-requires g c).In_ok-scan).long) (c.requires.sources stop named)
 
--- what was told answers the query
+-- what was spelled answers the query
 made : (g : given.Over) (c : goal.After-of g)
     → IsAnsweredBetween (g.C.Criterion.rules c.args.criterion.now) (g.S.ConnSource.timetable c.args.source.now)
     (question c.args.query.now) c.in_ok-spelled.spelled.points.items c.in_ok-spelled.spelled.nodes.items c.direct_walk.result
@@ -127,16 +128,16 @@ made g c =
       in_time = c.requires.small.2;
     } in
     let state = c.in_ok-scan.scan.state in
-    let told = story_of (λ origin index. kept_of origin) state 0 in
+    let told = scan_records_of (λ origin index. kept_of origin) state 0 in
     let found = points_of state.origin.found in
     let points = c.in_ok-spelled.spelled.points.items in
     let nodes = c.in_ok-spelled.spelled.nodes.items in
     let is = found_is g (goal.at.After-of g c).In_ok-scan in
     let bag = bag_under g.C.Criterion.rules state.origin.found.criterion c.args.criterion.now found (under g (goal.at.After-of g c).In_ok-scan)
     state.origin.found.kept in
-    let shortest = subst (λ (xs : List ℕ). IsShortestWay (ways_of c.in_ok-asked.asked.ways) xs (length xs) c.direct_walk.result)
+    let shortest = subst (λ (xs : List ℕ). IsShortestWalk (final_walks_of c.in_ok-asked.asked.final_walks) xs (length xs) c.direct_walk.result)
     c.deref-2.ensures.value c.direct_walk.ensures in
-    let way = direct_is t q (ways_of c.in_ok-asked.asked.ways) (ways_are g (goal.at.After-of g c).In_ok-scan) c.requires.sources
+    let way = direct_is t q (final_walks_of c.in_ok-asked.asked.final_walks) (ways_are g (goal.at.After-of g c).In_ok-scan) c.requires.sources
     c.requires.differ c.direct_walk.result shortest in
     let says = subst (λ (x : TimetableValue). (p : Point g.row.C-V.Denot) → Contains points p
     → IsSpelledAgain x.footpaths told c.in_ok-points.points.items nodes p) c.in_ok-scan.ensures.timetable
@@ -157,7 +158,7 @@ invariant_of-result g c =
     let at_t = subst (λ (x : TimetableValue). IsAnsweredBetween rules x (question c.args.query.now) points nodes c.direct_walk.result)
     (sym (c.timetable_of.ensures ∙ c.in_ok-scan.ensures.timetable))
     (made g (goal.at.invariant_of-result g c).After-of) in
-    let at_q = subst (λ (x : Between). IsAnsweredBetween rules c.timetable_of.result.value (question x) points nodes c.direct_walk.result)
+    let at_q = subst (λ (x : SetQuery). IsAnsweredBetween rules c.timetable_of.result.value (question x) points nodes c.direct_walk.result)
     (sym c.of.ensures) at_t in
     record { answered = ∣ at_q ∣₁ }
 
@@ -171,7 +172,7 @@ pub scan_window-requires : goal.scan_window-requires
 scan_window-requires g c =
     let t = g.S.ConnSource.timetable c.args.source.now in
     let q = c.args.query.now in
-    let same_by = ap (λ (b : BetweenValue). b.by) c.in_ok-asked.ensures.keeps.1 in
+    let same_by = ap (λ (b : SetQueryValue). b.by) c.in_ok-asked.ensures.keeps.1 in
     record {
       can_ask = c.in_ok-asked.ensures.asked;
       order = firsts_rise t q.from q.by c.first_at-start.result c.first_at-end.result c.requires.in_time c.first_at-start.ensures c.first_at-end.ensures;

@@ -5,7 +5,7 @@ use Rattle.profile_scan.specs.Found.{listed}
 use Rattle.profile_scan.specs.LawStatements.{CanScan}
 use Rattle.profile_scan.specs.Points.{IsAnswer}
 use Rattle.profile_scan.specs.Window.{window}
-use Rattle.profile_scan.specs.Between.{between_one}
+use Rattle.profile_scan.specs.SetQuery.{single_set_query}
 use Rattle.profile_scan.proofs.Answer.{one_answer}
 use Rattle.profile_scan.proofs.Single.{answer_to}
 use Rattle.profile_scan.proofs.LogLemmas.{taken_all, taken_none}
@@ -14,7 +14,7 @@ use Rattle.profile_scan.proofs.laws.two_sources.Goals as goal
 pub returns-clause-same : goal.returns-clause-same
 returns-clause-same g c =
     let rules = g.C.Criterion.rules c.args.criterion.now in
-    let can : CanScan (g.A.ConnSource.timetable c.args.one.now) (between_one c.args.query.now) =
+    let can : CanScan (g.A.ConnSource.timetable c.args.one.now) (single_set_query c.args.query.now) =
     record {
       legal = g.met.A.ConnSource.legal c.args.one.now;
       limits =
@@ -25,7 +25,7 @@ returns-clause-same g c =
     c.requires.alike c.in_ok-again.ensures.answers.answer in
     let t = g.A.ConnSource.timetable c.args.one.now in
     one_answer rules (g.met.C.Criterion.laws c.args.criterion.now) t
-    (between_one c.args.query.now) can (listed c.in_ok-found.found) (listed c.in_ok-again.again)
+    (single_set_query c.args.query.now) can (listed c.in_ok-found.found) (listed c.in_ok-again.again)
     (answer_to rules t c.args.query.now (listed c.in_ok-found.found) c.in_ok-found.ensures.answers.answer)
     (answer_to rules t c.args.query.now (listed c.in_ok-again.again) again)
 

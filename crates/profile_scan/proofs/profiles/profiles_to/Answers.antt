@@ -1,6 +1,6 @@
 use Rattle.std.proofs.Common.{◌≡◌, ℕ, sym, ◌∙◌, ap, subst, reverse, take, ◌++◌}
 use Rattle.reasoning.proofs.OptionLemmas.{on_err}
-use Rattle.profile_scan.specs.Between.{BetweenValue, IsAskableBetween}
+use Rattle.profile_scan.specs.SetQuery.{SetQueryValue, IsAskableBetween}
 use Rattle.profile_scan.specs.Window.{window_of}
 use Rattle.profile_scan.proofs.EverywhereLemmas.{all_to_one, asked_to_one}
 use Rattle.profile_scan.proofs.profiles.profiles_to.Goals as goal
@@ -21,12 +21,12 @@ returns-clause-answers g c =
 pub returns-clause-log : goal.returns-clause-log
 returns-clause-log g c =
     let t = g.S.ConnSource.timetable c.args.source.now in
-    let same = ap (λ (b : BetweenValue). reverse (window_of t b.from b.by)) c.in_ok-destinations.ensures in
+    let same = ap (λ (b : SetQueryValue). reverse (window_of t b.from b.by)) c.in_ok-destinations.ensures in
     c.in_ok-to_any.ensures.log ∙ ap (λ (ks : _). g.S.ConnSource.log c.args.source.now ++ ks) same
 
 pub returns-in_err-to_any-clause-err : goal.returns-in_err-to_any-clause-err
 returns-in_err-to_any-clause-err g c =
     let t = g.S.ConnSource.timetable c.args.source.now in
-    let same = ap (λ (b : BetweenValue). reverse (window_of t b.from b.by)) c.in_ok-destinations.ensures in
+    let same = ap (λ (b : SetQueryValue). reverse (window_of t b.from b.by)) c.in_ok-destinations.ensures in
     let read = c.in_err-to_any.ensures.err in
     on_err c.from_residual-in_err-to_any.result _ (read.0, read.1 ∙ ap (λ (ks : _). g.S.ConnSource.log c.args.source.now ++ take read.0 ks) same)

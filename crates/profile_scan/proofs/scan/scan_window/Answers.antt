@@ -1,12 +1,12 @@
 use Rattle.std.proofs.Common.{◌≡◌, ◌+◌, ◌-◌, ◌<◌, ◌∷◌, [], ◌++◌, ℕ, length, arith, refl, sym, ◌∙◌, ap, subst}
 use Rattle.reasoning.proofs.OptionLemmas.{on_err}
 use Rattle.timetable.specs.TimetableValue.{TimetableValue}
-use Rattle.profile_scan.specs.Between.{asked_from, question}
+use Rattle.profile_scan.specs.SetQuery.{asked_from, question}
 use Rattle.profile_scan.specs.Matching.{from_to, MatchesFrom}
 use Rattle.profile_scan.specs.Steps.{IsStep}
 use Rattle.profile_scan.specs.LawStatements.{CanScan}
-use Rattle.profile_scan.specs.Story.{spelling_of}
-use Rattle.profile_scan.specs.Kept.{HasFound, IsScan, IsState, kept_by, story_of}
+use Rattle.profile_scan.specs.ScanRecords.{spelling_of}
+use Rattle.profile_scan.specs.ScanState.{HasFound, IsScan, IsState, scan_value_of, scan_records_of}
 use Rattle.profile_scan.specs.Hops.{IsAsked, StandsAt}
 use Rattle.profile_scan.specs.Window.{falling}
 use Rattle.profile_scan.proofs.BoundLemmas.{no_bounds}
@@ -43,9 +43,9 @@ loop-place-init g c =
             limits = g.met.S.ConnSource.limits c.args.source.now;
             in_time = c.requires.can_ask.by;
           } in
-          let spelled = spelling_of t.footpaths (story_of kept state index) in
+          let spelled = spelling_of t.footpaths (scan_records_of kept state index) in
           matches_alike rules t q spelled c.args.window.end (record { bag = λ _. []; labels = λ _. []; found = [] })
-          (kept_by kept state index) made.bags made.labels (made.found index)
+          (scan_value_of kept state index) made.bags made.labels (made.found index)
           (nothing_follows rules t q can c.args.window.end c.requires.past spelled);
     }
 
@@ -81,14 +81,14 @@ loop-place-preserved g c =
             limits = g.met.S.ConnSource.limits c.args.source.now;
             in_time = c.requires.can_ask.by;
           } in
-          let tags = from_to (spelling_of t.footpaths (story_of kept old index)) (spelling_of t.footpaths (story_of kept new index)) in
+          let tags = from_to (spelling_of t.footpaths (scan_records_of kept old index)) (spelling_of t.footpaths (scan_records_of kept new index)) in
           one_index_down rules (g.met.C.Criterion.laws c.args.asked.now.criterion) t q can tags i in_i
-          (kept_by kept old index) (kept_by kept new index)
-          (subst (λ (n : ℕ). MatchesFrom rules t q (spelling_of t.footpaths (story_of kept old index)) n (kept_by kept old index)) up
+          (scan_value_of kept old index) (scan_value_of kept new index)
+          (subst (λ (n : ℕ). MatchesFrom rules t q (spelling_of t.footpaths (scan_records_of kept old index)) n (scan_value_of kept old index)) up
           (inv.matched index))
           (subst (λ (x : TimetableValue). IsStep rules x q
-          (from_to (spelling_of x.footpaths (story_of kept old index)) (spelling_of x.footpaths (story_of kept new index))) i
-          (kept_by kept old index) (kept_by kept new index)) same (c.in_ok-step.ensures.step index));
+          (from_to (spelling_of x.footpaths (scan_records_of kept old index)) (spelling_of x.footpaths (scan_records_of kept new index))) i
+          (scan_value_of kept old index) (scan_value_of kept new index)) same (c.in_ok-step.ensures.step index));
     }
 
 pub step-requires-clause-asked : goal.step-requires-clause-asked
@@ -150,7 +150,7 @@ returns-clause-found g c index =
     let at : c.loop-place.place ≡ c.args.window.start = omega arith in
     let state = c.loop-place.scan.state in
     subst (λ (n : ℕ). HasFound (g.C.Criterion.rules c.args.asked.now.criterion) (g.S.ConnSource.timetable c.args.source.now)
-    (asked_from g.O.AtSource.sources (question c.args.asked.now.query) index) n (story_of g.O.AtSource.kept state index)
+    (asked_from g.O.AtSource.sources (question c.args.asked.now.query) index) n (scan_records_of g.O.AtSource.kept state index)
     (g.O.AtSource.kept state.origin index).found) at (inv.matched index).at_source
 
 -- an index of a connection

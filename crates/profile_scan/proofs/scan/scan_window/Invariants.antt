@@ -1,8 +1,8 @@
 use Rattle.std.proofs.Common.{◌≡◌, ◌-◌, ◌≤◌, ◌++◌, ℕ}
-use Rattle.profile_scan.specs.Between.{asked_from, question}
+use Rattle.profile_scan.specs.SetQuery.{asked_from, question}
 use Rattle.profile_scan.specs.Matching.{MatchesFrom}
-use Rattle.profile_scan.specs.Story.{spelling_of}
-use Rattle.profile_scan.specs.Kept.{IsScan, kept_by, story_of}
+use Rattle.profile_scan.specs.ScanRecords.{spelling_of}
+use Rattle.profile_scan.specs.ScanState.{IsScan, scan_value_of, scan_records_of}
 use Rattle.profile_scan.specs.Window.{falling}
 use Rattle.profile_scan.proofs.scan.scan_window.Given as goal
 
@@ -17,8 +17,8 @@ invariant-loop-place g l =
       scan : IsScan g.C.Criterion.rules g.O.AtSource.IsUnder g.O.AtSource.kept l.asked.criterion t l.place l.scan;
       matched : (index : ℕ) → MatchesFrom (g.C.Criterion.rules l.asked.criterion) t
           (asked_from g.O.AtSource.sources (question l.asked.query) index)
-          (spelling_of t.footpaths (story_of g.O.AtSource.kept l.scan.state index)) l.place
-          (kept_by g.O.AtSource.kept l.scan.state index);
+          (spelling_of t.footpaths (scan_records_of g.O.AtSource.kept l.scan.state index)) l.place
+          (scan_value_of g.O.AtSource.kept l.scan.state index);
     }
 
 abbrev pub decreases-loop-place : goal.decreases-loop-place

@@ -1,23 +1,23 @@
 use Rattle.std.proofs.Common.{◌≡◌, ◌<◌, ◌+◌, ◌∷◌, [], ℕ, length, length-append, sym, ◌∙◌, ap, subst, arith}
 use Rattle.std.proofs.lemmas.Option.{slice_get_within}
-use Rattle.profile_scan.specs.Starts.{AreMarked, IsLeadBy}
+use Rattle.profile_scan.specs.Starts.{AreMarked, IsStopAccessBy}
 use Rattle.profile_scan.proofs.StartLemmas.{leads_more, leads_of_sources}
 use Rattle.profile_scan.proofs.starts.starts_from.Goals as goal
 
 pub marks-requires : goal.marks-requires
 marks-requires g c = λ stop is. subst (λ (n : ℕ). stop < n) (sym c.stops.ensures) (c.requires stop is)
 
-pub lead_of-lead-requires-clause-long : goal.lead_of-lead-requires-clause-long
-lead_of-lead-requires-clause-long g c = ap length c.deref.ensures.value ∙ c.in_ok-marked.ensures.long ∙ c.stops.ensures
+pub access_of-lead-requires-clause-long : goal.access_of-lead-requires-clause-long
+access_of-lead-requires-clause-long g c = ap length c.deref.ensures.value ∙ c.in_ok-marked.ensures.long ∙ c.stops.ensures
 
 pub loop-stop-preserved : goal.loop-stop-preserved
 loop-stop-preserved g c =
     let t = g.S.ConnSource.timetable c.args.source.now in
     let inv = c.loop-stop.invariant in
-    let lead = c.lead_of-lead.result in
+    let lead = c.access_of-lead.result in
     let marked = c.in_ok-marked.marked.items in
-    let by = subst (λ ms. IsLeadBy t ms c.loop-stop.stop lead) c.deref.ensures.value c.lead_of-lead.ensures in
-    let here = subst (λ (n : ℕ). IsLeadBy t marked n lead) (sym inv.long) by in
+    let by = subst (λ ms. IsStopAccessBy t ms c.loop-stop.stop lead) c.deref.ensures.value c.access_of-lead.ensures in
+    let here = subst (λ (n : ℕ). IsStopAccessBy t marked n lead) (sym inv.long) by in
     let longer = ap length c.in_ok-push.ensures.items ∙ length-append c.loop-stop.leads.items (lead ∷ []) in
     record {
       long = longer ∙ ap (λ (n : ℕ). n + 1) inv.long;

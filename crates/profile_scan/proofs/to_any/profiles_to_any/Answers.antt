@@ -1,24 +1,24 @@
 use Rattle.std.proofs.Common.{◌++◌, ℕ, List, None, get_or, length, reverse, take, slice_get, sym, ◌∙◌, ap, subst}
 use Rattle.reasoning.proofs.OptionLemmas.{on_err}
 use Rattle.sources.specs.FirstAt.{IsFirstAt}
-use Rattle.profile_scan.specs.Between.{BetweenValue, question}
+use Rattle.profile_scan.specs.SetQuery.{SetQueryValue, question}
 use Rattle.profile_scan.specs.LawStatements.{CanScan}
 use Rattle.profile_scan.specs.Window.{window_of}
-use Rattle.profile_scan.specs.Kept.{story_of, ways_of}
-use Rattle.profile_scan.specs.Origins.{AreUnder, found_from, from_stop, kept_from}
+use Rattle.profile_scan.specs.ScanState.{scan_records_of, final_walks_of}
+use Rattle.profile_scan.specs.Origins.{AreUnder, found_from, from_stop, scan_value_from}
 use Rattle.profile_scan.specs.Everywhere.{AreInOrder, points_in}
 use Rattle.profile_scan.proofs.Windows.{window_falls}
 use Rattle.profile_scan.proofs.EverywhereLemmas.{answered_from}
 use Rattle.profile_scan.proofs.PartLemmas.{firsts_rise}
 use Rattle.profile_scan.proofs.LogLemmas.{taken_all}
-use Rattle.profile_scan.proofs.WayLemmas.{nearest_direct, target_loop}
+use Rattle.profile_scan.proofs.FinalWalkLemmas.{nearest_direct, target_loop}
 use Rattle.profile_scan.proofs.to_any.profiles_to_any.Goals as goal
 
 pub scan_window-requires : goal.scan_window-requires
 scan_window-requires g c =
     let t = g.S.ConnSource.timetable c.args.source.now in
     let d = c.args.destinations.now in
-    let same_by = ap (λ (b : BetweenValue). b.by) c.in_ok-asked.ensures.keeps.1 in
+    let same_by = ap (λ (b : SetQueryValue). b.by) c.in_ok-asked.ensures.keeps.1 in
     record {
       can_ask = c.in_ok-asked.ensures.asked;
       order = firsts_rise t d.from d.by c.first_at-start.result c.first_at-end.result c.requires.in_time c.first_at-start.ensures c.first_at-end.ensures;
@@ -73,7 +73,7 @@ returns-clause-answers g c =
     let start = c.first_at-start.result in
     let origins = c.in_ok-scan.ensures.under in
     let asked = c.in_ok-asked.ensures.asked in
-    let same_from = ap (λ (x : BetweenValue). x.from) c.in_ok-asked.ensures.keeps.1 in
+    let same_from = ap (λ (x : SetQueryValue). x.from) c.in_ok-asked.ensures.keeps.1 in
     record {
       each = λ stop lt.
           let q = from_stop b stop in
@@ -86,12 +86,14 @@ returns-clause-answers g c =
           (c.in_ok-lists.ensures.lists stop) in
           let is = answered_from rules laws t q can start
           (subst (λ (n : ℕ). IsFirstAt t n start) (sym same_from) c.first_at-start.ensures)
-          (story_of kept_from state stop) (found_from state.origin stop)
+          (scan_records_of scan_value_from state stop) (found_from state.origin stop)
           (points_in (slice_get lists stop)) (c.in_ok-scan.ensures.found stop) (origins.1 stop) listed in
           record { answer = is.0; attained = is.1 };
-      direct = λ stop lt other. nearest_direct t b stop other (get_or (ways_of c.in_ok-asked.asked.ways) stop None) (asked.ways.each stop lt);
-      loops = λ stop lt is. target_loop t b.targets stop is (get_or (ways_of c.in_ok-asked.asked.ways) stop None) (asked.ways.each stop lt);
+      direct = λ stop lt other. nearest_direct t b stop other (get_or (final_walks_of c.in_ok-asked.asked.final_walks) stop None)
+          (asked.final_walks.each stop lt);
+      loops = λ stop lt is. target_loop t b.targets stop is (get_or (final_walks_of c.in_ok-asked.asked.final_walks) stop None)
+          (asked.final_walks.each stop lt);
       long = c.in_ok-lists.ensures.long ∙ origins.0.long;
       origins = origins.0;
-      ways = asked.ways.long;
+      final_walks = asked.final_walks.long;
     }

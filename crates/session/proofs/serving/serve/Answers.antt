@@ -6,7 +6,7 @@ use Rattle.session.proofs.serving.serve.Goals as goal
 pub returns-clause-seat : goal.returns-clause-seat
 returns-clause-seat g c =
     let seat = goes_on _ _ _ _ _ c.answer_lines-outcome.ensures.seat c.release_last.ensures.seat in
-    subst (λ shelves. GoesOn g.T.Versions.words shelves c.args.seat.now c.release_last.new.seat) c.new-desk.ensures.shelves seat
+    subst (λ shelves. GoesOn g.T.Versions.words shelves c.args.seat.now c.release_last.new.seat) c.new-session_server.ensures.shelves seat
 
 pub returns-clause-profiles : goal.returns-clause-profiles
 returns-clause-profiles g c =

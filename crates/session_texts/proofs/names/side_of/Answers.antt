@@ -3,7 +3,7 @@ use Rattle.std.proofs.lemmas.List.{length-map}
 use Rattle.std.proofs.lemmas.Result.{IfOk-weaker}
 use Rattle.serde_json.specs.View.{view}
 use Rattle.session_texts.specs.Names.{NamesSide, shown}
-use Rattle.session_texts.proofs.NameLemmas.{array_told, as_many_in}
+use Rattle.session_texts.proofs.NameLemmas.{array_is_side, as_many_in}
 use Rattle.session_texts.proofs.names.side_of.Goals as goal
 
 pub returns-then-count-lt1 : goal.returns-then-count-lt1
@@ -32,6 +32,6 @@ returns c =
     IfOk-weaker c.distinct_texts.result _ _
     (λ texts read. subst (λ (sets : Bool). MatchOption texts ((names : List (List ℕ)) → ¬ NamesSide sets (view c.args.value.now) names)
     (λ names. NamesSide sets (view c.args.value.now) (shown names.items))) on
-    (array_told (λ (t : _). shown t.items) (view c.args.value.now) (map view values) texts (sym c.in-Some-as_array.ensures) some few
+    (array_is_side (λ (t : _). shown t.items) (view c.args.value.now) (map view values) texts (sym c.in-Some-as_array.ensures) some few
     (rw c.deref.ensures.value at read)))
     c.distinct_texts.ensures

@@ -1,6 +1,6 @@
 use Rattle.shelf_steps.specs.Plays.{TableSeatValue, MayClose, ClosesOn}
 use Rattle.shelf_steps.proofs.Loads.{closings}
-use Rattle.shelf_steps.proofs.PlaceLemmas.{at_word, at_shelf}
+use Rattle.shelf_steps.proofs.TableLemmas.{at_word, at_shelf}
 use Rattle.shelf_steps.proofs.loader_steps.close.Goals as goal
 
 pub fetch_add-requires : goal.fetch_add-requires

@@ -1,7 +1,7 @@
 use Rattle.std.proofs.Common.{◌≡◌, arith, subst}
 use Rattle.shelf_steps.specs.Plays.{TableSeatValue, MayCollect, CollectsOn}
 use Rattle.shelf_steps.proofs.Loads.{collectings}
-use Rattle.shelf_steps.proofs.PlaceLemmas.{at_word}
+use Rattle.shelf_steps.proofs.TableLemmas.{at_word}
 use Rattle.shelf_steps.proofs.loader_steps.collect.Goals as goal
 
 pub compare_exchange-requires : goal.compare_exchange-requires

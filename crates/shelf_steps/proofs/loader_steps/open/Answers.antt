@@ -1,6 +1,6 @@
 use Rattle.shelf_steps.specs.Plays.{TableSeatValue, MayOpenOn, OpensOn}
 use Rattle.shelf_steps.proofs.Loads.{openings}
-use Rattle.shelf_steps.proofs.PlaceLemmas.{at_word, at_shelf}
+use Rattle.shelf_steps.proofs.TableLemmas.{at_word, at_shelf}
 use Rattle.shelf_steps.proofs.loader_steps.open.Goals as goal
 
 pub fetch_add-requires : goal.fetch_add-requires

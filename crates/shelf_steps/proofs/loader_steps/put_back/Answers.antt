@@ -1,6 +1,6 @@
 use Rattle.shelf_steps.specs.Plays.{TableSeatValue, MayPutBack, PutsBackOn}
 use Rattle.shelf_steps.proofs.Loads.{puttings}
-use Rattle.shelf_steps.proofs.PlaceLemmas.{at_word, at_shelf}
+use Rattle.shelf_steps.proofs.TableLemmas.{at_word, at_shelf}
 use Rattle.shelf_steps.proofs.loader_steps.put_back.Goals as goal
 
 pub compare_exchange-requires : goal.compare_exchange-requires

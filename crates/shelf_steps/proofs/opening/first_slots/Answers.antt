@@ -1,6 +1,6 @@
 use Rattle.std.proofs.Common.{List, ◌+◌, Option, subst, sym}
 use Rattle.std.specs.Arc.{arc_value}
-use Rattle.shelf_steps.specs.Ruled.{FirstSlots}
+use Rattle.shelf_steps.specs.Rule.{FirstSlots}
 use Rattle.shelf_steps.specs.declared.edition.Edition.{Edition}
 use Rattle.shelf_steps.proofs.Opens.{first_slots_grow}
 use Rattle.shelf_steps.proofs.opening.first_slots.Goals as goal

@@ -1,5 +1,5 @@
 use Rattle.std.specs.Arc.{arc_value}
-use Rattle.shelf_steps.specs.Ruled.{FirstSlots}
+use Rattle.shelf_steps.specs.Rule.{FirstSlots}
 use Rattle.shelf_steps.proofs.opening.first_slots.Given as goal
 
 abbrev pub invariant-loop-index : goal.invariant-loop-index

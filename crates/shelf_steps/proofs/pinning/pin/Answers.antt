@@ -1,6 +1,6 @@
 use Rattle.std.proofs.lemmas.Result.{IfOk-weaker, IfErr-weaker}
 use Rattle.shelf_steps.proofs.Pinned.{Held, Pinned, pinned_second, pinned_third, pinned_fourth, moved}
-use Rattle.shelf_steps.specs.Pinning.{Late, Moves, IsIdleAs}
+use Rattle.shelf_steps.specs.Pinning.{TryIsLate, Moves, IsIdleAs}
 use Rattle.shelf_steps.proofs.pinning.pin.Goals as goal
 
 pub returns-in-Ok-try_once-clause-pins : goal.returns-in-Ok-try_once-clause-pins
@@ -25,7 +25,7 @@ returns-clause-pins c =
 
 pub returns-clause-moves : goal.returns-clause-moves
 returns-clause-moves c =
-    IfErr-weaker c.try_once-4.result (λ n. Late c.try_once-3.new.worker.me.0 n c.try_once-4.new.worker.me.0
+    IfErr-weaker c.try_once-4.result (λ n. TryIsLate c.try_once-3.new.worker.me.0 n c.try_once-4.new.worker.me.0
     × IsIdleAs c.args.number c.try_once-4.new.worker.me)
     (λ n. Moves c.args.worker.now.me.0 n c.try_once-4.new.worker.me.0
     × IsIdleAs c.args.number c.try_once-4.new.worker.me)

@@ -2,10 +2,10 @@ use Rattle.std.proofs.Common.{◌≡◌, ◌+◌, ◌<◌, ◌≤◌, ◌∙◌,
 use Rattle.std.proofs.lemmas.Option.{slice_get-get_or}
 use Rattle.bags.specs.Bag.{criterion_of, points_of}
 use Rattle.bags.specs.Dominance.{IsBag}
-use Rattle.profile_scan.specs.Between.{IsPointBetween, question}
+use Rattle.profile_scan.specs.SetQuery.{IsPointBetween, question}
 use Rattle.profile_scan.specs.LawStatements.{CanScan}
 use Rattle.profile_scan.proofs.OrderLemmas.{listed_bag}
-use Rattle.journeys.proofs.TellLemmas.{HaveJourneys, all_told, no_journeys, one_more}
+use Rattle.journeys.proofs.ExtractedLemmas.{HaveJourneys, all_extracted, no_journeys, one_more}
 use Rattle.station_answers.specs.Attaining.{AttainsPair}
 use Rattle.station_answers.specs.Merging.{IsMerged}
 use Rattle.station_answers.proofs.MergeLemmas.{merged_answers}
@@ -64,6 +64,7 @@ returns-clause-points g c =
     let found : IsBag (g.C.Criterion.rules c.args.criterion.now) (points_of merged.best) =
     subst (λ (k : g.row.C.Denot). IsBag (g.C.Criterion.rules k) (points_of merged.best)) c.requires.merged.under merged.best.kept in
     let bag = listed_bag rules laws (points_of merged.best) points.items found c.in_ok-points.ensures.ordered c.in_ok-points.ensures.only in
-    all_told rules (IsPointBetween rules t b) (AttainsPair rules t b) points.items c.loop-index.index c.loop-index.departures.items c.loop-index.invariant past
+    all_extracted rules (IsPointBetween rules t b) (AttainsPair rules t b) points.items c.loop-index.index c.loop-index.departures.items c.loop-index.invariant
+    past
     (merged_answers g.C.Criterion.rules criterion laws t b can merged points.items c.requires.merged c.requires.covers bag c.in_ok-points.ensures.ordered
     c.in_ok-points.ensures.only c.in_ok-points.ensures.each)

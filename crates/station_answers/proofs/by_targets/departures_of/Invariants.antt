@@ -1,6 +1,6 @@
-use Rattle.profile_scan.specs.Between.{question}
+use Rattle.profile_scan.specs.SetQuery.{question}
 use Rattle.station_answers.specs.Attaining.{AttainsPair}
-use Rattle.journeys.proofs.TellLemmas.{HaveJourneys}
+use Rattle.journeys.proofs.ExtractedLemmas.{HaveJourneys}
 use Rattle.station_answers.proofs.by_targets.departures_of.Given as goal
 
 abbrev pub invariant-loop-index : goal.invariant-loop-index

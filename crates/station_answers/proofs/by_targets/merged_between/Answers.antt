@@ -3,7 +3,7 @@ use Rattle.std.proofs.lemmas.Option.{slice_get-get_or, slice_get_within}
 use Rattle.reasoning.proofs.ListLemmas.{at_contains}
 use Rattle.reasoning.proofs.OptionLemmas.{on_err}
 use Rattle.timetable.specs.TimetableValue.{TimetableValue}
-use Rattle.profile_scan.specs.Between.{between_one, pair_of, question}
+use Rattle.profile_scan.specs.SetQuery.{single_set_query, pair_of, question}
 use Rattle.profile_scan.specs.Destinations.{CanBeAsked, query_from}
 use Rattle.profile_scan.specs.Everywhere.{criterion_of_profiles, destination_of}
 use Rattle.profile_scan.specs.LawStatements.{CanScan}
@@ -80,7 +80,7 @@ loop-index-preserved g c =
     let now_is = c.in_ok-profiles.ensures.timetable ∙ before.timetable in
     let at : slice_get targets.items c.loop-index.index ≡ Some c.index-target.result.now =
     slice_get-get_or targets.items index target (within g here) ∙ ap Some (sym c.index-target.ensures) in
-    let can : (s to : ℕ) → CanScan (g.S.ConnSource.timetable c.args.source.now) (between_one (pair_of (question c.args.query.now) s to)) =
+    let can : (s to : ℕ) → CanScan (g.S.ConnSource.timetable c.args.source.now) (single_set_query (pair_of (question c.args.query.now) s to)) =
     λ s to. record {
       legal = g.met.S.ConnSource.legal c.args.source.now;
       limits = g.met.S.ConnSource.limits c.args.source.now;

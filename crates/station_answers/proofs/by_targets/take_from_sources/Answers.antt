@@ -6,7 +6,7 @@ use Rattle.criteria.specs.Laws.{Admits}
 use Rattle.bags.specs.Bag.{points_of}
 use Rattle.bags.specs.Dominance.{IsBag}
 use Rattle.timetable.specs.declared.limits.TheConstants.{TIME_END}
-use Rattle.profile_scan.specs.Between.{between_one, question}
+use Rattle.profile_scan.specs.SetQuery.{single_set_query, question}
 use Rattle.profile_scan.specs.Destinations.{query_from}
 use Rattle.profile_scan.specs.Everywhere.{criterion_of_profiles, destination_of}
 use Rattle.profile_scan.specs.LawStatements.{CanScan}
@@ -33,7 +33,7 @@ take_in-requires g c = λ p h.
     let d = destination_of c.args.profiles.now in
     let q = query_from d c.index-stop.result.now in
     let can : CanScan (g.S.ConnSource.timetable c.args.source.now)
-    (between_one (query_from (destination_of c.args.profiles.now) c.index-stop.result.now)) = record {
+    (single_set_query (query_from (destination_of c.args.profiles.now) c.index-stop.result.now)) = record {
       legal = g.met.S.ConnSource.legal c.args.source.now;
       limits = g.met.S.ConnSource.limits c.args.source.now;
       in_time = subst (λ (n : ℕ). n < TIME_END) (sym c.requires.target.times.2) c.requires.askable.small.2;
@@ -61,7 +61,7 @@ loop-index-preserved g c =
     let is : Contains sources.items c.index-stop.result.now = (index, within, sym c.index-stop.ensures) in
     let at : slice_get sources.items c.loop-index.index ≡ Some c.index-stop.result.now =
     slice_get-get_or sources.items index stop within ∙ ap Some (sym c.index-stop.ensures) in
-    let can : (s : ℕ) → CanScan (g.S.ConnSource.timetable c.args.source.now) (between_one (query_from (destination_of c.args.profiles.now) s)) =
+    let can : (s : ℕ) → CanScan (g.S.ConnSource.timetable c.args.source.now) (single_set_query (query_from (destination_of c.args.profiles.now) s)) =
     λ s. record {
       legal = g.met.S.ConnSource.legal c.args.source.now;
       limits = g.met.S.ConnSource.limits c.args.source.now;

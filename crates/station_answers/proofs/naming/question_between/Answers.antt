@@ -1,5 +1,5 @@
 use Rattle.std.proofs.Common.{ℕ, map, refl, subst, Bor, List}
-use Rattle.profile_scan.specs.Between.{BetweenValue}
+use Rattle.profile_scan.specs.SetQuery.{SetQueryValue}
 use Rattle.station_answers.specs.Asking.{IsFirstFault}
 use Rattle.station_answers.specs.Naming.{AsksBetween}
 use Rattle.station_answers.proofs.NameLemmas.{refused_between}
@@ -10,7 +10,7 @@ returns-in-Err-check_between c =
     let window = c.args.window in
     let from = map (λ (name : Bor (List ℕ)). name.now) c.args.from.now in
     let to = map (λ (name : Bor (List ℕ)). name.now) c.args.to.now in
-    let b : BetweenValue = record {
+    let b : SetQueryValue = record {
       sources = c.in-Ok-Some.stops.items;
       targets = c.in-Ok-Some-stops_named.stops.items;
       from = window.from;

@@ -1,4 +1,4 @@
-//! Shelves of both kinds with all their seats, whose answers are told in words.
+//! Shelves of both kinds with all their seats, whose answers are reported in words.
 
 ghost use Rattle.std.specs.Prelude.{◌≡◌};
 ghost use Rattle.std.specs.List.{All};

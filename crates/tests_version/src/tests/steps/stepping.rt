@@ -6,7 +6,7 @@ ghost use Rattle.shelf_steps.specs.Plays.{newcomer, is_open};
 ghost use Rattle.shelf_steps.specs.Handed.{handed};
 ghost use Rattle.shelf_steps.specs.declared.views.View.{View};
 
-use crate::tests::images::Source;
+use crate::tests::images::ImageSource;
 use shelf_steps::laws::{
     close, gather, give_back, join, leave_late, look, note, open, publish, take,
 };
@@ -17,10 +17,10 @@ use version_core::{MOST_VERSIONS, Shelf, Worker};
 
 /// What a seat remembers about itself, so that its steps may be asked for at any time.
 pub(crate) trait Memory {
-    ghost use Rattle.shelf_steps.specs.Plays.{Mine};
+    ghost use Rattle.shelf_steps.specs.Plays.{SeatAndSlots};
 
     // What the seat remembers is what its view knows, with these slots out.
-    ghost is_so: { Self → Mine → Type 0 };
+    ghost is_so: { Self → SeatAndSlots → Type 0 };
 }
 
 /// A worker remembers what it is doing.
@@ -32,11 +32,11 @@ impl Memory for Worker {
 
 /// The version of a notice.
 #[derive(Drop)]
-pub(crate) struct Noted {
+pub(crate) struct NoticeMemory {
     version: u64,
 }
 
-impl Memory for Noted {
+impl Memory for NoticeMemory {
     ghost use Rattle.shelf_steps.specs.Plays.{IsNotice};
 
     ghost is_so = { λ noted. IsNotice noted.version };
@@ -76,7 +76,7 @@ impl<M: Memory + Drop> Model for Steps<M> {
 pub(crate) type WorkerSteps = Steps<Worker>;
 
 /// A notice that is out.
-pub(crate) type NoticeSteps = Steps<Noted>;
+pub(crate) type NoticeSteps = Steps<NoticeMemory>;
 
 pub(crate) type LoaderSteps = Steps<Loaded>;
 
@@ -212,7 +212,7 @@ impl LoaderSteps {
         let version = self.memory.current;
         Steps {
             index,
-            memory: Noted { version },
+            memory: NoticeMemory { version },
         }
     }
 
@@ -221,7 +221,7 @@ impl LoaderSteps {
         &mut self,
         table: &ShelfTable,
         shelf: usize,
-        source: &Source,
+        source: &ImageSource,
     ) -> Result<bool, AllocError>
         requires { (self.old ≡ table.now) × (shelf < 8) }
         ensures { self.new ≡ self.old }

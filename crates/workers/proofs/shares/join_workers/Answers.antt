@@ -6,7 +6,7 @@ use Rattle.std.specs.Prelude.{String, List}
 use Rattle.std.specs.Global.{Global}
 use Rattle.load_orders.specs.Keeping.{QueueId}
 use Rattle.workers.specs.Ordering.{GoesBy, IsKeeperOf, put_by, route_to}
-use Rattle.workers.specs.Sessions.{AreAllServed, IsShare, post_at, posts_at, share_of, work_of}
+use Rattle.workers.specs.Sessions.{AreAllServed, IsShare, worker_start, worker_starts, share_of, work_of}
 use Rattle.workers.specs.Words.{sessions_of}
 use Rattle.session.specs.declared.reply_form.ReplyForm.{ReplyForm}
 use Rattle.workers.proofs.Shared.{joined_none, joined_next, joined_all, keeper_next, keeper_none}
@@ -74,7 +74,7 @@ loop-worker-preserved g c =
     let Share = λ (form : ReplyForm) (names : List (String Global)) (queue : QueueId _).
     IsShare (sessions_of form g.C.Client.words g.C.Reader.Read.remaining g.C.Writer.Write.contents
     g.T.Versions.words)
-    (post_at c.in-Some.worker.promise.seat.value (route_to names queue)) done.taker.taken (share_of done.served done.seat pair.1) in
+    (worker_start c.in-Some.worker.promise.seat.value (route_to names queue)) done.taker.taken (share_of done.served done.seat pair.1) in
     let by_form = subst (λ (form : ReplyForm). Share form (g.F.Feeds.words.named c.in-Some.worker.promise.route.feeds.value)
     c.in-Some.worker.promise.route.end.value.queue) (forms 0 c.in-Some.worker (omega arith)) c.join-share.ensures.2 in
     let by_queue = subst (λ (queue : QueueId _). Share c.args.form (g.F.Feeds.words.named c.in-Some.worker.promise.route.feeds.value) queue)
@@ -131,6 +131,6 @@ returns g c =
     let left = work_of c.loop-worker.served c.loop-worker.seats.items c.loop-worker.orders in
     let all_served = joined_all words (λ worker. worker.promise.seat.value) route _ _ _ _ left was.joined none sent in
     let served = subst (λ workers. AreAllServed words c.args.dealer.view.sent
-    (posts_at (map (λ worker. worker.promise.seat.value) workers) route) left) items all_served in
+    (worker_starts (map (λ worker. worker.promise.seat.value) workers) route) left) items all_served in
     let kept = subst (λ (n : ℕ). IsKeeperOf c.args.route.end.value.queue (put_by c.loop-worker.orders) n c.loop-worker.asks) none was.keeper in
     record { back = kept; fits = was.fit; served = served }

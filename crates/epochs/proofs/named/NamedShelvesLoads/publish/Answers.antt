@@ -10,7 +10,7 @@ use Rattle.epochs.proofs.named.NamedShelvesLoads.publish.Goals as goal
 pub returns-clause-steps : goal.returns-clause-steps
 returns-clause-steps g c =
     let p = c.in-Ok.ensures.steps in
-    let same : c.under_name.result.0 ≡ c.in-Ok.published.0 = ap (λ (x : ℕ × Option NoticeValue). x.0) c.under_name.ensures in (
+    let same : c.with_name.result.0 ≡ c.in-Ok.published.0 = ap (λ (x : ℕ × Option NoticeValue). x.0) c.with_name.ensures in (
       p.0,
       subst (λ (s : ShelfLoaderValue). MakesRoomBySteps s.view p.0) c.loader.view_is p.1,
       subst (λ n. PublishesWithNotice p.0 (arc_value c.args.image) n c.publish.new.loader.view) (sym same) p.2,
@@ -18,13 +18,13 @@ returns-clause-steps g c =
 
 pub returns-clause-published : goal.returns-clause-published
 returns-clause-published g c =
-    let same : c.under_name.result.0 ≡ c.in-Ok.published.0 = ap (λ (x : ℕ × Option NoticeValue). x.0) c.under_name.ensures in
+    let same : c.with_name.result.0 ≡ c.in-Ok.published.0 = ap (λ (x : ℕ × Option NoticeValue). x.0) c.with_name.ensures in
     subst (λ n. IsPublished (known_of c.publish.new.loader.view) n (arc_value c.args.image)) (sym same) c.in-Ok.ensures.published
 
 pub returns-clause-ends : goal.returns-clause-ends
 returns-clause-ends g c =
-    let same : c.under_name.result.0 ≡ c.in-Ok.published.0 = ap (λ (x : ℕ × Option NoticeValue). x.0) c.under_name.ensures in
-    subst (λ (s : ShelfLoaderValue). EndsPublish (known_of s.view) c.under_name.result.0 (known_of c.publish.new.loader.view)) c.loader.view_is
+    let same : c.with_name.result.0 ≡ c.in-Ok.published.0 = ap (λ (x : ℕ × Option NoticeValue). x.0) c.with_name.ensures in
+    subst (λ (s : ShelfLoaderValue). EndsPublish (known_of s.view) c.with_name.result.0 (known_of c.publish.new.loader.view)) c.loader.view_is
     (subst (λ n. EndsPublish (known_of c.loader.inside.inner.view) n (known_of c.publish.new.loader.view)) (sym same) c.in-Ok.ensures.ends)
 
 -- what a publish that is refused tells of workers, its tries found

@@ -6,7 +6,7 @@ use Rattle.image_layout.specs.Image.{ImageValue}
 use Rattle.image_verifier.proofs.ShownLemmas.{is_among}
 use Rattle.image_verifier.proofs.verified.Verified.footpath_into.Goals as goal
 
--- the place is among those into the stop
+-- the index is among those into the stop
 among : (c : goal.After-deref) → (foot_index_of c.self.inside.words.items c.args.stop ≤ c.args.position)
     × (c.args.position < foot_index_of c.self.inside.words.items (c.args.stop + 1))
 among c =

@@ -15,21 +15,21 @@ invariant_of-self g c =
     elim c.match-index_of.branch [
       | in-Some w ↦
           let put = w.put-outcome in
-          let does = does_put g.P.Protocol.holds g.T.Versions.words.version feed w.in-Some.index put.result names here.end put.new.end here.heard
+          let does = does_put g.P.Protocol.holds g.T.Versions.words.version feed w.in-Some.index put.result names here.end put.new.end here.received
           w.in-Some.ensures put.ensures.put put.ensures.refused in
           let grows = c.note.ensures ∙ ap (λ m. m.asked ++ c.put.result ∷ []) w.self-inside-is
           ∙ ap (λ (order : OrderValue). here.asked ++ order ∷ []) (c.put.ensures ∙ ap (order_value feed) w.outcome-is) in
           let asked = asked_more g.P.Protocol.holds g.T.Versions.words.version (order_value feed put.result) names here.end put.new.end
-          here.asked c.note.new.self here.heard here.heard c.self.invariant does put.ensures.queue grows in
+          here.asked c.note.new.self here.received here.received c.self.invariant does put.ensures.queue grows in
           subst (λ m. HasAsked g.P.Protocol.holds g.T.Versions.words.version
-          (record { names = map string_bytes m.names.now; end = m.end; asked = c.note.new.self; heard = m.heard }))
+          (record { names = map string_bytes m.names.now; end = m.end; asked = c.note.new.self; received = m.received }))
           (sym w.self-inside-is) asked
       | in-None w ↦
           let grows = c.note.ensures ∙ ap (λ m. m.asked ++ c.put.result ∷ []) w.self-inside-is
           ∙ ap (λ (order : OrderValue). here.asked ++ order ∷ []) (c.put.ensures ∙ ap (order_value feed) w.outcome-is) in
           let asked = asked_more g.P.Protocol.holds g.T.Versions.words.version (order_value feed (Err OrderFault.UnknownFeed)) names here.end here.end
-          here.asked c.note.new.self here.heard here.heard c.self.invariant (w.in-None.ensures, refl, refl) refl grows in
+          here.asked c.note.new.self here.received here.received c.self.invariant (w.in-None.ensures, refl, refl) refl grows in
           subst (λ m. HasAsked g.P.Protocol.holds g.T.Versions.words.version
-          (record { names = map string_bytes m.names.now; end = m.end; asked = c.note.new.self; heard = m.heard }))
+          (record { names = map string_bytes m.names.now; end = m.end; asked = c.note.new.self; received = m.received }))
           (sym w.self-inside-is) asked
     ]

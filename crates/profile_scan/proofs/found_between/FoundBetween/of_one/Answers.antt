@@ -1,7 +1,7 @@
 use Rattle.std.proofs.Common.{ℕ, Option, sym, subst}
 use Rattle.std.proofs.Math.Logic.{∥∥₁_map}
 use Rattle.timetable.specs.declared.query.Query.{Query}
-use Rattle.profile_scan.specs.Between.{BetweenValue, between_one, question}
+use Rattle.profile_scan.specs.SetQuery.{SetQueryValue, single_set_query, question}
 use Rattle.profile_scan.specs.Answered.{Answer, IsAnswered, IsAnsweredBetween}
 use Rattle.profile_scan.proofs.Single.{answered_one}
 use Rattle.profile_scan.proofs.found_between.FoundBetween.of_one.Goals as goal
@@ -16,7 +16,7 @@ invariant_of-result g c =
     let nodes = found.nodes.items in
     let at_walk = subst (λ (w : Option ℕ). Answer rules t c.args.query.now points nodes w) (sym c.secs_of.ensures)
     (∥∥₁_map found.answered (λ is. answered_one rules t c.args.query.now points nodes found.walk
-    (subst (λ (b : BetweenValue). IsAnsweredBetween rules t b points nodes found.walk) c.requires is))) in
+    (subst (λ (b : SetQueryValue). IsAnsweredBetween rules t b points nodes found.walk) c.requires is))) in
     record { answered = subst (λ (q : Query). Answer rules t q points nodes c.secs_of.result) (sym c.of.ensures) at_walk }
 
 pub returns : goal.returns

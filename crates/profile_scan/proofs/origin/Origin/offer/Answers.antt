@@ -3,10 +3,10 @@ use Rattle.std.proofs.lemmas.Bool.{true≢false}
 use Rattle.reasoning.proofs.ListLemmas.{extends_none, extends_one}
 use Rattle.bags.specs.Bag.{points_of}
 use Rattle.profile_scan.specs.Matching.{from_to}
-use Rattle.profile_scan.specs.Story.{spelling_of}
+use Rattle.profile_scan.specs.ScanRecords.{spelling_of}
 use Rattle.profile_scan.specs.Adding.{set_out_way}
 use Rattle.profile_scan.proofs.Offers.{inserted_under}
-use Rattle.profile_scan.proofs.StoryLemmas.{set_out_next}
+use Rattle.profile_scan.proofs.ScanRecordLemmas.{set_out_next}
 use Rattle.profile_scan.proofs.origin.Origin.offer.Goals as goal
 
 pub returns-in_ok-push-clause-takes : goal.returns-in_ok-push-clause-takes

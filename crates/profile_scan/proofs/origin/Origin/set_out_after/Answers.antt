@@ -8,11 +8,11 @@ use Rattle.bags.specs.declared.point.Point.{Point}
 use Rattle.profile_scan.specs.Values.{started}
 use Rattle.profile_scan.specs.Adding.{label_points, set_out_way}
 use Rattle.profile_scan.specs.Matching.{from_to}
-use Rattle.profile_scan.specs.Story.{story, spelling_of}
-use Rattle.profile_scan.specs.declared.story.SetOut.{SetOut}
+use Rattle.profile_scan.specs.ScanRecords.{scan_records, spelling_of}
+use Rattle.profile_scan.specs.declared.scan_records.SetOut.{SetOut}
 use Rattle.profile_scan.proofs.Offers.{start_admits, takes_first, takes_next, takes_worth, takes_all}
 use Rattle.profile_scan.proofs.PartLemmas.{origin_on}
-use Rattle.profile_scan.proofs.StoryLemmas.{set_outs_grow, grows_on}
+use Rattle.profile_scan.proofs.ScanRecordLemmas.{set_outs_grow, grows_on}
 use Rattle.profile_scan.proofs.origin.Origin.set_out_after.Goals as goal
 
 pub loop-k-init : goal.loop-k-init
@@ -43,9 +43,9 @@ loop-k-preserved g c =
       origin = origin_on c.args.asked.now.criterion c.args.self.now c.loop-k.self c.offer.new.self
           c.loop-k.invariant.origin c.in_ok-offer.ensures.origin;
       takes = λ walks exits steps before all ext_before ext.
-          let was = story exits steps c.args.self.now.set_outs.items in
-          let mid = story exits steps c.loop-k.self.set_outs.items in
-          let now = story exits steps c.offer.new.self.set_outs.items in
+          let was = scan_records exits steps c.args.self.now.set_outs.items in
+          let mid = scan_records exits steps c.loop-k.self.set_outs.items in
+          let now = scan_records exits steps c.offer.new.self.set_outs.items in
           let tags = from_to (spelling_of walks before) (spelling_of walks all) in
           let set_out : SetOut = record { start = c.args.departure.start; first = c.args.place; label = x.tag } in
           takes_next rules (label_points c.args.labels.now)

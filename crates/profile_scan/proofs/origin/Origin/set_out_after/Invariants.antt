@@ -4,9 +4,9 @@ use Rattle.profile_scan.specs.Values.{started}
 use Rattle.timetable.specs.declared.network.Footpath.{Footpath}
 use Rattle.fronts.specs.declared.entry.Step.{Step}
 use Rattle.profile_scan.specs.Parts.{ChangesOrigin}
-use Rattle.profile_scan.specs.Story.{story}
+use Rattle.profile_scan.specs.ScanRecords.{scan_records}
 use Rattle.profile_scan.specs.Adding.{label_points, Takes, set_out_way, each_of, StandsBefore}
-use Rattle.profile_scan.specs.declared.story.Exit.{Exit}
+use Rattle.profile_scan.specs.declared.scan_records.Exit.{Exit}
 use Rattle.profile_scan.proofs.origin.Origin.set_out_after.Given as goal
 
 abbrev pub invariant-loop-k : goal.invariant-loop-k
@@ -15,7 +15,7 @@ invariant-loop-k g l =
     record {
       origin : ChangesOrigin l.asked.criterion l.fn.self l.self;
       takes : (walks : List Footpath) (exits : List Exit) (steps : List Step)
-          → Takes rules walks (story exits steps l.fn.self.set_outs.items) (story exits steps l.self.set_outs.items)
+          → Takes rules walks (scan_records exits steps l.fn.self.set_outs.items) (scan_records exits steps l.self.set_outs.items)
           (λ tags. each_of (StandsBefore (label_points l.labels) l.k)
           (λ label. set_out_way tags l.departure.time (started rules l.departure.start (rules.ride label.value))
           (record { start = l.departure.start; first = l.place; label = label.tag }))) (points_of l.fn.self.found)

@@ -4,10 +4,10 @@ use Rattle.reasoning.proofs.ListLemmas.{extends_none}
 use Rattle.bags.specs.Bag.{points_of}
 use Rattle.timetable.specs.declared.network.Footpath.{Footpath}
 use Rattle.timetable.specs.Journeys.{start_secs}
-use Rattle.profile_scan.specs.Between.{question}
+use Rattle.profile_scan.specs.SetQuery.{question}
 use Rattle.profile_scan.specs.Steps.{TakesIn}
 use Rattle.profile_scan.specs.Matching.{from_to}
-use Rattle.profile_scan.specs.Story.{spelling_of}
+use Rattle.profile_scan.specs.ScanRecords.{spelling_of}
 use Rattle.profile_scan.specs.Adding.{label_points, MayStart, settings_out_after}
 use Rattle.reasoning.proofs.BoolLemmas.{where_true, where_false}
 use Rattle.profile_scan.proofs.Offers.{on_ok_more, takes_if, takes_unless}

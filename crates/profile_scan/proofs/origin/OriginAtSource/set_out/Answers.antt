@@ -1,11 +1,11 @@
 use Rattle.std.proofs.Common.{◌≡◌, ◌<◌, ℕ, sym, subst, arith}
 use Rattle.bags.specs.Bag.{points_of}
-use Rattle.profile_scan.specs.Between.{question}
+use Rattle.profile_scan.specs.SetQuery.{question}
 use Rattle.profile_scan.specs.Matching.{from_to}
-use Rattle.profile_scan.specs.Story.{story, spelling_of}
+use Rattle.profile_scan.specs.ScanRecords.{scan_records, spelling_of}
 use Rattle.profile_scan.specs.Steps.{TakesIn}
 use Rattle.profile_scan.specs.Adding.{label_points, each_of, IsTried, settings_out_by}
-use Rattle.profile_scan.proofs.StoryLemmas.{grows_on, set_outs_grow}
+use Rattle.profile_scan.proofs.ScanRecordLemmas.{grows_on, set_outs_grow}
 use Rattle.profile_scan.proofs.BoardLemmas.{starts_first, starts_next, settings_out_taken, alone_taken}
 use Rattle.profile_scan.proofs.PartLemmas.{origin_on}
 use Rattle.profile_scan.proofs.StepFacts.{begins_in}
@@ -38,9 +38,9 @@ loop-walk_index-preserved g c =
       origin = origin_on c.args.asked.now.criterion c.args.self.now c.loop-walk_index.self
           c.set_out_by-in-loop-walk_index.new.self inv.origin c.in_ok-set_out_by-2.ensures.origin;
       takes = λ exits steps before all ext_before ext.
-          let s0 = story exits steps old_outs in
-          let s1 = story exits steps mid_outs in
-          let s2 = story exits steps new_outs in
+          let s0 = scan_records exits steps old_outs in
+          let s1 = scan_records exits steps mid_outs in
+          let s2 = scan_records exits steps new_outs in
           starts_next (g.C.Criterion.rules c.args.asked.now.criterion)
           (g.met.C.Criterion.laws c.args.asked.now.criterion) t (g.met.S.ConnSource.limits c.args.source.now)
           (label_points c.args.labels.now) c.requires.labels

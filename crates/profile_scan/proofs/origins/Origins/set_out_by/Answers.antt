@@ -4,13 +4,13 @@ use Rattle.reasoning.proofs.BoolLemmas.{where_true, where_false}
 use Rattle.criteria.specs.Laws.{IsSecs}
 use Rattle.timetable.specs.declared.network.Footpath.{Footpath}
 use Rattle.timetable.specs.Journeys.{start_secs}
-use Rattle.profile_scan.specs.Between.{question}
+use Rattle.profile_scan.specs.SetQuery.{question}
 use Rattle.profile_scan.specs.Steps.{TakesIn}
 use Rattle.profile_scan.specs.Matching.{from_to}
-use Rattle.profile_scan.specs.Story.{spelling_of}
+use Rattle.profile_scan.specs.ScanRecords.{spelling_of}
 use Rattle.profile_scan.specs.Adding.{label_points, MayStart, only_if, settings_out_after}
 use Rattle.profile_scan.specs.Parts.{SourceTakes}
-use Rattle.profile_scan.specs.Origins.{found_from, from_stop, kept_from}
+use Rattle.profile_scan.specs.Origins.{found_from, from_stop, scan_value_from}
 use Rattle.profile_scan.proofs.Offers.{on_ok_both, on_ok_more, takes_if}
 use Rattle.profile_scan.proofs.OriginLemmas.{in_time, no_loop, origins_none, other_start, own_start, source_unless}
 use Rattle.profile_scan.proofs.origins.Origins.set_out_by.Goals as goal
@@ -38,7 +38,8 @@ returns-in-Some-clause-takes g c =
     (λ both walks stop. elim (cases_eq stop here) [
       | inl same ↦
           subst (λ (n : ℕ). SourceTakes rules walks (λ tags. only_if (MayStart (from_stop q n) cn start)
-          (settings_out_after rules tags c.args.hop.now.place (cn.dep - start_secs start) start labels)) (kept_from old n) (kept_from new n)) (sym same)
+          (settings_out_after rules tags c.args.hop.now.place (cn.dep - start_secs start) start labels)) (scan_value_from old n) (scan_value_from new n))
+          (sym same)
           (λ exits steps before all ext_before ext.
           let tags = from_to (spelling_of walks before) (spelling_of walks all) in
           takes_if rules (MayStart (from_stop q here) cn start)

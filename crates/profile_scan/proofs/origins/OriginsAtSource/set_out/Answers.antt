@@ -1,12 +1,12 @@
 use Rattle.std.proofs.Common.{◌≡◌, ◌<◌, ℕ, sym, ◌∙◌, subst, arith}
 use Rattle.bags.specs.Bag.{points_of}
-use Rattle.profile_scan.specs.Between.{question}
+use Rattle.profile_scan.specs.SetQuery.{question}
 use Rattle.profile_scan.specs.Matching.{from_to}
-use Rattle.profile_scan.specs.Story.{story, spelling_of}
+use Rattle.profile_scan.specs.ScanRecords.{scan_records, spelling_of}
 use Rattle.profile_scan.specs.Steps.{TakesIn}
 use Rattle.profile_scan.specs.Adding.{label_points, each_of, IsTried, settings_out_by}
 use Rattle.profile_scan.specs.Origins.{found_from, from_stop, set_outs_from}
-use Rattle.profile_scan.proofs.StoryLemmas.{grows_on, set_outs_grow}
+use Rattle.profile_scan.proofs.ScanRecordLemmas.{grows_on, set_outs_grow}
 use Rattle.profile_scan.proofs.BoardLemmas.{starts_first, starts_next, settings_out_taken}
 use Rattle.profile_scan.proofs.Offers.{bag_under}
 use Rattle.profile_scan.proofs.OriginLemmas.{found_bag, origins_on}
@@ -72,9 +72,9 @@ loop-walk_index-preserved g c =
           let old_outs = set_outs_from old stop in
           let mid_outs = set_outs_from mid stop in
           let new_outs = set_outs_from new stop in
-          let s0 = story exits steps old_outs in
-          let s1 = story exits steps mid_outs in
-          let s2 = story exits steps new_outs in
+          let s0 = scan_records exits steps old_outs in
+          let s1 = scan_records exits steps mid_outs in
+          let s2 = scan_records exits steps new_outs in
           starts_next (g.C.Criterion.rules c.args.asked.now.criterion) (g.met.C.Criterion.laws c.args.asked.now.criterion) t
           (g.met.S.ConnSource.limits c.args.source.now) (label_points c.args.labels.now) c.requires.labels
           (from_to (spelling_of t.footpaths before) (spelling_of t.footpaths all)) c.args.hop.now.place c.args.hop.now.connection

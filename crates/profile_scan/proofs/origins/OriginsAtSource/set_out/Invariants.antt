@@ -1,7 +1,7 @@
 use Rattle.std.proofs.Common.{ℕ}
-use Rattle.profile_scan.specs.Between.{question}
+use Rattle.profile_scan.specs.SetQuery.{question}
 use Rattle.profile_scan.specs.Adding.{label_points, each_of, IsTried, settings_out_by}
-use Rattle.profile_scan.specs.Origins.{ChangesOrigins, from_stop, kept_from}
+use Rattle.profile_scan.specs.Origins.{ChangesOrigins, from_stop, scan_value_from}
 use Rattle.profile_scan.specs.Parts.{SourceTakes}
 use Rattle.profile_scan.proofs.origins.OriginsAtSource.set_out.Given as goal
 
@@ -13,5 +13,5 @@ invariant-loop-walk_index g l =
       origins : ChangesOrigins l.asked.criterion l.fn.self l.self;
       takes : (stop : ℕ) → SourceTakes rules walks (λ tags. each_of (IsTried walks l.begin l.walk_index)
           (settings_out_by rules tags l.hop.place l.hop.connection (from_stop (question l.asked.query) stop) (label_points l.labels)))
-          (kept_from l.fn.self stop) (kept_from l.self stop);
+          (scan_value_from l.fn.self stop) (scan_value_from l.self stop);
     }

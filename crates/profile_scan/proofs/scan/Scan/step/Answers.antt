@@ -1,14 +1,14 @@
 use Rattle.std.proofs.Common.{◌<◌, ◌+◌, ℕ, List, Contains, arith, ap, sym, subst}
 use Rattle.criteria.specs.Laws.{Admits}
 use Rattle.timetable.specs.declared.network.Connection.{Connection}
-use Rattle.profile_scan.specs.Between.{asked_from, question}
+use Rattle.profile_scan.specs.SetQuery.{asked_from, question}
 use Rattle.profile_scan.specs.Bound.{AreBounds}
-use Rattle.profile_scan.specs.Story.{spelling_of}
-use Rattle.profile_scan.specs.Kept.{AreStops, IsWayTo, kept_by, story_of}
+use Rattle.profile_scan.specs.ScanRecords.{spelling_of}
+use Rattle.profile_scan.specs.ScanState.{AreStops, IsFinalWalk, scan_value_of, scan_records_of}
 use Rattle.profile_scan.proofs.BoundLemmas.{bounds_renewed, bounds_on}
 use Rattle.profile_scan.proofs.StepFacts.{begins_in, ends_in, step_idle_at, trip_in}
 use Rattle.profile_scan.proofs.scan.Scan.step.Given as given
-use Rattle.profile_scan.proofs.scan.Scan.step.Goals.{After-way_from-way, In_ok-renew, Start}
+use Rattle.profile_scan.proofs.scan.Scan.step.Goals.{After-final_walk_from-way, In_ok-renew, Start}
 use Rattle.profile_scan.proofs.scan.Scan.step.Goals as goal
 
 -- the connection ends at a stop
@@ -17,22 +17,23 @@ ends g c = ends_in (g.S.ConnSource.timetable c.args.source.now) (g.met.S.ConnSou
     c.args.place c.requires.stands.in_range c.args.connection.now c.requires.stands.is
 
 -- what is known of the way from there to a target
-way_is : (g : given.Over) (c : goal.After-way_from-way g)
-    → IsWayTo (g.S.ConnSource.timetable c.args.source.now) (question c.args.asked.now.query).targets c.args.connection.now.to
-    c.way_from-way.result
+way_is : (g : given.Over) (c : goal.After-final_walk_from-way g)
+    → IsFinalWalk (g.S.ConnSource.timetable c.args.source.now) (question c.args.asked.now.query).targets c.args.connection.now.to
+    c.final_walk_from-way.result
 way_is g c =
     let at = c.requires.stands in
-    subst (IsWayTo (g.S.ConnSource.timetable c.args.source.now) (question c.args.asked.now.query).targets c.args.connection.now.to) (sym c.way_from-way.ensures)
-    (c.requires.asked.ways.each c.args.connection.now.to
+    subst (IsFinalWalk (g.S.ConnSource.timetable c.args.source.now) (question c.args.asked.now.query).targets c.args.connection.now.to)
+    (sym c.final_walk_from-way.ensures)
+    (c.requires.asked.final_walks.each c.args.connection.now.to
     (ends_in (g.S.ConnSource.timetable c.args.source.now) (g.met.S.ConnSource.legal c.args.source.now) c.args.place
     at.in_range c.args.connection.now at.is))
 
-pub way_from-way-requires : goal.way_from-way-requires
-way_from-way-requires g c = subst (λ (n : ℕ). c.args.connection.now.to < n) (sym c.requires.asked.ways.long)
-    (ends g (goal.at.way_from-way-requires g c).Start)
+pub final_walk_from-way-requires : goal.final_walk_from-way-requires
+final_walk_from-way-requires g c = subst (λ (n : ℕ). c.args.connection.now.to < n) (sym c.requires.asked.final_walks.long)
+    (ends g (goal.at.final_walk_from-way-requires g c).Start)
 
-pub lead_to-requires : goal.lead_to-requires
-lead_to-requires g c =
+pub access_to-requires : goal.access_to-requires
+access_to-requires g c =
     let at = c.requires.stands in
     subst (λ (n : ℕ). c.args.connection.now.from < n) (sym c.requires.asked.starts.long)
     (begins_in (g.S.ConnSource.timetable c.args.source.now) (g.met.S.ConnSource.legal c.args.source.now)
@@ -69,8 +70,8 @@ returns-then-is_idle-clause-step g c index =
     let state = c.args.self.now.state in
     step_idle_at (g.C.Criterion.rules c.args.asked.now.criterion) t
     (asked_from g.O.AtSource.sources (question c.args.asked.now.query) index)
-    (spelling_of t.footpaths (story_of g.O.AtSource.kept state index)) c.args.place (kept_by g.O.AtSource.kept state index) _
-    c.args.connection.now c.requires.stands.is (way_is g (goal.at.returns-then-is_idle-clause-step g c).After-way_from-way)
+    (spelling_of t.footpaths (scan_records_of g.O.AtSource.kept state index)) c.args.place (scan_value_of g.O.AtSource.kept state index) _
+    c.args.connection.now c.requires.stands.is (way_is g (goal.at.returns-then-is_idle-clause-step g c).After-final_walk_from-way)
     (c.is_idle.ensures c.if-is_idle.true)
 
 pub returns-then-is_idle-clause-scan : goal.returns-then-is_idle-clause-scan
@@ -107,8 +108,8 @@ take-requires-clause-hop g c =
     record {
       stands = c.requires.stands;
       by = c.requires.asked.by;
-      lead = c.requires.asked.starts.each c.args.connection.now.from c.lead_to.result c.lead_to.ensures;
-      way = way_is g (goal.at.take-requires-clause-hop g c).After-way_from-way;
+      lead = c.requires.asked.starts.each c.args.connection.now.from c.access_to.result c.access_to.ensures;
+      way = way_is g (goal.at.take-requires-clause-hop g c).After-final_walk_from-way;
       bound =
           subst (λ (values : List g.row.C-V.Denot). (b : g.row.C-V.Denot) → Contains values b → Admits rules b) (sym c.deref.ensures.value)
           (renewed g (goal.at.take-requires-clause-hop g c).In_ok-renew 0).admitted;

@@ -5,14 +5,14 @@ use Rattle.timetable.specs.Journeys.{connection_at}
 use Rattle.fronts.specs.declared.labels.Label.{Label}
 use Rattle.fronts.specs.Lists.{entries_of, items_of, lists_criterion}
 use Rattle.fronts.proofs.Mapped.{list_admitted}
-use Rattle.profile_scan.specs.Between.{asked_from, question}
+use Rattle.profile_scan.specs.SetQuery.{asked_from, question}
 use Rattle.profile_scan.specs.Steps.{IsStep, boardings, settings_out}
-use Rattle.profile_scan.specs.Bound.{carried}
+use Rattle.profile_scan.specs.Bound.{unpruned}
 use Rattle.profile_scan.specs.Adding.{label_points, trip_points}
 use Rattle.profile_scan.specs.Matching.{from_to}
-use Rattle.profile_scan.specs.Story.{spelling_of}
+use Rattle.profile_scan.specs.ScanRecords.{spelling_of}
 use Rattle.profile_scan.specs.Hops.{IsHop}
-use Rattle.profile_scan.specs.Kept.{AreStops, IsState, kept_by, points_at, story_of}
+use Rattle.profile_scan.specs.ScanState.{AreStops, IsState, scan_value_of, points_at, scan_records_of}
 use Rattle.profile_scan.specs.LawStatements.{CanScan}
 use Rattle.profile_scan.specs.Parts.{HasTrip, SourceTakes, StopTakes}
 use Rattle.profile_scan.specs.declared.scan.State.{State}
@@ -161,9 +161,9 @@ stepped : (g : given.Over) (c : goal.After-labels_of-labels g) (new : State g.ro
     c.if-hop.self new
     → (index : ℕ) → IsStep (g.C.Criterion.rules c.args.asked.now.criterion) (g.S.ConnSource.timetable c.args.source.now)
     (asked_from g.O.AtSource.sources (question c.args.asked.now.query) index)
-    (from_to (spelling_of (g.S.ConnSource.timetable c.args.source.now).footpaths (story_of g.O.AtSource.kept c.args.self.now index))
-    (spelling_of (g.S.ConnSource.timetable c.args.source.now).footpaths (story_of g.O.AtSource.kept new index)))
-    c.args.hop.now.place (kept_by g.O.AtSource.kept c.args.self.now index) (kept_by g.O.AtSource.kept new index)
+    (from_to (spelling_of (g.S.ConnSource.timetable c.args.source.now).footpaths (scan_records_of g.O.AtSource.kept c.args.self.now index))
+    (spelling_of (g.S.ConnSource.timetable c.args.source.now).footpaths (scan_records_of g.O.AtSource.kept new index)))
+    c.args.hop.now.place (scan_value_of g.O.AtSource.kept c.args.self.now index) (scan_value_of g.O.AtSource.kept new index)
 stepped g c new same under boarded index =
     let criterion = c.args.asked.now.criterion in
     let rules = g.C.Criterion.rules c.args.asked.now.criterion in
@@ -211,7 +211,7 @@ returns-clause-step g c =
           (kept mid.origin index) (kept c.set_out.new.self index)) c.labels_of-labels.ensures (c.in_ok-set_out.ensures.takes index);
       steps = c.in_ok-board.ensures.stops.steps;
       boards = λ stop. subst (λ (xs : List (Label g.row.C-V.Denot)). StopTakes rules t.footpaths stop
-          (λ tags. boardings rules t tags hop.place stop (carried rules hop.bound.now (label_points xs))) mid.stops c.board.new.self)
+          (λ tags. boardings rules t tags hop.place stop (unpruned rules hop.bound.now (label_points xs))) mid.stops c.board.new.self)
           c.labels_of-labels.ensures (c.in_ok-board.ensures.takes stop);
     })
 

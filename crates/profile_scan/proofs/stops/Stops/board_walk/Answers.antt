@@ -1,8 +1,8 @@
 use Rattle.std.proofs.Common.{◌≡◌, ◌<◌, ◌-◌, ◌∙◌, List, length, slice_get, slice_index, Some, refl, subst, sym}
 use Rattle.fronts.specs.Lists.{lists_criterion, entries_of, list_points, steps_of, TakesRidden}
 use Rattle.fronts.specs.declared.entry.RiddenLabel.{RiddenLabel}
-use Rattle.profile_scan.specs.Story.{story}
-use Rattle.profile_scan.proofs.StoryLemmas.{grows_on, steps_grow}
+use Rattle.profile_scan.specs.ScanRecords.{scan_records}
+use Rattle.profile_scan.proofs.ScanRecordLemmas.{grows_on, steps_grow}
 use Rattle.profile_scan.proofs.StopLemmas.{heads_within}
 use Rattle.profile_scan.proofs.OfferedLemmas.{kept_under, offered_on}
 use Rattle.profile_scan.proofs.RideLemmas.{boarded_at}
@@ -17,8 +17,8 @@ returns-clause-takes g c labels are walks at stop exits set_outs before all ext_
     let head_is : c.head-head.result ≡ slice_index heads.items c.args.walk.from = c.head-head.ensures in
     let at_number : slice_get walks c.in_ok-number.number ≡ Some c.args.walk =
     subst (λ n. slice_get walks n ≡ Some c.args.walk) (sym c.in_ok-number.ensures) at in
-    let was = story exits (steps_of lists) set_outs in
-    let now = story exits (steps_of c.insert.new.self) set_outs in
+    let was = scan_records exits (steps_of lists) set_outs in
+    let now = scan_records exits (steps_of c.insert.new.self) set_outs in
     let takes =
     subst (λ (rs : List (RiddenLabel g.row.C-V.Denot)). TakesRidden (g.C.Criterion.rules (lists_criterion lists))
     (steps_of c.insert.new.self) (c.args.hop.now.connection.dep - walk.secs) c.args.hop.now.place

@@ -4,10 +4,10 @@ use Rattle.std.proofs.lemmas.List.Elements.{Contains-push}
 use Rattle.criteria.specs.Laws.{Admits}
 use Rattle.bags.specs.Dominance.{IsCovered}
 use Rattle.fronts.specs.Lists.{lists_criterion, entries_of, list_points, steps_of}
-use Rattle.profile_scan.specs.Story.{story}
-use Rattle.profile_scan.proofs.StoryLemmas.{grows_on, steps_grow}
+use Rattle.profile_scan.specs.ScanRecords.{scan_records}
+use Rattle.profile_scan.proofs.ScanRecordLemmas.{grows_on, steps_grow}
 use Rattle.profile_scan.specs.declared.last_offers.LastOffer.{LastOffer}
-use Rattle.profile_scan.specs.Kept.{IsLastOffer, points_at}
+use Rattle.profile_scan.specs.ScanState.{IsLastOffer, points_at}
 use Rattle.profile_scan.proofs.StopLemmas.{heads_within}
 use Rattle.profile_scan.proofs.OfferedLemmas.{before_next, covered_earlier, kept_under, offered_put, takes_as_it_is}
 use Rattle.profile_scan.proofs.RideLemmas.{boarded_at}
@@ -22,8 +22,8 @@ returns-clause-takes g c labels are walks at stop exits set_outs before all ext_
     let head_is : c.head-head.result ≡ slice_index heads.items c.args.walk.from = c.head-head.ensures in
     let at_number : slice_get walks c.in_ok-number.number ≡ Some c.args.walk =
     subst (λ n. slice_get walks n ≡ Some c.args.walk) (sym c.in_ok-number.ensures) at in
-    let was = story exits (steps_of lists) set_outs in
-    let now = story exits (steps_of c.insert_one.new.self) set_outs in
+    let was = scan_records exits (steps_of lists) set_outs in
+    let now = scan_records exits (steps_of c.insert_one.new.self) set_outs in
     boarded_at g.C.Criterion.rules (lists_criterion lists) c.args.asked.now.criterion c.requires.stops.under labels walks (c.args.ride ∷ []) are
     (list_points lists) (list_points c.insert_one.new.self) heads.items (length (entries_of lists)) c.requires.stops.within
     c.insert_one.ensures.same (steps_of c.insert_one.new.self) walk c.in_ok-number.number c.args.hop.now.place
@@ -41,7 +41,7 @@ returns-then-was_offered-clause-takes g c labels are walks at stop exits set_out
     (c.was_offered.ensures c.if-was_offered.true) in
     takes_as_it_is rules labels walks c.args.ride are (points_at c.args.self.now) c.args.walk c.args.walk_index
     c.args.hop.now.place c.args.hop.now.connection.dep c.if-walk-dep.false at covers stop before all
-    (grows_on before (story exits (steps_of c.args.self.now.lists) set_outs) all ext_before ext)
+    (grows_on before (scan_records exits (steps_of c.args.self.now.lists) set_outs) all ext_before ext)
 
 -- what the stops were offered stays good, and the stop was offered this
 pub returns-clause-stops : goal.returns-clause-stops

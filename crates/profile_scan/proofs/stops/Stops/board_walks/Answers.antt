@@ -3,12 +3,12 @@ use Rattle.criteria.specs.Laws.{Admits}
 use Rattle.fronts.specs.declared.entry.RiddenLabel.{RiddenLabel}
 use Rattle.fronts.specs.Lists.{steps_of}
 use Rattle.profile_scan.specs.Matching.{from_to}
-use Rattle.profile_scan.specs.Story.{story, spelling_of}
+use Rattle.profile_scan.specs.ScanRecords.{scan_records, spelling_of}
 use Rattle.profile_scan.specs.Steps.{TakesIn}
 use Rattle.profile_scan.specs.Adding.{AreRidden, each_of, StandsBetween, boardings_by}
-use Rattle.profile_scan.specs.Kept.{AreStops, points_at}
+use Rattle.profile_scan.specs.ScanState.{AreStops, points_at}
 use Rattle.profile_scan.proofs.PartLemmas.{lists_none, lists_on}
-use Rattle.profile_scan.proofs.StoryLemmas.{grows_on, steps_grow}
+use Rattle.profile_scan.proofs.ScanRecordLemmas.{grows_on, steps_grow}
 use Rattle.profile_scan.proofs.BoardLemmas.{walks_first, walks_next}
 use Rattle.profile_scan.proofs.stops.Stops.board_walks.Goals as goal
 
@@ -54,9 +54,9 @@ loop-walk_index-preserved g c =
       stops = lists_on g.C.Criterion.rules c.args.asked.now.criterion t.stops c.args.self.now c.loop-walk_index.self
           c.board_walk.new.self inv.stops c.in_ok-board_walk.ensures.stops;
       takes = λ labels are admitted stop exits set_outs before all ext_before ext.
-          let s0 = story exits old_steps set_outs in
-          let s1 = story exits mid_steps set_outs in
-          let s2 = story exits new_steps set_outs in
+          let s0 = scan_records exits old_steps set_outs in
+          let s1 = scan_records exits mid_steps set_outs in
+          let s2 = scan_records exits new_steps set_outs in
           walks_next (g.C.Criterion.rules c.args.asked.now.criterion)
           (g.met.C.Criterion.laws c.args.asked.now.criterion) t (g.met.S.ConnSource.limits c.args.source.now) labels
           admitted (from_to (spelling_of t.footpaths before) (spelling_of t.footpaths all)) c.args.hop.now.place

@@ -1,12 +1,12 @@
 use Rattle.std.proofs.Common.{◌≡◌, ◌<◌, ℕ, sym, subst, arith}
 use Rattle.fronts.specs.Lists.{steps_of}
 use Rattle.profile_scan.specs.Matching.{from_to}
-use Rattle.profile_scan.specs.Story.{story, spelling_of}
+use Rattle.profile_scan.specs.ScanRecords.{scan_records, spelling_of}
 use Rattle.profile_scan.specs.Steps.{TakesIn}
 use Rattle.profile_scan.specs.Adding.{each_of, StandsBetween, boardings_by}
-use Rattle.profile_scan.specs.Kept.{AreStops, points_at}
+use Rattle.profile_scan.specs.ScanState.{AreStops, points_at}
 use Rattle.profile_scan.proofs.PartLemmas.{lists_none, lists_on}
-use Rattle.profile_scan.proofs.StoryLemmas.{grows_on, steps_grow}
+use Rattle.profile_scan.proofs.ScanRecordLemmas.{grows_on, steps_grow}
 use Rattle.profile_scan.proofs.BoardLemmas.{walks_first, walks_next}
 use Rattle.profile_scan.proofs.stops.Stops.board_walks_one.Goals as goal
 
@@ -51,9 +51,9 @@ loop-walk_index-preserved g c =
     record {
       stops = lists_on g.C.Criterion.rules criterion t.stops c.args.self.now mid new inv.stops changes;
       takes = λ labels are admitted stop exits set_outs before all ext_before ext.
-          let s0 = story exits old_steps set_outs in
-          let s1 = story exits mid_steps set_outs in
-          let s2 = story exits new_steps set_outs in
+          let s0 = scan_records exits old_steps set_outs in
+          let s1 = scan_records exits mid_steps set_outs in
+          let s2 = scan_records exits new_steps set_outs in
           walks_next (g.C.Criterion.rules criterion) (g.met.C.Criterion.laws criterion) t
           (g.met.S.ConnSource.limits c.args.source.now) labels admitted
           (from_to (spelling_of t.footpaths before) (spelling_of t.footpaths all)) c.args.hop.now.place

@@ -15,7 +15,7 @@ returns-clause-stops g c = record {
       c.in_ok-lists.ensures.sound.some;
   many = c.in_ok-offers.ensures.long;
   offered = λ stop offered at. let none = c.in_ok-offers.ensures.none stop offered at in
-      record { admitted = none.1; covers = λ time early. let nobody = none.0 in absurd (omega (arith, early, nobody)) };
+      record { admitted = none.1; covers = λ time early. let impossible = none.0 in absurd (omega (arith, early, impossible)) };
 }
 
 pub returns-clause-none : goal.returns-clause-none

@@ -2,7 +2,7 @@ use Rattle.std.proofs.Common.{◌<◌, slice_index, vec_len, sym, ◌∙◌, sub
 use Rattle.std.proofs.lemmas.Option.{slice_get_read}
 use Rattle.fronts.specs.Lists.{lists_criterion}
 use Rattle.fronts.proofs.Mapped.{list_admitted}
-use Rattle.profile_scan.specs.Kept.{points_at}
+use Rattle.profile_scan.specs.ScanState.{points_at}
 use Rattle.profile_scan.proofs.Admitted.{AreAdmitted}
 use Rattle.profile_scan.proofs.OfferedLemmas.{covered_on}
 use Rattle.profile_scan.proofs.stops.Stops.was_offered.Goals as goal

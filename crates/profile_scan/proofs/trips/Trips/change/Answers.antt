@@ -3,15 +3,15 @@ use Rattle.timetable.proofs.LegalLemmas.{Contains-At}
 use Rattle.fronts.specs.Lists.{lists_criterion, entries_of, front_at, list_points}
 use Rattle.fronts.proofs.Mapped.{list_admitted}
 use Rattle.profile_scan.specs.Matching.{from_to}
-use Rattle.profile_scan.specs.Story.{story, spelling_of}
+use Rattle.profile_scan.specs.ScanRecords.{scan_records, spelling_of}
 use Rattle.profile_scan.specs.Adding.{changes_from, trip_points}
-use Rattle.profile_scan.specs.Bound.{carried}
+use Rattle.profile_scan.specs.Bound.{unpruned}
 use Rattle.profile_scan.specs.Steps.{TakesIn}
 use Rattle.profile_scan.proofs.LabelLemmas.{trip_admitted}
 use Rattle.profile_scan.proofs.PartLemmas.{changes_on, still_there}
 use Rattle.profile_scan.proofs.Admitted.{AreAdmitted}
 use Rattle.profile_scan.proofs.Offers.{takes_first, takes_next}
-use Rattle.profile_scan.proofs.StoryLemmas.{exits_grow, grows_on}
+use Rattle.profile_scan.proofs.ScanRecordLemmas.{exits_grow, grows_on}
 use Rattle.profile_scan.proofs.ChangeLemmas.{AreOf, change_way, changes_under}
 use Rattle.profile_scan.proofs.trips.Trips.change.Goals as goal
 
@@ -63,9 +63,9 @@ loop-k-preserved g c =
       trip = changes_on rules c.args.hop.now.connection.trip c.args.self.now c.loop-k.self c.change_by-in-loop-k.new.self
           c.loop-k.invariant.trip c.in_ok-change_by-2.ensures.trip;
       takes = λ walks steps set_outs before all ext_before ext.
-          let was = story c.args.self.now.exits.items steps set_outs in
-          let mid = story c.loop-k.self.exits.items steps set_outs in
-          let now = story c.change_by-in-loop-k.new.self.exits.items steps set_outs in
+          let was = scan_records c.args.self.now.exits.items steps set_outs in
+          let mid = scan_records c.loop-k.self.exits.items steps set_outs in
+          let now = scan_records c.change_by-in-loop-k.new.self.exits.items steps set_outs in
           takes_next rules front (change_way rules (from_to (spelling_of walks before) (spelling_of walks all)) c.args.hop.now.place c.args.hop.now.bound.now)
           c.loop-k.k x (trip_points c.args.self.now.labels c.args.hop.now.connection.trip)
           (trip_points c.loop-k.self.labels c.args.hop.now.connection.trip)
@@ -90,7 +90,7 @@ returns-then-count-eq0-clause-takes g c walks steps set_outs before all ext_befo
     c.requires.stop.stops.sound c.head-head.result) in
     subst (λ (n : ℕ). TakesIn (g.C.Criterion.rules c.args.asked.now.criterion)
     (changes_from (from_to (spelling_of walks before) (spelling_of walks all)) c.args.hop.now.place c.args.hop.now.connection.arr
-    (carried (g.C.Criterion.rules c.args.asked.now.criterion) c.args.hop.now.bound.now (list_points lists n)))
+    (unpruned (g.C.Criterion.rules c.args.asked.now.criterion) c.args.hop.now.bound.now (list_points lists n)))
     (trip_points c.args.self.now.labels c.args.hop.now.connection.trip)
     (trip_points c.args.self.now.labels c.args.hop.now.connection.trip)) c.head-head.ensures
     (changes_under g.C.Criterion.rules (lists_criterion lists) c.args.asked.now.criterion c.requires.stop.stops.under
@@ -117,7 +117,7 @@ returns-clause-takes g c walks steps set_outs before all ext_before ext =
     c.requires.stop.stops.sound c.head-head.result) in
     subst (λ (n : ℕ). TakesIn (g.C.Criterion.rules c.args.asked.now.criterion)
     (changes_from (from_to (spelling_of walks before) (spelling_of walks all)) c.args.hop.now.place c.args.hop.now.connection.arr
-    (carried (g.C.Criterion.rules c.args.asked.now.criterion) c.args.hop.now.bound.now (list_points lists n)))
+    (unpruned (g.C.Criterion.rules c.args.asked.now.criterion) c.args.hop.now.bound.now (list_points lists n)))
     (trip_points c.args.self.now.labels c.args.hop.now.connection.trip)
     (trip_points c.loop-k.self.labels c.args.hop.now.connection.trip)) c.head-head.ensures
     (changes_under g.C.Criterion.rules (lists_criterion lists) c.args.asked.now.criterion c.requires.stop.stops.under

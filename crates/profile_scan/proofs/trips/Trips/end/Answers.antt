@@ -1,10 +1,10 @@
 use Rattle.std.proofs.Common.{ℕ, sym, ◌∙◌, ap, subst}
 use Rattle.criteria.specs.Laws.{Admits}
-use Rattle.profile_scan.specs.Between.{question}
+use Rattle.profile_scan.specs.SetQuery.{question}
 use Rattle.profile_scan.specs.Values.{started}
 use Rattle.profile_scan.specs.Adding.{trip_points}
 use Rattle.profile_scan.specs.Matching.{from_to}
-use Rattle.profile_scan.specs.Story.{spelling_of}
+use Rattle.profile_scan.specs.ScanRecords.{spelling_of}
 use Rattle.profile_scan.proofs.Offers.{on_ok_more}
 use Rattle.profile_scan.proofs.PartLemmas.{changes_none}
 use Rattle.profile_scan.proofs.EndLemmas.{end_admits, takes_the_end}

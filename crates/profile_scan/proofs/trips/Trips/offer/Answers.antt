@@ -3,9 +3,9 @@ use Rattle.std.proofs.lemmas.Bool.{true≢false}
 use Rattle.reasoning.proofs.ListLemmas.{extends_none, extends_one}
 use Rattle.fronts.specs.Labels.{labels_at}
 use Rattle.profile_scan.specs.Matching.{from_to}
-use Rattle.profile_scan.specs.Story.{IsExit, spelling_of}
+use Rattle.profile_scan.specs.ScanRecords.{IsExit, spelling_of}
 use Rattle.profile_scan.proofs.LabelLemmas.{offered_takes, trip_admitted}
-use Rattle.profile_scan.proofs.StoryLemmas.{exit_next}
+use Rattle.profile_scan.proofs.ScanRecordLemmas.{exit_next}
 use Rattle.profile_scan.proofs.trips.Trips.offer.Goals as goal
 
 pub returns-in_ok-push-clause-trip : goal.returns-in_ok-push-clause-trip

@@ -1,5 +1,5 @@
 use Rattle.std.proofs.Common.{◌≡◌, ◌≤◌, Bool, cond, arith, subst, count_by}
-use Rattle.version_core.specs.Kept.{is_at}
+use Rattle.version_core.specs.Invariants.{is_at}
 use Rattle.version_core.proofs.Lists.{is_counted}
 use Rattle.version_core.specs.declared.state.Shelf.{Shelf}
 use Rattle.version_core.specs.Shown.{shelf_word}

@@ -1,6 +1,6 @@
 use Rattle.std.proofs.Common.{◌∙◌, refl, subst, sym, ap, ◌++◌, ◌∷◌, []}
 use Rattle.load_orders.specs.Keeping.{QueueId}
-use Rattle.workers.specs.Carrying.{IsCarriedOut, depot_of, errand_of, loads_value}
+use Rattle.workers.specs.Carrying.{IsCarriedOut, load_input_of, handled_order_of, loads_value}
 use Rattle.workers.specs.Words.{files_of, loads_of, outcomes_of}
 use Rattle.workers.proofs.Carried.{carried_same, carries_also, carries_nothing, each_answered}
 use Rattle.workers.proofs.Learning.{loader_goes_on, loader_goes_same}
@@ -18,7 +18,7 @@ loop-init g c =
       finite = tt;
       queue = refl;
       seat = loader_goes_same _ _ _ c.requires.loads;
-      carried = carries_nothing (depot_of words c.args.self.now.feeds.now c.args.orders.queue) c.args.seat (loads_value c.args.orders c.args.used)
+      carried = carries_nothing (load_input_of words c.args.self.now.feeds.now c.args.orders.queue) c.args.seat (loads_value c.args.orders c.args.used)
           none.0 none.1 none.2;
     }
 
@@ -28,7 +28,7 @@ next-requires-in-loop g c =
     let words = loads_of g.F.Feeds.words (outcomes_of
     (files_of g.F.Files.FeedFiles.holds g.F.Files.FeedFiles.reads g.F.Files.FeedFiles.failures g.F.Files.FeedFiles.failed)
     g.T.Loads.words g.T.Versions.words.version) in
-    each_answered (depot_of words c.args.self.now.feeds.now c.args.orders.queue) c.args.seat (loads_value c.loop.orders c.loop.used) c.loop.seat
+    each_answered (load_input_of words c.args.self.now.feeds.now c.args.orders.queue) c.args.seat (loads_value c.loop.orders c.loop.used) c.loop.seat
     c.loop.invariant.carried
 
 -- an order more was taken and carried out
@@ -41,17 +41,17 @@ loop-preserved g c =
     let one = c.load_feed.ensures in
     let next = c.in-Some-next.ensures in
     let at_queue = next.queue ∙ c.loop.invariant.queue in
-    let errand = errand_of c.in-Some-next.order c.next-in-loop.new.self.taken one.carried.1 one.carried.0 in
-    let also = subst (λ (queue : QueueId _). IsCarriedOut (depot_of words feeds queue) errand c.loop.seat c.load_feed.new.seat) at_queue
+    let handled = handled_order_of c.in-Some-next.order c.next-in-loop.new.self.taken one.carried.1 one.carried.0 in
+    let added = subst (λ (queue : QueueId _). IsCarriedOut (load_input_of words feeds queue) handled c.loop.seat c.load_feed.new.seat) at_queue
     one.carried.4 in
     record {
       next = tt;
       finite = tt;
       queue = one.queue ∙ at_queue;
       seat = loader_goes_on _ _ _ _ _ c.loop.invariant.seat one.seat;
-      carried = carries_also (depot_of words feeds c.args.orders.queue) c.args.seat c.loop.seat c.load_feed.new.seat
-          (loads_value c.loop.orders c.loop.used) (loads_value c.load_feed.new.orders c.load_feed.new.used) errand c.loop.invariant.carried
-          next.taken (one.taken ∙ next.taken) (one.carried.2 ∙ ap (λ list. list ++ one.carried.0 ∷ []) next.answered) one.carried.3 also;
+      carried = carries_also (load_input_of words feeds c.args.orders.queue) c.args.seat c.loop.seat c.load_feed.new.seat
+          (loads_value c.loop.orders c.loop.used) (loads_value c.load_feed.new.orders c.load_feed.new.used) handled c.loop.invariant.carried
+          next.taken (one.taken ∙ next.taken) (one.carried.2 ∙ ap (λ list. list ++ one.carried.0 ∷ []) next.answered) one.carried.3 added;
     }
 
 -- none came any more

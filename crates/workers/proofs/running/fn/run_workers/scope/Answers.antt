@@ -5,9 +5,9 @@ use Rattle.workers.proofs.Shared.{keeper_out, one_more_out, seated_none, seated_
 use mathlib.Core.Path.{sym}
 use Rattle.std.specs.Prelude.{IsPermutation}
 use Rattle.load_orders.specs.Keeping.{QueueId}
-use Rattle.workers.specs.Carrying.{AreLoaded, depot_of, loads_value}
+use Rattle.workers.specs.Carrying.{AreLoaded, load_input_of, loads_value}
 use Rattle.workers.specs.Ordering.{GoesBy, route_to}
-use Rattle.workers.specs.Sessions.{AreServedSince, MayClose, posts_at, work_of}
+use Rattle.workers.specs.Sessions.{AreServedSince, MayClose, worker_starts, work_of}
 use Rattle.workers.specs.Words.{files_of, loads_of, outcomes_of, sessions_of}
 use Rattle.workers.proofs.running.fn.run_workers.scope.Goals as goal
 
@@ -19,10 +19,10 @@ spawn_with-begun-requires-clause-runs g c =
     let left : All (g.T.Versions.words.fits c.captures.shelves.now) (c.in-Some.seat ∷ c.next.new.self.rest.items) =
     subst (λ items. All (g.T.Versions.words.fits c.captures.shelves.now) items) c.in-Some.ensures.steps.0 c.loop-seat.invariant.fit in
     let fits : g.T.Versions.words.fits c.captures.shelves.now c.in-Some.seat = left 0 c.in-Some.seat (omega arith) in
-    let ready : g.T.Versions.words.fits c.captures.shelves.now c.in-Some.seat × (c.in_ok-taker.taker.taken ≡ []) × (c.new-nobody_yet.result ≡ [])
+    let ready : g.T.Versions.words.fits c.captures.shelves.now c.in-Some.seat × (c.in_ok-taker.taker.taken ≡ []) × (c.new-none_held_yet.result ≡ [])
     × (c.in_ok-end.end.items ≡ [])
     × MayClose words c.captures.shelves.now =
-    (fits, ap (λ taker. taker.taken) c.in_ok-taker.ensures.taker, c.new-nobody_yet.ensures, c.in_ok-end.ensures.nothing, c.requires.13) in
+    (fits, ap (λ taker. taker.taken) c.in_ok-taker.ensures.taker, c.new-none_held_yet.ensures, c.in_ok-end.ensures.nothing, c.requires.13) in
     λ κs within. (
       ready,
       (search rules, search rules, search rules, search rules, search rules, search rules, search rules, search rules, search rules, search rules),
@@ -106,11 +106,11 @@ returns-in-Some-close_and_join g c =
     let was = c.loop-seat.invariant in
     let none = sym was.len ∙ c.in-None.ensures.steps.0 in
     let seats = seated_all _ _ _ _ was.seated none ∙ c.into_iter-seat-iterator.ensures.into_iter_gives.0 in
-    let ran = c.in-Ok-served in
+    let run_result = c.in-Ok-served in
     let after = c.in-Some-close_and_join in
     let joined = after.ensures in
     let promised = c.in-Ok.ensures.ok in
-    let kept = ran.ensures.back in
+    let kept = run_result.ensures.back in
     let queue : c.of-route.result.end.value.queue ≡ after.orders.queue = sym (joined.queue ∙ ap (λ keeper. keeper.queue) kept) in
     let taken = subst (λ list. IsPermutation list after.orders.taken) (ap (λ keeper. keeper.put) kept) joined.all in
     let words = sessions_of c.captures.form g.C.Client.words g.C.Reader.Read.remaining g.C.Writer.Write.contents
@@ -118,28 +118,28 @@ returns-in-Some-close_and_join g c =
     let loads = loads_of g.F.Feeds.words (outcomes_of
     (files_of g.F.Files.FeedFiles.holds g.F.Files.FeedFiles.reads g.F.Files.FeedFiles.failures g.F.Files.FeedFiles.failed)
     g.T.Loads.words g.T.Versions.words.version) in
-    let at_seats = subst (λ seats. AreServedSince words (g.K.Clients.words.came c.captures.clients) (g.K.Clients.words.came ran.clients)
-    (posts_at seats (route_to (g.F.Feeds.words.named c.of-route.result.feeds.value) c.of-route.result.end.value.queue))
-    (work_of ran.served ran.seats.items ran.asked)) seats ran.ensures.served in
-    let of_feeds = subst (λ feeds. AreServedSince words (g.K.Clients.words.came c.captures.clients) (g.K.Clients.words.came ran.clients)
-    (posts_at c.captures.seats.items (route_to (g.F.Feeds.words.named feeds) c.of-route.result.end.value.queue))
-    (work_of ran.served ran.seats.items ran.asked)) c.of-route.ensures.feeds at_seats in
-    let served = subst (λ (queue : QueueId _). AreServedSince words (g.K.Clients.words.came c.captures.clients) (g.K.Clients.words.came ran.clients)
-    (posts_at c.captures.seats.items (route_to (g.F.Feeds.words.named c.captures.feeds.now) queue))
-    (work_of ran.served ran.seats.items ran.asked)) queue of_feeds in
+    let at_seats = subst (λ seats. AreServedSince words (g.K.Clients.words.came c.captures.clients) (g.K.Clients.words.came run_result.clients)
+    (worker_starts seats (route_to (g.F.Feeds.words.named c.of-route.result.feeds.value) c.of-route.result.end.value.queue))
+    (work_of run_result.served run_result.seats.items run_result.asked)) seats run_result.ensures.served in
+    let of_feeds = subst (λ feeds. AreServedSince words (g.K.Clients.words.came c.captures.clients) (g.K.Clients.words.came run_result.clients)
+    (worker_starts c.captures.seats.items (route_to (g.F.Feeds.words.named feeds) c.of-route.result.end.value.queue))
+    (work_of run_result.served run_result.seats.items run_result.asked)) c.of-route.ensures.feeds at_seats in
+    let served = subst (λ (queue : QueueId _). AreServedSince words (g.K.Clients.words.came c.captures.clients) (g.K.Clients.words.came run_result.clients)
+    (worker_starts c.captures.seats.items (route_to (g.F.Feeds.words.named c.captures.feeds.now) queue))
+    (work_of run_result.served run_result.seats.items run_result.asked)) queue of_feeds in
     let feeds = ap (λ promise. promise.feeds.value) promised ∙ c.of-promise.ensures.feeds in
     let seat = ap (λ promise. promise.seat.value) promised ∙ c.of-promise.ensures.seat in
-    let at_feeds = subst (λ feeds. AreLoaded (depot_of loads feeds after.orders.queue) c.in-Ok.loading.promise.seat.value
+    let at_feeds = subst (λ feeds. AreLoaded (load_input_of loads feeds after.orders.queue) c.in-Ok.loading.promise.seat.value
     (loads_value after.orders after.used) after.loader) feeds joined.loaded in
-    let loaded = subst (λ seat. AreLoaded (depot_of loads c.captures.feeds.now after.orders.queue) seat
+    let loaded = subst (λ seat. AreLoaded (load_input_of loads c.captures.feeds.now after.orders.queue) seat
     (loads_value after.orders after.used) after.loader) seat at_feeds in
     let loader = subst (λ shelves. g.T.Loads.words.fits shelves after.loader) (ap (λ promise. promise.shelves.value) promised ∙ c.of-promise.ensures.shelves)
     joined.loads in
     record {
       left = record {
-        none_left = ran.ensures.none_left;
-        holds = ran.ensures.holds;
-        fit = ran.ensures.fits;
+        none_left = run_result.ensures.none_left;
+        holds = run_result.ensures.holds;
+        fit = run_result.ensures.fits;
         loader_fits = loader;
       };
       served = served;

@@ -1,5 +1,0 @@
-use Rattle.std.proofs.Common.{[]}
-use Rattle.load_orders.proofs.notes.Notes.none.Given as goal
-
-abbrev pub ghost-at : goal.ghost-at
-ghost-at g a = []

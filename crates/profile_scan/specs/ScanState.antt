@@ -1,0 +1,126 @@
+-- What the vectors of a scan keep for each stop and each trip.
+use Rattle.std.specs.Prelude.{◌≡◌, ◌⊎◌, ℕ, ◌<◌, ◌≤◌, List, length, vec_len, Contains, slice_get, slice_index, slice_index_or}
+use Rattle.std.specs.Prelude.{Option, Some, None, Bool, true, false, nat_le, map}
+use Rattle.bags.specs.declared.point.Point.{Point}
+use Rattle.timetable.specs.declared.network.Footpath.{Footpath}
+use Rattle.timetable.specs.declared.limits.TheConstants.{MAX_WALK_SECS}
+use Rattle.timetable.specs.TimetableValue.{TimetableValue}
+use Rattle.bags.specs.Dominance.{IsCovered}
+use Rattle.criteria.specs.Laws.{Rules, Admits}
+use Rattle.fronts.specs.Lists.{IsSound, lists_criterion, entries_of, steps_of, list_points}
+use Rattle.fronts.specs.Labels.{AreLabels, trips_of}
+use Rattle.profile_scan.specs.Adding.{trip_points}
+use Rattle.profile_scan.specs.SetQuery.{SetQueryValue}
+use Rattle.profile_scan.specs.Values.{journey_value}
+use Rattle.profile_scan.specs.Continuations.{CountsFrom}
+use Rattle.profile_scan.specs.Plain.{IsPlainOf}
+use Rattle.profile_scan.specs.Matching.{Matches, ScanValue}
+use Rattle.profile_scan.specs.ScanRecords.{SourceValue, ScanRecords, scan_records, spelling_of}
+use Rattle.profile_scan.specs.declared.last_offers.LastOffer.{LastOffer}
+use Rattle.profile_scan.specs.declared.stops.Stops.{Stops}
+use Rattle.profile_scan.specs.Bound.{AreBounds}
+use Rattle.profile_scan.specs.declared.scan.Scan.{Scan}
+use Rattle.profile_scan.specs.declared.scan.State.{State}
+use Rattle.profile_scan.specs.declared.final_walks.FinalWalk.{FinalWalk}
+use Rattle.profile_scan.specs.declared.final_walks.FinalWalks.{FinalWalks}
+
+-- the points of a stop's list
+abbrev pub points_at : {K V : Type 0} → Stops K V → ℕ → List (Point V)
+points_at stops stop = list_points stops.lists (slice_index stops.heads.items stop)
+
+-- a stop's `LastOffer` is right: for each time before `before`, its points have one that departs then or later and is no worse than `value`
+pub record IsLastOffer {V : Type 0} (rules : Rules V) (points : List (Point V)) (offered : LastOffer V) : Type 0 where
+  pub admitted : Admits rules offered.value
+  pub covers : (time : ℕ) → time < offered.before → IsCovered rules points time offered.value
+
+-- `count` lists under a criterion, each with a right `LastOffer`
+pub record AreStops {K V : Type 0} (rules_of : K → Rules V) (criterion : K) (count : ℕ)
+    (stops : Stops K V) : Type 0 where
+  pub under : lists_criterion stops.lists ≡ criterion
+  pub sound : IsSound rules_of stops.lists
+  pub long : vec_len stops.heads ≡ count
+  pub within : (stop : ℕ) → slice_index stops.heads.items stop < length (entries_of stops.lists)
+  pub many : length stops.offers.items ≡ count
+  pub offered : (stop : ℕ) (offered : LastOffer V) → slice_get stops.offers.items stop ≡ Some offered
+      → IsLastOffer (rules_of criterion) (points_at stops stop) offered
+
+-- the seconds of the footpath from a stop to the target, if there is one
+abbrev pub IsDirectSecs : TimetableValue → ℕ → ℕ → Option ℕ → Type 0
+IsDirectSecs t target stop None = (f : Footpath) → Contains t.footpaths f → f.from ≡ stop → f.to ≡ target → ⊥
+IsDirectSecs t target stop (Some secs) = Contains t.footpaths (record { from = stop; to = target; secs = secs })
+
+-- what an entry says: a way, or that there is none, if its seconds are more than a footpath takes
+abbrev pub final_walk_if : Bool → FinalWalk → Option FinalWalk
+final_walk_if true entry = Some entry
+final_walk_if false entry = None
+
+abbrev pub final_walk_in : FinalWalk → Option FinalWalk
+final_walk_in entry = final_walk_if (nat_le entry.secs MAX_WALK_SECS) entry
+
+-- the way from each stop
+abbrev pub final_walks_of : FinalWalks → List (Option FinalWalk)
+final_walks_of final_walks = map final_walk_in final_walks.entries.items
+
+-- the footpath that a way from a stop is, if there is one
+abbrev pub walk_by : ℕ → Option FinalWalk → Option Footpath
+walk_by stop None = None
+walk_by stop (Some way) = Some (record { from = stop; to = way.to; secs = way.secs })
+
+-- a way from a stop leads to the target at `index`. From a target it is the loop; from another stop no footpath to a target is shorter, and of equal ones
+-- it leads to the target that is named first
+pub record IsNearest (t : TimetableValue) (targets : List ℕ) (stop : ℕ) (way : FinalWalk) : Type 0 where
+  pub index : ℕ
+  pub leads : slice_get targets index ≡ Some way.to
+  pub is_footpath : Contains t.footpaths (record { from = stop; to = way.to; secs = way.secs })
+  pub own : Contains targets stop → way.to ≡ stop
+  pub least : (Contains targets stop → ⊥) → (k : ℕ) (f : Footpath) → slice_get targets k ≡ Some f.to → Contains t.footpaths f
+      → f.from ≡ stop → (way.secs < f.secs) ⊎ ((way.secs ≡ f.secs) × (index ≤ k))
+
+-- how one ends a journey at a stop: by its way; or not at all, if it isn't a target and no footpath leads from there to one
+abbrev pub IsFinalWalk : TimetableValue → List ℕ → ℕ → Option FinalWalk → Type 0
+IsFinalWalk t targets stop None = (Contains targets stop → ⊥)
+    × ((f : Footpath) → Contains t.footpaths f → f.from ≡ stop → Contains targets f.to → ⊥)
+IsFinalWalk t targets stop (Some way) = IsNearest t targets stop way
+
+-- there is an entry for each stop, which is right
+pub record AreFinalWalks (t : TimetableValue) (targets : List ℕ) (final_walks : List (Option FinalWalk)) : Type 0 where
+  pub long : length final_walks ≡ t.stops
+  pub each : (stop : ℕ) → stop < t.stops → IsFinalWalk t targets stop (slice_index_or final_walks stop None)
+
+-- there is a list for the stop, and the lists of all stops are as `AreStops` says
+pub record HasStop {K V : Type 0} (rules_of : K → Rules V) (criterion : K) (stop : ℕ) (kept : Stops K V) : Type 0 where
+  pub there : stop < vec_len kept.heads
+  pub stops : AreStops rules_of criterion (vec_len kept.heads) kept
+
+-- what a scan keeps for the question at an index, from its parts
+abbrev pub scan_value_of : {K V O : Type 0} → (O → ℕ → SourceValue V) → State K O V → ℕ → ScanValue V
+scan_value_of kept state index = record {
+  bag = points_at state.stops;
+  labels = trip_points state.trips.labels;
+  found = (kept state.origin index).found;
+}
+
+-- what it has written down for that question
+abbrev pub scan_records_of : {K V O : Type 0} → (O → ℕ → SourceValue V) → State K O V → ℕ → ScanRecords
+scan_records_of kept state index =
+    scan_records state.trips.exits.items (steps_of state.stops.lists) (kept state.origin index).set_outs
+
+-- a state for `stops` stops and `trips` trips, under a criterion
+pub record IsState {K V O : Type 0} (rules_of : K → Rules V) (IsUnder : K → ℕ → O → Type 0) (criterion : K) (stops trips : ℕ)
+    (state : State K O V) : Type 0 where
+  pub at_stops : AreStops rules_of criterion stops state.stops
+  pub long : trips_of state.trips.labels ≡ trips
+  pub labels : AreLabels (rules_of criterion) state.trips.labels
+  pub origin : IsUnder criterion stops state.origin
+
+-- the shape of a scan that has read the connections of a timetable from an index on: sizes, criterion, and a bound that the points found for each question
+-- outdo. Which points were found, `MatchesFrom` says; the loop of scan_window carries it
+pub record IsScan {K V O : Type 0} (rules_of : K → Rules V) (IsUnder : K → ℕ → O → Type 0) (kept : O → ℕ → SourceValue V) (criterion : K)
+    (t : TimetableValue) (place : ℕ) (scan : Scan K O V) : Type 0 where
+  pub state : IsState rules_of IsUnder criterion t.stops t.trips scan.state
+  pub bound : (index : ℕ) → AreBounds (rules_of criterion) t (kept scan.state.origin index).found place scan.bound.values.items
+
+-- points found match every journey that boards connection `start` or a later one
+abbrev pub HasFound : {V : Type 0} → Rules V → TimetableValue → SetQueryValue → ℕ → ScanRecords → List (Point V) → Type 0
+HasFound rules t q start s found =
+    Matches rules (spelling_of t.footpaths s).journey (CountsFrom t q start) (IsPlainOf t (Contains q.targets)) (journey_value rules t) found

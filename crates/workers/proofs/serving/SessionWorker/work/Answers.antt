@@ -1,0 +1,59 @@
+use Rattle.std.proofs.Common.{refl, sym, subst, ◌∙◌}
+use Rattle.workers.specs.Sessions.{AreServed, worker_state}
+use Rattle.workers.specs.Words.{sessions_of}
+use Rattle.workers.proofs.Ending.{may_close, serves_next, serves_none}
+use Rattle.workers.proofs.ExactSessions.{exact}
+use Rattle.workers.proofs.serving.SessionWorker.work.Goals as goal
+
+pub loop-init : goal.loop-init
+loop-init g c = record {
+  next = tt;
+  finite = tt;
+  queue = refl;
+  route = refl;
+  fits = c.requires.fits;
+  served = serves_none (sessions_of c.args.self.now.session_server.form g.C.Client.words g.C.Reader.Read.remaining g.C.Writer.Write.contents
+      g.T.Versions.words)
+      _ _ (worker_state c.args.seat (g.O.Orders.asked c.args.orders)) c.requires.none.0 c.requires.none.1;
+}
+
+-- a client more was taken and served
+pub loop-preserved : goal.loop-preserved
+loop-preserved g c =
+    let words = sessions_of c.args.self.now.session_server.form g.C.Client.words g.C.Reader.Read.remaining g.C.Writer.Write.contents
+    g.T.Versions.words in
+    let was = c.loop.invariant in
+    let one = c.serve_client-streams in
+    let asked = g.O.Orders.asked in
+    record {
+      next = tt;
+      finite = tt;
+      queue = c.in-Some-next.ensures.queue ∙ was.queue;
+      route = one.ensures.route ∙ was.route;
+      fits = one.ensures.fits;
+      served = serves_next words _ _ c.loop.served one.new.served c.in-Some-next.client one.result
+          (worker_state c.args.seat (asked c.args.orders)) (worker_state c.loop.seat (asked c.loop.orders)) (worker_state one.new.seat (asked one.new.orders))
+          was.served c.in-Some-next.ensures.taken one.ensures.served one.ensures.session;
+    }
+
+-- what was served may be closed
+pub close-requires-clause-closes : goal.close-requires-clause-closes
+close-requires-clause-closes g c =
+    let words = sessions_of c.args.self.now.session_server.form g.C.Client.words g.C.Reader.Read.remaining g.C.Writer.Write.contents
+    g.T.Versions.words in
+    let one = c.serve_client-streams in
+    let asked = g.O.Orders.asked in
+    λ lifetimes outlive. may_close words c.args.self.now.session_server.shelves.now c.in-Some-next.client one.result.0 one.result.1
+    (worker_state c.loop.seat (asked c.loop.orders)) (worker_state one.new.seat (asked one.new.orders))
+    c.requires.closes c.loop.invariant.fits one.ensures.fits one.ensures.session
+
+-- what was reported exactly while a client was served is so still
+pub returns-in-None-next-clause-exact : goal.returns-in-None-next-clause-exact
+returns-in-None-next-clause-exact g c = λ idle.
+    let words = sessions_of c.args.self.now.session_server.form g.C.Client.words g.C.Reader.Read.remaining g.C.Writer.Write.contents
+    g.T.Versions.words in
+    let asked = g.O.Orders.asked in
+    let a = worker_state c.args.seat (asked c.args.orders) in
+    let b = worker_state c.loop.seat (asked c.loop.orders) in
+    exact words _ c.loop.served a b idle
+    (subst (λ clients. AreServed words clients c.loop.served a b) (sym c.in-None-next.ensures.taken) c.loop.invariant.served)
