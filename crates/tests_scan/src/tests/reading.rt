@@ -81,7 +81,7 @@ fn the_sample_is_read(rt: HostRuntime) -> Result<(), Fail> {
 fn a_log_takes_no_bytes(rt: HostRuntime) {
     assert_eq!(rt;
         size_of::<InPlace<'static>>(),
-        size_of::<&'static Verified>()
+        size_of::<(&'static Verified, &'static [u32], &'static [u32])>()
     );
 }
 
